@@ -1,0 +1,2 @@
+pub mod Action
+pub mod Texts

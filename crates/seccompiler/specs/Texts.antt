@@ -1,0 +1,33 @@
+-- The texts of architectures and of the backend's errors, byte for byte.
+use Rattle.std.specs.Prelude.{◌≡◌, ℕ, List, ◌++◌, codes, decimal, string_bytes}
+use Rattle.std.specs.Fmt.{signed_decimal}
+use Rattle.seccompiler.specs.declared.backend.TargetArch.{TargetArch}
+use Rattle.seccompiler.specs.declared.backend.TargetArch.TheVariants.{x86_64, aarch64, riscv64}
+use Rattle.seccompiler.specs.declared.backend.BackendError.{BackendError}
+use Rattle.seccompiler.specs.declared.backend.BackendError.TheVariants.{EmptyRule, FilterTooLarge, IdenticalActions, InvalidArgumentNumber, InvalidTargetArch, InvalidSyscallNumber, OutOfMemory}
+
+-- The name of an architecture.
+abbrev pub arch_text : TargetArch → List ℕ
+arch_text x86_64 = codes "x86_64"
+arch_text aarch64 = codes "aarch64"
+arch_text riscv64 = codes "riscv64"
+
+-- The text of an error of the backend.
+abbrev pub backend_text : BackendError → List ℕ
+backend_text EmptyRule = codes "The condition vector of a rule cannot be empty."
+backend_text (FilterTooLarge n) = codes "The seccomp filter contains too many BPF instructions: " ++ decimal n ++ codes ". Max length is 4096."
+backend_text IdenticalActions = codes "`match_action` and `mismatch_action` are equal."
+backend_text InvalidArgumentNumber = codes "The seccomp rule contains an invalid argument index. Maximum index value: 5"
+backend_text (InvalidTargetArch t) = codes "Invalid target arch: " ++ string_bytes t ++ codes "."
+backend_text (InvalidSyscallNumber n) = codes "Invalid syscall number: " ++ signed_decimal n ++ codes "."
+backend_text OutOfMemory = codes "Out of memory."
+
+-- The refusal of an architecture's name, with the text as it was given.
+abbrev pub IsInvalidArch : BackendError → List ℕ → Type 0
+IsInvalidArch EmptyRule text = ⊥
+IsInvalidArch (FilterTooLarge n) text = ⊥
+IsInvalidArch IdenticalActions text = ⊥
+IsInvalidArch InvalidArgumentNumber text = ⊥
+IsInvalidArch (InvalidTargetArch t) text = string_bytes t ≡ text
+IsInvalidArch (InvalidSyscallNumber n) text = ⊥
+IsInvalidArch OutOfMemory text = ⊥

@@ -1,0 +1,105 @@
+// Instructions and programs of classic BPF, and the constants that they are made of.
+
+ghost use Rattle.std.specs.Prelude.{◌≡◌};
+
+/// One instruction of classic BPF.
+///
+/// Which fields an instruction reads depends on its `code`; the others are ignored.
+#[allow(non_camel_case_types)]
+#[derive(Clone, Copy, Debug, PartialEq, Eq)]
+pub struct sock_filter {
+    /// The operation.
+    pub code: u16,
+    /// How many instructions a tested jump skips where its test is true.
+    pub jt: u8,
+    /// How many instructions a tested jump skips where its test is false.
+    pub jf: u8,
+    /// The operand: a byte offset, a mask, a distance, a number to compare with, or a word to return.
+    pub k: u32,
+}
+
+/// A program: a sequence of BPF instructions.
+pub type BpfProgram = Vec<sock_filter>;
+
+/// A program that is lent.
+pub type BpfProgramRef<'a> = &'a [sock_filter];
+
+/// The greatest index of a system call's argument: a call has six arguments, numbered from 0.
+pub const ARG_NUMBER_MAX: u8 = 5;
+
+/// The most instructions that one condition takes.
+pub const CONDITION_MAX_LEN: u8 = 6;
+
+/// The most instructions that the Linux kernel takes in one program.
+pub const BPF_MAX_LEN: usize = 4096;
+
+/// Where the call number stands in `struct seccomp_data`, in bytes.
+pub const SECCOMP_DATA_NR_OFFSET: u8 = 0;
+
+/// Where the architecture word stands in `struct seccomp_data`, in bytes.
+pub const SECCOMP_DATA_ARCH_OFFSET: u8 = 4;
+
+/// Where the first argument stands in `struct seccomp_data`, in bytes.
+pub const SECCOMP_DATA_ARGS_OFFSET: u8 = 16;
+
+/// How many bytes an argument takes in `struct seccomp_data`.
+pub const SECCOMP_DATA_ARG_SIZE: u8 = 8;
+
+/// The class of loads into the accumulator.
+pub const BPF_LD: u16 = 0x00;
+
+/// The class of arithmetic on the accumulator.
+pub const BPF_ALU: u16 = 0x04;
+
+/// The class of jumps.
+pub const BPF_JMP: u16 = 0x05;
+
+/// The class of returns.
+pub const BPF_RET: u16 = 0x06;
+
+/// The size of a load: a word of 32 bits.
+pub const BPF_W: u16 = 0x00;
+
+/// The mode of a load: from a fixed offset in the record.
+pub const BPF_ABS: u16 = 0x20;
+
+/// Bitwise and.
+pub const BPF_AND: u16 = 0x50;
+
+/// A jump without a test.
+pub const BPF_JA: u16 = 0x00;
+
+/// A jump that tests whether the accumulator equals the operand.
+pub const BPF_JEQ: u16 = 0x10;
+
+/// A jump that tests whether the accumulator is greater than the operand, unsigned.
+pub const BPF_JGT: u16 = 0x20;
+
+/// A jump that tests whether the accumulator is at least the operand, unsigned.
+pub const BPF_JGE: u16 = 0x30;
+
+/// The source of an operand: the instruction's own `k`.
+pub const BPF_K: u16 = 0x00;
+
+/// The architecture word of x86_64 in `struct seccomp_data`, as `linux/audit.h` has it.
+pub const AUDIT_ARCH_X86_64: u32 = 0xc000_003e;
+
+/// The architecture word of aarch64 in `struct seccomp_data`, as `linux/audit.h` has it.
+pub const AUDIT_ARCH_AARCH64: u32 = 0xc000_00b7;
+
+/// The architecture word of riscv64 in `struct seccomp_data`, as `linux/audit.h` has it.
+pub const AUDIT_ARCH_RISCV64: u32 = 0xc000_00f3;
+
+/// Builds an instruction that jumps by no test: `jt` and `jf` are 0.
+pub fn bpf_stmt(code: u16, k: u32) -> sock_filter
+    ensures { result ≡ record { code = code; jt = 0; jf = 0; k = k } }
+{
+    bpf_jump(code, k, 0, 0)
+}
+
+/// Builds an instruction of its four fields.
+pub fn bpf_jump(code: u16, k: u32, jt: u8, jf: u8) -> sock_filter
+    ensures { result ≡ record { code = code; jt = jt; jf = jf; k = k } }
+{
+    sock_filter { code, jt, jf, k }
+}

@@ -1,0 +1,5 @@
+// Seccomp filters, compiled to classic BPF programs: every function proved.
+#![tactic(auto)]
+
+pub mod backend;
+pub mod bpf;

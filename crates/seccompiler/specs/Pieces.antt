@@ -1,0 +1,37 @@
+-- What the code of a condition and the code of a rule promise to the code around them.
+use Rattle.std.specs.Prelude.{◌≡◌, ℕ, ◌+◌, ◌^◌, ◌<◌, ◌⊎◌, List, length}
+use Rattle.seccompiler.specs.declared.bpf.sock_filter.{sock_filter}
+use Rattle.seccompiler.specs.Record.{IsRecord}
+use Rattle.seccompiler.specs.Machine.{Goes}
+use Rattle.seccompiler.specs.Checked.{AreInRange, IsClosed}
+use Rattle.seccompiler.specs.Condition.{Condition, Holds, size_of}
+use Rattle.seccompiler.specs.Policy.{Rule, RuleHolds}
+use Rattle.seccompiler.specs.Groups.{relays}
+use Rattle.seccompiler.specs.Layout.{rule_length}
+
+-- A run leads from a place and an accumulator to a place.
+pub record Leads (piece : List sock_filter) (r : List ℕ) (place a place' : ℕ) : Type 0 where
+  pub count : ℕ
+  pub accumulator : ℕ
+  pub goes : Goes piece r place a count place' accumulator
+
+-- Entered at its first place, the piece leaves at its end where the fact holds, and d places further where it
+-- does not; one of the two is so.
+abbrev pub Exits : List sock_filter → ℕ → List ℕ → ℕ → Type 0 → Type 0
+Exits piece d r a fact = (fact × Leads piece r 0 a (length piece)) ⊎ ((fact → ⊥) × Leads piece r 0 a (length piece + d))
+
+-- The code of a condition at offset d: as long as the condition's size, closed, and with two exits.
+pub record IsConditionCode (c : Condition) (d : ℕ) (code : List sock_filter) : Type 0 where
+  pub long : length code ≡ size_of c
+  pub ranges : AreInRange code
+  pub closed : IsClosed code (length code + d)
+  pub enters : (r : List ℕ) → IsRecord r → (a : ℕ) → a < 2 ^ 32 → Exits code d r a (Holds c r)
+
+-- The code of a rule without its return. Entered at its first place it leaves at its end where the rule holds, and one
+-- place further where not; entered at its second place it leaves two places behind its end, with the accumulator kept.
+pub record IsRuleCode (q : Rule) (code : List sock_filter) : Type 0 where
+  pub long : length code ≡ rule_length q
+  pub ranges : AreInRange code
+  pub closed : IsClosed code (length code + 2)
+  pub enters : (r : List ℕ) → IsRecord r → (a : ℕ) → a < 2 ^ 32 → Exits code 1 r a (RuleHolds q r)
+  pub skips : (r : List ℕ) (a : ℕ) → a < 2 ^ 32 → Goes code r 1 a (1 + relays q) (length code + 2) a

@@ -1,0 +1,6 @@
+pub mod Runs
+pub mod Closed
+pub mod Words
+pub mod Steps
+pub mod Comparisons
+pub mod ConditionCode

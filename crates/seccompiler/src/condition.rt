@@ -1,0 +1,218 @@
+// One comparison of an argument of a system call.
+
+use crate::backend::{BackendError, SeccompCmpArgLen, SeccompCmpOp};
+use crate::bpf::{
+    ARG_NUMBER_MAX, SECCOMP_DATA_ARG_SIZE, SECCOMP_DATA_ARGS_OFFSET, and_mask, jump_if_at_least,
+    jump_if_equal, jump_if_greater, load_word, return_word, sock_filter,
+};
+use std::alloc::Global;
+use std::marker::Model;
+
+/// A condition that an argument of a system call must meet for a rule to hold.
+#[derive(Clone, Copy, Debug, PartialEq, Eq)]
+pub struct SeccompCondition {
+    arg_index: u8,
+    arg_len: SeccompCmpArgLen,
+    operator: SeccompCmpOp,
+    value: u64,
+}
+
+impl Model for SeccompCondition {
+    ghost use Rattle.std.specs.Prelude.{◌≤◌, ◌<◌, ◌^◌};
+    ghost use Rattle.seccompiler.specs.Condition.{Condition};
+
+    ghost Value = { Condition };
+
+    ghost view = { λ c. record { arg_index = c.arg_index; arg_len = c.arg_len; operator = c.operator; value = c.value } };
+
+    ghost invariant = { λ c. (c.arg_index ≤ 5) × (c.value < 2 ^ 64) };
+
+    ghost inverse = { λ c. record { arg_index = c.arg_index; arg_len = c.arg_len; operator = c.operator; value = c.value } };
+}
+
+impl SeccompCondition {
+    ghost use Rattle.std.specs.Prelude.{◌≡◌, ◌+◌, ◌*◌, ◌/◌, ◌%◌, ◌^◌, ◌≤◌, ◌<◌, ◌↔◌, length, IfOk, IfErr, IsOk, IsOkUnless};
+    ghost use Rattle.seccompiler.specs.declared.backend.BackendError.TheVariants.{InvalidArgumentNumber, OutOfMemory};
+    ghost use Rattle.seccompiler.specs.declared.backend.SeccompCmpArgLen.TheVariants.{Dword, Qword};
+    ghost use Rattle.seccompiler.specs.Condition.{size_of, condition_code};
+    ghost use Rattle.seccompiler.specs.Checked.{AreInRange};
+    ghost use Rattle.seccompiler.specs.Pieces.{IsConditionCode};
+
+    /// Makes a condition on argument `arg_index`, numbered from 0.
+    ///
+    /// # Errors
+    ///
+    /// `InvalidArgumentNumber` where `arg_index` is above 5: a system call has six arguments.
+    pub fn new(
+        arg_index: u8,
+        arg_len: SeccompCmpArgLen,
+        operator: SeccompCmpOp,
+        value: u64,
+    ) -> Result<Self, BackendError>
+        ensures made { IfOk result (λ c. c ≡ record { arg_index = arg_index; arg_len = arg_len; operator = operator; value = value }) }
+        ensures refused { IfErr result (λ e. e ≡ InvalidArgumentNumber) }
+        ensures succeeds { IsOk result ↔ (arg_index ≤ 5) }
+    {
+        if arg_index > ARG_NUMBER_MAX {
+            return Err(BackendError::InvalidArgumentNumber);
+        }
+        Ok(SeccompCondition {
+            arg_index,
+            arg_len,
+            operator,
+            value,
+        })
+    }
+
+    /// Where the high and the low half of the argument stand in a call record, in bytes.
+    pub fn get_data_offsets(&self) -> (u8, u8)
+        ensures { result ≡ (20 + 8 * self.now.arg_index, 16 + 8 * self.now.arg_index) }
+    {
+        let low = SECCOMP_DATA_ARGS_OFFSET + SECCOMP_DATA_ARG_SIZE * self.arg_index;
+        (low + SECCOMP_DATA_ARG_SIZE / 2, low)
+    }
+
+    /// The high and the low half of the value.
+    pub fn split_value(&self) -> (u32, u32)
+        ensures { result ≡ (self.now.value / 2 ^ 32, self.now.value % 2 ^ 32) }
+    {
+        (high_half(self.value), low_half(self.value))
+    }
+
+    /// The code of the condition: run from its first instruction it leaves at its end where the
+    /// condition holds, and `offset` instructions further where it does not.
+    ///
+    /// # Errors
+    ///
+    /// `OutOfMemory` where memory is refused.
+    pub fn to_bpf(&self, alloc: Global, offset: u8) -> Result<Vec<sock_filter>, BackendError>
+        requires some { 1 ≤ offset }
+        requires few { offset ≤ 248 }
+        ensures code { IfOk result (λ code. code.items ≡ condition_code self.now offset) }
+        ensures meets { IfOk result (λ code. IsConditionCode self.now offset code.items) }
+        ensures memory { IsOkUnless result OutOfMemory }
+    {
+        let mut code = vec![in alloc; return_word(0); self.code_len()]?;
+        self.write(&mut code, offset);
+        Ok(code)
+    }
+
+    /// How many instructions the condition takes.
+    pub(crate) fn code_len(&self) -> usize
+        ensures { result ≡ size_of self.now }
+    {
+        match (self.arg_len, self.operator) {
+            (SeccompCmpArgLen::Dword, SeccompCmpOp::MaskedEq(_)) => 3,
+            (SeccompCmpArgLen::Dword, _) => 2,
+            (SeccompCmpArgLen::Qword, SeccompCmpOp::MaskedEq(_)) => 6,
+            (SeccompCmpArgLen::Qword, SeccompCmpOp::Eq | SeccompCmpOp::Ne) => 4,
+            (SeccompCmpArgLen::Qword, _) => 5,
+        }
+    }
+
+    /// Fills the part with the condition's code.
+    pub(crate) fn write(&self, part: &mut [sock_filter], offset: u8)
+        requires room { length part.old ≡ size_of self.now }
+        requires some { 1 ≤ offset }
+        requires few { offset ≤ 248 }
+        ensures code { part.new ≡ condition_code self.now offset }
+        ensures meets { IsConditionCode self.now offset part.new }
+    {
+        match self.arg_len {
+            SeccompCmpArgLen::Dword => self.write_dword(part, offset),
+            SeccompCmpArgLen::Qword => self.write_qword(part, offset),
+        }
+    }
+
+    // The code that compares the low half.
+    fn write_dword(&self, part: &mut [sock_filter], offset: u8)
+        requires dword { self.now.arg_len ≡ Dword }
+        requires room { length part.old ≡ size_of self.now }
+        requires few { offset ≤ 248 }
+        ensures code { part.new ≡ condition_code self.now offset }
+        ensures ranges { AreInRange part.new }
+    {
+        let (_, low) = self.get_data_offsets();
+        let low = load_word(u32::from(low));
+        let (_, value) = self.split_value();
+        match self.operator {
+            SeccompCmpOp::Eq => part.copy_from_slice(&[low, jump_if_equal(value, 0, offset)]),
+            SeccompCmpOp::Ne => part.copy_from_slice(&[low, jump_if_equal(value, offset, 0)]),
+            SeccompCmpOp::Ge => part.copy_from_slice(&[low, jump_if_at_least(value, 0, offset)]),
+            SeccompCmpOp::Gt => part.copy_from_slice(&[low, jump_if_greater(value, 0, offset)]),
+            SeccompCmpOp::Le => part.copy_from_slice(&[low, jump_if_greater(value, offset, 0)]),
+            SeccompCmpOp::Lt => part.copy_from_slice(&[low, jump_if_at_least(value, offset, 0)]),
+            SeccompCmpOp::MaskedEq(mask) => {
+                let mask = low_half(mask);
+                let test = jump_if_equal(value & mask, 0, offset);
+                part.copy_from_slice(&[low, and_mask(mask), test]);
+            }
+        }
+    }
+
+    // The code that compares the high half, and then the low half where that is still needed.
+    fn write_qword(&self, part: &mut [sock_filter], offset: u8)
+        requires qword { self.now.arg_len ≡ Qword }
+        requires room { length part.old ≡ size_of self.now }
+        requires few { offset ≤ 248 }
+        ensures code { part.new ≡ condition_code self.now offset }
+        ensures ranges { AreInRange part.new }
+    {
+        let (high, low) = self.get_data_offsets();
+        let (high, low) = (load_word(u32::from(high)), load_word(u32::from(low)));
+        let (high_value, value) = self.split_value();
+        let equal_or_fail = jump_if_equal(high_value, 0, offset + 2);
+        let equal_or_done = jump_if_equal(high_value, 0, 2);
+        let greater_or_on = jump_if_greater(high_value, 3, 0);
+        let greater_fails = jump_if_greater(high_value, offset + 3, 0);
+        match self.operator {
+            SeccompCmpOp::Eq => {
+                let test = jump_if_equal(value, 0, offset);
+                part.copy_from_slice(&[high, equal_or_fail, low, test]);
+            }
+            SeccompCmpOp::Ne => {
+                let test = jump_if_equal(value, offset, 0);
+                part.copy_from_slice(&[high, equal_or_done, low, test]);
+            }
+            SeccompCmpOp::Ge => {
+                let test = jump_if_at_least(value, 0, offset);
+                part.copy_from_slice(&[high, greater_or_on, equal_or_fail, low, test]);
+            }
+            SeccompCmpOp::Gt => {
+                let test = jump_if_greater(value, 0, offset);
+                part.copy_from_slice(&[high, greater_or_on, equal_or_fail, low, test]);
+            }
+            SeccompCmpOp::Le => {
+                let test = jump_if_greater(value, offset, 0);
+                part.copy_from_slice(&[high, greater_fails, equal_or_done, low, test]);
+            }
+            SeccompCmpOp::Lt => {
+                let test = jump_if_at_least(value, offset, 0);
+                part.copy_from_slice(&[high, greater_fails, equal_or_done, low, test]);
+            }
+            SeccompCmpOp::MaskedEq(mask) => {
+                let (high_mask, mask) = (high_half(mask), low_half(mask));
+                let high_test = jump_if_equal(high_value & high_mask, 0, offset + 3);
+                let test = jump_if_equal(value & mask, 0, offset);
+                let (high_and, and) = (and_mask(high_mask), and_mask(mask));
+                part.copy_from_slice(&[high, high_and, high_test, low, and, test]);
+            }
+        }
+    }
+}
+
+ghost use Rattle.std.specs.Prelude.{◌≡◌, ◌/◌, ◌%◌, ◌^◌};
+
+// The high 32 bits.
+fn high_half(value: u64) -> u32
+    ensures { result ≡ value / 2 ^ 32 }
+{
+    (value >> 32) as u32
+}
+
+// The low 32 bits.
+fn low_half(value: u64) -> u32
+    ensures { result ≡ value % 2 ^ 32 }
+{
+    (value & 0xffff_ffff) as u32
+}

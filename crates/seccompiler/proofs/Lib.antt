@@ -4,3 +4,4 @@ pub mod Words
 pub mod Steps
 pub mod Comparisons
 pub mod ConditionCode
+pub mod GroupCuts

@@ -9,5 +9,6 @@ pub mod Condition
 pub mod Policy
 pub mod Groups
 pub mod Layout
+pub mod Relay
 pub mod Pieces
 pub mod Compiled

@@ -1,8 +1,29 @@
 // What conditions, rules and filters have in common: architectures, comparisons, actions and errors.
 
-use crate::bpf::{AUDIT_ARCH_AARCH64, AUDIT_ARCH_RISCV64, AUDIT_ARCH_X86_64};
-use std::alloc::{AllocError, AllocFailed};
+use crate::bpf::{
+    AUDIT_ARCH_AARCH64, AUDIT_ARCH_RISCV64, AUDIT_ARCH_X86_64, SECCOMP_DATA_ARCH_OFFSET,
+    jump_if_equal, load_word, return_word, sock_filter,
+};
+use std::alloc::{AllocError, AllocFailed, Global};
 use std::fmt;
+
+// The words that a program returns, as `linux/seccomp.h` has them.
+const SECCOMP_RET_KILL_PROCESS: u32 = 0x8000_0000;
+
+const SECCOMP_RET_KILL_THREAD: u32 = 0x0000_0000;
+
+const SECCOMP_RET_TRAP: u32 = 0x0003_0000;
+
+const SECCOMP_RET_ERRNO: u32 = 0x0005_0000;
+
+const SECCOMP_RET_TRACE: u32 = 0x7ff0_0000;
+
+const SECCOMP_RET_LOG: u32 = 0x7ffc_0000;
+
+const SECCOMP_RET_ALLOW: u32 = 0x7fff_0000;
+
+// The part of such a word that is the action's data.
+const SECCOMP_RET_DATA: u32 = 0x0000_ffff;
 
 /// The architectures that a filter can be compiled for.
 #[allow(non_camel_case_types)]
@@ -17,8 +38,58 @@ pub enum TargetArch {
 }
 
 impl TargetArch {
-    ghost use Rattle.std.specs.Prelude.{◌≡◌};
+    ghost use Rattle.std.specs.Prelude.{◌≡◌, ◌⊎◌, Ok, Some, IfOk, IfErr, IfSome};
+    ghost use Rattle.std.specs.Str.{str_to_ascii_lowercase};
+    ghost use Rattle.seccompiler.specs.declared.backend.TargetArch.{TargetArch};
+    ghost use Rattle.seccompiler.specs.declared.backend.BackendError.TheVariants.{OutOfMemory};
     ghost use Rattle.seccompiler.specs.Action.{audit_word};
+    ghost use Rattle.seccompiler.specs.Texts.{arch_text, IsInvalidArch};
+
+    /// Reads an architecture's name, `x86_64`, `aarch64` or `riscv64`, without regard to ASCII case.
+    ///
+    /// Takes no memory where it succeeds.
+    ///
+    /// # Errors
+    ///
+    /// `InvalidTargetArch` with the text as it was given where it is none of the three names;
+    /// `OutOfMemory` where there is no memory to keep that text.
+    pub fn from_text(alloc: Global, text: &str) -> Result<Self, BackendError>
+        ensures named { (arch : TargetArch) → str_to_ascii_lowercase text.now ≡ arch_text arch → result ≡ Ok arch }
+        ensures read { IfOk result (λ arch. str_to_ascii_lowercase text.now ≡ arch_text arch) }
+        ensures refused { IfErr result (λ e. IsInvalidArch e text.now ⊎ (e ≡ OutOfMemory)) }
+    {
+        match TargetArch::by_name(text) {
+            Some(arch) => Ok(arch),
+            None => Err(BackendError::InvalidTargetArch(String::from_str(alloc, text)?)),
+        }
+    }
+
+    // The architecture of this name, without regard to ASCII case.
+    fn by_name(text: &str) -> Option<Self>
+        ensures named { (arch : TargetArch) → str_to_ascii_lowercase text.now ≡ arch_text arch → result ≡ Some arch }
+        ensures found { IfSome result (λ arch. str_to_ascii_lowercase text.now ≡ arch_text arch) }
+    {
+        if text.eq_ignore_ascii_case("x86_64") {
+            Some(TargetArch::x86_64)
+        } else if text.eq_ignore_ascii_case("aarch64") {
+            Some(TargetArch::aarch64)
+        } else if text.eq_ignore_ascii_case("riscv64") {
+            Some(TargetArch::riscv64)
+        } else {
+            None
+        }
+    }
+
+    // The variant's name.
+    fn name(self) -> &'static str
+        ensures { result.now ≡ arch_text self }
+    {
+        match self {
+            TargetArch::x86_64 => "x86_64",
+            TargetArch::aarch64 => "aarch64",
+            TargetArch::riscv64 => "riscv64",
+        }
+    }
 
     /// The architecture's word in a call record, as `linux/audit.h` has it.
     pub fn get_audit_value(self) -> u32
@@ -40,11 +111,7 @@ impl fmt::Display for TargetArch {
     ghost output = { λ arch. Some (arch_text arch) };
 
     fn fmt<W: fmt::Write>(&self, f: &mut fmt::Formatter<W>) -> fmt::Result {
-        match self {
-            TargetArch::x86_64 => f.write_str("x86_64"),
-            TargetArch::aarch64 => f.write_str("aarch64"),
-            TargetArch::riscv64 => f.write_str("riscv64"),
-        }
+        f.write_str(self.name())
     }
 }
 
@@ -96,6 +163,26 @@ pub enum SeccompAction {
     Trace(u32),
     /// Sends `SIGSYS` to the calling process.
     Trap,
+}
+
+/// The word that a program returns for the action.
+impl From<SeccompAction> for u32 {
+    ghost use Rattle.std.specs.Prelude.{◌≡◌};
+    ghost use Rattle.seccompiler.specs.Action.{word_of};
+
+    ghost from_gives = { λ action word. word ≡ word_of action };
+
+    fn from(action: SeccompAction) -> u32 {
+        match action {
+            SeccompAction::Allow => SECCOMP_RET_ALLOW,
+            SeccompAction::Errno(number) => SECCOMP_RET_ERRNO | (number & SECCOMP_RET_DATA),
+            SeccompAction::KillThread => SECCOMP_RET_KILL_THREAD,
+            SeccompAction::KillProcess => SECCOMP_RET_KILL_PROCESS,
+            SeccompAction::Log => SECCOMP_RET_LOG,
+            SeccompAction::Trace(number) => SECCOMP_RET_TRACE | (number & SECCOMP_RET_DATA),
+            SeccompAction::Trap => SECCOMP_RET_TRAP,
+        }
+    }
 }
 
 /// Why the backend refuses.
@@ -168,4 +255,29 @@ impl<T: Drop> From<AllocFailed<T>> for BackendError {
     fn from(_refused: AllocFailed<T>) -> BackendError {
         BackendError::OutOfMemory
     }
+}
+
+ghost use Rattle.std.specs.Prelude.{◌≡◌, [], ◌∷◌, IfOk, IsOkUnless};
+ghost use Rattle.seccompiler.specs.declared.backend.BackendError.TheVariants.{OutOfMemory};
+ghost use Rattle.seccompiler.specs.Action.{audit_word};
+ghost use Rattle.seccompiler.specs.Code.{load, jump_equal, give};
+
+/// The three instructions that kill the process on a call of another architecture: load the
+/// architecture word, skip the return where it is `arch`'s, return `SECCOMP_RET_KILL_PROCESS`.
+///
+/// # Errors
+///
+/// `OutOfMemory` where memory is refused.
+pub fn build_arch_validation_sequence(
+    alloc: Global,
+    arch: TargetArch,
+) -> Result<Vec<sock_filter>, BackendError>
+    ensures code { IfOk result (λ code. code.items ≡ load 4 ∷ jump_equal (audit_word arch) 1 0 ∷ give 0x80000000 ∷ []) }
+    ensures memory { IsOkUnless result OutOfMemory }
+{
+    Ok(vec![in alloc;
+        load_word(u32::from(SECCOMP_DATA_ARCH_OFFSET)),
+        jump_if_equal(arch.get_audit_value(), 1, 0),
+        return_word(SECCOMP_RET_KILL_PROCESS),
+    ]?)
 }

@@ -4,3 +4,4 @@
 pub mod backend;
 pub mod bpf;
 pub mod condition;
+pub mod rule;

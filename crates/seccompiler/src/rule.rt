@@ -1,0 +1,159 @@
+// Conditions that must all hold.
+
+use crate::backend::BackendError;
+use crate::bpf::{BpfProgram, CONDITION_MAX_LEN, jump_over, return_word, sock_filter};
+use crate::condition::SeccompCondition;
+use std::alloc::Global;
+use std::marker::Model;
+
+// From this offset on a further condition might leave no room for its jumps.
+const RELAY_OFFSET: u8 = u8::MAX - CONDITION_MAX_LEN;
+
+/// A rule: one condition or more, which must all hold for the rule to hold.
+#[derive(Debug, Drop)]
+pub struct SeccompRule {
+    conditions: Vec<SeccompCondition>,
+}
+
+impl Model for SeccompRule {
+    ghost use Rattle.std.specs.Prelude.{◌≤◌, length};
+    ghost use Rattle.seccompiler.specs.Policy.{Rule};
+
+    ghost Value = { Rule };
+
+    ghost view = { λ q. q.conditions.items };
+
+    ghost invariant = { λ q. 1 ≤ length q.conditions.items };
+}
+
+impl SeccompRule {
+    ghost use Rattle.std.specs.Prelude.{◌≡◌, ◌≤◌, ◌↔◌, length, min, IfOk, IfErr, IsOk, IsOkUnless};
+    ghost use Rattle.seccompiler.specs.declared.backend.BackendError.TheVariants.{EmptyRule, OutOfMemory};
+    ghost use Rattle.seccompiler.specs.Groups.{groups_of, IsOnlyCut};
+    ghost use Rattle.seccompiler.specs.Layout.{rule_length};
+    ghost use Rattle.seccompiler.specs.Pieces.{IsRuleCode};
+
+    /// Makes a rule of the conditions, joined by and.
+    ///
+    /// # Errors
+    ///
+    /// `EmptyRule` where there is no condition.
+    pub fn new(conditions: Vec<SeccompCondition>) -> Result<Self, BackendError>
+        ensures made { IfOk result (λ rule. rule ≡ conditions.items) }
+        ensures refused { IfErr result (λ e. e ≡ EmptyRule) }
+        ensures succeeds { IsOk result ↔ (1 ≤ length conditions.items) }
+    {
+        if conditions.is_empty() {
+            return Err(BackendError::EmptyRule);
+        }
+        Ok(SeccompRule { conditions })
+    }
+
+    /// An equal rule.
+    ///
+    /// # Errors
+    ///
+    /// `OutOfMemory` where memory is refused.
+    pub fn clone(&self, alloc: Global) -> Result<Self, BackendError>
+        ensures same { IfOk result (λ rule. rule ≡ self.now) }
+        ensures memory { IsOkUnless result OutOfMemory }
+    {
+        let conditions = self.conditions.as_slice().to_vec(alloc)?;
+        Ok(SeccompRule { conditions })
+    }
+
+    /// The rule's code, without the return behind it.
+    ///
+    /// Run from its first instruction it leaves at its end where the rule holds, and one
+    /// instruction further where it does not. Run from its second instruction, as for another
+    /// call number, it leaves two instructions behind its end.
+    ///
+    /// # Errors
+    ///
+    /// `OutOfMemory` where memory is refused.
+    pub fn to_bpf(&self, alloc: Global) -> Result<BpfProgram, BackendError>
+        ensures code { IfOk result (λ code. IsRuleCode self.now code.items) }
+        ensures groups { IsOnlyCut self.now (groups_of self.now) }
+        ensures memory { IsOkUnless result OutOfMemory }
+    {
+        let length = self.code_len();
+        if length == usize::MAX {
+            return Err(BackendError::OutOfMemory);
+        }
+        let mut code = vec![in alloc; return_word(0); length]?;
+        self.write(&mut code);
+        Ok(code)
+    }
+
+    /// How many instructions the rule's code takes, or `usize::MAX` if that is less.
+    pub(crate) fn code_len(&self) -> usize
+        ensures { result ≡ min (rule_length self.now) usize.MAX }
+    {
+        let mut length: usize = 2;
+        let mut offset: u8 = 1;
+        for condition in &self.conditions {
+            if offset >= RELAY_OFFSET {
+                length = length.saturating_add(3);
+                offset = 1;
+            }
+            let size = condition.code_len();
+            length = length.saturating_add(size);
+            offset += size as u8;
+        }
+        length
+    }
+
+    /// Fills the part with the rule's code, from its end to its front.
+    pub(crate) fn write(&self, part: &mut [sock_filter])
+        requires room { length part.old ≡ rule_length self.now }
+        ensures code { IsRuleCode self.now part.new }
+    {
+        let mut end = part.len();
+        let mut offset: u8 = 1;
+        for condition in &self.conditions {
+            let (front, near) = relay_if_far(part, end, offset);
+            let size = condition.code_len();
+            condition.write(&mut part[front - size..front], near);
+            end = front - size;
+            offset = near + size as u8;
+        }
+        write_entry(&mut part[..end], offset);
+    }
+}
+
+ghost use Rattle.std.specs.Prelude.{◌≡◌, ◌≤◌, ◌+◌, ◌++◌, length, drop};
+ghost use Rattle.seccompiler.specs.Checked.{AreInRange};
+ghost use Rattle.seccompiler.specs.Relay.{entry_code, relay_code, relay_front, offset_behind};
+
+// Puts a relay in front of what is written from `end` on, where the offset is too far for a further
+// condition. Gives where the code begins then, and the offset there.
+fn relay_if_far(part: &mut [sock_filter], end: usize, offset: u8) -> (usize, u8)
+    requires within { end ≤ length part.old }
+    requires room { length (relay_front offset) ≤ end }
+    ensures code { drop result.0 part.new ≡ relay_front offset ++ drop end part.old }
+    ensures front { result.0 + length (relay_front offset) ≡ end }
+    ensures offset { result.1 ≡ offset_behind offset }
+{
+    if offset < RELAY_OFFSET {
+        return (end, offset);
+    }
+    write_relay(&mut part[end - 3..end], offset);
+    (end - 3, 1)
+}
+
+// The three jumps of a relay: on to the conditions behind it, to the failure exit, and past the rule.
+fn write_relay(part: &mut [sock_filter], offset: u8)
+    requires room { length part.old ≡ 3 }
+    ensures code { part.new ≡ relay_code offset }
+{
+    let far = u32::from(offset) + 1;
+    part.copy_from_slice(&[jump_over(2), jump_over(far), jump_over(far)]);
+}
+
+// The two jumps in front of a rule: on to its conditions, and past the rule.
+fn write_entry(part: &mut [sock_filter], offset: u8)
+    requires room { length part.old ≡ 2 }
+    ensures code { part.new ≡ entry_code offset }
+{
+    part.copy_from_slice(&[jump_over(1), jump_over(u32::from(offset) + 1)]);
+}

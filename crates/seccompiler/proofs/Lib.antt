@@ -5,3 +5,4 @@ pub mod Steps
 pub mod Comparisons
 pub mod ConditionCode
 pub mod GroupCuts
+pub mod Reordering

@@ -12,3 +12,5 @@ pub mod Layout
 pub mod Relay
 pub mod Pieces
 pub mod Compiled
+pub mod Reorder
+pub mod LowHalf

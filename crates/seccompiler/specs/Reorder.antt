@@ -1,0 +1,33 @@
+-- Filters that differ in the order of rules and conditions alone, and records that differ in the instruction pointer
+-- alone.
+use Rattle.std.specs.Prelude.{◌≡◌, ℕ, ℤ, ◌<◌, ◌≤◌, ◌⊎◌, List, slice_index}
+use Rattle.std.specs.List.{AllZip}
+use Rattle.std.specs.List.Sorted.{IsPermutation}
+use Rattle.seccompiler.specs.Policy.{Rule, Chain, Filter}
+
+-- The second rule has the conditions of the first, in another order or the same.
+abbrev pub IsReorderedRule : Rule → Rule → Type 0
+IsReorderedRule q q' = IsPermutation q q'
+
+-- The second chain has the rules of the first in another order or the same, and each rule is reordered as well.
+pub record IsReorderedChain (chain chain' : Chain) : Type 0 where
+  pub middle : Chain
+  pub rules : IsPermutation chain middle
+  pub conditions : AllZip IsReorderedRule middle chain'
+
+-- Two entries have one call number, and the second's chain is the first's reordered.
+pub record IsReorderedEntry (e e' : ℤ × Chain) : Type 0 where
+  pub number : e.0 ≡ e'.0
+  pub chain : IsReorderedChain e.1 e'.1
+
+-- Two filters have the same call numbers, actions and architecture, and each chain of the second is the first's
+-- with its rules, and the conditions in each rule, in another order or the same.
+pub record IsReordered (f g : Filter) : Type 0 where
+  pub chains : AllZip IsReorderedEntry f.chains g.chains
+  pub mismatch_action : f.mismatch_action ≡ g.mismatch_action
+  pub match_action : f.match_action ≡ g.match_action
+  pub target_arch : f.target_arch ≡ g.target_arch
+
+-- Two records agree in every byte but bytes 8 to 15, the instruction pointer (linux/seccomp.h).
+pub record IsSameCall (r s : List ℕ) : Type 0 where
+  pub bytes : (k : ℕ) → (k < 8) ⊎ (16 ≤ k) → slice_index r k ≡ slice_index s k

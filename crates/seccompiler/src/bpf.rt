@@ -81,6 +81,27 @@ pub const BPF_JGE: u16 = 0x30;
 /// The source of an operand: the instruction's own `k`.
 pub const BPF_K: u16 = 0x00;
 
+/// Loads the word at byte `k` of the record.
+pub(crate) const LOAD: u16 = BPF_LD | BPF_W | BPF_ABS;
+
+/// Keeps the bits of the accumulator that are set in `k`.
+pub(crate) const MASK: u16 = BPF_ALU | BPF_AND | BPF_K;
+
+/// Jumps over `k` instructions.
+pub(crate) const JUMP: u16 = BPF_JMP | BPF_JA;
+
+/// Jumps over `jt` instructions where the accumulator equals `k`, else over `jf`.
+pub(crate) const JUMP_EQUAL: u16 = BPF_JMP | BPF_JEQ | BPF_K;
+
+/// Jumps over `jt` instructions where the accumulator is greater than `k`, else over `jf`.
+pub(crate) const JUMP_GREATER: u16 = BPF_JMP | BPF_JGT | BPF_K;
+
+/// Jumps over `jt` instructions where the accumulator is at least `k`, else over `jf`.
+pub(crate) const JUMP_AT_LEAST: u16 = BPF_JMP | BPF_JGE | BPF_K;
+
+/// Ends the program, and returns the word `k`.
+pub(crate) const RETURN: u16 = BPF_RET | BPF_K;
+
 /// The architecture word of x86_64 in `struct seccomp_data`, as `linux/audit.h` has it.
 pub const AUDIT_ARCH_X86_64: u32 = 0xc000_003e;
 

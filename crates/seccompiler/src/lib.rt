@@ -3,3 +3,5 @@
 
 pub mod backend;
 pub mod bpf;
+pub mod machine;
+pub(crate) mod record;

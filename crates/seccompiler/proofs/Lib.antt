@@ -1,3 +1,6 @@
+-- Lemmas that several proofs cite.
+pub mod CheckedLemmas
+pub mod Determinism
 pub mod Runs
 pub mod Closed
 pub mod Words

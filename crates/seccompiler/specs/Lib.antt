@@ -11,6 +11,8 @@ pub mod Groups
 pub mod Layout
 pub mod Relay
 pub mod Pieces
+pub mod ChainCode
 pub mod Compiled
+pub mod Refusal
 pub mod Reorder
 pub mod LowHalf

@@ -83,6 +83,27 @@ pub const BPF_JGE: u16 = 0x30;
 /// The source of an operand: the instruction's own `k`.
 pub const BPF_K: u16 = 0x00;
 
+/// Loads the word at byte `k` of the record.
+pub(crate) const LOAD: u16 = BPF_LD | BPF_W | BPF_ABS;
+
+/// Keeps the bits of the accumulator that are set in `k`.
+pub(crate) const MASK: u16 = BPF_ALU | BPF_AND | BPF_K;
+
+/// Jumps over `k` instructions.
+pub(crate) const JUMP: u16 = BPF_JMP | BPF_JA;
+
+/// Jumps over `jt` instructions where the accumulator equals `k`, else over `jf`.
+pub(crate) const JUMP_EQUAL: u16 = BPF_JMP | BPF_JEQ | BPF_K;
+
+/// Jumps over `jt` instructions where the accumulator is greater than `k`, else over `jf`.
+pub(crate) const JUMP_GREATER: u16 = BPF_JMP | BPF_JGT | BPF_K;
+
+/// Jumps over `jt` instructions where the accumulator is at least `k`, else over `jf`.
+pub(crate) const JUMP_AT_LEAST: u16 = BPF_JMP | BPF_JGE | BPF_K;
+
+/// Ends the program, and returns the word `k`.
+pub(crate) const RETURN: u16 = BPF_RET | BPF_K;
+
 /// The architecture word of x86_64 in `struct seccomp_data`, as `linux/audit.h` has it.
 pub const AUDIT_ARCH_X86_64: u32 = 0xc000_003e;
 
@@ -111,7 +132,7 @@ pub(crate) fn load_word(k: u32) -> sock_filter
     ensures instruction { result ≡ load k }
     ensures range { IsInRange result }
 {
-    bpf_stmt(BPF_LD | BPF_W | BPF_ABS, k)
+    bpf_stmt(LOAD, k)
 }
 
 /// Keeps the bits of the accumulator that are set in `k`.
@@ -119,7 +140,7 @@ pub(crate) fn and_mask(k: u32) -> sock_filter
     ensures instruction { result ≡ mask k }
     ensures range { IsInRange result }
 {
-    bpf_stmt(BPF_ALU | BPF_AND | BPF_K, k)
+    bpf_stmt(MASK, k)
 }
 
 /// Jumps over `k` instructions.
@@ -127,7 +148,7 @@ pub(crate) fn jump_over(k: u32) -> sock_filter
     ensures instruction { result ≡ jump k }
     ensures range { IsInRange result }
 {
-    bpf_stmt(BPF_JMP | BPF_JA | BPF_K, k)
+    bpf_stmt(JUMP, k)
 }
 
 /// Jumps over `jt` instructions where the accumulator equals `k`, else over `jf`.
@@ -135,7 +156,7 @@ pub(crate) fn jump_if_equal(k: u32, jt: u8, jf: u8) -> sock_filter
     ensures instruction { result ≡ jump_equal k jt jf }
     ensures range { IsInRange result }
 {
-    bpf_jump(BPF_JMP | BPF_JEQ | BPF_K, k, jt, jf)
+    bpf_jump(JUMP_EQUAL, k, jt, jf)
 }
 
 /// Jumps over `jt` instructions where the accumulator is greater than `k`, else over `jf`.
@@ -143,7 +164,7 @@ pub(crate) fn jump_if_greater(k: u32, jt: u8, jf: u8) -> sock_filter
     ensures instruction { result ≡ jump_greater k jt jf }
     ensures range { IsInRange result }
 {
-    bpf_jump(BPF_JMP | BPF_JGT | BPF_K, k, jt, jf)
+    bpf_jump(JUMP_GREATER, k, jt, jf)
 }
 
 /// Jumps over `jt` instructions where the accumulator is at least `k`, else over `jf`.
@@ -151,7 +172,7 @@ pub(crate) fn jump_if_at_least(k: u32, jt: u8, jf: u8) -> sock_filter
     ensures instruction { result ≡ jump_at_least k jt jf }
     ensures range { IsInRange result }
 {
-    bpf_jump(BPF_JMP | BPF_JGE | BPF_K, k, jt, jf)
+    bpf_jump(JUMP_AT_LEAST, k, jt, jf)
 }
 
 /// Ends the run and returns the word `k`.
@@ -159,5 +180,5 @@ pub(crate) fn return_word(k: u32) -> sock_filter
     ensures instruction { result ≡ give k }
     ensures range { IsInRange result }
 {
-    bpf_stmt(BPF_RET | BPF_K, k)
+    bpf_stmt(RETURN, k)
 }

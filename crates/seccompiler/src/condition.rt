@@ -5,6 +5,7 @@ use crate::bpf::{
     ARG_NUMBER_MAX, SECCOMP_DATA_ARG_SIZE, SECCOMP_DATA_ARGS_OFFSET, and_mask, jump_if_at_least,
     jump_if_equal, jump_if_greater, load_word, return_word, sock_filter,
 };
+use crate::record::argument_at;
 use std::alloc::Global;
 use std::marker::Model;
 
@@ -31,10 +32,10 @@ impl Model for SeccompCondition {
 }
 
 impl SeccompCondition {
-    ghost use Rattle.std.specs.Prelude.{◌≡◌, ◌+◌, ◌*◌, ◌/◌, ◌%◌, ◌^◌, ◌≤◌, ◌<◌, ◌↔◌, length, IfOk, IfErr, IsOk, IsOkUnless};
+    ghost use Rattle.std.specs.Prelude.{◌≡◌, ◌+◌, ◌*◌, ◌/◌, ◌%◌, ◌^◌, ◌≤◌, ◌<◌, ◌↔◌, length, IfOk, IfErr, IsOk, IsOkUnless, IsTrue};
     ghost use Rattle.seccompiler.specs.declared.backend.BackendError.TheVariants.{InvalidArgumentNumber, OutOfMemory};
     ghost use Rattle.seccompiler.specs.declared.backend.SeccompCmpArgLen.TheVariants.{Dword, Qword};
-    ghost use Rattle.seccompiler.specs.Condition.{size_of, condition_code};
+    ghost use Rattle.seccompiler.specs.Condition.{Holds, size_of, condition_code};
     ghost use Rattle.seccompiler.specs.Checked.{AreInRange};
     ghost use Rattle.seccompiler.specs.Pieces.{IsConditionCode};
 
@@ -77,6 +78,19 @@ impl SeccompCondition {
         ensures { result ≡ (self.now.value / 2 ^ 32, self.now.value % 2 ^ 32) }
     {
         (high_half(self.value), low_half(self.value))
+    }
+
+    /// Whether the condition holds for the call of this record.
+    pub fn holds(&self, call: &[u8; 64]) -> bool
+        ensures { IsTrue result ↔ Holds self.now call.now }
+    {
+        let argument = part_of(self.arg_len, argument_at(call, self.arg_index));
+        compares(
+            self.operator,
+            self.arg_len,
+            argument,
+            part_of(self.arg_len, self.value),
+        )
     }
 
     /// The code of the condition: run from its first instruction it leaves at its end where the
@@ -201,7 +215,36 @@ impl SeccompCondition {
     }
 }
 
-ghost use Rattle.std.specs.Prelude.{◌≡◌, ◌/◌, ◌%◌, ◌^◌};
+ghost use Rattle.std.specs.Prelude.{◌≡◌, ◌/◌, ◌%◌, ◌^◌, ◌↔◌, IsTrue};
+ghost use Rattle.seccompiler.specs.Condition.{part_of, Compares};
+
+// What is compared of a number.
+fn part_of(length: SeccompCmpArgLen, number: u64) -> u64
+    ensures { result ≡ part_of length number }
+{
+    match length {
+        SeccompCmpArgLen::Dword => number & 0xffff_ffff,
+        SeccompCmpArgLen::Qword => number,
+    }
+}
+
+// Whether the argument compares with the value as the operator says.
+fn compares(operator: SeccompCmpOp, length: SeccompCmpArgLen, argument: u64, value: u64) -> bool
+    ensures { IsTrue result ↔ Compares operator (part_of length) argument value }
+{
+    match operator {
+        SeccompCmpOp::Eq => argument == value,
+        SeccompCmpOp::Ne => argument != value,
+        SeccompCmpOp::Ge => argument >= value,
+        SeccompCmpOp::Gt => argument > value,
+        SeccompCmpOp::Le => argument <= value,
+        SeccompCmpOp::Lt => argument < value,
+        SeccompCmpOp::MaskedEq(mask) => {
+            let mask = part_of(length, mask);
+            argument & mask == value & mask
+        }
+    }
+}
 
 // The high 32 bits.
 fn high_half(value: u64) -> u32

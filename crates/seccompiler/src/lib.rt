@@ -3,5 +3,9 @@
 
 pub mod backend;
 pub mod bpf;
+pub(crate) mod chain;
 pub mod condition;
+pub mod filter;
+pub mod machine;
+pub(crate) mod record;
 pub mod rule;

@@ -27,8 +27,9 @@ impl Model for SeccompRule {
 }
 
 impl SeccompRule {
-    ghost use Rattle.std.specs.Prelude.{◌≡◌, ◌≤◌, ◌↔◌, length, min, IfOk, IfErr, IsOk, IsOkUnless};
+    ghost use Rattle.std.specs.Prelude.{◌≡◌, ◌≤◌, ◌↔◌, length, min, IfOk, IfErr, IsOk, IsOkUnless, IsTrue};
     ghost use Rattle.seccompiler.specs.declared.backend.BackendError.TheVariants.{EmptyRule, OutOfMemory};
+    ghost use Rattle.seccompiler.specs.Policy.{RuleHolds};
     ghost use Rattle.seccompiler.specs.Groups.{groups_of, IsOnlyCut};
     ghost use Rattle.seccompiler.specs.Layout.{rule_length};
     ghost use Rattle.seccompiler.specs.Pieces.{IsRuleCode};
@@ -60,6 +61,18 @@ impl SeccompRule {
     {
         let conditions = self.conditions.as_slice().to_vec(alloc)?;
         Ok(SeccompRule { conditions })
+    }
+
+    /// Whether all conditions of the rule hold for the call of this record.
+    pub fn holds(&self, call: &[u8; 64]) -> bool
+        ensures { IsTrue result ↔ RuleHolds self.now call.now }
+    {
+        for condition in &self.conditions {
+            if !condition.holds(call) {
+                return false;
+            }
+        }
+        true
     }
 
     /// The rule's code, without the return behind it.

@@ -1,0 +1,62 @@
+-- What the code of rules with their returns, of a chain and of a filter's chains promises to the code around it.
+use Rattle.std.specs.Prelude.{◌≡◌, ◌≢◌, ℕ, ℤ, ◌+◌, ◌^◌, ◌<◌, ◌⊎◌, List, length, Any, Some, None, slice_get, sum_by}
+use Rattle.seccompiler.specs.declared.bpf.sock_filter.{sock_filter}
+use Rattle.seccompiler.specs.Record.{IsRecord}
+use Rattle.seccompiler.specs.Machine.{Goes}
+use Rattle.seccompiler.specs.Checked.{IsInside, AreInRange}
+use Rattle.seccompiler.specs.Policy.{Chain, RuleHolds, ChainMatches, chain_under}
+use Rattle.seccompiler.specs.Layout.{rule_length, rule_steps, chain_length, chain_steps, chains_length, chains_steps}
+use Rattle.seccompiler.specs.Pieces.{Leads}
+
+-- A run from a place and an accumulator returns this word, after so many steps and the return.
+pub record Returns (p : List sock_filter) (r : List ℕ) (place a w : ℕ) : Type 0 where
+  pub to : ℕ
+  pub count : ℕ
+  pub accumulator : ℕ
+  pub instruction : sock_filter
+  pub goes : Goes p r place a count to accumulator
+  pub here : slice_get p to ≡ Some instruction
+  pub returns : instruction.code ≡ 0x06
+  pub value : instruction.k ≡ w
+
+-- Each instruction returns, or may stand in a piece whose jumps lead at most to m.
+pub record IsBlock (p : List sock_filter) (m : ℕ) : Type 0 where
+  pub each : (place : ℕ) (i : sock_filter) → slice_get p place ≡ Some i → (IsInside i place m) ⊎ (i.code ≡ 0x06)
+
+-- How many instructions the rules of a chain take, each with its return.
+abbrev pub rules_length : Chain → ℕ
+rules_length chain = sum_by (λ rule. rule_length rule + 1) chain
+
+-- The code of rules, each with its return: entered at its first place it returns where some rule holds, and leaves at
+-- its end where none does; entered at its second place it leaves one place behind its end, with the accumulator kept.
+pub record IsRulesCode (chain : Chain) (w : ℕ) (code : List sock_filter) : Type 0 where
+  pub long : length code ≡ rules_length chain
+  pub ranges : AreInRange code
+  pub block : IsBlock code (length code + 1)
+  pub enters : (r : List ℕ) → IsRecord r → (a : ℕ) → a < 2 ^ 32
+      → (Any (λ q. RuleHolds q r) chain × Returns code r 0 a w) ⊎ ((Any (λ q. RuleHolds q r) chain → ⊥) × Leads code r 0 a (length code))
+  pub skips : (r : List ℕ) (a : ℕ) → a < 2 ^ 32 → Goes code r 1 a (sum_by rule_steps chain) (length code + 1) a
+
+-- The code of a chain: entered with its call number it returns one of the two words; with another number it leaves at
+-- its end, with the accumulator kept.
+pub record IsChainCode (number : ℕ) (chain : Chain) (mismatch matched : ℕ) (code : List sock_filter) : Type 0 where
+  pub long : length code ≡ chain_length chain
+  pub ranges : AreInRange code
+  pub block : IsBlock code (length code)
+  pub enters : (r : List ℕ) → IsRecord r
+      → (ChainMatches chain r × Returns code r 0 number matched) ⊎ ((ChainMatches chain r → ⊥) × Returns code r 0 number mismatch)
+  pub passes : (r : List ℕ) (a : ℕ) → a < 2 ^ 32 → a ≢ number → Goes code r 0 a (chain_steps chain) (length code) a
+
+-- What the code of chains does with a call number: it returns a word where there is a chain, and leaves at its end where
+-- there is none.
+pub data Dispatches (chains : List (ℤ × Chain)) (mismatch matched : ℕ) (code : List sock_filter) (r : List ℕ) (a : ℕ) : Type 0 where
+  chain_matches : (chain : Chain) → chain_under chains a ≡ Some chain → ChainMatches chain r → Returns code r 0 a matched → Dispatches chains mismatch matched code r a
+  chain_differs : (chain : Chain) → chain_under chains a ≡ Some chain → (ChainMatches chain r → ⊥) → Returns code r 0 a mismatch → Dispatches chains mismatch matched code r a
+  no_chain : chain_under chains a ≡ None → Goes code r 0 a (chains_steps chains) (length code) a → Dispatches chains mismatch matched code r a
+
+-- The code of the chains of a filter, entered with the call number in the accumulator.
+pub record IsChainsCode (chains : List (ℤ × Chain)) (mismatch matched : ℕ) (code : List sock_filter) : Type 0 where
+  pub long : length code ≡ chains_length chains
+  pub ranges : AreInRange code
+  pub block : IsBlock code (length code)
+  pub dispatches : (r : List ℕ) → IsRecord r → (a : ℕ) → a < 2 ^ 32 → Dispatches chains mismatch matched code r a

@@ -1,0 +1,146 @@
+// The chains of a filter: rules of one call number, and their code.
+
+ghost use Rattle.std.specs.Prelude.{◌≡◌, ◌≤◌, ◌<◌, ◌^◌, ◌-◌, ◌↔◌, ℤ, pos, min, map, length, All, IsTrue, IsNone, IfOk, IfSome, IsOkUnless};
+ghost use Rattle.std.specs.BTreeMap.{keys};
+ghost use Rattle.seccompiler.specs.declared.backend.BackendError.TheVariants.{OutOfMemory};
+ghost use Rattle.seccompiler.specs.Policy.{chains_of, IsCallNumber, ChainMatches};
+ghost use Rattle.seccompiler.specs.Layout.{chain_length, chains_length};
+ghost use Rattle.seccompiler.specs.Refusal.{AreCallNumbers, IsLeastUnfit};
+ghost use Rattle.seccompiler.specs.ChainCode.{rules_length, IsRulesCode, IsChainCode, IsChainsCode};
+
+use crate::backend::BackendError;
+use crate::bpf::{jump_if_equal, jump_over, return_word, sock_filter};
+use crate::rule::SeccompRule;
+use std::alloc::Global;
+use std::collections::BTreeMap;
+
+/// The least number that does not fit 32 unsigned bits, if there is one.
+pub(crate) fn unfit_number(rules: &BTreeMap<i64, Vec<SeccompRule>>) -> Option<i64>
+    ensures unfit { IfSome result (IsLeastUnfit (keys rules.now)) }
+    ensures fit { IsNone result ↔ AreCallNumbers (keys rules.now) }
+{
+    for number in rules.keys() {
+        if u32::try_from(*number).is_err() {
+            return Some(*number);
+        }
+    }
+    None
+}
+
+/// Whether a rule of the chain holds for the call of this record, or the chain has none.
+pub(crate) fn chain_matches(chain: &[SeccompRule], call: &[u8; 64]) -> bool
+    ensures { IsTrue result ↔ ChainMatches chain.now call.now }
+{
+    if chain.is_empty() {
+        return true;
+    }
+    for rule in chain {
+        if rule.holds(call) {
+            return true;
+        }
+    }
+    false
+}
+
+/// An equal chain.
+pub(crate) fn clone_chain(
+    alloc: Global,
+    chain: &[SeccompRule],
+) -> Result<Vec<SeccompRule>, BackendError>
+    ensures same { IfOk result (λ rules. rules.items ≡ chain.now) }
+    ensures memory { IsOkUnless result OutOfMemory }
+{
+    let mut rules = Vec::new(alloc);
+    for rule in chain {
+        rules.push(rule.clone(alloc)?)?;
+    }
+    Ok(rules)
+}
+
+/// How many instructions the chain takes, or `usize::MAX` if that is less.
+pub(crate) fn chain_len(chain: &[SeccompRule]) -> usize
+    ensures { result ≡ min (chain_length chain.now) usize.MAX }
+{
+    if chain.is_empty() {
+        return 5;
+    }
+    let mut length: usize = 2;
+    for rule in chain {
+        length = length.saturating_add(rule.code_len()).saturating_add(1);
+    }
+    length
+}
+
+/// Fills the part with the code of the chains, in ascending order of call numbers.
+pub(crate) fn write_chains(
+    part: &mut [sock_filter],
+    rules: &BTreeMap<i64, Vec<SeccompRule>>,
+    mismatch: u32,
+    matched: u32,
+)
+    requires numbers { AreCallNumbers (keys rules.now) }
+    requires room { length part.old ≡ chains_length (chains_of rules.now.entries) }
+    ensures code { IsChainsCode (chains_of rules.now.entries) mismatch matched part.new }
+{
+    let mut start = 0;
+    for (number, chain) in rules {
+        let end = start + chain_len(chain);
+        write_chain(
+            &mut part[start..end],
+            call_number(number),
+            chain,
+            mismatch,
+            matched,
+        );
+        start = end;
+    }
+}
+
+// The call number as a record has it.
+fn call_number(number: &i64) -> u32
+    requires { IsCallNumber number.now }
+    ensures { number.now ≡ pos result }
+{
+    *number as u32
+}
+
+// Fills the part with the code of a chain: a test of the call number, the rules, and a return.
+fn write_chain(
+    part: &mut [sock_filter],
+    number: u32,
+    chain: &[SeccompRule],
+    mismatch: u32,
+    matched: u32,
+)
+    requires room { length part.old ≡ chain_length chain.now }
+    ensures code { IsChainCode number chain.now mismatch matched part.new }
+{
+    if chain.is_empty() {
+        part.copy_from_slice(&[
+            jump_if_equal(number, 0, 1),
+            jump_over(1),
+            jump_over(2),
+            return_word(matched),
+            return_word(mismatch),
+        ]);
+        return;
+    }
+    let last = part.len() - 1;
+    part[0] = jump_if_equal(number, 0, 1);
+    write_rules(&mut part[1..last], chain, matched);
+    part[last] = return_word(mismatch);
+}
+
+// Fills the part with the rules of a chain, each with its return.
+fn write_rules(part: &mut [sock_filter], chain: &[SeccompRule], matched: u32)
+    requires room { length part.old ≡ rules_length chain.now }
+    ensures code { IsRulesCode chain.now matched part.new }
+{
+    let mut start = 0;
+    for rule in chain {
+        let end = start + rule.code_len();
+        rule.write(&mut part[start..end]);
+        part[end] = return_word(matched);
+        start = end + 1;
+    }
+}

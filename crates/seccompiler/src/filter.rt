@@ -1,0 +1,190 @@
+// A policy on system calls, and its program.
+
+use crate::backend::{BackendError, SeccompAction, TargetArch};
+use crate::bpf::{
+    BPF_MAX_LEN, BpfProgram, SECCOMP_DATA_ARCH_OFFSET, SECCOMP_DATA_NR_OFFSET, jump_if_equal,
+    load_word, return_word, sock_filter,
+};
+use crate::chain::{chain_len, chain_matches, clone_chain, unfit_number, write_chains};
+use crate::record::word_at;
+use crate::rule::SeccompRule;
+use std::alloc::Global;
+use std::collections::BTreeMap;
+use std::marker::Model;
+
+/// A policy on system calls: a chain of rules for each of some call numbers, what to answer where
+/// a chain matches and where none does, and the architecture that the numbers are of.
+///
+/// A chain matches a call of its number where it has no rule, or where one of its rules holds.
+#[derive(Debug, Drop)]
+pub struct SeccompFilter {
+    rules: BTreeMap<i64, Vec<SeccompRule>>,
+    mismatch_action: SeccompAction,
+    match_action: SeccompAction,
+    target_arch: TargetArch,
+}
+
+impl Model for SeccompFilter {
+    ghost use Rattle.std.specs.Prelude.{◌≢◌};
+    ghost use Rattle.seccompiler.specs.Policy.{Filter, chains_of};
+
+    ghost Value = { Filter };
+
+    ghost view = { λ f. record { chains = chains_of f.rules.entries; mismatch_action = f.mismatch_action; match_action = f.match_action; target_arch = f.target_arch } };
+
+    ghost invariant = { λ f. f.mismatch_action ≢ f.match_action };
+}
+
+impl SeccompFilter {
+    ghost use Rattle.std.specs.Prelude.{◌≡◌, ◌≢◌, ◌<◌, ◌↔◌, ℕ, List, length, min, IfOk, IfErr, IsOk, OnOk, IsOkUnless};
+    ghost use Rattle.seccompiler.specs.declared.backend.BackendError.TheVariants.{IdenticalActions, OutOfMemory};
+    ghost use Rattle.seccompiler.specs.Policy.{Filter, chains_of, IsDecision};
+    ghost use Rattle.seccompiler.specs.Reorder.{IsReordered, IsSameCall};
+    ghost use Rattle.seccompiler.specs.Layout.{counted_length};
+    ghost use Rattle.seccompiler.specs.Compiled.{IsCompiled, Passes};
+    ghost use Rattle.seccompiler.specs.Refusal.{numbers_of, AreCallNumbers, IsCompilable, IsRefusal};
+
+    /// Makes a filter: `rules` has the chain of each call number, its rules joined by or.
+    ///
+    /// # Errors
+    ///
+    /// `IdenticalActions` where the two actions are equal, as values.
+    pub fn new(
+        rules: BTreeMap<i64, Vec<SeccompRule>>,
+        mismatch_action: SeccompAction,
+        match_action: SeccompAction,
+        target_arch: TargetArch,
+    ) -> Result<Self, BackendError>
+        ensures made { IfOk result (λ f. f ≡ record { chains = chains_of rules.entries; mismatch_action = mismatch_action; match_action = match_action; target_arch = target_arch }) }
+        ensures refused { IfErr result (λ e. e ≡ IdenticalActions) }
+        ensures succeeds { IsOk result ↔ (mismatch_action ≢ match_action) }
+    {
+        if mismatch_action == match_action {
+            return Err(BackendError::IdenticalActions);
+        }
+        Ok(SeccompFilter {
+            rules,
+            mismatch_action,
+            match_action,
+            target_arch,
+        })
+    }
+
+    /// The filter's program.
+    ///
+    /// It has `program_len` instructions, passes `machine::check`, and returns for every call
+    /// record, within as many steps as it has instructions, the word that `decide` gives. A call of
+    /// the filter's architecture without a chain is answered in a number of steps that the
+    /// filter's map alone determines.
+    ///
+    /// # Errors
+    ///
+    /// `InvalidSyscallNumber` with the least key that lies outside 0 to 4294967295, where there is
+    /// one; else `FilterTooLarge` with `program_len` where that is 4096 or more; both take no
+    /// memory. `OutOfMemory` where memory for the program is refused.
+    pub fn to_bpf(&self, alloc: Global) -> Result<BpfProgram, BackendError>
+        ensures compiled { IfOk result (λ program. IsCompiled self.now program.items) }
+        ensures passes { IfOk result (λ program. Passes self.now program.items) }
+        ensures compilable { OnOk result (IsCompilable self.now) }
+        ensures refused { IfErr result (IsRefusal self.now) }
+    {
+        if let Some(number) = unfit_number(&self.rules) {
+            return Err(BackendError::InvalidSyscallNumber(number));
+        }
+        let length = self.program_len();
+        if length >= BPF_MAX_LEN {
+            return Err(BackendError::FilterTooLarge(length));
+        }
+        let mut program = vec![in alloc; return_word(0); length]?;
+        self.write(&mut program);
+        Ok(program)
+    }
+
+    /// An equal filter.
+    ///
+    /// # Errors
+    ///
+    /// `OutOfMemory` where memory is refused.
+    pub fn clone(&self, alloc: Global) -> Result<Self, BackendError>
+        ensures same { IfOk result (λ f. f ≡ self.now) }
+        ensures memory { IsOkUnless result OutOfMemory }
+    {
+        let mut rules = BTreeMap::new(alloc);
+        for (number, chain) in &self.rules {
+            drop(rules.insert(*number, clone_chain(alloc, chain)?)?);
+        }
+        Ok(SeccompFilter {
+            rules,
+            mismatch_action: self.mismatch_action,
+            match_action: self.match_action,
+            target_arch: self.target_arch,
+        })
+    }
+
+    /// The word that the policy names for the call of this record: `SECCOMP_RET_KILL_PROCESS` where
+    /// the record is of another architecture, else the word of the match action where the policy
+    /// matches, else the word of the mismatch action.
+    ///
+    /// It depends on neither the order of rules in a chain nor that of conditions in a rule, nor on
+    /// the record's instruction pointer.
+    pub fn decide(&self, call: &[u8; 64]) -> u32
+        ensures decision { IsDecision self.now call.now result }
+        ensures order { (g : Filter) (s : List ℕ) → IsReordered self.now g → IsSameCall call.now s → IsDecision g s result }
+    {
+        let arch = word_at(call, SECCOMP_DATA_ARCH_OFFSET as usize);
+        if arch != self.target_arch.get_audit_value() {
+            return SeccompAction::KillProcess.into();
+        }
+        let number = word_at(call, SECCOMP_DATA_NR_OFFSET as usize);
+        let matches = match self.rules.get(&i64::from(number)) {
+            Some(chain) => chain_matches(chain, call),
+            None => false,
+        };
+        if matches {
+            self.match_action.into()
+        } else {
+            self.mismatch_action.into()
+        }
+    }
+
+    /// How many instructions the filter's program takes, or `usize::MAX` if that is less.
+    pub fn program_len(&self) -> usize
+        ensures { result ≡ min (counted_length self.now) usize.MAX }
+    {
+        if self.rules.is_empty() {
+            return 4;
+        }
+        let mut length: usize = 5;
+        for chain in self.rules.values() {
+            length = length.saturating_add(chain_len(chain));
+        }
+        length
+    }
+
+    // Fills the part with the filter's program.
+    fn write(&self, program: &mut [sock_filter])
+        requires numbers { AreCallNumbers (numbers_of self.now.chains) }
+        requires room { length program.old ≡ counted_length self.now }
+        requires short { counted_length self.now < 4096 }
+        ensures compiled { IsCompiled self.now program.new }
+        ensures passes { Passes self.now program.new }
+    {
+        let mismatch = u32::from(self.mismatch_action);
+        program[0] = load_word(u32::from(SECCOMP_DATA_ARCH_OFFSET));
+        program[1] = jump_if_equal(self.target_arch.get_audit_value(), 1, 0);
+        program[2] = return_word(SeccompAction::KillProcess.into());
+        if self.rules.is_empty() {
+            program[3] = return_word(mismatch);
+            return;
+        }
+        program[3] = load_word(u32::from(SECCOMP_DATA_NR_OFFSET));
+        let last = program.len() - 1;
+        write_chains(
+            &mut program[4..last],
+            &self.rules,
+            mismatch,
+            self.match_action.into(),
+        );
+        program[last] = return_word(mismatch);
+    }
+}

@@ -1,0 +1,117 @@
+// The checker of programs, and the machine that runs them on the record of a system call.
+
+ghost use Rattle.std.specs.Prelude.{◌≡◌, ◌≢◌, ℕ, ◌+◌, ◌^◌, ◌<◌, ◌≤◌, ◌↔◌, IsTrue, length};
+ghost use Rattle.seccompiler.specs.Checked.{IsFine, IsInRange, IsChecked};
+ghost use Rattle.seccompiler.specs.Machine.{Does, Ends};
+
+use crate::bpf::{
+    BPF_MAX_LEN, BpfProgramRef, JUMP, JUMP_AT_LEAST, JUMP_EQUAL, JUMP_GREATER, LOAD, MASK, RETURN,
+    sock_filter,
+};
+use crate::record::{LAST_WORD_OFFSET, word_at};
+
+/// How a run of a program ends.
+#[derive(Clone, Copy, Debug, PartialEq, Eq)]
+pub struct Outcome {
+    /// The word that the program returns.
+    pub word: u32,
+    /// How many instructions are executed, the return included.
+    pub steps: usize,
+}
+
+/// Tells whether a program may be run.
+///
+/// A program passes if it has 1 to 4096 instructions, each instruction is one of the seven that
+/// [`run`] knows, each load is of a word of the record at a multiple of 4, both targets of each
+/// jump are places of the program, and the last instruction returns.
+///
+/// A kernel's checker, described in `seccomp(2)`, takes some programs that don't pass here. Fields
+/// that an instruction ignores may hold any number.
+pub fn check(prog: BpfProgramRef<'_>) -> bool
+    ensures { IsTrue result ↔ IsChecked prog.now }
+{
+    if prog.is_empty() || prog.len() > BPF_MAX_LEN {
+        return false;
+    }
+    for (place, instruction) in prog.iter().enumerate() {
+        if !is_fine(*instruction, place, prog.len()) {
+            return false;
+        }
+    }
+    prog[prog.len() - 1].code == RETURN
+}
+
+/// Runs a program that passes [`check`] on the record of a system call.
+///
+/// The record is a `struct seccomp_data`: 64 bytes, little-endian. The run starts at the first
+/// instruction with accumulator 0, and takes as many steps as the program has instructions at most.
+pub fn run(prog: BpfProgramRef<'_>, call: &[u8; 64]) -> Outcome
+    requires { IsChecked prog.now }
+    ensures ends { Ends prog.now call.now result.steps result.word }
+    ensures steps { result.steps ≤ length prog.now }
+
+    // It ends in no other way.
+    ensures only { (n w : ℕ) → Ends prog.now call.now n w → (n ≡ result.steps) × (w ≡ result.word) }
+{
+    let mut place = 0;
+    let mut accumulator = 0;
+    let mut steps = 0;
+    while prog[place].code != RETURN {
+        (place, accumulator) = step(prog[place], place, prog.len(), accumulator, call);
+        steps += 1;
+    }
+    Outcome {
+        word: prog[place].k,
+        steps: steps + 1,
+    }
+}
+
+// Whether an instruction may stand at a place of a program of this length.
+fn is_fine(instruction: sock_filter, place: usize, length: usize) -> bool
+    requires place { place < length }
+    requires length { length ≤ BPF_MAX_LEN }
+    ensures fine { IsTrue result ↔ IsFine instruction place length }
+    ensures range { IsInRange instruction }
+{
+    let sock_filter { code, jt, jf, k } = instruction;
+    // How many instructions follow: a jump may skip all of them but one.
+    let room = length - place - 1;
+    match code {
+        LOAD => k % 4 == 0 && k <= LAST_WORD_OFFSET,
+        MASK | RETURN => true,
+        JUMP => k < room as u32,
+        JUMP_EQUAL | JUMP_GREATER | JUMP_AT_LEAST => (jt as usize) < room && (jf as usize) < room,
+        _ => false,
+    }
+}
+
+// The place and the accumulator after an instruction that does not return.
+fn step(
+    instruction: sock_filter,
+    place: usize,
+    length: usize,
+    accumulator: u32,
+    call: &[u8; 64],
+) -> (usize, u32)
+    requires fine { IsFine instruction place length }
+    requires goes_on { instruction.code ≢ RETURN }
+    requires next { place + 1 < length }
+    requires length { length ≤ BPF_MAX_LEN }
+    ensures does { Does instruction call.now place accumulator result.0 result.1 }
+    ensures later { place < result.0 }
+    ensures within { result.0 < length }
+    ensures fits { result.1 < 2 ^ 32 }
+{
+    let sock_filter { code, jt, jf, k } = instruction;
+    let next = place + 1;
+    let holds = match code {
+        LOAD => return (next, word_at(call, k as usize)),
+        MASK => return (next, accumulator & k),
+        JUMP => return (next + k as usize, accumulator),
+        JUMP_EQUAL => accumulator == k,
+        JUMP_GREATER => accumulator > k,
+        _ => accumulator >= k,
+    };
+    let distance = if holds { jt } else { jf };
+    (next + distance as usize, accumulator)
+}

@@ -1,0 +1,35 @@
+// The numbers in the record of a system call, which are little-endian.
+
+ghost use Rattle.std.specs.Prelude.{◌≡◌, ◌≤◌};
+ghost use Rattle.seccompiler.specs.Record.{word_at, argument_at};
+
+use crate::bpf::{SECCOMP_DATA_ARG_SIZE, SECCOMP_DATA_ARGS_OFFSET};
+
+/// Where the last word of a record stands, in bytes.
+pub(crate) const LAST_WORD_OFFSET: u32 = 60;
+
+/// Reads the 32-bit word of bytes `k` to `k + 3`.
+pub(crate) fn word_at(call: &[u8; 64], k: usize) -> u32
+    requires { k ≤ 60 }
+    ensures { result ≡ word_at call.now k }
+{
+    u32::from_le_bytes([call[k], call[k + 1], call[k + 2], call[k + 3]])
+}
+
+/// Reads the 64-bit argument of this index, from 0 to 5.
+pub(crate) fn argument_at(call: &[u8; 64], index: u8) -> u64
+    requires { index ≤ 5 }
+    ensures { result ≡ argument_at call.now index }
+{
+    let k = (SECCOMP_DATA_ARGS_OFFSET + SECCOMP_DATA_ARG_SIZE * index) as usize;
+    u64::from_le_bytes([
+        call[k],
+        call[k + 1],
+        call[k + 2],
+        call[k + 3],
+        call[k + 4],
+        call[k + 5],
+        call[k + 6],
+        call[k + 7],
+    ])
+}

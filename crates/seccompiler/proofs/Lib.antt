@@ -9,3 +9,7 @@ pub mod Comparisons
 pub mod ConditionCode
 pub mod GroupCuts
 pub mod Reordering
+pub mod RuleCode
+pub mod RelayCount
+pub mod RuleLoops
+pub mod Parts

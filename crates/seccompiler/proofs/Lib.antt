@@ -13,3 +13,6 @@ pub mod RuleCode
 pub mod RelayCount
 pub mod RuleLoops
 pub mod Parts
+pub mod RulesCode
+pub mod OneChain
+pub mod AllChains

@@ -1,10 +1,9 @@
 -- The loops over the conditions of a rule: one counts its instructions, one writes them from the end to the front.
-use Rattle.std.proofs.Common.{◌≡◌, ℕ, zero, suc, ◌+◌, ◌-◌, ◌*◌, ◌<◌, ◌≤◌, ◌^◌, List, [], ◌∷◌, ◌++◌, length, min, refl, sym, ap, ◌∙◌, subst, arith, take, drop, get_or, Bool, true, false, nat_le, append_assoc, length-append, length-drop, take-append-drop, ◌⊎◌, inl, inr, ⊎_elim}
+use Rattle.std.proofs.Common.{◌≡◌, ℕ, zero, suc, ◌+◌, ◌-◌, ◌*◌, ◌<◌, ◌≤◌, ◌^◌, List, [], ◌∷◌, ◌++◌, length, min, refl, sym, ap, ◌∙◌, subst, arith, take, drop, get_or, Bool, true, false, nat_le, append_assoc, length-append, length-drop, ◌⊎◌, inl, inr, ⊎_elim}
 use Rattle.std.specs.Prelude.{if◌then◌else◌}
 use Rattle.std.proofs.lemmas.Bool.{cases_lt}
 use Rattle.std.proofs.lemmas.Bool.Decides.{nat_tests}
 use Rattle.std.proofs.lemmas.List.{take_more, take_all}
-use Rattle.std.proofs.Math.Seq.{drop-cons}
 use Rattle.std.proofs.lemmas.List.Sums.{sum_by-append, sum_by-cons}
 use Rattle.seccompiler.specs.declared.bpf.sock_filter.{sock_filter}
 use Rattle.seccompiler.specs.Condition.{Condition, size_of}
@@ -13,6 +12,7 @@ use Rattle.seccompiler.specs.Layout.{rule_length}
 use Rattle.seccompiler.specs.Relay.{relay_code, entry_code, relay_front, offset_behind}
 use Rattle.seccompiler.specs.Pieces.{IsConditionCode, IsRuleCode}
 use Rattle.seccompiler.proofs.RuleCode.{size_small, total_more, Body, body_empty, body_more, body_relay, rule_of}
+use Rattle.seccompiler.proofs.Parts.{around}
 use Rattle.seccompiler.proofs.RelayCount.{Cutting, none, cutting_more, cutting_relay, relays_are, relays_so_far, relays_so_far_full}
 
 -- What is needed of an offset at which a relay is or is not put.
@@ -76,13 +76,7 @@ room_for q rest code o free c h whole =
         omega (arith, h.body.long, relays_so_far_full q rest o h.k c far h.cutting))
     (cases_lt o 249)
 
--- a list, cut at an index
-around : (items : List Condition) (i : ℕ) (c : Condition) → i < length items → c ≡ get_or items i c → items ≡ take i items ++ c ∷ drop (i + 1) items
-around items i c within is =
-    let e : i + 1 ≡ suc i = omega arith in
-    sym (take-append-drop i items) ∙ ap (λ l. take i items ++ l) (drop-cons items i c within ∙ ap (λ x. x ∷ drop (suc i) items) (sym is) ∙ ap (λ n. c ∷ drop n items) (sym e))
-
--- the same, at an index of the loop
+-- there is room for it at an index of the loop
 pub room_at : (items : List Condition) (i : ℕ) (code : List sock_filter) (o free : ℕ) (c : Condition) → i < length items → c ≡ get_or items i c → Built (take i items) code o → free + length code ≡ rule_length items → 2 + length (relay_front o) + size_of c ≤ free
 room_at items i code o free c within is h whole =
     room_for (take i items) (drop (i + 1) items) code o free c h (whole ∙ ap rule_length (around items i c within is))

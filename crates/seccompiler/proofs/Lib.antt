@@ -16,3 +16,4 @@ pub mod Parts
 pub mod RulesCode
 pub mod OneChain
 pub mod AllChains
+pub mod WholeProgram

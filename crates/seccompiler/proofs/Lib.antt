@@ -9,3 +9,4 @@ pub mod Comparisons
 pub mod ConditionCode
 pub mod GroupCuts
 pub mod Reordering
+pub mod Searches

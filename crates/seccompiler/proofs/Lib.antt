@@ -10,3 +10,4 @@ pub mod ConditionCode
 pub mod GroupCuts
 pub mod Reordering
 pub mod Searches
+pub mod CallNumbers

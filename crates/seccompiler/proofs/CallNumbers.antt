@@ -54,9 +54,9 @@ first_is_least front z back fit unfit ascends = record {
   least = λ m there bad. ⊎_elim
       (λ ahead. absurd (bad (All-contains IsCallNumber front m fit ahead)))
       (λ behind. ⊎_elim
-        (λ here. le_only z m here)
-        (λ after. le_if_less z m (All-contains (λ y. int_cmp z y ≡ Less) back m (All-from_recursion _ back (above_behind front z back ascends)) after))
-        (Contains-append_cases (z ∷ []) back m behind))
+      (λ here. le_only z m here)
+      (λ after. le_if_less z m (All-contains (λ y. int_cmp z y ≡ Less) back m (All-from_recursion _ back (above_behind front z back ascends)) after))
+      (Contains-append_cases (z ∷ []) back m behind))
       (Contains-append_cases front (z ∷ back) m there);
 }
 

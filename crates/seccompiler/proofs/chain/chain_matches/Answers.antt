@@ -12,6 +12,7 @@ pub returns : goal.returns
 returns c =
     let chain = c.args.chain.now in
     let holds = λ (rule : Rule). RuleHolds rule c.args.call.now in
-    let none = All-whole (λ rule. holds rule → ⊥) chain c.loop-rule.rule-index c.loop-rule-test.false c.loop-rule.invariant in
-    (λ e. absurd (false≢true e),
-    λ matches. absurd (⊎_elim (λ empty. false≢true (c.if-is_empty.ensures ∙ ap (λ rules. length rules == 0) empty)) (none_is_any holds chain none) matches))
+    let none = All-whole (λ rule. holds rule → ⊥) chain c.loop-rule.rule-index c.loop-rule-test.false c.loop-rule.invariant in (
+      λ e. absurd (false≢true e),
+      λ matches. absurd (⊎_elim (λ empty. false≢true (c.if-is_empty.ensures ∙ ap (λ rules. length rules == 0) empty)) (none_is_any holds chain none) matches),
+    )

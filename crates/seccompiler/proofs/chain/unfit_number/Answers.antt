@@ -11,10 +11,10 @@ use Rattle.std.proofs.lemmas.Bool.{true≢false}
 use Rattle.seccompiler.proofs.chain.unfit_number.Goals as goal
 
 pub loop-number-preserved : goal.loop-number-preserved
-loop-number-preserved c = 
+loop-number-preserved c =
     let fits : SFits w64 c.in-Some.number.now = search rules in
     All-push (λ number. IsCallNumber number.now) c.loop-number.yielded c.in-Some.number c.loop-number.invariant
-     (call_number_if_ok c.in-Some.number.now _ c.try_from.result _ (to_z-of_z w64 c.in-Some.number.now fits) c.try_from.ensures c.if-is_err.ensures.value)
+    (call_number_if_ok c.in-Some.number.now _ c.try_from.result _ (to_z-of_z w64 c.in-Some.number.now fits) c.try_from.ensures c.if-is_err.ensures.value)
 
 pub returns-then-is_err : goal.returns-then-is_err
 returns-then-is_err c =

@@ -11,3 +11,4 @@ pub mod GroupCuts
 pub mod Reordering
 pub mod Searches
 pub mod CallNumbers
+pub mod Chains

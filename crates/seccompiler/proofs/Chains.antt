@@ -1,13 +1,17 @@
 -- The chains that a map holds: in ascending order of their keys, and found under them.
-use Rattle.std.proofs.Common.{◌≡◌, ℤ, ◌++◌, List, [], ◌∷◌, Vec, Global, Less, Greater, refl, sym, ap, ◌∙◌, subst, append_assoc}
+use Rattle.std.proofs.Common.{◌≡◌, ◌↔◌, ℕ, ℤ, pos, ◌++◌, List, [], ◌∷◌, Vec, Global, Bool, false, Option, Some, None, Less, Greater, option_map, refl, sym, ap, ◌∙◌, subst, append_assoc}
+use Rattle.std.specs.Prelude.{IsTrue}
 use Rattle.std.specs.List.{AllByRecursion}
 use Rattle.std.specs.List.Sorted.{IsStrictlySortedBy}
 use Rattle.std.specs.Ordering.{int_cmp, ordering_reverse}
-use Rattle.std.specs.Map.{keys_of}
-use Rattle.std.specs.BTreeMap.{insert_entry}
+use Rattle.std.specs.Map.{keys_of, lookup}
+use Rattle.std.specs.BTreeMap.{insert_entry, is_at}
 use Rattle.std.proofs.lemmas.Cmp.{int_cmp_total}
 use Rattle.std.proofs.lemmas.Map.Keys.{sorted_head, sorted_tail}
-use Rattle.seccompiler.specs.Policy.{Rule, Chain, chains_of}
+use Rattle.std.proofs.lemmas.Map.Made.{lookup-map_values}
+use Rattle.std.proofs.lemmas.Bool.{false≢true}
+use Rattle.seccompiler.specs.Record.{word_at}
+use Rattle.seccompiler.specs.Policy.{Rule, Chain, Filter, chains_of, chain_under, ChainMatches, Matches}
 
 -- The numbers of the chains are the keys of the map.
 pub numbers_are_keys : (entries : List (ℤ × Vec Rule Global)) → keys_of (chains_of entries) ≡ keys_of entries
@@ -46,3 +50,23 @@ insert_next entries so_far left back number chain copy ascends split next same =
     subst (IsStrictlySortedBy int_cmp) (sym (numbers_are_keys entries) ∙ ap keys_of (sym whole)) ascends in
     ap (λ chains. chains ++ chains_of back) (insert_last so_far number copy (chains_of back) in_order)
     ∙ append_assoc (chains_of so_far) ((number, copy.items) ∷ []) (chains_of back) ∙ whole
+
+-- What a map has under a call number is the chain there.
+pub found_chain : (entries : List (ℤ × Vec Rule Global)) (key : ℤ) (number : ℕ) (found : Option (Vec Rule Global)) → key ≡ pos number → found ≡ lookup (is_at (int_cmp key)) entries → chain_under (chains_of entries) number ≡ option_map (λ rules. rules.items) found
+found_chain entries key number found same is =
+    lookup-map_values (λ (rules : Vec Rule Global). rules.items) (is_at (int_cmp (pos number))) entries
+    ∙ ap (λ z. option_map (λ (rules : Vec Rule Global). rules.items) (lookup (is_at (int_cmp z)) entries)) (sym same)
+    ∙ ap (option_map (λ rules. rules.items)) (sym is)
+
+-- Where there is a chain under the call number, the policy matches exactly if the chain does.
+pub matches_by_chain : (f : Filter) (r : List ℕ) (chain : Chain) (b : Bool) → chain_under f.chains (word_at r 0) ≡ Some chain → (IsTrue b ↔ ChainMatches chain r) → IsTrue b ↔ Matches f r
+matches_by_chain f r chain b there iff = (
+  λ holds. record { chain = chain; there = there; matches = iff.0 holds },
+  λ matches.
+      let same : matches.chain ≡ chain = let e : Some matches.chain ≡ Some chain = sym matches.there ∙ there in cc in
+      iff.1 (subst (λ rules. ChainMatches rules r) same matches.matches),
+)
+
+-- Where there is none, it doesn't.
+pub differs_without_chain : (f : Filter) (r : List ℕ) → chain_under f.chains (word_at r 0) ≡ None → IsTrue false ↔ Matches f r
+differs_without_chain f r none = (λ e. absurd (false≢true e), λ matches. let e : None ≡ Some matches.chain = sym none ∙ matches.there in cc)

@@ -1,4 +1,7 @@
 -- Lemmas that several proofs cite.
+pub mod Searches
+pub mod CallNumbers
+pub mod Chains
 pub mod CheckedLemmas
 pub mod Determinism
 pub mod Runs
@@ -9,6 +12,7 @@ pub mod Comparisons
 pub mod ConditionCode
 pub mod GroupCuts
 pub mod Reordering
-pub mod Searches
-pub mod CallNumbers
-pub mod Chains
+pub mod RuleCode
+pub mod RelayCount
+pub mod RuleLoops
+pub mod Parts

@@ -2,6 +2,7 @@
 pub mod Searches
 pub mod CallNumbers
 pub mod Chains
+pub mod CappedLengths
 pub mod CheckedLemmas
 pub mod Determinism
 pub mod Runs

@@ -1,4 +1,8 @@
 -- Lemmas that several proofs cite.
+pub mod Searches
+pub mod CallNumbers
+pub mod Chains
+pub mod CappedLengths
 pub mod CheckedLemmas
 pub mod Determinism
 pub mod Runs

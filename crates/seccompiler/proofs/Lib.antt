@@ -1,3 +1,4 @@
 -- Lemmas that several proofs cite.
 pub mod CheckedLemmas
 pub mod Determinism
+pub mod RecordLemmas

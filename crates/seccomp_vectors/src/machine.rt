@@ -25,7 +25,10 @@ fn check_refuses(rt: HostRuntime) {
         ("a jump at the end", &[jump(0)][..]),
         ("a jump past the end", &[jump(1), give(0)][..]),
         ("a jump that wraps", &[jump(4294967295), give(0)][..]),
-        ("a failing test that jumps past the end", &[jump_equal(0, 0, 1), give(0)][..]),
+        (
+            "a failing test that jumps past the end",
+            &[jump_equal(0, 0, 1), give(0)][..],
+        ),
         ("an unknown instruction", &[unknown, give(0)][..]),
         ("one instruction too many", &[give(0); 4097][..]),
     ] {
@@ -60,7 +63,13 @@ fn run_ends_with_word_and_steps(rt: HostRuntime) {
         ),
         (
             "the last byte compared",
-            &[load(60), mask(255), jump_greater(16, 1, 0), give(1), give(2)][..],
+            &[
+                load(60),
+                mask(255),
+                jump_greater(16, 1, 0),
+                give(1),
+                give(2),
+            ][..],
             last_word_is_17,
             Outcome { word: 2, steps: 4 },
         ),

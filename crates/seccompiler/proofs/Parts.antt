@@ -1,5 +1,5 @@
 -- A list of which a part was written anew, and a list cut at an index.
-use Rattle.std.proofs.Common.{◌≡◌, ℕ, suc, ◌+◌, ◌-◌, ◌<◌, ◌≤◌, List, [], ◌∷◌, ◌++◌, length, get_or, set, take, drop, sym, ap, ◌∙◌, subst, length-drop, take-append-drop, append_assoc, arith}
+use Rattle.std.proofs.Common.{◌≡◌, ℕ, suc, ◌+◌, ◌-◌, ◌<◌, ◌≤◌, List, [], ◌∷◌, ◌++◌, length, get_or, set, take, drop, sym, ap, ◌∙◌, subst, refl, length-drop, take-append-drop, append_assoc, arith}
 use Rattle.std.proofs.Math.ListN.{length-set}
 use Rattle.std.proofs.Math.Seq.{drop-cons, take-suc-set}
 use Rattle.std.proofs.lemmas.List.{take_all}
@@ -43,3 +43,28 @@ framed {X} (y ∷ xs) ys x z long =
     let count : length ys ≡ last - 1 = omega arith in
     let long_whole : length whole ≡ length one = length-set (put_mid 1 (last - 1) one ys) last z ∙ same_len_mid 1 (last - 1) one ys (count ∙ sym (length-part 1 last one (omega arith) (omega arith))) in
     sym (take_all (last + 1) whole (omega arith)) ∙ take-written 1 last one ys z (omega arith) (omega arith) count
+
+-- a list of four elements that were written one by one
+pub four-written : {X : Type 0} (xs : List X) (a b c d : X) → length xs ≡ 4 → set (set (set (set xs 0 a) 1 b) 2 c) 3 d ≡ a ∷ b ∷ c ∷ d ∷ []
+four-written [] a b c d long = absurd (omega arith)
+four-written (x ∷ []) a b c d long = absurd (omega arith)
+four-written (x ∷ y ∷ []) a b c d long = absurd (omega arith)
+four-written (x ∷ y ∷ z ∷ []) a b c d long = absurd (omega arith)
+four-written (x ∷ y ∷ z ∷ w ∷ []) a b c d long = refl
+four-written (x ∷ y ∷ z ∷ w ∷ v ∷ xs) a b c d long = absurd (omega arith)
+
+-- a list whose first four elements, whose last, and what lies between them were written
+pub headed : {X : Type 0} (xs ys : List X) (a b c d z : X) → length ys + 5 ≡ length xs
+    → let first = set (set (set (set xs 0 a) 1 b) 2 c) 3 d in set (put_mid 4 (length first - 1 - 4) first ys) (length first - 1) z ≡ a ∷ b ∷ c ∷ d ∷ (ys ++ z ∷ [])
+headed [] ys a b c d z long = absurd (omega arith)
+headed (x ∷ []) ys a b c d z long = absurd (omega arith)
+headed (x ∷ y ∷ []) ys a b c d z long = absurd (omega arith)
+headed (x ∷ y ∷ v ∷ []) ys a b c d z long = absurd (omega arith)
+headed (x ∷ y ∷ v ∷ w ∷ xs) ys a b c d z long =
+    let first = a ∷ b ∷ c ∷ d ∷ xs in
+    let last = length first - 1 in
+    let e : last + 1 ≡ length first = omega arith in
+    let whole = set (put_mid 4 (last - 4) first ys) last z in
+    let count : length ys ≡ last - 4 = omega arith in
+    let long_whole : length whole ≡ length first = length-set (put_mid 4 (last - 4) first ys) last z ∙ same_len_mid 4 (last - 4) first ys (count ∙ sym (length-part 4 last first (omega arith) (omega arith))) in
+    sym (take_all (last + 1) whole (omega arith)) ∙ take-written 4 last first ys z (omega arith) (omega arith) count

@@ -3,6 +3,7 @@ pub mod Searches
 pub mod CallNumbers
 pub mod Chains
 pub mod CappedLengths
+pub mod Equality
 pub mod CheckedLemmas
 pub mod Determinism
 pub mod Runs

@@ -21,4 +21,5 @@ pub mod CappedLengths
 pub mod CallNumbers
 pub mod Chains
 pub mod Searches
+pub mod Equality
 pub mod Reordering

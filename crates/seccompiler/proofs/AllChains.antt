@@ -1,5 +1,5 @@
 -- What the code of all chains of a filter does, one behind the other.
-use Rattle.std.proofs.Common.{◌≡◌, ◌≢◌, ℕ, ℤ, pos, ◌+◌, ◌<◌, ◌≤◌, ◌^◌, List, [], ◌∷◌, ◌++◌, length, Option, Some, None, Bool, true, false, cond, refl, sym, ap, ◌∙◌, subst, arith, length-append, append_assoc, ⊎_elim, Vec, map}
+use Rattle.std.proofs.Common.{◌≡◌, ◌≢◌, ℕ, ℤ, pos, ◌+◌, ◌<◌, ◌≤◌, ◌^◌, List, [], ◌∷◌, ◌++◌, length, Some, None, Bool, true, false, cond, refl, sym, ap, ◌∙◌, subst, arith, length-append, append_assoc, ⊎_elim, Vec, map}
 use Rattle.std.proofs.lemmas.List.Elements.{All-head, All-tail}
 use Rattle.std.proofs.lemmas.List.{map-append}
 use Rattle.std.proofs.lemmas.List.Sums.{sum_by_push, sum_by-append, sum_by-cons}
@@ -13,7 +13,7 @@ use Rattle.seccompiler.specs.declared.bpf.sock_filter.{sock_filter}
 use Rattle.seccompiler.specs.Record.{IsRecord}
 use Rattle.seccompiler.specs.Machine.{Goes, stays}
 use Rattle.seccompiler.specs.Policy.{Rule, Chain, chains_of, IsCallNumber, chain_under}
-use Rattle.seccompiler.specs.Layout.{chain_length, chains_length, chain_steps, chains_steps}
+use Rattle.seccompiler.specs.Layout.{chain_length, chains_length, chain_steps}
 use Rattle.seccompiler.specs.ChainCode.{Returns, IsChainCode, Dispatches, chain_matches, chain_differs, no_chain, IsChainsCode}
 use Rattle.seccompiler.proofs.Runs.{goes_shift, goes_on, goes_front, stands_second}
 use Rattle.seccompiler.proofs.Closed.{ranges_join, ranges_from}
@@ -83,15 +83,15 @@ dispatches_more chains mismatch matched n chain code own one r rec a small (chai
 dispatches_more chains mismatch matched n chain code own one r rec a small (no_chain none g) =
     ⊎_elim
     (λ same.
-        let there : chain_under (chains ++ (pos n, chain) ∷ []) a ≡ Some chain = subst (λ k. chain_under (chains ++ (pos k, chain) ∷ []) a ≡ Some chain) same (last_same chains a chain none) in
-        ⊎_elim
-        (λ t. chain_matches chain there t.0 (after_chains code own r a _ matched g (subst (λ k. Returns own r 0 k matched) (sym same) t.1)))
-        (λ t. chain_differs chain there t.0 (after_chains code own r a _ mismatch g (subst (λ k. Returns own r 0 k mismatch) (sym same) t.1)))
-        (one.enters r rec))
+    let there : chain_under (chains ++ (pos n, chain) ∷ []) a ≡ Some chain = subst (λ k. chain_under (chains ++ (pos k, chain) ∷ []) a ≡ Some chain) same (last_same chains a chain none) in
+    ⊎_elim
+    (λ t. chain_matches chain there t.0 (after_chains code own r a _ matched g (subst (λ k. Returns own r 0 k matched) (sym same) t.1)))
+    (λ t. chain_differs chain there t.0 (after_chains code own r a _ mismatch g (subst (λ k. Returns own r 0 k mismatch) (sym same) t.1)))
+    (one.enters r rec))
     (λ differs.
-        let steps = sym (sum_by_push (λ (e : Entry). chain_steps e.1) chains (pos n, chain)) in
-        no_chain (last_other chains a n chain differs none)
-          (subst (λ k. Goes (code ++ own) r 0 a k (length (code ++ own)) a) steps (past_chains code own r a _ _ g (one.passes r a small differs))))
+    let steps = sym (sum_by_push (λ (e : Entry). chain_steps e.1) chains (pos n, chain)) in
+    no_chain (last_other chains a n chain differs none)
+    (subst (λ k. Goes (code ++ own) r 0 a k (length (code ++ own)) a) steps (past_chains code own r a _ _ g (one.passes r a small differs))))
     (cases_eq a n)
 
 -- one chain more

@@ -1,5 +1,5 @@
 -- What the rules of a chain do, each with its return behind it, one after another.
-use Rattle.std.proofs.Common.{◌≡◌, ℕ, zero, suc, ◌+◌, ◌<◌, ◌≤◌, ◌^◌, List, [], ◌∷◌, ◌++◌, length, Some, refl, sym, ap, ◌∙◌, subst, arith, length-append, append_assoc, ◌⊎◌, inl, inr, ⊎_elim, get_or, take, drop}
+use Rattle.std.proofs.Common.{◌≡◌, ℕ, zero, suc, ◌+◌, ◌<◌, ◌≤◌, ◌^◌, List, [], ◌∷◌, ◌++◌, length, Some, refl, sym, ap, ◌∙◌, subst, arith, length-append, ◌⊎◌, inl, inr, ⊎_elim, get_or, take, drop}
 use Rattle.std.specs.Prelude.{slice_get, Any, sum_by}
 use Rattle.std.proofs.lemmas.List.Quantifiers.{Any-push}
 use Rattle.std.proofs.lemmas.List.Sums.{sum_by_push, sum_by-append, sum_by-cons}
@@ -47,17 +47,19 @@ returns_here a w back r s = returns_behind a (give w ∷ back) r s w record { to
 
 -- one block and then another
 pub block_join : (a b : List sock_filter) (m n m' : ℕ) → IsBlock a m → IsBlock b n → m ≤ m' → length a + n ≤ m' → IsBlock (a ++ b) m'
-block_join a b m n m' ba bb le_a le_b = record { each = λ k i e.
-    ⊎_elim
-    (λ h. ⊎_elim
-        (λ inside. let z : 0 + k ≡ k = omega arith in inl (subst (λ q. IsInside i q m') z (inside_shift i 0 k m m' (omega arith) inside)))
-        (λ back. inr back)
-        (ba.each k i h))
-    (λ h. ⊎_elim
-        (λ inside. inl (subst (λ q. IsInside i q m') (sym h.1) (inside_shift i (length a) h.0 n m' le_b inside)))
-        (λ back. inr back)
-        (bb.each h.0 i h.2))
-    (get_split a b k i e) }
+block_join a b m n m' ba bb le_a le_b = record {
+  each = λ k i e.
+      ⊎_elim
+      (λ h. ⊎_elim
+      (λ inside. let z : 0 + k ≡ k = omega arith in inl (subst (λ q. IsInside i q m') z (inside_shift i 0 k m m' (omega arith) inside)))
+      (λ back. inr back)
+      (ba.each k i h))
+      (λ h. ⊎_elim
+      (λ inside. inl (subst (λ q. IsInside i q m') (sym h.1) (inside_shift i (length a) h.0 n m' le_b inside)))
+      (λ back. inr back)
+      (bb.each h.0 i h.2))
+      (get_split a b k i e);
+}
 
 -- a closed piece is a block
 block_from_closed : (a : List sock_filter) (m : ℕ) → IsClosed a m → IsBlock a m
@@ -97,9 +99,9 @@ any_split P chain q h =
     ⊎_elim
     (λ lt. inl (h.0, h.1, lt, sym (get_or_append_left chain (q ∷ []) h.1 h.0 lt) ∙ h.3, h.4))
     (λ le.
-        let at : length chain ≡ h.0 = omega (arith, h.2, len) in
-        let same : h.1 ≡ q = sym h.3 ∙ get_or_push chain q h.1 h.0 at in
-        inr (subst P same h.4))
+    let at : length chain ≡ h.0 = omega (arith, h.2, len) in
+    let same : h.1 ≡ q = sym h.3 ∙ get_or_push chain q h.1 h.0 at in
+    inr (subst P same h.4))
     (cases_lt h.0 (length chain))
 
 -- A rule with its return behind it.
@@ -119,13 +121,13 @@ clause_of q w own fits h =
       ranges = ranges_join own (give w ∷ []) h.ranges (ranges_from (give w ∷ []) (give_in_range w fits, tt));
       block = block_join own (give w ∷ []) (length own + 2) 0 (length p + 1) (block_from_closed own (length own + 2) h.closed) (block_give w 0) (omega arith) (omega arith);
       enters = λ r rec a small.
-        ⊎_elim
-        (λ t. inl (t.0, returns_after p r 0 a (length own) w (leads_front own (give w ∷ []) r 0 a (length own) t.1) (returns_here own w [] r _)))
-        (λ t. inr (t.0, leads_to p r 0 a _ _ (sym len) (leads_front own (give w ∷ []) r 0 a (length own + 1) t.1)))
-        (h.enters r rec a small);
+          ⊎_elim
+          (λ t. inl (t.0, returns_after p r 0 a (length own) w (leads_front own (give w ∷ []) r 0 a (length own) t.1) (returns_here own w [] r _)))
+          (λ t. inr (t.0, leads_to p r 0 a _ _ (sym len) (leads_front own (give w ∷ []) r 0 a (length own + 1) t.1)))
+          (h.enters r rec a small);
       skips = λ r a small.
-        let to_far : length own + 2 ≡ length p + 1 = omega arith in
-        subst (λ n. Goes p r 1 a (rule_steps q) n a) to_far (goes_front own (give w ∷ []) r (h.skips r a small));
+          let to_far : length own + 2 ≡ length p + 1 = omega arith in
+          subst (λ n. Goes p r 1 a (rule_steps q) n a) to_far (goes_front own (give w ∷ []) r (h.skips r a small));
     }
 
 -- one rule more
@@ -140,22 +142,22 @@ rules_more chain w code one q last h =
       ranges = ranges_join code one h.ranges last.ranges;
       block = block_join code one (length code + 1) (length one + 1) (length p + 1) h.block last.block (omega (arith, last.long)) (omega arith);
       enters = λ r rec a small.
-        ⊎_elim
-        (λ t. inl (any_front (λ x. RuleHolds x r) chain q t.0, returns_front code one r 0 a w t.1))
-        (λ t.
-            let g = leads_front code one r 0 a (length code) t.1 in
-            let fits = stays_small code r small t.1.goes in
-            ⊎_elim
-            (λ u. inl (Any-push (λ x. RuleHolds x r) chain q u.0, returns_after p r 0 a (length code) w g (returns_behind code one r g.accumulator w u.1)))
-            (λ u. inr (λ any. ⊎_elim t.0 u.0 (any_split (λ x. RuleHolds x r) chain q any), leads_to p r 0 a _ _ (sym len) (leads_join p r 0 a (length code) _ g (leads_from p r _ _ g.accumulator _ z (leads_second code one r 0 g.accumulator (length one) u.1)))))
-            (last.enters r rec g.accumulator fits))
-        (h.enters r rec a small);
+          ⊎_elim
+          (λ t. inl (any_front (λ x. RuleHolds x r) chain q t.0, returns_front code one r 0 a w t.1))
+          (λ t.
+          let g = leads_front code one r 0 a (length code) t.1 in
+          let fits = stays_small code r small t.1.goes in
+          ⊎_elim
+          (λ u. inl (Any-push (λ x. RuleHolds x r) chain q u.0, returns_after p r 0 a (length code) w g (returns_behind code one r g.accumulator w u.1)))
+          (λ u. inr (λ any. ⊎_elim t.0 u.0 (any_split (λ x. RuleHolds x r) chain q any), leads_to p r 0 a _ _ (sym len) (leads_join p r 0 a (length code) _ g (leads_from p r _ _ g.accumulator _ z (leads_second code one r 0 g.accumulator (length one) u.1)))))
+          (last.enters r rec g.accumulator fits))
+          (h.enters r rec a small);
       skips = λ r a small.
-        let first = goes_front code one r (h.skips r a small) in
-        let second = goes_shift p one r (length code) (stands_second code one) (last.skips r a small) in
-        let steps : sum_by rule_steps chain + rule_steps q ≡ sum_by rule_steps (chain ++ q ∷ []) = sym (sum_by_push rule_steps chain q) in
-        let to_far : length code + (length one + 1) ≡ length p + 1 = omega arith in
-        subst (λ n. Goes p r 1 a n (length p + 1) a) steps (subst (λ n. Goes p r 1 a (sum_by rule_steps chain + rule_steps q) n a) to_far (goes_on p r first second));
+          let first = goes_front code one r (h.skips r a small) in
+          let second = goes_shift p one r (length code) (stands_second code one) (last.skips r a small) in
+          let steps : sum_by rule_steps chain + rule_steps q ≡ sum_by rule_steps (chain ++ q ∷ []) = sym (sum_by_push rule_steps chain q) in
+          let to_far : length code + (length one + 1) ≡ length p + 1 = omega arith in
+          subst (λ n. Goes p r 1 a n (length p + 1) a) steps (subst (λ n. Goes p r 1 a (sum_by rule_steps chain + rule_steps q) n a) to_far (goes_on p r first second));
     }
 
 -- a step of the loop over the rules

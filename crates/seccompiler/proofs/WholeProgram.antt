@@ -1,5 +1,5 @@
 -- What the program of a filter is and does.
-use Rattle.std.proofs.Common.{◌≡◌, ◌≢◌, ℕ, zero, suc, ◌+◌, ◌-◌, ◌*◌, ◌<◌, ◌≤◌, ◌^◌, List, [], ◌∷◌, ◌++◌, length, Option, Some, None, refl, sym, ap, ◌∙◌, subst, arith, length-append, ◌⊎◌, inl, inr, ⊎_elim, ℤ, Vec, Global}
+use Rattle.std.proofs.Common.{◌≡◌, ◌≢◌, ℕ, suc, ◌+◌, ◌-◌, ◌<◌, ◌≤◌, ◌^◌, List, [], ◌∷◌, ◌++◌, length, Some, None, refl, sym, ap, ◌∙◌, subst, arith, length-append, ◌⊎◌, ⊎_elim, ℤ, Vec, Global}
 use Rattle.std.specs.Prelude.{slice_get}
 use Rattle.std.proofs.lemmas.Option.{slice_get_within}
 use Rattle.std.proofs.lemmas.Bool.{cases_eq}
@@ -11,16 +11,15 @@ use Rattle.seccompiler.specs.Code.{load, give, jump_equal}
 use Rattle.seccompiler.specs.Machine.{Goes, stays, then_step, Ends}
 use Rattle.seccompiler.specs.Checked.{IsFine, fine_load, fine_mask, fine_jump, fine_equal, fine_greater, fine_at_least, fine_return, IsInside, inside_load, inside_mask, inside_jump, inside_equal, inside_greater, inside_at_least, IsChecked, AreInRange, IsInRange}
 use Rattle.seccompiler.specs.Action.{word_of, audit_word}
-use Rattle.seccompiler.specs.Policy.{Rule, Chain, Filter, chains_of, chain_under, ChainMatches, Matches, IsDecision, other_architecture, policy_matches, policy_differs}
+use Rattle.seccompiler.specs.Policy.{Rule, Chain, Filter, chains_of, chain_under, ChainMatches, IsDecision, other_architecture, policy_matches, policy_differs}
 use Rattle.seccompiler.specs.Layout.{chains_length, counted_length_of, counted_length, chains_steps, passing_steps}
-use Rattle.seccompiler.specs.Pieces.{Leads}
 use Rattle.seccompiler.specs.ChainCode.{Returns, IsBlock, Dispatches, chain_matches, chain_differs, no_chain, IsChainsCode}
 use Rattle.seccompiler.specs.Compiled.{EndsAtDecision, IsCompiled, Passes}
 use Rattle.seccompiler.proofs.Runs.{goes_far, goes_on, goes_shift, goes_front, stands_second, get_behind}
 use Rattle.seccompiler.proofs.Closed.{ranges_join, ranges_from}
 use Rattle.seccompiler.proofs.Words.{word_fits}
 use Rattle.seccompiler.proofs.Steps.{on_load, on_equal}
-use Rattle.seccompiler.proofs.RulesCode.{returns_front, returns_second, returns_behind, returns_after, returns_here, block_join, block_give, give_in_range}
+use Rattle.seccompiler.proofs.RulesCode.{returns_front, returns_second, returns_after, returns_here, block_join, block_give, give_in_range}
 use Rattle.seccompiler.proofs.OneChain.{block_one, test_in_range}
 
 -- a run from the start that returns ends
@@ -59,11 +58,11 @@ checked_of front w ranges block short =
       ranges = ranges;
       each = λ place i here. ⊎_elim (λ inside. fine_inside i place (length front) (length p) (omega arith) inside) (λ back. fine_return back) (block.each place i here);
       last = λ i here.
-        let at : length p - 1 ≡ length front + 0 = omega arith in
-        let there : slice_get p (length front + 0) ≡ Some i = subst (λ n. slice_get p n ≡ Some i) at here in
-        let same = sym (get_behind front (give w ∷ []) 0 (give w) refl) ∙ there in
-        let found : give w ≡ i = cc in
-        ap (λ (x : sock_filter). x.code) (sym found);
+          let at : length p - 1 ≡ length front + 0 = omega arith in
+          let there : slice_get p (length front + 0) ≡ Some i = subst (λ n. slice_get p n ≡ Some i) at here in
+          let same = sym (get_behind front (give w ∷ []) 0 (give w) refl) ∙ there in
+          let found : give w ≡ i = cc in
+          ap (λ (x : sock_filter). x.code) (sym found);
     }
 
 -- a filter whose words and whose architecture's word fit a machine's word
@@ -90,7 +89,7 @@ module _ (f : Filter) (fits_mismatch : word_of f.mismatch_action < 2 ^ 32) (fits
   guard_block : IsBlock guard 3
   guard_block =
       block_join (load 4 ∷ []) (jump_equal arch_word 1 0 ∷ give 0x80000000 ∷ []) 3 2 3 (block_one _ 3 (inside_load refl refl (omega arith)))
-        (block_join (jump_equal arch_word 1 0 ∷ []) (give 0x80000000 ∷ []) 2 1 2 (block_one _ 2 (inside_equal refl (omega arith) (omega arith))) (block_give 0x80000000 1) (omega arith) (omega arith)) (omega arith) (omega arith)
+      (block_join (jump_equal arch_word 1 0 ∷ []) (give 0x80000000 ∷ []) 2 1 2 (block_one _ 2 (inside_equal refl (omega arith) (omega arith))) (block_give 0x80000000 1) (omega arith) (omega arith)) (omega arith) (omega arith)
 
   -- a record of another architecture
   other_returns : (back : List sock_filter) (r : List ℕ) → IsRecord r → word_at r 4 ≢ arch_word → Returns (guard ++ back) r 0 0 0x80000000
@@ -120,11 +119,11 @@ module _ (f : Filter) (fits_mismatch : word_of f.mismatch_action < 2 ^ 32) (fits
         long = sym (ap counted_length_of none);
         checked = checked_of guard mismatch_word (ranges_join guard (give mismatch_word ∷ []) guard_ranges (ranges_from (give mismatch_word ∷ []) (give_in_range mismatch_word fits_mismatch, tt))) (block_join guard (give mismatch_word ∷ []) 3 0 3 guard_block (block_give mismatch_word 0) (omega arith) (omega arith)) (omega arith);
         decides = λ r rec.
-          ⊎_elim
-          (λ same. ends_at f p r mismatch_word record { to = 3; count = 2; accumulator = word_at r 4; instruction = give mismatch_word; goes = same_goes (give mismatch_word ∷ []) r rec same; here = refl; returns = refl; value = refl }
-              (policy_differs same (λ m. let there = sym m.there ∙ ap (λ chains. chain_under chains (word_at r 0)) none in absurd (cc)) refl))
-          (λ differs. ends_at f p r 0x80000000 (other_returns (give mismatch_word ∷ []) r rec differs) (other_architecture differs refl))
-          (decided r);
+            ⊎_elim
+            (λ same. ends_at f p r mismatch_word record { to = 3; count = 2; accumulator = word_at r 4; instruction = give mismatch_word; goes = same_goes (give mismatch_word ∷ []) r rec same; here = refl; returns = refl; value = refl }
+            (policy_differs same (λ m. let there = sym m.there ∙ ap (λ chains. chain_under chains (word_at r 0)) none in absurd (cc)) refl))
+            (λ differs. ends_at f p r 0x80000000 (other_returns (give mismatch_word ∷ []) r rec differs) (other_architecture differs refl))
+            (decided r);
       }
 
   -- the program of a filter with chains: the guard, a load of the call number, the chains, and a return
@@ -149,11 +148,11 @@ module _ (f : Filter) (fits_mismatch : word_of f.mismatch_action < 2 ^ 32) (fits
       ends_at f (whole chains) r match_word (behind chains r match_word rec same (returns_front chains (give mismatch_word ∷ []) r 0 (word_at r 0) match_word returns)) (policy_matches same record { chain = chain; there = there; matches = m } refl)
   dispatched chains r rec same (chain_differs chain there differs returns) =
       ends_at f (whole chains) r mismatch_word (behind chains r mismatch_word rec same (returns_front chains (give mismatch_word ∷ []) r 0 (word_at r 0) mismatch_word returns))
-        (policy_differs same (λ m. let found = sym m.there ∙ there in let one : m.chain ≡ chain = cc in differs (subst (λ x. ChainMatches x r) one m.matches)) refl)
+      (policy_differs same (λ m. let found = sym m.there ∙ there in let one : m.chain ≡ chain = cc in differs (subst (λ x. ChainMatches x r) one m.matches)) refl)
   dispatched chains r rec same (no_chain none g) =
       ends_at f (whole chains) r mismatch_word
-        (behind chains r mismatch_word rec same (returns_after (chains ++ give mismatch_word ∷ []) r 0 (word_at r 0) (length chains) mismatch_word record { count = _; accumulator = word_at r 0; goes = goes_front chains (give mismatch_word ∷ []) r g } (returns_here chains mismatch_word [] r (word_at r 0))))
-        (policy_differs same (λ m. let found = sym m.there ∙ none in absurd (cc)) refl)
+      (behind chains r mismatch_word rec same (returns_after (chains ++ give mismatch_word ∷ []) r 0 (word_at r 0) (length chains) mismatch_word record { count = _; accumulator = word_at r 0; goes = goes_front chains (give mismatch_word ∷ []) r g } (returns_here chains mismatch_word [] r (word_at r 0))))
+      (policy_differs same (λ m. let found = sym m.there ∙ none in absurd (cc)) refl)
 
   -- the counted length of chains that are there
   counted_some : (chains : List (ℤ × Chain)) → 0 < length chains → counted_length_of chains ≡ 5 + chains_length chains
@@ -169,9 +168,9 @@ module _ (f : Filter) (fits_mismatch : word_of f.mismatch_action < 2 ^ 32) (fits
       let head_block : IsBlock head 4 = block_join guard (load 0 ∷ []) 3 1 4 guard_block (block_one _ 1 (inside_load refl refl (omega arith))) (omega arith) (omega arith) in
       let head_ranges : AreInRange head = ranges_join guard (load 0 ∷ []) guard_ranges (ranges_from (load 0 ∷ []) (load_in_range 0 (omega arith), tt)) in
       checked_of front mismatch_word
-        (ranges_join front one (ranges_join head chains head_ranges h.ranges) (ranges_from one (give_in_range mismatch_word fits_mismatch, tt)))
-        (block_join front one (length front) 0 (length front) (block_join head chains 4 (length chains) (length front) head_block h.block (omega arith) (omega arith)) (block_give mismatch_word 0) (omega arith) (omega arith))
-        (omega arith)
+      (ranges_join front one (ranges_join head chains head_ranges h.ranges) (ranges_from one (give_in_range mismatch_word fits_mismatch, tt)))
+      (block_join front one (length front) 0 (length front) (block_join head chains 4 (length chains) (length front) head_block h.block (omega arith) (omega arith)) (block_give mismatch_word 0) (omega arith) (omega arith))
+      (omega arith)
 
   pub full_program : (chains : List sock_filter) → 0 < length f.chains → counted_length f < 4096 → IsChainsCode f.chains mismatch_word match_word chains → IsCompiled f (whole chains)
   full_program chains some short h =
@@ -181,10 +180,10 @@ module _ (f : Filter) (fits_mismatch : word_of f.mismatch_action < 2 ^ 32) (fits
         long = omega (arith, h.long);
         checked = whole_checked chains h (omega (arith, h.long));
         decides = λ r rec.
-          ⊎_elim
-          (λ same. dispatched chains r rec same (h.dispatches r rec (word_at r 0) (word_fits r 0 rec)))
-          (λ differs. ends_at f (whole chains) r 0x80000000 (other_returns (load 0 ∷ (chains ++ give mismatch_word ∷ [])) r rec differs) (other_architecture differs refl))
-          (decided r);
+            ⊎_elim
+            (λ same. dispatched chains r rec same (h.dispatches r rec (word_at r 0) (word_fits r 0 rec)))
+            (λ differs. ends_at f (whole chains) r 0x80000000 (other_returns (load 0 ∷ (chains ++ give mismatch_word ∷ [])) r rec differs) (other_architecture differs refl))
+            (decided r);
       }
 
   -- a record of this architecture whose number has no chain
@@ -203,8 +202,8 @@ module _ (f : Filter) (fits_mismatch : word_of f.mismatch_action < 2 ^ 32) (fits
         some = omega arith;
         goes = subst (λ n. Goes (whole chains) r 0 0 n (4 + length chains) (word_at r 0)) steps (goes_on (whole chains) r (reaches chains r rec same) first);
         here =
-          let z : 4 + (length chains + 0) ≡ 4 + length chains = omega arith in
-          subst (λ n. slice_get (whole chains) n ≡ Some (give mismatch_word)) z (get_behind head back (length chains + 0) (give mismatch_word) (get_behind chains (give mismatch_word ∷ []) 0 (give mismatch_word) refl));
+            let z : 4 + (length chains + 0) ≡ 4 + length chains = omega arith in
+            subst (λ n. slice_get (whole chains) n ≡ Some (give mismatch_word)) z (get_behind head back (length chains + 0) (give mismatch_word) (get_behind chains (give mismatch_word ∷ []) 0 (give mismatch_word) refl));
         returns = refl;
         value = refl;
       }
@@ -257,11 +256,11 @@ written_full f entries mismatch matched arch chains p w some short code e =
     let fits_matched = subst (λ n. n < 2 ^ 32) w.matched_is w.matched_fits in
     let fits_arch = subst (λ n. n < 2 ^ 32) w.arch_is w.arch_fits in
     let own = subst (λ l. IsChainsCode l (word_of f.mismatch_action) (word_of f.match_action) chains) w.chains
-      (subst (λ n. IsChainsCode (chains_of entries) n (word_of f.match_action) chains) w.mismatch_is (subst (λ n. IsChainsCode (chains_of entries) mismatch n chains) w.matched_is code)) in
+    (subst (λ n. IsChainsCode (chains_of entries) n (word_of f.match_action) chains) w.mismatch_is (subst (λ n. IsChainsCode (chains_of entries) mismatch n chains) w.matched_is code)) in
     let same = ap (λ (n : ℕ). load 4 ∷ jump_equal n 1 0 ∷ give 0x80000000 ∷ load 0 ∷ (chains ++ give mismatch ∷ [])) w.arch_is ∙ ap (λ (n : ℕ). load 4 ∷ jump_equal (audit_word f.target_arch) 1 0 ∷ give 0x80000000 ∷ load 0 ∷ (chains ++ give n ∷ [])) w.mismatch_is in
     let some_chains = some_mapped entries f.chains w.chains some in
     subst (λ q. IsCompiled f q × Passes f q) (sym (e ∙ same))
-      (full_program f fits_mismatch fits_matched fits_arch chains some_chains short own, full_passes f fits_mismatch fits_matched fits_arch chains own)
+    (full_program f fits_mismatch fits_matched fits_arch chains some_chains short own, full_passes f fits_mismatch fits_matched fits_arch chains own)
 
 -- the program of a filter without chains, as it was written
 pub written_empty : (f : Filter) (entries : List (ℤ × Vec Rule Global)) (mismatch matched arch : ℕ) (p : List sock_filter) → Written f entries mismatch matched arch → length entries ≡ 0

@@ -1,9 +1,7 @@
-use Rattle.std.proofs.Common.{◌≡◌, ℕ, ◌+◌, ◌-◌, ◌≤◌, ◌<◌, ◌^◌, ◌∷◌, [], ◌++◌, List, length, set, refl, sym, ap, ◌∙◌, arith}
+use Rattle.std.proofs.Common.{◌≡◌, ◌+◌, ◌-◌, ◌<◌, ◌∷◌, [], ◌++◌, length, set, refl, ap, ◌∙◌, arith}
 use Rattle.std.proofs.lemmas.Bool.Decides.{nat_tests}
 use Rattle.std.proofs.Math.ListN.{length-set}
-use borrow.Rule.Slice.PartMut.{put_mid}
-use Rattle.seccompiler.specs.declared.bpf.sock_filter.{sock_filter}
-use Rattle.seccompiler.specs.Code.{give, jump, jump_equal}
+use Rattle.seccompiler.specs.Code.{jump_equal}
 use Rattle.seccompiler.specs.Policy.{Chain}
 use Rattle.seccompiler.specs.Layout.{chain_length}
 use Rattle.seccompiler.specs.ChainCode.{rules_length}
@@ -34,5 +32,7 @@ returns c =
     let some : 0 < length c.args.chain.now = grind (arith, nat_tests) in
     let long : length c.write_rules.new.part + 2 ≡ length c.args.part.now = omega (arith, c.write_rules.ensures.code.long, some_length c.args.chain.now some, c.requires.room) in
     let written = framed c.args.part.now c.write_rules.new.part c.jump_if_equal-2.result c.return_word-2.result long in
-    record { code = chain_with c.args.number c.args.mismatch c.args.matched (omega arith) (omega arith) (omega arith) c.args.chain.now c.write_rules.new.part _ some c.write_rules.ensures.code
-        (written ∙ ap (λ x. x ∷ (c.write_rules.new.part ++ c.return_word-2.result ∷ [])) c.jump_if_equal-2.ensures.instruction ∙ ap (λ x. jump_equal c.args.number 0 1 ∷ (c.write_rules.new.part ++ x ∷ [])) c.return_word-2.ensures.instruction) }
+    record {
+      code = chain_with c.args.number c.args.mismatch c.args.matched (omega arith) (omega arith) (omega arith) c.args.chain.now c.write_rules.new.part _ some c.write_rules.ensures.code
+          (written ∙ ap (λ x. x ∷ (c.write_rules.new.part ++ c.return_word-2.result ∷ [])) c.jump_if_equal-2.ensures.instruction ∙ ap (λ x. jump_equal c.args.number 0 1 ∷ (c.write_rules.new.part ++ x ∷ [])) c.return_word-2.ensures.instruction);
+    }

@@ -1,8 +1,7 @@
-use Rattle.std.proofs.Common.{◌≡◌, ℕ, ℤ, ◌+◌, ◌-◌, ◌≤◌, ◌<◌, ◌^◌, ◌++◌, ◌∷◌, [], List, length, take, min, refl, sym, ap, ◌∙◌, subst, arith, append-nil}
-use Rattle.std.proofs.lemmas.List.{take_all}
+use Rattle.std.proofs.Common.{◌≡◌, ℕ, ◌+◌, ◌-◌, ◌≤◌, ◌^◌, ◌++◌, ◌∷◌, [], List, length, take, min, sym, ap, ◌∙◌, arith}
 use Rattle.std.proofs.lemmas.Slice.{take-put_mid}
 use lib.Seq.{length-take-le}
-use borrow.Rule.Slice.PartMut.{put_mid, same_len_mid}
+use borrow.Rule.Slice.PartMut.{same_len_mid}
 use Rattle.seccompiler.specs.declared.bpf.sock_filter.{sock_filter}
 use Rattle.seccompiler.specs.Policy.{Chain, chains_of}
 use Rattle.seccompiler.specs.Layout.{chain_length, chains_length}
@@ -29,7 +28,7 @@ loop-number-init c = record {
   done = [];
   rest = c.into_iter-number-iterator.ensures.into_iter_gives.0;
   made = chains_empty c.args.mismatch c.args.matched;
-  within = omega arith
+  within = omega arith;
 }
 
 pub overflow_add-end : goal.overflow_add-end
@@ -66,5 +65,5 @@ loop-number-preserved c =
       done = l.invariant.done ++ (c.in-Some.number.now, c.in-Some.chain.now) ∷ [];
       rest = rest_step c.args.rules.now.entries l.invariant.done l.number-iterator c.next.new.self (c.in-Some.number.now, c.in-Some.chain.now) c.in-Some.ensures.steps l.invariant.rest;
       made = chains_step l.invariant.done c.args.mismatch c.args.matched c.call_number.result c.in-Some.number.now c.in-Some.chain.now c.deref-in-loop-number.result.now (take l.start l.part) c.write_chain.new.part _ c.call_number.ensures c.deref-in-loop-number.ensures.value c.write_chain.ensures.code written l.invariant.made;
-      within = omega (arith, r.within, same_len_mid l.start count l.part c.write_chain.new.part (long ∙ sym (length-part l.start (l.start + c.chain_len.result) l.part (omega arith) (omega (arith, r.within)))))
+      within = omega (arith, r.within, same_len_mid l.start count l.part c.write_chain.new.part (long ∙ sym (length-part l.start (l.start + c.chain_len.result) l.part (omega arith) (omega (arith, r.within)))));
     }

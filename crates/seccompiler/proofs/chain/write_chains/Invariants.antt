@@ -9,5 +9,5 @@ invariant-loop-number l = record {
   done : List MapEntry;
   rest : done ++ l.number-iterator ≡ l.rules.entries;
   made : IsChainsCode (chains_of done) l.mismatch l.matched (take l.start l.part);
-  within : l.start ≤ length l.part
+  within : l.start ≤ length l.part;
 }

@@ -4,7 +4,6 @@ use Rattle.std.proofs.lemmas.List.{take_all}
 use lib.Seq.{length-take-le}
 use borrow.Rule.Slice.PartMut.{same_len_mid}
 use Rattle.seccompiler.specs.declared.bpf.sock_filter.{sock_filter}
-use Rattle.seccompiler.specs.Code.{give}
 use Rattle.seccompiler.specs.Policy.{Rule, Chain}
 use Rattle.seccompiler.specs.Layout.{rule_length}
 use Rattle.seccompiler.specs.ChainCode.{rules_length, IsRulesCode}
@@ -48,7 +47,7 @@ loop-rule-preserved c =
     let last = ap (λ x. take l.start l.part ++ (c.write.new.part ++ x ∷ [])) c.return_word.ensures.instruction in
     record {
       code = rules_step c.args.chain.now l.rule-index c.args.matched c.rule-item.result (take l.start l.part) c.write.new.part _ (omega arith) c.loop-rule-test.true c.rule-item.is c.write.ensures.code (written ∙ last) l.invariant.code;
-      within = omega (arith, r.within, same_len_mid l.start (l.start + c.code_len.result - l.start) l.part c.write.new.part (long ∙ sym (length-part l.start (l.start + c.code_len.result) l.part (omega arith) (omega (arith, r.within)))), length-set {A = sock_filter})
+      within = omega (arith, r.within, same_len_mid l.start (l.start + c.code_len.result - l.start) l.part c.write.new.part (long ∙ sym (length-part l.start (l.start + c.code_len.result) l.part (omega arith) (omega (arith, r.within)))), length-set {A = sock_filter});
     }
 
 pub returns : goal.returns

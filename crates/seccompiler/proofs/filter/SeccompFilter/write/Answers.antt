@@ -1,10 +1,7 @@
-use Rattle.std.proofs.Common.{◌≡◌, ℕ, ◌+◌, ◌-◌, ◌≤◌, ◌<◌, ◌^◌, ◌∷◌, [], ◌++◌, List, All, length, set, refl, sym, ap, ◌∙◌, subst, arith}
+use Rattle.std.proofs.Common.{◌≡◌, ◌+◌, ◌<◌, All, length, sym, ap, ◌∙◌, subst, arith}
 use Rattle.std.proofs.lemmas.Bool.Decides.{nat_tests}
-use Rattle.seccompiler.specs.declared.bpf.sock_filter.{sock_filter}
 use Rattle.seccompiler.specs.Action.{word_of, audit_word}
-use Rattle.seccompiler.specs.Code.{load, give, jump_equal}
 use Rattle.seccompiler.specs.Policy.{Filter, IsCallNumber}
-use Rattle.seccompiler.specs.Layout.{counted_length}
 use Rattle.seccompiler.specs.Refusal.{numbers_of}
 use Rattle.seccompiler.proofs.Parts.{four-written, headed}
 use Rattle.seccompiler.proofs.Chains.{numbers_are_keys}
@@ -30,9 +27,8 @@ returns-then-is_empty c =
     let long : length c.args.program.now ≡ 4 = c.requires.room ∙ counted_empty c.self.inside.rules.entries _ (ap (λ (f : Filter). f.chains) c.self.view_is) none in
     let written = four-written c.args.program.now c.load_word.result c.jump_if_equal.result c.return_word.result c.return_word-then-is_empty.result long in
     let both = written_empty c.args.self.now c.self.inside.rules.entries c.from-mismatch.result (word_of c.self.inside.match_action) c.get_audit_value.result _ (empty c) none
-      (written ∙ cc (c.load_word.ensures.instruction, c.from.ensures, c.jump_if_equal.ensures.instruction, c.return_word.ensures.instruction, c.into.ensures, c.return_word-then-is_empty.ensures.instruction)) in
+    (written ∙ cc (c.load_word.ensures.instruction, c.from.ensures, c.jump_if_equal.ensures.instruction, c.return_word.ensures.instruction, c.into.ensures, c.return_word-then-is_empty.ensures.instruction)) in
     record { compiled = both.0; passes = both.1 }
-
 
 -- what is known where it is not
 full : (c : goal.After-return_word-2) → Written c.args.self.now c.self.inside.rules.entries c.from-mismatch.result c.into-2.result c.get_audit_value.result
@@ -57,5 +53,5 @@ returns c =
     let long : length c.write_chains.new.part + 5 ≡ length c.args.program.now = omega (arith, c.write_chains.ensures.code.long, c.requires.room, counted_full c.self.inside.rules.entries c.args.self.now.chains (ap (λ (f : Filter). f.chains) c.self.view_is) some) in
     let written = headed c.args.program.now c.write_chains.new.part c.load_word.result c.jump_if_equal.result c.return_word.result c.load_word-2.result c.return_word-2.result long in
     let both = written_full c.args.self.now c.self.inside.rules.entries c.from-mismatch.result c.into-2.result c.get_audit_value.result c.write_chains.new.part _ (full c) some c.requires.short c.write_chains.ensures.code
-      (written ∙ cc (c.load_word.ensures.instruction, c.from.ensures, c.jump_if_equal.ensures.instruction, c.return_word.ensures.instruction, c.into.ensures, c.load_word-2.ensures.instruction, c.from-2.ensures, c.return_word-2.ensures.instruction)) in
+    (written ∙ cc (c.load_word.ensures.instruction, c.from.ensures, c.jump_if_equal.ensures.instruction, c.return_word.ensures.instruction, c.into.ensures, c.load_word-2.ensures.instruction, c.from-2.ensures, c.return_word-2.ensures.instruction)) in
     record { compiled = both.0; passes = both.1 }

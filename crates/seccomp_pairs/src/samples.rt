@@ -2,6 +2,7 @@
 
 use seccompiler::backend::TargetArch;
 use seccompiler::syscall_table::SyscallTable;
+use std::process::Abort;
 
 // A name, and its numbers on x86_64, aarch64 and riscv64.
 const SAMPLES: [(&str, Option<i64>, Option<i64>, Option<i64>); 27] = [
@@ -34,54 +35,30 @@ const SAMPLES: [(&str, Option<i64>, Option<i64>, Option<i64>); 27] = [
     ("", None, None, None),
 ];
 
-#[test]
-fn knows_samples_on_x86_64(rt: HostRuntime) {
-    let table = SyscallTable::new(TargetArch::x86_64);
-    for (name, number, _, _) in &SAMPLES {
-        assert_eq!(rt;
-            table.get_syscall_nr(name),
-            *number,
-            "the number of `{name}`"
-        );
-    }
-}
-
-#[test]
-fn knows_samples_on_aarch64(rt: HostRuntime) {
-    let table = SyscallTable::new(TargetArch::aarch64);
-    for (name, _, number, _) in &SAMPLES {
-        assert_eq!(rt;
-            table.get_syscall_nr(name),
-            *number,
-            "the number of `{name}`"
-        );
-    }
-}
-
-#[test]
-fn knows_samples_on_riscv64(rt: HostRuntime) {
-    let table = SyscallTable::new(TargetArch::riscv64);
-    for (name, _, _, number) in &SAMPLES {
-        assert_eq!(rt;
-            table.get_syscall_nr(name),
-            *number,
-            "the number of `{name}`"
-        );
-    }
-}
-
-// The two lists are one but for three names.
-#[test]
-fn riscv64_is_aarch64_but_for_three_names(rt: HostRuntime) {
-    let table = SyscallTable::new(TargetArch::riscv64);
-    for (name, number) in &seccomp_tables::AARCH64 {
-        let wanted = if *name == "renameat" {
-            None
-        } else {
-            Some(*number)
+// Asks for each of these names.
+fn assert_numbers(
+    rt: &impl Abort,
+    arch: TargetArch,
+    samples: &[(&str, Option<i64>, Option<i64>, Option<i64>)],
+) {
+    let table = SyscallTable::new(arch);
+    for (name, on_x86_64, on_aarch64, on_riscv64) in samples {
+        let number = match arch {
+            TargetArch::x86_64 => *on_x86_64,
+            TargetArch::aarch64 => *on_aarch64,
+            TargetArch::riscv64 => *on_riscv64,
         };
-        assert_eq!(rt; table.get_syscall_nr(name), wanted, "the number of {name}");
+        assert_eq!(rt;
+            table.get_syscall_nr(name),
+            number,
+            "the number of `{name}` on {arch}"
+        );
     }
-    let added = seccomp_tables::RISCV64.len() - (seccomp_tables::AARCH64.len() - 1);
-    assert_eq!(rt; added, 2, "the names that riscv64 has and aarch64 has not");
+}
+
+#[test]
+fn knows_samples_on_each_architecture(rt: HostRuntime) {
+    assert_numbers(&rt, TargetArch::x86_64, &SAMPLES);
+    assert_numbers(&rt, TargetArch::aarch64, &SAMPLES);
+    assert_numbers(&rt, TargetArch::riscv64, &SAMPLES);
 }

@@ -1,4 +1,5 @@
-// The names and numbers of Linux system calls, for each architecture: data alone.
+// The names and numbers of Linux system calls, for each architecture: data alone, which
+// tools/generate_tables writes.
 #![tactic(auto)]
 
 mod aarch64;

@@ -19,7 +19,7 @@ Pair = List ℕ × ℤ
 abbrev pub pairs_of : List (Bor (List ℕ) × ℤ) → List Pair
 pairs_of pairs = map (λ pair. (pair.0.now, pair.1)) pairs
 
--- The table of an architecture: the pairs of the Rust crate's own.
+-- The table of an architecture: the pairs that the Rust crate seccompiler has for it, in byte order of names.
 unfoldable pub table_of : TargetArch → List Pair
 table_of x86_64 = map (λ pair. (pair.0.now, pair.1)) X86_64
 table_of aarch64 = map (λ pair. (pair.0.now, pair.1)) AARCH64
@@ -34,18 +34,18 @@ abbrev pub number_of : List Pair → List ℕ → Option ℤ
 number_of [] name = None
 number_of (pair ∷ pairs) name = if bytes_eq pair.0 name then Some pair.1 else number_of pairs name
 
--- The number of the first pair with this name, as a cut of the table: this pair, and none with its name in front.
+-- This is the number of the first pair with this name: the table has that pair, and none before it has the name.
 pub record IsFirstNumber (table : List Pair) (name : List ℕ) (number : ℤ) : Type 0 where
   pub front : List Pair
   pub back : List Pair
   pub whole : table ≡ front ++ (name, number) ∷ back
   pub first : All (λ pair. pair.0 ≢ name) front
 
--- A number that a system call has: the Linux kernel 6.12 has none above 462.
+-- A number that the tables may give a system call: those of the Linux kernel 6.12 have none above 462.
 abbrev pub IsCallNumber : ℤ → Type 0
 IsCallNumber number = (pos 0 ≤ℤ number) × (number ≤ℤ pos 462)
 
--- What every table is: short, in byte order of names, with no name twice, and with numbers that system calls have.
+-- What every table is: short, in byte order of names, with no name twice, and with no number out of range.
 pub record IsCallTable (table : List Pair) : Type 0 where
   pub short : length table < 512
   pub ascending : AllPairs StandsBefore table

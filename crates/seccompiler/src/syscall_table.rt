@@ -8,6 +8,8 @@ use seccomp_tables::{AARCH64, RISCV64, X86_64};
 use std::marker::Model;
 
 /// The system calls of one architecture, by name.
+///
+/// The names and numbers are those of the Linux kernel 6.12, as the Rust crate has them.
 #[derive(Clone, Copy, Debug)]
 pub struct SyscallTable {
     arch: TargetArch,
@@ -24,7 +26,9 @@ impl Model for SyscallTable {
 }
 
 impl SyscallTable {
-    /// Gives the table of an architecture, without taking memory.
+    /// Gives the table of an architecture.
+    ///
+    /// It takes no memory. Every table has fewer than 512 names, in byte order and each once.
     #[tactic(auto, using(crate::proofs::TableFacts::is_call_table))]
     pub fn new(arch: TargetArch) -> Self
         ensures arch { result ≡ arch }
@@ -34,6 +38,9 @@ impl SyscallTable {
     }
 
     /// Gives the number of the system call with exactly this name, case included.
+    ///
+    /// It is `None` where the table has no such name, and otherwise lies within 0 to 462. It takes
+    /// no memory. `SyscallTable::new(TargetArch::aarch64).get_syscall_nr("close")` is `Some(57)`.
     pub fn get_syscall_nr(&self, name: &str) -> Option<i64>
         ensures number { result ≡ number_of (table_of self.now) name.now }
         ensures found { IfSome result (IsFirstNumber (table_of self.now) name.now) }

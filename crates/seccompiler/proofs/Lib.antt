@@ -23,3 +23,5 @@ pub mod Chains
 pub mod Searches
 pub mod Equality
 pub mod Reordering
+pub mod TableNames
+pub mod TableFacts

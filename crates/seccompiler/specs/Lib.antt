@@ -4,6 +4,7 @@ pub mod Code
 pub mod Machine
 pub mod Checked
 pub mod Action
+pub mod SyscallTable
 pub mod Texts
 pub mod Condition
 pub mod Policy

@@ -9,3 +9,4 @@ pub mod filter;
 pub mod machine;
 pub(crate) mod record;
 pub mod rule;
+pub mod syscall_table;

@@ -3,3 +3,4 @@
 
 pub mod backend;
 pub mod bpf;
+pub mod json;

@@ -1,0 +1,9 @@
+// The JSON front end: policies as JSON text.
+
+pub mod error;
+pub mod parts;
+pub mod types;
+
+pub use error::JsonFrontendError;
+pub use parts::{JsonConditions, JsonRules, JsonSyscallName};
+pub use types::{JsonCondition, JsonFilter, JsonFilterMap, JsonRule};

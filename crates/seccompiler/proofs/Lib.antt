@@ -1,1 +1,2 @@
 pub mod JsonEqualities
+pub mod TextCuts

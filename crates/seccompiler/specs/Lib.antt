@@ -2,5 +2,9 @@ pub mod Action
 pub mod JsonEquality
 pub mod JsonFault
 pub mod JsonFilters
+pub mod JsonRepeats
 pub mod JsonTexts
+pub mod Place
+pub mod TextPieces
+pub mod TextWalk
 pub mod Texts

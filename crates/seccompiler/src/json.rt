@@ -2,8 +2,10 @@
 
 pub mod error;
 pub mod parts;
+pub mod repeats;
 pub mod types;
 
 pub use error::JsonFrontendError;
 pub use parts::{JsonConditions, JsonRules, JsonSyscallName};
+pub use repeats::repeats_key;
 pub use types::{JsonCondition, JsonFilter, JsonFilterMap, JsonRule};

@@ -1,2 +1,3 @@
 pub mod JsonEqualities
 pub mod TextCuts
+pub mod FilterSteps

@@ -2,7 +2,9 @@ pub mod Action
 pub mod JsonEquality
 pub mod JsonFault
 pub mod JsonFilters
+pub mod JsonReading
 pub mod JsonRepeats
+pub mod JsonShape
 pub mod JsonTexts
 pub mod Place
 pub mod TextPieces

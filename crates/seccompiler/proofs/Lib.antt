@@ -1,3 +1,7 @@
 pub mod JsonEqualities
 pub mod TextCuts
 pub mod FilterSteps
+pub mod OptionSteps
+pub mod JsonNames
+pub mod JsonShapes
+pub mod JsonFilterShapes

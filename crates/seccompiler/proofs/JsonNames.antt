@@ -18,14 +18,23 @@ use Rattle.seccompiler.proofs.OptionSteps.{both_true}
 pub same_name : (a b : List ℕ) → slice_cmp nat_cmp a b ≡ Equal → a ≡ b
 same_name a b h = (bytes_eq-Decides a b).0 (sym (is_eq-slice_cmp a b) ∙ ap is_eq h)
 
-found_at : (o : Ordering) (name other : List ℕ) (d : Data) (rest : Option Data) (v : Data) → slice_cmp nat_cmp name other ≡ o → match_ordering o rest (Some d) rest ≡ Some v → ((name ≡ other) × (d ≡ v)) ⊎ (rest ≡ Some v)
-found_at Less name other d rest v is h = inr h
+found_at : (o : Ordering) (name other : List ℕ) (d : Data) (rest : Option Data) (v : Data) → slice_cmp nat_cmp name other ≡ o → match_ordering o rest (Some d) rest ≡ Some v → ((name ≡ other) × (d ≡ v)) ⊎ ((is_eq (slice_cmp nat_cmp name other) ≡ false) × (rest ≡ Some v))
+found_at Less name other d rest v is h = inr (ap is_eq is, h)
 found_at Equal name other d rest v is h = inl (same_name name other is, cc)
-found_at Greater name other d rest v is h = inr h
+found_at Greater name other d rest v is h = inr (ap is_eq is, h)
 
 -- What is under a name is the first member's value, if the name is its own, or what the others have.
-pub found : (name other : List ℕ) (d : Data) (members : Members) (v : Data) → get_member name (member other d members) ≡ Some v → ((name ≡ other) × (d ≡ v)) ⊎ (get_member name members ≡ Some v)
+pub found : (name other : List ℕ) (d : Data) (members : Members) (v : Data) → get_member name (member other d members) ≡ Some v → ((name ≡ other) × (d ≡ v)) ⊎ ((is_eq (slice_cmp nat_cmp name other) ≡ false) × (get_member name members ≡ Some v))
 found name other d members v h = found_at (slice_cmp nat_cmp name other) name other d (get_member name members) v refl h
+
+lacks_at : (o : Ordering) (name other : List ℕ) (d : Data) (rest : Option Data) → slice_cmp nat_cmp name other ≡ o → match_ordering o rest (Some d) rest ≡ None → (is_eq (slice_cmp nat_cmp name other) ≡ false) × (rest ≡ None)
+lacks_at Less name other d rest is h = (ap is_eq is, h)
+lacks_at Equal name other d rest is h = cc
+lacks_at Greater name other d rest is h = (ap is_eq is, h)
+
+-- A name that is not there is not the first member's, and the others lack it.
+pub lacks : (name other : List ℕ) (d : Data) (members : Members) → get_member name (member other d members) ≡ None → (is_eq (slice_cmp nat_cmp name other) ≡ false) × (get_member name members ≡ None)
+lacks name other d members h = lacks_at (slice_cmp nat_cmp name other) name other d (get_member name members) refl h
 
 still_at : (o : Ordering) (d v : Data) (rest : Option Data) → rest ≡ Some v → (w : Data) × (match_ordering o rest (Some d) rest ≡ Some w)
 still_at Less d v rest h = (v, h)
@@ -46,7 +55,7 @@ only_names-tells names (member other d members) h name v there =
     let parts = both_true (list_any (bytes_eq other) names) (only_names names members) h in
     elim (found name other d members v there) [
       inl here ↦ subst (Contains names) (sym here.0) (Contains-from_any {eq = bytes_eq} (λ x y. (bytes_eq-Decides x y).0) other names parts.0)
-    | inr later ↦ only_names-tells names members parts.1 name v later ]
+    | inr later ↦ only_names-tells names members parts.1 name v later.1 ]
 
 only_names-from : (names : List (List ℕ)) (members : Members) → ((name : List ℕ) (v : Data) → get_member name members ≡ Some v → Contains names name) → only_names names members ≡ true
 only_names-from names no_members h = refl

@@ -5,3 +5,4 @@ pub mod OptionSteps
 pub mod JsonNames
 pub mod JsonShapes
 pub mod JsonFilterShapes
+pub mod JsonFilterMaps

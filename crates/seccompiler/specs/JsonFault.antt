@@ -28,16 +28,22 @@ from_backend (of_backend.InvalidTargetArch t) = of_json.Backend (of_backend.Inva
 from_backend (of_backend.InvalidSyscallNumber n) = of_json.Backend (of_backend.InvalidSyscallNumber n)
 from_backend of_backend.OutOfMemory = of_json.OutOfMemory
 
--- The error is told where the fault is the answer. Want of memory and a failed read tell of no fault.
+-- The error tells this answer's fault. Want of memory tells of none. No call fails to read that is
+-- given no reader.
 abbrev pub Fails : {Y : Type 0} → JsonFrontendError → Result Y Fault → Type 0
 Fails (of_json.Backend cause) answer = (answer ≡ Err (refused cause)) × (cause ≢ of_backend.OutOfMemory)
 Fails (of_json.SerdeJson cause) answer = (answer ≡ Err unreadable) × ¬ IsMemory cause
 Fails (of_json.SyscallName name arch) answer = answer ≡ Err (unknown_call (string_bytes name) arch)
-Fails (of_json.Read cause) answer = error_kind cause ≢ kind.OutOfMemory
+Fails (of_json.Read cause) answer = ⊥
 Fails of_json.RepeatedKey answer = answer ≡ Err repeated_key
 Fails of_json.NotAnObject answer = answer ≡ Err not_an_object
 Fails (of_json.Shape name) answer = answer ≡ Err (wrong_shape (string_bytes name))
 Fails of_json.OutOfMemory answer = Unit {0}
+
+-- The same of a call that is given a reader: its failure tells of no fault, and is not for memory.
+abbrev pub FailsReading : {Y : Type 0} → JsonFrontendError → Result Y Fault → Type 0
+FailsReading (of_json.Read cause) answer = error_kind cause ≢ kind.OutOfMemory
+FailsReading e answer = Fails e answer
 
 -- A call gives, seen by `view`, what the answer is, or fails by its fault.
 abbrev pub Gives : {X Y : Type 0} → (X → Y) → Result X JsonFrontendError → Result Y Fault → Type 0

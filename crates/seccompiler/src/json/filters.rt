@@ -1,9 +1,15 @@
 // The filters of a JSON value.
 
+ghost use Rattle.std.specs.Prelude.{◌≡◌, ◌↔◌, Some, IfOk, IfErr};
+ghost use Rattle.std.specs.BTreeMap.{IsOrdered};
+ghost use Rattle.std.specs.String.{string_cmp};
+ghost use Rattle.serde_json.specs.Data.{Data, object};
 ghost use Rattle.serde_json.specs.View.{view, members_view};
 ghost use Rattle.seccompiler.specs.JsonFault.{Gives};
-ghost use Rattle.seccompiler.specs.JsonFilters.{filters_of};
-ghost use Rattle.seccompiler.specs.JsonReading.{filters_in, filters_under};
+ghost use Rattle.seccompiler.specs.JsonFilters.{filters_of, AreFilters, IsRefusal};
+ghost use Rattle.seccompiler.specs.JsonReading.{filter_in, filters_in, filters_under};
+ghost use Rattle.seccompiler.specs.JsonShape.{IsFilter};
+ghost use Rattle.seccompiler.specs.declared.json.types.JsonFilter.{JsonFilter};
 
 use crate::json::error::JsonFrontendError;
 use crate::json::read::filter_of;
@@ -15,6 +21,14 @@ use std::collections::BTreeMap;
 
 /// The filters of a value, under their names.
 pub fn read_filters(alloc: Global, value: &Value) -> Result<JsonFilterMap, JsonFrontendError>
+    ensures filters { IfOk result (AreFilters (view value.now)) }
+    ensures refusal { IfErr result (IsRefusal (view value.now)) }
+
+    // A value is at most one filter.
+    ensures one_filter { (d : Data) (f g : JsonFilter) → IsFilter d f → IsFilter d g → f ≡ g }
+
+    // The same as functions of the value, for the definitions that go by them.
+    ensures filter_read { (d : Data) (f : JsonFilter) → (filter_in d ≡ Some f) ↔ IsFilter d f }
     ensures computed { Gives filters_of result (filters_in (view value.now)) }
 {
     match value {
@@ -27,7 +41,8 @@ fn filters_under(
     alloc: Global,
     members: &Map<String, Value>,
 ) -> Result<JsonFilterMap, JsonFrontendError>
-    ensures { Gives filters_of result (filters_under (members_view members.now.entries)) }
+    ensures refusal { IfErr result (IsRefusal (object (members_view members.now.entries))) }
+    ensures computed { Gives filters_of result (filters_under (members_view members.now.entries)) }
 {
     let mut found = BTreeMap::new(alloc);
     for (name, value) in members.iter() {

@@ -1,12 +1,14 @@
-use Rattle.std.proofs.Common.{◌≡◌, ◌∷◌, ◌++◌, [], Some, string_bytes, string_cmp, map, sym, ap, ◌∙◌, subst, append_assoc}
+use Rattle.std.proofs.Common.{◌≡◌, ◌∷◌, ◌++◌, [], Some, Err, string_bytes, string_cmp, map, sym, ap, ◌∙◌, subst, append_assoc, rules}
 use Rattle.std.specs.List.Sorted.{IsStrictlySortedBy}
 use Rattle.std.specs.Map.{keys_of}
 use Rattle.std.proofs.lemmas.List.{map-append}
 use Rattle.serde_json.proofs.Views.{Entry}
 use Rattle.serde_json.specs.View.{view, members_view}
+use Rattle.seccompiler.specs.JsonFault.{wrong_shape}
 use Rattle.seccompiler.specs.JsonFilters.{named}
 use Rattle.seccompiler.specs.JsonReading.{filter_in, filters_under, then_filter}
 use Rattle.seccompiler.proofs.FilterSteps.{with_front, with_front-then_filter, insert_last}
+use Rattle.seccompiler.proofs.JsonFilterMaps.{least_fault}
 use Rattle.seccompiler.proofs.json.filters.filters_under.Goals as goal
 
 pub loop-name-preserved : goal.loop-name-preserved
@@ -29,3 +31,8 @@ loop-name-preserved c =
       rest = ap (λ fs. with_front fs rest) added ∙ sym (with_front-then_filter before (string_bytes e.0) f rest)
         ∙ ap (λ o. with_front before (then_filter (string_bytes e.0) o rest)) (sym shaped)
         ∙ ap (λ es. with_front before (filters_under (members_view es))) (sym c.in-Some.ensures.steps) ∙ l.invariant.rest }
+
+pub returns-in-None-2-clause-refusal : goal.returns-in-None-2-clause-refusal
+returns-in-None-2-clause-refusal c =
+    let told : filters_under (members_view c.args.members.now.entries) ≡ Err (wrong_shape (string_bytes c.in_ok-name.name)) = search rules in
+    least_fault c.args.members.now.entries c.iter-name-items.ensures.ordered (string_bytes c.in_ok-name.name) told

@@ -1,7 +1,11 @@
-// Tests of seccompiler's public calls against worked examples.
+// Worked examples of the whole library, as tests.
 #![tactic(auto)]
 
 #[cfg(test)]
 mod instructions;
+#[cfg(test)]
+mod json_shapes;
+#[cfg(test)]
+mod json_texts;
 #[cfg(test)]
 mod machine;

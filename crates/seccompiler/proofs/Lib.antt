@@ -25,3 +25,11 @@ pub mod Equality
 pub mod Reordering
 pub mod TableNames
 pub mod TableFacts
+pub mod JsonEqualities
+pub mod TextCuts
+pub mod FilterSteps
+pub mod OptionSteps
+pub mod JsonNames
+pub mod JsonShapes
+pub mod JsonFilterShapes
+pub mod JsonFilterMaps

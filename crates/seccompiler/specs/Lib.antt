@@ -17,3 +17,13 @@ pub mod Compiled
 pub mod Refusal
 pub mod Reorder
 pub mod LowHalf
+pub mod JsonEquality
+pub mod JsonFault
+pub mod JsonFilters
+pub mod JsonReading
+pub mod JsonRepeats
+pub mod JsonShape
+pub mod JsonTexts
+pub mod Place
+pub mod TextPieces
+pub mod TextWalk

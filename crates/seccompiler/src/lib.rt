@@ -6,6 +6,7 @@ pub mod bpf;
 pub(crate) mod chain;
 pub mod condition;
 pub mod filter;
+pub mod json;
 pub mod machine;
 pub(crate) mod record;
 pub mod rule;

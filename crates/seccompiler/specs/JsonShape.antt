@@ -1,0 +1,117 @@
+-- Which JSON values are which parts of a filter. Nothing but the forms given here is one.
+use Rattle.std.specs.Prelude.{◌≡◌, ℕ, ◌+◌, ◌-◌, ◌*◌, ◌^◌, ◌≤◌, ◌⊎◌, List, [], ◌∷◌, Contains, Option, Some, None, codes}
+use Rattle.serde_json.specs.Data.{Data, null, number, string, array, object, unsigned, Items, no_items, item, Members}
+use Rattle.serde_json.specs.Find.{get}
+use Rattle.seccompiler.specs.declared.backend.SeccompAction.{SeccompAction}
+use Rattle.seccompiler.specs.declared.backend.SeccompAction.TheVariants.{Allow, Errno, KillThread, KillProcess, Log, Trace, Trap}
+use Rattle.seccompiler.specs.declared.backend.SeccompCmpOp.{SeccompCmpOp}
+use Rattle.seccompiler.specs.declared.backend.SeccompCmpOp.TheVariants.{Eq, Ge, Gt, Le, Lt, MaskedEq, Ne}
+use Rattle.seccompiler.specs.declared.backend.SeccompCmpArgLen.{SeccompCmpArgLen}
+use Rattle.seccompiler.specs.declared.backend.SeccompCmpArgLen.TheVariants.{Dword, Qword}
+use Rattle.seccompiler.specs.declared.json.types.JsonCondition.{JsonCondition}
+use Rattle.seccompiler.specs.declared.json.types.JsonRule.{JsonRule}
+use Rattle.seccompiler.specs.declared.json.types.JsonFilter.{JsonFilter}
+
+-- The value is an object.
+abbrev pub IsObject : Data → Type 0
+IsObject d = (members : Members) × (d ≡ object members)
+
+-- The object has this name, with this value.
+abbrev pub Has : Data → List ℕ → Data → Type 0
+Has d name value = get name d ≡ Some value
+
+-- The object has this name, and its value is as P says.
+abbrev pub Under : Data → List ℕ → (Data → Type 0) → Type 0
+Under d name P = (value : Data) × Has d name value × P value
+
+-- No object, or one without this name.
+abbrev pub Lacks : Data → List ℕ → Type 0
+Lacks d name = get name d ≡ None
+
+-- The value is an object, and each name that it has is one of these.
+pub record HasOnly (d : Data) (names : List (List ℕ)) : Type 0 where
+  pub is_object : IsObject d
+  pub no_other : (name : List ℕ) (value : Data) → Has d name value → Contains names name
+
+-- The value is this number, which serde_json holds as a whole number, at most `most`.
+pub record IsWhole (most : ℕ) (d : Data) (n : ℕ) : Type 0 where
+  pub held : d ≡ number (unsigned n)
+  pub small : n ≤ most
+
+-- The value is an object of this one name, whose value is this whole number, at most `most`.
+pub record IsNumbered (most : ℕ) (name : List ℕ) (d : Data) (n : ℕ) : Type 0 where
+  pub names : HasOnly d (name ∷ [])
+  pub count : Under d name (λ value. IsWhole most value n)
+
+-- The value is this action.
+abbrev pub IsAction : Data → SeccompAction → Type 0
+IsAction d Allow = d ≡ string (codes "allow")
+IsAction d (Errno n) = IsNumbered (2 ^ 32 - 1) (codes "errno") d n
+IsAction d KillThread = d ≡ string (codes "kill_thread")
+IsAction d KillProcess = d ≡ string (codes "kill_process")
+IsAction d Log = d ≡ string (codes "log")
+IsAction d (Trace n) = IsNumbered (2 ^ 32 - 1) (codes "trace") d n
+IsAction d Trap = d ≡ string (codes "trap")
+
+-- The value is this operator.
+abbrev pub IsOperator : Data → SeccompCmpOp → Type 0
+IsOperator d Eq = d ≡ string (codes "eq")
+IsOperator d Ge = d ≡ string (codes "ge")
+IsOperator d Gt = d ≡ string (codes "gt")
+IsOperator d Le = d ≡ string (codes "le")
+IsOperator d Lt = d ≡ string (codes "lt")
+IsOperator d (MaskedEq mask) = IsNumbered (2 ^ 64 - 1) (codes "masked_eq") d mask
+IsOperator d Ne = d ≡ string (codes "ne")
+
+-- The value is this length of an argument.
+abbrev pub IsArgLen : Data → SeccompCmpArgLen → Type 0
+IsArgLen d Dword = d ≡ string (codes "dword")
+IsArgLen d Qword = d ≡ string (codes "qword")
+
+-- The object's comment is a text or null, if it has one.
+abbrev pub IsCommented : Data → Type 0
+IsCommented d = (value : Data) → Has d (codes "comment") value → (value ≡ null) ⊎ ((text : List ℕ) × (value ≡ string text))
+
+-- The value is this condition: an object of `index`, `type`, `op`, `val` and, if it likes, `comment`.
+pub record IsCondition (d : Data) (c : JsonCondition) : Type 0 where
+  pub names : HasOnly d (codes "index" ∷ codes "type" ∷ codes "op" ∷ codes "val" ∷ codes "comment" ∷ [])
+  pub comment : IsCommented d
+  pub arg_index : Under d (codes "index") (λ value. IsWhole 255 value c.arg_index)
+  pub arg_len : Under d (codes "type") (λ value. IsArgLen value c.arg_len)
+  pub operator : Under d (codes "op") (λ value. IsOperator value c.operator)
+  pub value : Under d (codes "val") (λ value. IsWhole (2 ^ 64 - 1) value c.value)
+
+-- The items are these, one by one and in order, as P says.
+abbrev pub OneByOne : {X : Type 0} → (Data → X → Type 0) → Items → List X → Type 0
+OneByOne P no_items [] = Unit {0}
+OneByOne P no_items (x ∷ xs) = ⊥
+OneByOne P (item d items) [] = ⊥
+OneByOne P (item d items) (x ∷ xs) = P d x × OneByOne P items xs
+
+-- The value is the list of these.
+abbrev pub IsListOf : {X : Type 0} → (Data → X → Type 0) → Data → List X → Type 0
+IsListOf P d xs = (items : Items) × (d ≡ array items) × OneByOne P items xs
+
+-- The entry's conditions: none where it has no `args`, or null; else those that `args` lists.
+abbrev pub IsArgs : Data → Option (List JsonCondition) → Type 0
+IsArgs d None = Lacks d (codes "args") ⊎ Has d (codes "args") null
+IsArgs d (Some conditions) = Under d (codes "args") (λ value. IsListOf IsCondition value conditions)
+
+-- The value is this entry: an object of `syscall` and, if it likes, `args` and `comment`.
+pub record IsEntry (d : Data) (r : JsonRule) : Type 0 where
+  pub names : HasOnly d (codes "syscall" ∷ codes "args" ∷ codes "comment" ∷ [])
+  pub comment : IsCommented d
+  pub syscall : Under d (codes "syscall") (λ value. value ≡ string r.syscall)
+  pub conditions : IsArgs d r.conditions
+
+-- The object has exactly one of two names, and its value is this action.
+abbrev pub IsUnderOne : Data → List ℕ → List ℕ → SeccompAction → Type 0
+IsUnderOne d first second action =
+    (Under d first (λ value. IsAction value action) × Lacks d second) ⊎ (Lacks d first × Under d second (λ value. IsAction value action))
+
+-- The value is this filter: an object of its two actions, each under one of two names, and its entries.
+pub record IsFilter (d : Data) (f : JsonFilter) : Type 0 where
+  pub names : HasOnly d (codes "mismatch_action" ∷ codes "default_action" ∷ codes "match_action" ∷ codes "filter_action" ∷ codes "filter" ∷ [])
+  pub mismatch_action : IsUnderOne d (codes "mismatch_action") (codes "default_action") f.mismatch_action
+  pub match_action : IsUnderOne d (codes "match_action") (codes "filter_action") f.match_action
+  pub rules : Under d (codes "filter") (λ value. IsListOf IsEntry value f.rules)

@@ -1,0 +1,15 @@
+// The JSON front end: policies as JSON text.
+
+pub mod error;
+pub mod filters;
+mod members;
+pub mod parts;
+mod read;
+pub mod repeats;
+pub mod types;
+
+pub use error::JsonFrontendError;
+pub use filters::read_filters;
+pub use parts::{JsonConditions, JsonRules, JsonSyscallName};
+pub use repeats::repeats_key;
+pub use types::{JsonCondition, JsonFilter, JsonFilterMap, JsonRule};

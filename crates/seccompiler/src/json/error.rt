@@ -1,0 +1,89 @@
+// Why a JSON text gives no filters.
+
+use crate::backend::{BackendError, TargetArch};
+use std::alloc::{AllocError, AllocFailed};
+use std::{fmt, io};
+
+/// Why the JSON front end refuses.
+///
+/// Where a text has several faults, the first of these is told: the reader fails, the bytes are no
+/// JSON, a name is repeated, the top is no object, a filter has a wrong shape, and then what
+/// building the filters refuses.
+#[derive(Debug, Drop)]
+pub enum JsonFrontendError {
+    /// The backend refuses a filter. It never holds `BackendError::OutOfMemory`.
+    Backend(BackendError),
+    /// The bytes are no JSON text in UTF-8, or nest too deep. It never stands for want of memory.
+    SerdeJson(serde_json::Error),
+    /// No system call of this architecture has this name.
+    SyscallName(String, TargetArch),
+    /// The reader failed. It never stands for want of memory.
+    Read(io::Error),
+    /// Some object of the text has a name twice.
+    RepeatedKey,
+    /// The text is no object, so it names no filters.
+    NotAnObject,
+    /// The filter of this name is not made as a filter is, and no lesser name's is so, in byte order.
+    Shape(String),
+    /// A growth of memory was refused.
+    OutOfMemory,
+}
+
+/// The error's text.
+impl fmt::Display for JsonFrontendError {
+    ghost use Rattle.seccompiler.specs.JsonTexts.{json_text};
+
+    ghost output = { json_text };
+
+    fn fmt<W: fmt::Write>(&self, f: &mut fmt::Formatter<W>) -> fmt::Result {
+        match self {
+            JsonFrontendError::Backend(error) => write!(f, "{error}"),
+            JsonFrontendError::SerdeJson(error) => write!(f, "Error parsing Json: {error}"),
+            JsonFrontendError::SyscallName(name, arch) => {
+                write!(f, "Invalid syscall name: {name} for given arch: {arch}.")
+            }
+            JsonFrontendError::Read(_) => f.write_str("Error reading Json."),
+            JsonFrontendError::RepeatedKey => f.write_str("Repeated key in Json."),
+            JsonFrontendError::NotAnObject => f.write_str("Json is not an object of filters."),
+            JsonFrontendError::Shape(name) => write!(f, "Json filter has a wrong shape: {name}."),
+            JsonFrontendError::OutOfMemory => f.write_str("Out of memory."),
+        }
+    }
+}
+
+impl From<AllocError> for JsonFrontendError {
+    ghost use Rattle.std.specs.Prelude.{◌≡◌};
+    ghost use Rattle.seccompiler.specs.declared.json.error.JsonFrontendError.TheVariants.{OutOfMemory};
+
+    ghost from_gives = { λ _ e. e ≡ OutOfMemory };
+
+    fn from(_refused: AllocError) -> JsonFrontendError {
+        JsonFrontendError::OutOfMemory
+    }
+}
+
+impl<T: Drop> From<AllocFailed<T>> for JsonFrontendError {
+    ghost use Rattle.std.specs.Prelude.{◌≡◌};
+    ghost use Rattle.seccompiler.specs.declared.json.error.JsonFrontendError.TheVariants.{OutOfMemory};
+
+    ghost from_gives = { λ _ e. e ≡ OutOfMemory };
+
+    fn from(_refused: AllocFailed<T>) -> JsonFrontendError {
+        JsonFrontendError::OutOfMemory
+    }
+}
+
+/// Want of memory stays so; every other error of the backend is `Backend`.
+impl From<BackendError> for JsonFrontendError {
+    ghost use Rattle.std.specs.Prelude.{◌≡◌};
+    ghost use Rattle.seccompiler.specs.JsonFault.{from_backend};
+
+    ghost from_gives = { λ cause e. e ≡ from_backend cause };
+
+    fn from(error: BackendError) -> JsonFrontendError {
+        match error {
+            BackendError::OutOfMemory => JsonFrontendError::OutOfMemory,
+            other => JsonFrontendError::Backend(other),
+        }
+    }
+}

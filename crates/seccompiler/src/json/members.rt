@@ -1,0 +1,74 @@
+// What the readers of a JSON object share: its names, its numbers and its comment.
+
+ghost use Rattle.std.specs.Prelude.{◌≡◌, ◌^◌, ◌-◌, map, option_map};
+ghost use Rattle.std.specs.List.{list_any};
+ghost use Rattle.std.specs.Str.{bytes_eq};
+ghost use Rattle.serde_json.specs.View.{view, members_view};
+ghost use Rattle.seccompiler.specs.JsonReading.{has_only, only_names, whole, is_comment};
+
+use serde_json::Value;
+use serde_json::value::Map;
+
+fn is_among(name: &str, names: &[&str]) -> bool
+    ensures { result ≡ list_any (bytes_eq name.now) (map (λ n. n.now) names.now) }
+{
+    for one in names {
+        if name == *one {
+            return true;
+        }
+    }
+    false
+}
+
+// Whether each name of the object is one of these.
+pub fn has_only_names(members: &Map<String, Value>, names: &[&str]) -> bool
+    ensures { result ≡ only_names (map (λ n. n.now) names.now) (members_view members.now.entries) }
+{
+    for (name, _) in members.iter() {
+        if !is_among(name.as_str(), names) {
+            return false;
+        }
+    }
+    true
+}
+
+// Whether the value is an object, and each of its names is one of these.
+pub fn is_object_of(value: &Value, names: &[&str]) -> bool
+    ensures { result ≡ has_only (map (λ n. n.now) names.now) (view value.now) }
+{
+    match value {
+        Value::Object(members) => has_only_names(members, names),
+        _ => false,
+    }
+}
+
+// Whether an object's comment is absent, null or a text.
+pub fn is_comment(comment: Option<&Value>) -> bool
+    ensures { result ≡ is_comment (option_map (λ v. view v.now) comment.entry) }
+{
+    match comment {
+        None | Some(Value::Null | Value::String(_)) => true,
+        Some(_) => false,
+    }
+}
+
+// A number that serde_json holds as a whole one, if it fits a `u8`.
+pub fn u8_of(value: &Value) -> Option<u8>
+    ensures { result ≡ whole 255 (view value.now) }
+{
+    u8::try_from(value.as_u64()?).ok()
+}
+
+// A number that serde_json holds as a whole one, if it fits a `u32`.
+pub fn u32_of(value: &Value) -> Option<u32>
+    ensures { result ≡ whole (2 ^ 32 - 1) (view value.now) }
+{
+    u32::try_from(value.as_u64()?).ok()
+}
+
+// A number that serde_json holds as a whole one. It always fits a `u64`.
+pub fn u64_of(value: &Value) -> Option<u64>
+    ensures { result ≡ whole (2 ^ 64 - 1) (view value.now) }
+{
+    value.as_u64()
+}

@@ -1,0 +1,93 @@
+// What a JSON text of filters holds.
+
+use crate::backend::{SeccompAction, SeccompCmpArgLen, SeccompCmpOp};
+use crate::json::parts::{JsonConditions, JsonRules, JsonSyscallName};
+use std::collections::BTreeMap;
+
+/// One condition on an argument of a system call.
+#[derive(Debug, PartialEq, Drop)]
+pub struct JsonCondition {
+    /// The argument's index: `index` in the text. It is not yet known to be at most 5.
+    pub arg_index: u8,
+    /// How much of the argument is compared: `type` in the text.
+    pub arg_len: SeccompCmpArgLen,
+    /// How the argument is compared: `op` in the text.
+    pub operator: SeccompCmpOp,
+    /// The value that the argument is compared with: `val` in the text.
+    pub value: u64,
+}
+
+/// One entry of a filter's list: a system call, and the conditions on its arguments if there are any.
+#[derive(Debug, Drop)]
+pub struct JsonRule {
+    /// The call's name.
+    pub syscall: JsonSyscallName,
+    /// The conditions: `args` in the text. `None` where the text has none, or null.
+    pub conditions: Option<JsonConditions>,
+}
+
+impl PartialEq for JsonRule {
+    ghost use Rattle.std.specs.Prelude.{◌≡◌, ◌↔◌, IsTrue};
+    ghost use Rattle.seccompiler.specs.JsonEquality.{rule_eq, rule_eq_law};
+
+    ghost eq = { rule_eq };
+
+    ghost laws = { rule_eq_law };
+
+    fn eq(&self, other: &JsonRule) -> bool
+        ensures value { result ≡ rule_eq self.now other.now }
+        ensures same { IsTrue result ↔ (self.now ≡ other.now) }
+    {
+        self.syscall == other.syscall && self.conditions == other.conditions
+    }
+}
+
+/// One filter.
+#[derive(Debug, Drop)]
+pub struct JsonFilter {
+    /// What the filter answers where no rule matches.
+    pub mismatch_action: SeccompAction,
+    /// What the filter answers where a rule matches.
+    pub match_action: SeccompAction,
+    /// The entries, in the text's order.
+    pub rules: JsonRules,
+}
+
+impl PartialEq for JsonFilter {
+    ghost use Rattle.std.specs.Prelude.{◌≡◌, ◌↔◌, IsTrue};
+    ghost use Rattle.seccompiler.specs.JsonEquality.{filter_eq, filter_eq_law};
+
+    ghost eq = { filter_eq };
+
+    ghost laws = { filter_eq_law };
+
+    fn eq(&self, other: &JsonFilter) -> bool
+        ensures value { result ≡ filter_eq self.now other.now }
+        ensures same { IsTrue result ↔ (self.now ≡ other.now) }
+    {
+        self.mismatch_action == other.mismatch_action
+            && self.match_action == other.match_action
+            && self.rules == other.rules
+    }
+}
+
+/// The filters of a text, under their names.
+#[derive(Debug, Drop)]
+pub struct JsonFilterMap(pub BTreeMap<String, JsonFilter>);
+
+impl PartialEq for JsonFilterMap {
+    ghost use Rattle.std.specs.Prelude.{◌≡◌, ◌↔◌, IsTrue};
+    ghost use Rattle.seccompiler.specs.JsonEquality.{filter_map_eq, filter_map_eq_law};
+    ghost use Rattle.seccompiler.specs.JsonFilters.{filters_of};
+
+    ghost eq = { filter_map_eq };
+
+    ghost laws = { filter_map_eq_law };
+
+    fn eq(&self, other: &JsonFilterMap) -> bool
+        ensures value { result ≡ filter_map_eq self.now other.now }
+        ensures same { IsTrue result ↔ (filters_of self.now ≡ filters_of other.now) }
+    {
+        self.0 == other.0
+    }
+}

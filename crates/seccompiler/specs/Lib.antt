@@ -5,6 +5,7 @@ pub mod Machine
 pub mod Checked
 pub mod Action
 pub mod Texts
+pub mod Errors
 pub mod Condition
 pub mod Policy
 pub mod Groups

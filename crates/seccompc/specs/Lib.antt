@@ -1,0 +1,2 @@
+-- What the program's words mean, and what its engines answer and write.
+pub mod Words

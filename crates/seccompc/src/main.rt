@@ -1,6 +1,9 @@
-// Compiles seccomp filters, and shows what their programs do with call records.
+// Compiles seccomp filters, and shows what their programs do with the records of system calls.
 #![tactic(auto)]
 
+mod error;
+mod lines;
+mod trace;
 mod words;
 
 use std::process::ExitCode;

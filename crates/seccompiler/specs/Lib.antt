@@ -6,6 +6,7 @@ pub mod Checked
 pub mod Action
 pub mod SyscallTable
 pub mod Texts
+pub mod Errors
 pub mod Condition
 pub mod Policy
 pub mod Groups

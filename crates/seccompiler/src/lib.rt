@@ -5,9 +5,18 @@ pub mod backend;
 pub mod bpf;
 pub(crate) mod chain;
 pub mod condition;
+pub mod error;
 pub mod filter;
 pub mod json;
 pub mod machine;
 pub(crate) mod record;
 pub mod rule;
 pub mod syscall_table;
+
+pub use backend::{BackendError, SeccompAction, SeccompCmpArgLen, SeccompCmpOp, TargetArch};
+pub use bpf::{BpfProgram, BpfProgramRef, sock_filter};
+pub use condition::SeccompCondition;
+pub use error::{Error, Result};
+pub use filter::SeccompFilter;
+pub use machine::Outcome;
+pub use rule::SeccompRule;

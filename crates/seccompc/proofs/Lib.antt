@@ -1,0 +1,4 @@
+-- Lemmas that several proofs cite.
+pub mod Numbers
+pub mod Hexadecimal
+pub mod Records

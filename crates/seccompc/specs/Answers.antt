@@ -1,0 +1,26 @@
+-- What an engine that traces records answers, and what it adds to what is written.
+use Rattle.std.specs.Prelude.{◌≡◌, ℕ, ◌<◌, List, length, Option, Result, Ok, Err, ⊤}
+use Rattle.std.specs.Io.KnownBytes.{Appends}
+use Rattle.seccompc.specs.declared.error.ToolError.{ToolError}
+use Rattle.seccompc.specs.declared.error.ToolError.TheVariants.{Library, ShortRecord, Read, Write, OutOfMemory}
+use Rattle.seccompc.specs.Lines.{IsCutIntoRecords}
+
+-- What is written grew by the text of the whole records of these bytes, and so many bytes are left behind them.
+pub record WritesLines (IsTextOf : List (List ℕ) → List ℕ → Type 0) (bytes : List ℕ) (rest : ℕ) (old new : Option (List ℕ)) : Type 0 where
+  pub records : List (List ℕ)
+  pub tail : List ℕ
+  pub cut : IsCutIntoRecords bytes records tail
+  pub left : length tail ≡ rest
+  pub text : List ℕ
+  pub traced : IsTextOf records text
+  pub appends : Appends old new text
+
+-- The answer on these bytes: the text of all records is written where no byte is left, and that of the whole ones, with
+-- the number of bytes that are left, where some are.
+abbrev pub AnswersRecords : (List (List ℕ) → List ℕ → Type 0) → List ℕ → Result ⊤ ToolError → Option (List ℕ) → Option (List ℕ) → Type 0
+AnswersRecords IsTextOf bytes (Ok done) old new = WritesLines IsTextOf bytes 0 old new
+AnswersRecords IsTextOf bytes (Err (Library e)) old new = ⊤
+AnswersRecords IsTextOf bytes (Err (ShortRecord rest)) old new = (0 < rest) × WritesLines IsTextOf bytes rest old new
+AnswersRecords IsTextOf bytes (Err (Read e)) old new = ⊤
+AnswersRecords IsTextOf bytes (Err (Write e)) old new = ⊤
+AnswersRecords IsTextOf bytes (Err OutOfMemory) old new = ⊤

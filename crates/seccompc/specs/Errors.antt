@@ -1,0 +1,46 @@
+-- The errors of the program's engines: how a refusal becomes one, their texts, and what they leave as it was.
+use Rattle.std.specs.Prelude.{◌≡◌, ◌≢◌, ℕ, List, ◌++◌, codes, decimal, ⊤}
+use Rattle.std.specs.IoError.{error_kind}
+use Rattle.std.specs.declared.io.ErrorKind.TheVariants as kind
+use Rattle.seccompiler.specs.declared.error.Error.{Error}
+use Rattle.seccompiler.specs.declared.error.Error.TheVariants as library
+use Rattle.seccompiler.specs.Errors.{error_text}
+use Rattle.seccompc.specs.declared.error.ToolError.{ToolError}
+use Rattle.seccompc.specs.declared.error.ToolError.TheVariants.{Library, ShortRecord, Read, Write, OutOfMemory}
+
+-- A refusal of the library; want of memory stays want of memory.
+abbrev pub from_library : Error → ToolError
+from_library (library.Backend e) = Library (library.Backend e)
+from_library library.OutOfMemory = OutOfMemory
+
+-- The text of an error.
+abbrev pub tool_text : ToolError → List ℕ
+tool_text (Library e) = error_text e
+tool_text (ShortRecord rest) = codes "The input ends inside a record, after " ++ decimal rest ++ codes " bytes of it."
+tool_text (Read e) = codes "Error reading input."
+tool_text (Write e) = codes "Error writing output."
+tool_text OutOfMemory = codes "Out of memory."
+
+-- An error of reading: never want of memory as a fault of the reader.
+abbrev pub IsReadError : ToolError → Type 0
+IsReadError (Library e) = ⊥
+IsReadError (ShortRecord rest) = ⊥
+IsReadError (Read e) = error_kind e ≢ kind.OutOfMemory
+IsReadError (Write e) = ⊥
+IsReadError OutOfMemory = ⊤
+
+-- An error of tracing records, which is no refusal of the library.
+abbrev pub IsTraceError : ToolError → Type 0
+IsTraceError (Library e) = ⊥
+IsTraceError (ShortRecord rest) = ⊤
+IsTraceError (Read e) = IsReadError (Read e)
+IsTraceError (Write e) = ⊤
+IsTraceError OutOfMemory = ⊤
+
+-- What is written is as it was, where the error comes before the writing.
+abbrev pub KeepsOutput : {W : Type 0} → ToolError → W → W → Type 0
+KeepsOutput (Library e) old new = new ≡ old
+KeepsOutput (ShortRecord rest) old new = ⊤
+KeepsOutput (Read e) old new = new ≡ old
+KeepsOutput (Write e) old new = ⊤
+KeepsOutput OutOfMemory old new = new ≡ old

@@ -1,0 +1,5 @@
+-- What the program's words mean, and what its engines answer and write.
+pub mod Words
+pub mod Errors
+pub mod Lines
+pub mod Answers

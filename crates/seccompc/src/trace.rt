@@ -1,0 +1,54 @@
+// Records in, their lines out.
+
+ghost use Rattle.std.specs.Prelude.{◌≡◌, IfOk, IfErr, IfSome, OnErr};
+ghost use Rattle.std.specs.Io.KnownBytes.{Appends};
+ghost use Rattle.seccompiler.specs.Checked.{IsChecked};
+ghost use Rattle.seccompc.specs.Lines.{AreLines};
+ghost use Rattle.seccompc.specs.Errors.{IsReadError, IsTraceError, KeepsOutput};
+ghost use Rattle.seccompc.specs.Answers.{AnswersRecords};
+
+use crate::error::ToolError;
+use crate::lines::lines;
+use seccompiler::BpfProgramRef;
+use std::alloc::Global;
+use std::io::{ErrorKind, Read, Write};
+
+// Writes the line of each whole record that the reader gives.
+//
+// All records are read before the first line is written, and all lines are written at once.
+pub(crate) fn trace<R: Read + Drop, W: Write>(
+    alloc: Global,
+    program: BpfProgramRef<'_>,
+    records: R,
+    out: &mut W,
+) -> Result<(), ToolError>
+    requires { IsChecked program.now }
+    ensures lines { IfSome (R.remaining records) (λ bytes. AnswersRecords (AreLines program.now) bytes result (W.contents out.old) (W.contents out.new)) }
+    ensures cause { IfErr result IsTraceError }
+    ensures unwritten { IfErr result (λ e. KeepsOutput e out.old out.new) }
+{
+    let bytes = read_whole(alloc, records)?;
+    let (records, rest) = bytes.as_slice().as_chunks::<64>();
+    let text = lines(alloc, program, records)?;
+    match out.write_all(text.as_bytes()) {
+        Ok(()) => {}
+        Err(error) => return Err(ToolError::Write(error)),
+    }
+    match rest.len() {
+        0 => Ok(()),
+        rest => Err(ToolError::ShortRecord(rest)),
+    }
+}
+
+// All bytes that a reader gives.
+fn read_whole<R: Read + Drop>(alloc: Global, mut reader: R) -> Result<Vec<u8>, ToolError>
+    ensures bytes { IfOk result (λ bytes. IfSome (R.remaining reader) (λ known. bytes.items ≡ known)) }
+    ensures cause { IfErr result IsReadError }
+{
+    let mut bytes = Vec::new(alloc);
+    match reader.read_to_end(&mut bytes) {
+        Ok(_) => Ok(bytes),
+        Err(error) if error.kind() == ErrorKind::OutOfMemory => Err(ToolError::OutOfMemory),
+        Err(error) => Err(ToolError::Read(error)),
+    }
+}

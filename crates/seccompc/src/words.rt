@@ -1,0 +1,76 @@
+// The words that the program is called with.
+
+ghost use Rattle.std.specs.Prelude.{◌≡◌, ℕ, ℤ, ◌<◌, ◌^◌, [], ◌∷◌, IfSome, IfNone, map, codes, string_bytes};
+ghost use Rattle.seccompc.specs.declared.words.Command.{Command};
+ghost use Rattle.seccompc.specs.Words.{IsNumberText, IsSignedText, IsSigned64, IsCommand};
+
+/// A command of the program.
+#[derive(Clone, Copy, Debug, PartialEq, Eq)]
+pub enum Command<'a> {
+    /// Compile a filter of one condition, and trace its program on the records of standard input.
+    Probe {
+        /// The architecture's name.
+        arch: &'a str,
+        /// The call number that the filter has a rule for.
+        nr: i64,
+        /// Which argument the condition compares, numbered from 0.
+        index: u8,
+        /// What the argument has to equal.
+        value: u64,
+    },
+}
+
+/// Reads the words that follow the program's name: exactly the command that they are, or `None`
+/// where they are none. Takes no memory.
+///
+/// The one command is `probe ARCH NR INDEX VALUE`. ARCH is any text. NR, INDEX and VALUE are one or
+/// more ASCII digits, NR with at most one `-` in front, and fit `i64`, `u8` and `u64`.
+pub fn read_words(words: &[String]) -> Option<Command<'_>>
+    ensures read { IfSome result (IsCommand (map string_bytes words.now)) }
+    ensures unread { IfNone result ((command : Command) → IsCommand (map string_bytes words.now) command → ⊥) }
+{
+    match words {
+        [command, arch, nr, index, value] if command.as_str() == "probe" => read_probe(
+            arch.as_str(),
+            nr.as_str(),
+            index.as_str(),
+            value.as_str(),
+        ),
+        _ => None,
+    }
+}
+
+// The probe that the words behind `probe` ask for.
+fn read_probe<'a>(arch: &'a str, nr: &str, index: &str, value: &str) -> Option<Command<'a>>
+    ensures read { IfSome result (IsCommand (codes "probe" ∷ arch.now ∷ nr.now ∷ index.now ∷ value.now ∷ [])) }
+    ensures unread { IfNone result ((command : Command) → IsCommand (codes "probe" ∷ arch.now ∷ nr.now ∷ index.now ∷ value.now ∷ []) command → ⊥) }
+{
+    Some(Command::Probe {
+        arch,
+        nr: read_signed(nr)?,
+        index: u8::try_from(read_number(index)?).ok()?,
+        value: read_number(value)?,
+    })
+}
+
+// The number that a text of decimal digits writes, where 64 bits hold it.
+fn read_number(text: &str) -> Option<u64>
+    ensures read { IfSome result (IsNumberText text.now) }
+    ensures unread { IfNone result ((n : ℕ) → n < 2 ^ 64 → IsNumberText text.now n → ⊥) }
+{
+    if text.starts_with('+') {
+        return None;
+    }
+    text.parse().ok()
+}
+
+// The number that a text of decimal digits writes, a `-` in front or not, where 64 bits hold it.
+fn read_signed(text: &str) -> Option<i64>
+    ensures read { IfSome result (IsSignedText text.now) }
+    ensures unread { IfNone result ((z : ℤ) → IsSigned64 z → IsSignedText text.now z → ⊥) }
+{
+    if text.starts_with('+') {
+        return None;
+    }
+    text.parse().ok()
+}

@@ -1,0 +1,48 @@
+// What the calls of the crate's root refuse.
+
+use crate::backend::BackendError;
+use std::fmt;
+
+/// Why a call of this crate refuses.
+///
+/// Want of memory stands here alone, and never inside another variant.
+#[derive(Debug, Drop)]
+pub enum Error {
+    /// The backend refuses.
+    Backend(BackendError),
+    /// A growth of memory was refused.
+    OutOfMemory,
+}
+
+/// A result whose error is [`Error`].
+pub type Result<T> = std::result::Result<T, Error>;
+
+/// The error's text.
+impl fmt::Display for Error {
+    ghost use Rattle.std.specs.Prelude.{Some};
+    ghost use Rattle.seccompiler.specs.Errors.{error_text};
+
+    ghost output = { λ error. Some (error_text error) };
+
+    fn fmt<W: fmt::Write>(&self, f: &mut fmt::Formatter<W>) -> fmt::Result {
+        match self {
+            Error::Backend(error) => write!(f, "Backend error: {error}"),
+            Error::OutOfMemory => f.write_str("Out of memory."),
+        }
+    }
+}
+
+/// The backend's want of memory is the crate's; any other refusal stays the backend's.
+impl From<BackendError> for Error {
+    ghost use Rattle.std.specs.Prelude.{◌≡◌};
+    ghost use Rattle.seccompiler.specs.Errors.{from_backend};
+
+    ghost from_gives = { λ refusal error. error ≡ from_backend refusal };
+
+    fn from(refusal: BackendError) -> Error {
+        match refusal {
+            BackendError::OutOfMemory => Error::OutOfMemory,
+            refusal => Error::Backend(refusal),
+        }
+    }
+}

@@ -1,5 +1,6 @@
 // The JSON front end: policies as JSON text.
 
+pub mod compiler;
 pub mod error;
 pub mod filters;
 mod members;
@@ -8,6 +9,7 @@ mod read;
 pub mod repeats;
 pub mod types;
 
+pub use compiler::JsonCompiler;
 pub use error::JsonFrontendError;
 pub use filters::read_filters;
 pub use parts::{JsonConditions, JsonRules, JsonSyscallName};

@@ -17,6 +17,8 @@ pub mod ChainCode
 pub mod Compiled
 pub mod Refusal
 pub mod JsonPolicy
+pub mod JsonPolicies
+pub mod JsonAnswers
 pub mod Reorder
 pub mod LowHalf
 pub mod JsonEquality

@@ -1,5 +1,6 @@
 // The JSON front end: policies as JSON text.
 
+pub mod compile;
 pub mod compiler;
 pub mod error;
 pub mod filters;

@@ -1,8 +1,11 @@
 // From JSON filters to filters.
 
-ghost use Rattle.std.specs.Prelude.{◌≡◌};
+ghost use Rattle.std.specs.Prelude.{◌≡◌, All, IfOk, IfErr};
 ghost use Rattle.seccompiler.specs.JsonFault.{Gives};
+ghost use Rattle.seccompiler.specs.JsonPolicies.{IsPolicyError};
 ghost use Rattle.seccompiler.specs.JsonPolicy.{policy_in};
+ghost use Rattle.seccompiler.specs.Refusal.{numbers_of};
+ghost use Rattle.seccompiler.specs.SyscallTable.{IsTableNumber};
 
 use crate::backend::TargetArch;
 use crate::filter::SeccompFilter;
@@ -42,6 +45,8 @@ impl JsonCompiler {
         filter: &JsonFilter,
     ) -> Result<SeccompFilter, JsonFrontendError>
         ensures computed { Gives (λ f. f) result (policy_in self.now filter.now) }
+        ensures numbers { IfOk result (λ f. All IsTableNumber (numbers_of f.chains)) }
+        ensures own_error { IfErr result IsPolicyError }
     {
         Err(JsonFrontendError::OutOfMemory)
     }

@@ -35,3 +35,4 @@ pub mod JsonFilterShapes
 pub mod JsonFilterMaps
 pub mod TextMaps
 pub mod JsonPolicySteps
+pub mod JsonPolicyFaults

@@ -1,5 +1,5 @@
 -- The policies of a JSON text, as functions of its bytes, and what an answer of the front end tells of them.
-use Rattle.std.specs.Prelude.{◌≡◌, ◌≢◌, ℕ, List, [], ◌∷◌, Bool, if◌then◌else◌, Result, Ok, Err, Option, Some, None, String, string_bytes}
+use Rattle.std.specs.Prelude.{◌≡◌, ◌≢◌, ℕ, List, [], ◌∷◌, Bool, if◌then◌else◌, Result, Ok, Err, Option, Some, None, String, string_bytes, map}
 use Rattle.std.specs.BTreeMap.{BTreeMap}
 use Rattle.std.specs.HashMap.{HashMap, get_by_text}
 use Rattle.std.specs.IoError.{error_kind}
@@ -79,6 +79,11 @@ InOrder X = BTreeMap (String Global) X
 -- The map has these names and no others, each with its policy.
 abbrev pub HasExactly : ByName Filter → List NamedPolicy → Type 0
 HasExactly m policies = (name : List ℕ) → get_by_text m name ≡ lookup (bytes_eq name) policies
+
+-- The ordered map of the answer's policies, or an error that tells its fault; a failed read tells of none.
+abbrev pub GivesInOrder : Result (InOrder Filter) JsonFrontendError → Result (List NamedPolicy) Fault → Type 0
+GivesInOrder (Ok m) answer = answer ≡ Ok (map named_policy m.entries)
+GivesInOrder (Err e) answer = FailsReading e answer
 
 -- The map of exactly the answer's policies, or an error that tells its fault; a failed read tells of none.
 abbrev pub GivesPolicies : Result (ByName Filter) JsonFrontendError → Result (List NamedPolicy) Fault → Type 0

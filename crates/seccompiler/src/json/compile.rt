@@ -7,7 +7,7 @@ ghost use Rattle.serde_json.specs.View.{view};
 ghost use Rattle.seccompiler.specs.JsonAnswers.{IsReadAs, OfValue, ArePoliciesOf, IsFirstFault};
 ghost use Rattle.seccompiler.specs.JsonFault.{Gives};
 ghost use Rattle.seccompiler.specs.JsonFilters.{filters_of};
-ghost use Rattle.seccompiler.specs.JsonPolicies.{value_of, policies_in, policies_of, named_policy, GivesPolicies, IsPolicyError, IsNoMemoryInside};
+ghost use Rattle.seccompiler.specs.JsonPolicies.{value_of, policies_in, policies_of, named_policy, GivesInOrder, GivesPolicies, IsPolicyError, IsNoMemoryInside};
 ghost use Rattle.seccompiler.specs.Refusal.{numbers_of};
 ghost use Rattle.seccompiler.specs.SyscallTable.{IsTableNumber};
 
@@ -85,5 +85,62 @@ impl JsonCompiler {
         }
         let filters = read_filters(alloc, &value)?;
         self.policies(alloc, &filters)
+    }
+
+    // The filters of a reader's text, in byte order of their names.
+    pub(crate) fn policies_from<R: Read + Drop>(
+        &self,
+        alloc: Global,
+        mut reader: R,
+    ) -> Result<BTreeMap<String, SeccompFilter>, JsonFrontendError>
+        ensures policies { IfSome (R.remaining reader) (λ text.
+            IfOk result (λ m. OfValue text (ArePoliciesOf self.now (tree.get_by_text m)))) }
+        ensures fault { IfSome (R.remaining reader) (λ text. IfErr result (IsFirstFault self.now text)) }
+        ensures computed { IfSome (R.remaining reader) (λ text. GivesInOrder result (policies_of self.now text)) }
+        ensures memory { IfErr result IsNoMemoryInside }
+        ensures numbers { IfOk result (λ m. All (λ e. All IsTableNumber (numbers_of e.1.chains)) m.entries) }
+    {
+        let mut text = Vec::new(alloc);
+        match reader.read_to_end(&mut text) {
+            Ok(_) => self.policies_of(alloc, text.as_slice()),
+            Err(error) if error.kind() == ErrorKind::OutOfMemory => {
+                Err(JsonFrontendError::OutOfMemory)
+            }
+            Err(error) => Err(JsonFrontendError::Read(error)),
+        }
+    }
+
+    /// Reads a text of JSON filters to its end, and makes each filter, as `make_seccomp_filter` does.
+    ///
+    /// The map has the text's names, each with its filter.
+    ///
+    /// # Errors
+    ///
+    /// The first of these that is there:
+    ///
+    /// - `Read` where the reader fails;
+    /// - `SerdeJson` where the bytes are no JSON text;
+    /// - `RepeatedKey` where `repeats_key` finds a name twice in some object;
+    /// - `NotAnObject` where the text is no object;
+    /// - `Shape` with the least name, in byte order, whose value is no filter;
+    /// - what `make_seccomp_filter` refuses, of the least name with such a filter.
+    ///
+    /// `OutOfMemory` may come in place of each, where memory is refused or the reader fails for want
+    /// of it.
+    pub fn compile<R: Read + Drop>(
+        &self,
+        alloc: Global,
+        reader: R,
+    ) -> Result<HashMap<String, SeccompFilter>, JsonFrontendError>
+        ensures policies { IfSome (R.remaining reader) (λ text.
+            IfOk result (λ m. OfValue text (ArePoliciesOf self.now (hash.get_by_text m)))) }
+        ensures fault { IfSome (R.remaining reader) (λ text. IfErr result (IsFirstFault self.now text)) }
+        ensures memory { IfErr result IsNoMemoryInside }
+
+        // The same as a function of the text.
+        ensures computed { IfSome (R.remaining reader) (λ text.
+            GivesPolicies result (policies_of self.now text)) }
+    {
+        Ok(hashed(alloc, self.policies_from(alloc, reader)?)?)
     }
 }

@@ -36,3 +36,4 @@ pub mod JsonFilterMaps
 pub mod TextMaps
 pub mod JsonPolicySteps
 pub mod JsonPolicyFaults
+pub mod PolicyPrograms

@@ -33,3 +33,4 @@ pub mod JsonNames
 pub mod JsonShapes
 pub mod JsonFilterShapes
 pub mod JsonFilterMaps
+pub mod JsonRules

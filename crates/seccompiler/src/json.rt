@@ -1,6 +1,7 @@
 // The JSON front end: policies as JSON text.
 
 pub mod compiler;
+mod entries;
 pub mod error;
 pub mod filters;
 mod members;

@@ -6,6 +6,7 @@ ghost use Rattle.seccompiler.specs.JsonPolicy.{policy_in};
 
 use crate::backend::TargetArch;
 use crate::filter::SeccompFilter;
+use crate::json::entries::chains_of_entries;
 use crate::json::error::JsonFrontendError;
 use crate::json::types::JsonFilter;
 use std::alloc::Global;
@@ -38,11 +39,17 @@ impl JsonCompiler {
     /// The filter of a JSON filter.
     pub fn make_seccomp_filter(
         &self,
-        _alloc: Global,
+        alloc: Global,
         filter: &JsonFilter,
     ) -> Result<SeccompFilter, JsonFrontendError>
         ensures computed { Gives (λ f. f) result (policy_in self.now filter.now) }
     {
-        Err(JsonFrontendError::OutOfMemory)
+        let chains = chains_of_entries(alloc, self.arch, filter.rules.as_slice())?;
+        Ok(SeccompFilter::new(
+            chains,
+            filter.mismatch_action,
+            filter.match_action,
+            self.arch,
+        )?)
     }
 }

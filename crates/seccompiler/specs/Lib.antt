@@ -16,3 +16,4 @@ pub mod Compiled
 pub mod Refusal
 pub mod Reorder
 pub mod LowHalf
+pub mod Equality

@@ -1,5 +1,5 @@
 -- What the code of a rule does, from its last condition to its entry.
-use Rattle.std.proofs.Common.{◌≡◌, ℕ, suc, ◌+◌, ◌*◌, ◌<◌, ◌≤◌, ◌^◌, List, [], ◌∷◌, ◌++◌, length, refl, sym, ◌∙◌, subst, arith, length-append, ⊎_elim, inl, inr}
+use Rattle.std.proofs.Common.{◌≡◌, ℕ, suc, ◌+◌, ◌*◌, ◌<◌, ◌≤◌, ◌^◌, List, [], ◌∷◌, ◌++◌, length, refl, sym, subst, arith, length-append, ⊎_elim, inl, inr}
 use Rattle.std.proofs.lemmas.List.Elements.{All-nil, All-push, All-pop}
 use Rattle.std.proofs.lemmas.List.Sums.{sum_by_push}
 use Rattle.std.specs.Prelude.{Some}
@@ -9,7 +9,6 @@ use Rattle.seccompiler.specs.declared.backend.SeccompCmpOp.TheVariants.{Eq, Ge, 
 use Rattle.seccompiler.specs.declared.backend.SeccompCmpArgLen.{SeccompCmpArgLen}
 use Rattle.seccompiler.specs.declared.backend.SeccompCmpArgLen.TheVariants.{Dword, Qword}
 use Rattle.seccompiler.specs.Record.{IsRecord}
-use Rattle.seccompiler.specs.Code.{jump}
 use Rattle.seccompiler.specs.Machine.{Goes, stays, then_step}
 use Rattle.seccompiler.specs.Checked.{inside_jump, IsClosed, AreInRange}
 use Rattle.seccompiler.specs.Condition.{Condition, Holds, size_by, size_of}
@@ -94,21 +93,21 @@ body_more q code own o k c room one body =
       ranges = ranges_join own code one.ranges body.ranges;
       closed = closed_join own code (length own + o) (length code + 2) (length (own ++ code) + 2) one.closed body.closed (omega (arith, body.near)) (omega arith);
       enters = λ r rec a small.
-        ⊎_elim
-        (λ t.
-            let g = t.1 in
-            let fits = stays_small own r small g.goes in
-            ⊎_elim
-            (λ u. inl (hold_more q c r u.0 t.0, leads_to (own ++ code) r 0 a _ _ (sym len) (leads_through own code r a (length code) g u.1)))
-            (λ u. inr (λ h. u.0 (hold_front q c r h), leads_to (own ++ code) r 0 a _ _ to_end (leads_through own code r a (length code + 1) g u.1)))
-            (body.enters r rec g.accumulator fits))
-        (λ t. inr (λ h. t.0 (hold_last q c r h), leads_to (own ++ code) r 0 a _ _ to_end (leads_both own code r a o (length code + 1) small t.1 (body.fails r))))
-        (one.enters r rec a small);
+          ⊎_elim
+          (λ t.
+          let g = t.1 in
+          let fits = stays_small own r small g.goes in
+          ⊎_elim
+          (λ u. inl (hold_more q c r u.0 t.0, leads_to (own ++ code) r 0 a _ _ (sym len) (leads_through own code r a (length code) g u.1)))
+          (λ u. inr (λ h. u.0 (hold_front q c r h), leads_to (own ++ code) r 0 a _ _ to_end (leads_through own code r a (length code + 1) g u.1)))
+          (body.enters r rec g.accumulator fits))
+          (λ t. inr (λ h. t.0 (hold_last q c r h), leads_to (own ++ code) r 0 a _ _ to_end (leads_both own code r a o (length code + 1) small t.1 (body.fails r))))
+          (one.enters r rec a small);
       fails = λ r a small. let e : length own + o ≡ o + size_of c = omega arith in leads_from (own ++ code) r _ _ a _ e (leads_to (own ++ code) r _ a _ _ to_end (leads_second own code r o a (length code + 1) (body.fails r a small)));
       skips = λ r a small.
-        let e : length own + (o + 1) ≡ o + size_of c + 1 = omega arith in
-        let to_far : length own + (length code + 2) ≡ length (own ++ code) + 2 = omega arith in
-        subst (λ n. Goes (own ++ code) r n a k (length (own ++ code) + 2) a) e (subst (λ n. Goes (own ++ code) r (length own + (o + 1)) a k n a) to_far (goes_shift (own ++ code) code r (length own) (stands_second own code) (body.skips r a small)));
+          let e : length own + (o + 1) ≡ o + size_of c + 1 = omega arith in
+          let to_far : length own + (length code + 2) ≡ length (own ++ code) + 2 = omega arith in
+          subst (λ n. Goes (own ++ code) r n a k (length (own ++ code) + 2) a) e (subst (λ n. Goes (own ++ code) r (length own + (o + 1)) a k n a) to_far (goes_shift (own ++ code) code r (length own) (stands_second own code) (body.skips r a small)));
     }
 
 -- a relay in front
@@ -127,16 +126,16 @@ body_relay q code o k body =
       ranges = ranges_join (relay_code o) code (ranges_from (relay_code o) (jump_in_range 2 (omega arith), (jump_in_range (o + 1) (omega (arith, body.high)), (jump_in_range (o + 1) (omega (arith, body.high)), tt)))) body.ranges;
       closed = closed_join (relay_code o) code (length p + 2) (length code + 2) (length p + 2) (closed_from (relay_code o) (length p + 2) (inside_jump refl (omega arith), (inside_jump refl (omega (arith, body.near)), (inside_jump refl (omega (arith, body.near)), tt)))) body.closed (omega arith) (omega arith);
       enters = λ r rec a small.
-        ⊎_elim
-        (λ t. inl (t.0, leads_to p r 0 a _ _ to_end (via p r 0 a 3 _ (on_jump p r 0 a 2 refl small) (leads_second (relay_code o) code r 0 a (length code) t.1))))
-        (λ t. inr (t.0, leads_to p r 0 a _ _ to_next (via p r 0 a 3 _ (on_jump p r 0 a 2 refl small) (leads_second (relay_code o) code r 0 a (length code + 1) t.1))))
-        (body.enters r rec a small);
+          ⊎_elim
+          (λ t. inl (t.0, leads_to p r 0 a _ _ to_end (via p r 0 a 3 _ (on_jump p r 0 a 2 refl small) (leads_second (relay_code o) code r 0 a (length code) t.1))))
+          (λ t. inr (t.0, leads_to p r 0 a _ _ to_next (via p r 0 a 3 _ (on_jump p r 0 a 2 refl small) (leads_second (relay_code o) code r 0 a (length code + 1) t.1))))
+          (body.enters r rec a small);
       fails = λ r a small.
-        let e : 3 + o ≡ 1 + 1 + (o + 1) = omega arith in
-        leads_to p r 1 a _ _ to_next (via p r 1 a _ _ (on_jump p r 1 a (o + 1) refl small) (leads_from p r _ _ a _ e (leads_second (relay_code o) code r o a (length code + 1) (body.fails r a small))));
+          let e : 3 + o ≡ 1 + 1 + (o + 1) = omega arith in
+          leads_to p r 1 a _ _ to_next (via p r 1 a _ _ (on_jump p r 1 a (o + 1) refl small) (leads_from p r _ _ a _ e (leads_second (relay_code o) code r o a (length code + 1) (body.fails r a small))));
       skips = λ r a small.
-        let one_more : 1 + k ≡ suc k = omega arith in
-        subst (λ n. Goes p r 2 a n (length p + 2) a) one_more (goes_on p r (then_step stays (on_jump p r 2 a (o + 1) refl small)) (subst (λ n. Goes p r (3 + (o + 1)) a k n a) to_far (goes_shift p code r 3 (stands_second (relay_code o) code) (body.skips r a small))));
+          let one_more : 1 + k ≡ suc k = omega arith in
+          subst (λ n. Goes p r 2 a n (length p + 2) a) one_more (goes_on p r (then_step stays (on_jump p r 2 a (o + 1) refl small)) (subst (λ n. Goes p r (3 + (o + 1)) a k n a) to_far (goes_shift p code r 3 (stands_second (relay_code o) code) (body.skips r a small))));
     }
 
 -- the entry in front: the code of the rule
@@ -152,9 +151,9 @@ rule_of q code o k is_k body =
       ranges = ranges_join (entry_code o) code (ranges_from (entry_code o) (jump_in_range 1 (omega arith), (jump_in_range (o + 1) (omega (arith, body.high)), tt))) body.ranges;
       closed = closed_join (entry_code o) code (length p + 2) (length code + 2) (length p + 2) (closed_from (entry_code o) (length p + 2) (inside_jump refl (omega arith), (inside_jump refl (omega (arith, body.near)), tt))) body.closed (omega arith) (omega arith);
       enters = λ r rec a small.
-        ⊎_elim
-        (λ t. inl (t.0, leads_to p r 0 a _ _ to_end (via p r 0 a 2 _ (on_jump p r 0 a 1 refl small) (leads_second (entry_code o) code r 0 a (length code) t.1))))
-        (λ t. inr (t.0, leads_to p r 0 a _ _ to_next (via p r 0 a 2 _ (on_jump p r 0 a 1 refl small) (leads_second (entry_code o) code r 0 a (length code + 1) t.1))))
-        (body.enters r rec a small);
+          ⊎_elim
+          (λ t. inl (t.0, leads_to p r 0 a _ _ to_end (via p r 0 a 2 _ (on_jump p r 0 a 1 refl small) (leads_second (entry_code o) code r 0 a (length code) t.1))))
+          (λ t. inr (t.0, leads_to p r 0 a _ _ to_next (via p r 0 a 2 _ (on_jump p r 0 a 1 refl small) (leads_second (entry_code o) code r 0 a (length code + 1) t.1))))
+          (body.enters r rec a small);
       skips = λ r a small. subst (λ n. Goes p r 1 a (1 + n) (length p + 2) a) is_k (goes_on p r (then_step stays (on_jump p r 1 a (o + 1) refl small)) (subst (λ n. Goes p r (2 + (o + 1)) a k n a) to_far (goes_shift p code r 2 (stands_second (entry_code o) code) (body.skips r a small))));
     }

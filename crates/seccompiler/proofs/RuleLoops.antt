@@ -1,18 +1,18 @@
 -- The loops over the conditions of a rule: one counts its instructions, one writes them from the end to the front.
-use Rattle.std.proofs.Common.{◌≡◌, ℕ, zero, suc, ◌+◌, ◌-◌, ◌*◌, ◌<◌, ◌≤◌, ◌^◌, List, [], ◌∷◌, ◌++◌, length, min, refl, sym, ap, ◌∙◌, subst, arith, take, drop, get_or, Bool, true, false, nat_le, append_assoc, length-append, length-drop, take-append-drop, ◌⊎◌, inl, inr, ⊎_elim}
+use Rattle.std.proofs.Common.{◌≡◌, ℕ, suc, ◌+◌, ◌-◌, ◌*◌, ◌<◌, ◌≤◌, ◌^◌, List, [], ◌∷◌, ◌++◌, length, min, refl, sym, ap, ◌∙◌, subst, arith, take, drop, get_or, true, false, nat_le, length-drop, ⊎_elim}
 use Rattle.std.specs.Prelude.{if◌then◌else◌}
 use Rattle.std.proofs.lemmas.Bool.{cases_lt}
 use Rattle.std.proofs.lemmas.Bool.Decides.{nat_tests}
 use Rattle.std.proofs.lemmas.List.{take_more, take_all}
-use Rattle.std.proofs.Math.Seq.{drop-cons}
 use Rattle.std.proofs.lemmas.List.Sums.{sum_by-append, sum_by-cons}
 use Rattle.seccompiler.specs.declared.bpf.sock_filter.{sock_filter}
 use Rattle.seccompiler.specs.Condition.{Condition, size_of}
-use Rattle.seccompiler.specs.Groups.{total_size, relays}
+use Rattle.seccompiler.specs.Groups.{total_size}
 use Rattle.seccompiler.specs.Layout.{rule_length}
 use Rattle.seccompiler.specs.Relay.{relay_code, entry_code, relay_front, offset_behind}
 use Rattle.seccompiler.specs.Pieces.{IsConditionCode, IsRuleCode}
 use Rattle.seccompiler.proofs.RuleCode.{size_small, total_more, Body, body_empty, body_more, body_relay, rule_of}
+use Rattle.seccompiler.proofs.Parts.{around}
 use Rattle.seccompiler.proofs.RelayCount.{Cutting, none, cutting_more, cutting_relay, relays_are, relays_so_far, relays_so_far_full}
 
 -- What is needed of an offset at which a relay is or is not put.
@@ -48,15 +48,15 @@ pub built_more : (q : List Condition) (code own : List sock_filter) (o : ℕ) (c
 built_more q code own o c one h =
     ⊎_elim
     (λ near.
-        let e = relay_none o near in
-        let own_code = subst (λ d. IsConditionCode c d own) e.1 one in
-        let made : Built (q ++ c ∷ []) (own ++ code) (o + size_of c) = record { k = h.k; body = body_more q code own o h.k c (omega arith) own_code h.body; cutting = cutting_more q o h.k c (omega arith) h.cutting } in
-        subst (λ l. Built (q ++ c ∷ []) (own ++ (l ++ code)) (offset_behind o + size_of c)) (sym e.0) (subst (λ d. Built (q ++ c ∷ []) (own ++ code) (d + size_of c)) (sym e.1) made))
+    let e = relay_none o near in
+    let own_code = subst (λ d. IsConditionCode c d own) e.1 one in
+    let made : Built (q ++ c ∷ []) (own ++ code) (o + size_of c) = record { k = h.k; body = body_more q code own o h.k c (omega arith) own_code h.body; cutting = cutting_more q o h.k c (omega arith) h.cutting } in
+    subst (λ l. Built (q ++ c ∷ []) (own ++ (l ++ code)) (offset_behind o + size_of c)) (sym e.0) (subst (λ d. Built (q ++ c ∷ []) (own ++ code) (d + size_of c)) (sym e.1) made))
     (λ far.
-        let e = relay_one o far in
-        let own_code = subst (λ d. IsConditionCode c d own) e.1 one in
-        let made : Built (q ++ c ∷ []) (own ++ (relay_code o ++ code)) (1 + size_of c) = record { k = suc h.k; body = body_more q (relay_code o ++ code) own 1 (suc h.k) c (omega arith) own_code (body_relay q code o h.k h.body); cutting = cutting_relay q o h.k c far h.cutting } in
-        subst (λ l. Built (q ++ c ∷ []) (own ++ (l ++ code)) (offset_behind o + size_of c)) (sym e.0) (subst (λ d. Built (q ++ c ∷ []) (own ++ (relay_code o ++ code)) (d + size_of c)) (sym e.1) made))
+    let e = relay_one o far in
+    let own_code = subst (λ d. IsConditionCode c d own) e.1 one in
+    let made : Built (q ++ c ∷ []) (own ++ (relay_code o ++ code)) (1 + size_of c) = record { k = suc h.k; body = body_more q (relay_code o ++ code) own 1 (suc h.k) c (omega arith) own_code (body_relay q code o h.k h.body); cutting = cutting_relay q o h.k c far h.cutting } in
+    subst (λ l. Built (q ++ c ∷ []) (own ++ (l ++ code)) (offset_behind o + size_of c)) (sym e.0) (subst (λ d. Built (q ++ c ∷ []) (own ++ (relay_code o ++ code)) (d + size_of c)) (sym e.1) made))
     (cases_lt o 249)
 
 -- the size of a list around one condition
@@ -69,20 +69,14 @@ room_for q rest code o free c h whole =
     let sizes = total_around q rest c in
     ⊎_elim
     (λ near.
-        let none_put : length (relay_front o) ≡ 0 = ap length (relay_none o near).0 in
-        omega (arith, h.body.long, relays_so_far q (c ∷ rest) o h.k h.cutting))
+    let none_put : length (relay_front o) ≡ 0 = ap length (relay_none o near).0 in
+    omega (arith, h.body.long, relays_so_far q (c ∷ rest) o h.k h.cutting))
     (λ far.
-        let one_put : length (relay_front o) ≡ 3 = ap length (relay_one o far).0 in
-        omega (arith, h.body.long, relays_so_far_full q rest o h.k c far h.cutting))
+    let one_put : length (relay_front o) ≡ 3 = ap length (relay_one o far).0 in
+    omega (arith, h.body.long, relays_so_far_full q rest o h.k c far h.cutting))
     (cases_lt o 249)
 
--- a list, cut at an index
-around : (items : List Condition) (i : ℕ) (c : Condition) → i < length items → c ≡ get_or items i c → items ≡ take i items ++ c ∷ drop (i + 1) items
-around items i c within is =
-    let e : i + 1 ≡ suc i = omega arith in
-    sym (take-append-drop i items) ∙ ap (λ l. take i items ++ l) (drop-cons items i c within ∙ ap (λ x. x ∷ drop (suc i) items) (sym is) ∙ ap (λ n. c ∷ drop n items) (sym e))
-
--- the same, at an index of the loop
+-- there is room for it at an index of the loop
 pub room_at : (items : List Condition) (i : ℕ) (code : List sock_filter) (o free : ℕ) (c : Condition) → i < length items → c ≡ get_or items i c → Built (take i items) code o → free + length code ≡ rule_length items → 2 + length (relay_front o) + size_of c ≤ free
 room_at items i code o free c within is h whole =
     room_for (take i items) (drop (i + 1) items) code o free c h (whole ∙ ap rule_length (around items i c within is))

@@ -1,13 +1,12 @@
-use Rattle.std.proofs.Common.{◌≡◌, ◌+◌, ◌-◌, ◌<◌, ◌≤◌, length, take, drop, ap, sym, ◌∙◌, subst, [], arith, length-drop, length-append, ◌++◌, rules}
+use Rattle.std.proofs.Common.{◌≡◌, ◌+◌, ◌-◌, ◌≤◌, length, take, drop, ap, sym, ◌∙◌, subst, [], arith, length-append, ◌++◌}
 use Rattle.std.proofs.lemmas.List.{drop_all}
 use lib.Seq.{length-take-le}
 use borrow.Rule.Slice.PartMut.{put_mid}
-use Rattle.seccompiler.specs.Condition.{size_of}
 use Rattle.seccompiler.specs.Layout.{rule_length}
 use Rattle.seccompiler.specs.Policy.{Rule}
-use Rattle.seccompiler.specs.Relay.{relay_front, offset_behind}
+use Rattle.seccompiler.specs.Relay.{relay_front}
 use Rattle.seccompiler.specs.Pieces.{IsConditionCode, IsRuleCode}
-use Rattle.seccompiler.proofs.RuleLoops.{Built, built_empty, built_step, built_all, built_rule, entry_room, room_at, offset_small, end_within}
+use Rattle.seccompiler.proofs.RuleLoops.{Built, built_empty, built_step, built_all, built_rule, entry_room, room_at, end_within}
 use Rattle.seccompiler.proofs.Parts.{drop-written, length-part}
 use Rattle.seccompiler.proofs.rule.SeccompRule.write.Goals as goal
 
@@ -17,7 +16,7 @@ loop-condition-init c =
     let same = c.deref-condition-items.ensures.value ∙ c.self.view_is in
     record {
       built = subst (λ l. Built [] l 1) (sym none) built_empty;
-      free = omega (arith, ap length none, c.requires.room, ap rule_length same)
+      free = omega (arith, ap length none, c.requires.room, ap rule_length same);
     }
 
 pub relay_if_far-front-requires-clause-within : goal.relay_if_far-front-requires-clause-within
@@ -59,7 +58,7 @@ loop-condition-preserved c =
     let built : Built (take (l.condition-index + 1) q) (drop start (put_mid start (front - start) c.relay_if_far-front.new.part c.write.new.part)) (c.relay_if_far-front.result.1 + c.code_len-size.result) = built_step q l.condition-index c.condition-item.result (drop l.end l.part) c.write.new.part _ l.offset _ c.loop-condition-test.true c.condition-item.is own written (omega (arith, relay.offset, size)) l.invariant.built in
     record {
       built = built;
-      free = omega (arith, ap length written, length-append c.write.new.part (relay_front l.offset ++ drop l.end l.part), length-append (relay_front l.offset) (drop l.end l.part), own.long, l.invariant.free)
+      free = omega (arith, ap length written, length-append c.write.new.part (relay_front l.offset ++ drop l.end l.part), length-append (relay_front l.offset) (drop l.end l.part), own.long, l.invariant.free);
     }
 
 pub write_entry-requires : goal.write_entry-requires

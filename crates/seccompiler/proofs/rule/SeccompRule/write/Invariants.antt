@@ -6,5 +6,5 @@ use Rattle.seccompiler.proofs.rule.SeccompRule.write.Given as goal
 abbrev pub invariant-loop-condition : goal.invariant-loop-condition
 invariant-loop-condition l = record {
   built : Built (take l.condition-index l.condition-items) (drop l.end l.part) l.offset;
-  free : l.end + length (drop l.end l.part) ≡ rule_length l.condition-items
+  free : l.end + length (drop l.end l.part) ≡ rule_length l.condition-items;
 }

@@ -54,8 +54,9 @@ only_names-tells names no_members h name v there = cc
 only_names-tells names (member other d members) h name v there =
     let parts = both_true (list_any (bytes_eq other) names) (only_names names members) h in
     elim (found name other d members v there) [
-      inl here ↦ subst (Contains names) (sym here.0) (Contains-from_any {eq = bytes_eq} (λ x y. (bytes_eq-Decides x y).0) other names parts.0)
-    | inr later ↦ only_names-tells names members parts.1 name v later.1 ]
+      | inl here ↦ subst (Contains names) (sym here.0) (Contains-from_any {eq = bytes_eq} (λ x y. (bytes_eq-Decides x y).0) other names parts.0)
+      | inr later ↦ only_names-tells names members parts.1 name v later.1
+    ]
 
 only_names-from : (names : List (List ℕ)) (members : Members) → ((name : List ℕ) (v : Data) → get_member name members ≡ Some v → Contains names name) → only_names names members ≡ true
 only_names-from names no_members h = refl

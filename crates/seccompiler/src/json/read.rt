@@ -184,13 +184,20 @@ fn one_action(first: Option<&Value>, second: Option<&Value>) -> Option<SeccompAc
 pub fn filter_of(alloc: Global, value: &Value) -> Result<Option<JsonFilter>, AllocError>
     ensures { IfOk result (λ found. found ≡ filter_in (view value.now)) }
 {
-    let names = ["mismatch_action", "default_action", "match_action", "filter_action", "filter"];
+    let names = [
+        "mismatch_action",
+        "default_action",
+        "match_action",
+        "filter_action",
+        "filter",
+    ];
     if !is_object_of(value, &names) {
         return Ok(None);
     }
-    let Some(mismatch_action) =
-        one_action(value.get("mismatch_action"), value.get("default_action"))
-    else {
+    let Some(mismatch_action) = one_action(
+        value.get("mismatch_action"),
+        value.get("default_action"),
+    ) else {
         return Ok(None);
     };
     let Some(match_action) = one_action(value.get("match_action"), value.get("filter_action"))

@@ -1,8 +1,9 @@
 -- Closed pieces: where the jumps of a piece lead, alone and inside a longer one.
-use Rattle.std.proofs.Common.{◌≡◌, ℕ, zero, suc, ◌+◌, ◌≤◌, List, [], ◌∷◌, ◌++◌, length, Some, sym, subst, arith, ◌⊎◌, inl, inr, ⊎_elim}
+use Rattle.std.proofs.Common.{◌≡◌, ℕ, zero, suc, ◌+◌, ◌≤◌, ◌<◌, ◌^◌, List, [], ◌∷◌, ◌++◌, length, Some, sym, subst, arith, ◌⊎◌, inl, inr, ⊎_elim}
 use Rattle.std.specs.Prelude.{slice_get}
 use Rattle.seccompiler.specs.declared.bpf.sock_filter.{sock_filter}
-use Rattle.seccompiler.specs.Checked.{IsInside, inside_load, inside_mask, inside_jump, inside_equal, inside_greater, inside_at_least, IsClosed}
+use Rattle.seccompiler.specs.Code.{jump}
+use Rattle.seccompiler.specs.Checked.{IsInside, inside_load, inside_mask, inside_jump, inside_equal, inside_greater, inside_at_least, IsClosed, IsInRange, AreInRange}
 
 -- an instruction further on, of a piece that leaves at most further on
 pub inside_shift : (i : sock_filter) (base place m m' : ℕ) → base + m ≤ m' → IsInside i place m → IsInside i (base + place) m'
@@ -50,3 +51,24 @@ each_at (x ∷ is) base m (suc k) i h e =
 
 pub closed_from : (is : List sock_filter) (m : ℕ) → EachInside 0 m is → IsClosed is m
 closed_from is m h = record { each = λ k i e. let z : 0 + k ≡ k = omega arith in subst (λ q. IsInside i q m) z (each_at is 0 m k i h e) }
+
+-- the ranges of one piece and then another
+pub ranges_join : (a b : List sock_filter) → AreInRange a → AreInRange b → AreInRange (a ++ b)
+ranges_join a b ra rb = record { each = λ k i e. ⊎_elim (λ h. ra.each k i h) (λ h. rb.each h.0 i h.2) (get_split a b k i e) }
+
+-- the ranges of a list, instruction by instruction
+abbrev pub EachInRange : List sock_filter → Type 0
+EachInRange [] = Unit {0}
+EachInRange (i ∷ is) = IsInRange i × EachInRange is
+
+range_at : (is : List sock_filter) (k : ℕ) (i : sock_filter) → EachInRange is → slice_get is k ≡ Some i → IsInRange i
+range_at [] k i h e = cc
+range_at (x ∷ is) zero i h e = let same : x ≡ i = cc in subst IsInRange same h.0
+range_at (x ∷ is) (suc k) i h e = range_at is k i h.1 e
+
+pub ranges_from : (is : List sock_filter) → EachInRange is → AreInRange is
+ranges_from is h = record { each = λ k i e. range_at is k i h e }
+
+-- the range of a jump
+pub jump_in_range : (k : ℕ) → k < 2 ^ 32 → IsInRange (jump k)
+jump_in_range k h = record { code = omega arith; jt = omega arith; jf = omega arith; k = h }

@@ -20,28 +20,29 @@ place_after i place a =
 abbrev accumulator_after : sock_filter → List ℕ → ℕ → ℕ
 accumulator_after i r a = if i.code == 0x20 then word_at r i.k else (if i.code == 0x54 then bit_and a i.k else a)
 
--- What a step does is where its instruction leads.
-place_of-does : (i : sock_filter) (r : List ℕ) (place a place' a' : ℕ) → Does i r place a place' a' → place' ≡ place_after i place a
-place_of-does i r place a place' a' (loads code _ to _) = grind (arith, nat_tests)
-place_of-does i r place a place' a' (masks code to _) = grind (arith, nat_tests)
-place_of-does i r place a place' a' (jumps code to _) = grind (arith, nat_tests)
-place_of-does i r place a place' a' (is_equal code test to _) = grind (arith, nat_tests)
-place_of-does i r place a place' a' (is_not_equal code test to _) = grind (arith, nat_tests)
-place_of-does i r place a place' a' (is_greater code test to _) = grind (arith, nat_tests)
-place_of-does i r place a place' a' (is_not_greater code test to _) = grind (arith, nat_tests)
-place_of-does i r place a place' a' (is_at_least code test to _) = grind (arith, nat_tests)
-place_of-does i r place a place' a' (is_less code test to _) = grind (arith, nat_tests)
+-- An instruction leads to the place that its fields and the accumulator name.
+place_after-does : (i : sock_filter) (r : List ℕ) (place a place' a' : ℕ) → Does i r place a place' a' → place' ≡ place_after i place a
+place_after-does i r place a place' a' (loads code _ to _) = grind (arith, nat_tests)
+place_after-does i r place a place' a' (masks code to _) = grind (arith, nat_tests)
+place_after-does i r place a place' a' (jumps code to _) = grind (arith, nat_tests)
+place_after-does i r place a place' a' (is_equal code test to _) = grind (arith, nat_tests)
+place_after-does i r place a place' a' (is_not_equal code test to _) = grind (arith, nat_tests)
+place_after-does i r place a place' a' (is_greater code test to _) = grind (arith, nat_tests)
+place_after-does i r place a place' a' (is_not_greater code test to _) = grind (arith, nat_tests)
+place_after-does i r place a place' a' (is_at_least code test to _) = grind (arith, nat_tests)
+place_after-does i r place a place' a' (is_less code test to _) = grind (arith, nat_tests)
 
-accumulator_of-does : (i : sock_filter) (r : List ℕ) (place a place' a' : ℕ) → Does i r place a place' a' → a' ≡ accumulator_after i r a
-accumulator_of-does i r place a place' a' (loads code _ _ to) = grind (arith, nat_tests)
-accumulator_of-does i r place a place' a' (masks code _ to) = grind (arith, nat_tests)
-accumulator_of-does i r place a place' a' (jumps code _ to) = grind (arith, nat_tests)
-accumulator_of-does i r place a place' a' (is_equal code _ _ to) = grind (arith, nat_tests)
-accumulator_of-does i r place a place' a' (is_not_equal code _ _ to) = grind (arith, nat_tests)
-accumulator_of-does i r place a place' a' (is_greater code _ _ to) = grind (arith, nat_tests)
-accumulator_of-does i r place a place' a' (is_not_greater code _ _ to) = grind (arith, nat_tests)
-accumulator_of-does i r place a place' a' (is_at_least code _ _ to) = grind (arith, nat_tests)
-accumulator_of-does i r place a place' a' (is_less code _ _ to) = grind (arith, nat_tests)
+-- So it is with the accumulator.
+accumulator_after-does : (i : sock_filter) (r : List ℕ) (place a place' a' : ℕ) → Does i r place a place' a' → a' ≡ accumulator_after i r a
+accumulator_after-does i r place a place' a' (loads code _ _ to) = grind (arith, nat_tests)
+accumulator_after-does i r place a place' a' (masks code _ to) = grind (arith, nat_tests)
+accumulator_after-does i r place a place' a' (jumps code _ to) = grind (arith, nat_tests)
+accumulator_after-does i r place a place' a' (is_equal code _ _ to) = grind (arith, nat_tests)
+accumulator_after-does i r place a place' a' (is_not_equal code _ _ to) = grind (arith, nat_tests)
+accumulator_after-does i r place a place' a' (is_greater code _ _ to) = grind (arith, nat_tests)
+accumulator_after-does i r place a place' a' (is_not_greater code _ _ to) = grind (arith, nat_tests)
+accumulator_after-does i r place a place' a' (is_at_least code _ _ to) = grind (arith, nat_tests)
+accumulator_after-does i r place a place' a' (is_less code _ _ to) = grind (arith, nat_tests)
 
 -- A return does nothing.
 does_not_return : (i : sock_filter) (r : List ℕ) (place a place' a' : ℕ) → Does i r place a place' a' → i.code ≢ 0x06
@@ -59,18 +60,18 @@ does_not_return i r place a place' a' (is_less code _ _ _) = λ returns. omega a
 step_only : (p : List sock_filter) (r : List ℕ) {place a place' a' at b at' b' : ℕ} → Step p r place a place' a' → Step p r at b at' b' → place ≡ at → a ≡ b → (place' ≡ at') × (a' ≡ b')
 step_only p r {place} {a} {place'} {a'} {at} {b} {at'} {b'} s t here with_same =
     let same : s.instruction ≡ t.instruction = cc (s.here, t.here) in
-    let places = place_of-does s.instruction r place a place' a' s.does in
-    let accumulators = accumulator_of-does s.instruction r place a place' a' s.does in
-    let other_places = place_of-does t.instruction r at b at' b' t.does in
-    let other_accumulators = accumulator_of-does t.instruction r at b at' b' t.does in
+    let places = place_after-does s.instruction r place a place' a' s.does in
+    let accumulators = accumulator_after-does s.instruction r place a place' a' s.does in
+    let other_places = place_after-does t.instruction r at b at' b' t.does in
+    let other_accumulators = accumulator_after-does t.instruction r at b at' b' t.does in
     ((rw (same, here, with_same) at places) ∙ sym other_places, (rw (same, with_same) at accumulators) ∙ sym other_accumulators)
 
--- So do as many steps.
+-- So do equally many steps.
 goes_only : (p : List sock_filter) (r : List ℕ) {place a n place' a' m place'' a'' : ℕ} → Goes p r place a n place' a' → Goes p r place a m place'' a'' → n ≡ m → (place' ≡ place'') × (a' ≡ a'')
-goes_only p r stays stays as_many = (refl, refl)
-goes_only p r stays (then_step g s) as_many = absurd (omega arith)
-goes_only p r (then_step g s) stays as_many = absurd (omega arith)
-goes_only p r (then_step g s) (then_step h t) as_many =
+goes_only p r stays stays equally_many = (refl, refl)
+goes_only p r stays (then_step g s) equally_many = absurd (omega arith)
+goes_only p r (then_step g s) stays equally_many = absurd (omega arith)
+goes_only p r (then_step g s) (then_step h t) equally_many =
     let before = goes_only p r g h (omega arith) in
     step_only p r s t before.0 before.1
 

@@ -1,7 +1,8 @@
 -- A piece of code does inside a program what it does alone.
-use Rattle.std.proofs.Common.{◌≡◌, ℕ, zero, suc, ◌+◌, ◌≤◌, List, [], ◌∷◌, ◌++◌, length, Some, arith}
+use Rattle.std.proofs.Common.{◌≡◌, ℕ, zero, suc, ◌+◌, ◌≤◌, List, [], ◌∷◌, ◌++◌, length, Some, arith, subst, ◌<◌, ◌^◌}
 use Rattle.std.specs.Prelude.{slice_get}
 use Rattle.seccompiler.specs.declared.bpf.sock_filter.{sock_filter}
+use Rattle.seccompiler.specs.Pieces.{Leads}
 use Rattle.seccompiler.specs.Machine.{Does, loads, masks, jumps, is_equal, is_not_equal, is_greater, is_not_greater, is_at_least, is_less, Step, Goes, stays, then_step}
 
 -- the piece stands in the program from this place on
@@ -80,3 +81,64 @@ goes_far p r {place} {a} (then_step {n = n} {place' = place'} {a' = a'} {place''
     let before = goes_far p r g in
     let step = does_later h.instruction r place' a' place'' a'' h.does in
     omega arith
+
+pub stands_first : (a b : List sock_filter) → Stands (a ++ b) 0 a
+stands_first a b = record { at = λ k i e. let z : 0 + k ≡ k = omega arith in rw z (get_before a b k i e) }
+
+pub stands_second : (a b : List sock_filter) → Stands (a ++ b) (length a) b
+stands_second a b = record { at = λ k i e. get_behind a b k i e }
+
+pub leads_to : (p : List sock_filter) (r : List ℕ) (x a y y' : ℕ) → y ≡ y' → Leads p r x a y → Leads p r x a y'
+leads_to p r x a y y' e h = subst (λ n. Leads p r x a n) e h
+
+pub leads_from : (p : List sock_filter) (r : List ℕ) (x x' a y : ℕ) → x ≡ x' → Leads p r x a y → Leads p r x' a y
+leads_from p r x x' a y e h = subst (λ n. Leads p r n a y) e h
+
+-- what the first piece does
+pub leads_first : (a b : List sock_filter) (r : List ℕ) (x s y : ℕ) → Leads a r x s y → Leads (a ++ b) r x s y
+leads_first a b r x s y h =
+    let zx : 0 + x ≡ x = omega arith in
+    let zy : 0 + y ≡ y = omega arith in
+    leads_from (a ++ b) r _ _ s y zx (leads_to (a ++ b) r _ s _ _ zy record { count = h.count; accumulator = h.accumulator; goes = goes_shift (a ++ b) a r 0 (stands_first a b) h.goes })
+
+-- what the second does
+pub leads_second : (a b : List sock_filter) (r : List ℕ) (x s y : ℕ) → Leads b r x s y → Leads (a ++ b) r (length a + x) s (length a + y)
+leads_second a b r x s y h = record { count = h.count; accumulator = h.accumulator; goes = goes_shift (a ++ b) b r (length a) (stands_second a b) h.goes }
+
+-- the accumulator stays in its range
+pub stays_small : (p : List sock_filter) (r : List ℕ) {x a n y b : ℕ} → a < 2 ^ 32 → Goes p r x a n y b → b < 2 ^ 32
+stays_small p r h stays = h
+stays_small p r h (then_step g s) = s.after
+
+pub leads_on : (p : List sock_filter) (r : List ℕ) (x a y z : ℕ) → a < 2 ^ 32 → Leads p r x a y → ((b : ℕ) → b < 2 ^ 32 → Leads p r y b z) → Leads p r x a z
+leads_on p r x a y z small g f =
+    let h = f g.accumulator (stays_small p r small g.goes) in
+    record { count = g.count + h.count; accumulator = h.accumulator; goes = goes_on p r g.goes h.goes }
+
+-- a run of the first piece is one of both
+pub goes_front : (a b : List sock_filter) (r : List ℕ) {x s n y t : ℕ} → Goes a r x s n y t → Goes (a ++ b) r x s n y t
+goes_front a b r stays = stays
+goes_front a b r (then_step {place' = place'} g h) = then_step (goes_front a b r g) record {
+  instruction = h.instruction;
+  here = get_before a b place' h.instruction h.here;
+  before = h.before;
+  after = h.after;
+  does = h.does;
+}
+
+-- the first piece to its end, and then the second
+pub leads_through : (cc code : List sock_filter) (r : List ℕ) (a y : ℕ) (g : Leads cc r 0 a (length cc)) → Leads code r 0 g.accumulator y → Leads (cc ++ code) r 0 a (length cc + y)
+leads_through cc code r a y g h =
+    let z : length cc + 0 ≡ length cc = omega arith in
+    let k = leads_from (cc ++ code) r _ _ g.accumulator _ z (leads_second cc code r 0 g.accumulator y h) in
+    record { count = g.count + k.count; accumulator = k.accumulator; goes = goes_on (cc ++ code) r (goes_front cc code r g.goes) k.goes }
+
+-- what a first piece and then a run in a second do together
+module _ (cc code : List sock_filter) (r : List ℕ) where
+  pub leads_both : (a x y : ℕ) → a < 2 ^ 32 → Leads cc r 0 a (length cc + x) → ((b : ℕ) → b < 2 ^ 32 → Leads code r x b y) → Leads (cc ++ code) r 0 a (length cc + y)
+  leads_both a x y small g f =
+      leads_on (cc ++ code) r 0 a (length cc + x) (length cc + y) small (leads_first cc code r 0 a (length cc + x) g) (λ b fits. leads_second cc code r x b y (f b fits))
+
+-- one step and then a run
+pub via : (p : List sock_filter) (r : List ℕ) (x a y z : ℕ) → Step p r x a y a → Leads p r y a z → Leads p r x a z
+via p r x a y z s g = record { count = 1 + g.count; accumulator = g.accumulator; goes = goes_on p r (then_step stays s) g.goes }

@@ -1,5 +1,5 @@
 -- Why a filter is not compiled.
-use Rattle.std.specs.Prelude.{◌≡◌, ◌+◌, ◌<◌, ◌≤◌, ℕ, ℤ, ◌≤ℤ◌, ◌-◌, ◌^◌, List, Contains, All, map, min}
+use Rattle.std.specs.Prelude.{◌≡◌, ◌<◌, ◌≤◌, ℕ, ℤ, ◌≤ℤ◌, ◌-◌, ◌^◌, List, Contains, All, map, min}
 use Rattle.seccompiler.specs.declared.backend.BackendError.{BackendError}
 use Rattle.seccompiler.specs.declared.backend.BackendError.TheVariants.{EmptyRule, FilterTooLarge, IdenticalActions, InvalidArgumentNumber, InvalidTargetArch, InvalidSyscallNumber, OutOfMemory}
 use Rattle.seccompiler.specs.Policy.{Chain, Filter, IsCallNumber}

@@ -80,6 +80,7 @@ pub(crate) fn write_chains(
 )
     requires numbers { AreCallNumbers (keys rules.now) }
     requires room { length part.old ≡ chains_length (chains_of rules.now.entries) }
+    requires short { length part.old ≤ 4096 }
     ensures code { IsChainsCode (chains_of rules.now.entries) mismatch matched part.new }
 {
     let mut start = 0;
@@ -113,6 +114,7 @@ fn write_chain(
     matched: u32,
 )
     requires room { length part.old ≡ chain_length chain.now }
+    requires short { length part.old ≤ 4096 }
     ensures code { IsChainCode number chain.now mismatch matched part.new }
 {
     if chain.is_empty() {
@@ -134,6 +136,7 @@ fn write_chain(
 // Fills the part with the rules of a chain, each with its return.
 fn write_rules(part: &mut [sock_filter], chain: &[SeccompRule], matched: u32)
     requires room { length part.old ≡ rules_length chain.now }
+    requires short { length part.old ≤ 4096 }
     ensures code { IsRulesCode chain.now matched part.new }
 {
     let mut start = 0;

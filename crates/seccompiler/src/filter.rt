@@ -36,9 +36,9 @@ impl Model for SeccompFilter {
 }
 
 impl SeccompFilter {
-    ghost use Rattle.std.specs.Prelude.{◌≡◌, ◌≢◌, ◌<◌, ◌↔◌, ℕ, List, length, min, IfOk, IfErr, IsOk, OnOk, IsOkUnless};
+    ghost use Rattle.std.specs.Prelude.{◌≡◌, ◌≢◌, ◌<◌, ◌↔◌, ℕ, List, length, min, IfOk, IfErr, IsOk, IsTrue, OnOk, IsOkUnless};
     ghost use Rattle.seccompiler.specs.declared.backend.BackendError.TheVariants.{IdenticalActions, OutOfMemory};
-    ghost use Rattle.seccompiler.specs.Policy.{Filter, chains_of, IsDecision};
+    ghost use Rattle.seccompiler.specs.Policy.{Filter, chains_of, Matches, IsDecision};
     ghost use Rattle.seccompiler.specs.Reorder.{IsReordered, IsSameCall};
     ghost use Rattle.seccompiler.specs.Layout.{counted_length};
     ghost use Rattle.seccompiler.specs.Compiled.{IsCompiled, Passes};
@@ -135,15 +135,21 @@ impl SeccompFilter {
         if arch != self.target_arch.get_audit_value() {
             return SeccompAction::KillProcess.into();
         }
-        let number = word_at(call, SECCOMP_DATA_NR_OFFSET as usize);
-        let matches = match self.rules.get(&i64::from(number)) {
-            Some(chain) => chain_matches(chain, call),
-            None => false,
-        };
-        if matches {
+        if self.matches(call) {
             self.match_action.into()
         } else {
             self.mismatch_action.into()
+        }
+    }
+
+    // Whether there is a chain under the record's call number, and it matches.
+    fn matches(&self, call: &[u8; 64]) -> bool
+        ensures { IsTrue result ↔ Matches self.now call.now }
+    {
+        let number = word_at(call, SECCOMP_DATA_NR_OFFSET as usize);
+        match self.rules.get(&i64::from(number)) {
+            Some(chain) => chain_matches(chain, call),
+            None => false,
         }
     }
 

@@ -25,8 +25,8 @@ pub struct Outcome {
 /// [`run`] knows, each load is of a word of the record at a multiple of 4, both targets of each
 /// jump are places of the program, and the last instruction returns.
 ///
-/// A kernel's checker, described in `seccomp(2)`, takes some programs that don't pass here. Fields
-/// that an instruction ignores may hold any number.
+/// Fields that an instruction ignores may hold any number. A kernel also takes programs of other
+/// instructions than these seven, which don't pass here.
 pub fn check(prog: BpfProgramRef<'_>) -> bool
     ensures { IsTrue result ↔ IsChecked prog.now }
 {
@@ -43,8 +43,22 @@ pub fn check(prog: BpfProgramRef<'_>) -> bool
 
 /// Runs a program that passes [`check`] on the record of a system call.
 ///
-/// The record is a `struct seccomp_data`: 64 bytes, little-endian. The run starts at the first
-/// instruction with accumulator 0, and takes as many steps as the program has instructions at most.
+/// The record is a `struct seccomp_data`, as `seccomp(2)` describes it: 64 bytes, little-endian.
+/// The run starts at the first instruction with accumulator 0. It takes at most as many steps as
+/// the program has instructions, since every jump leads forward.
+///
+/// ```
+/// // Returns 1 for system call 39, and 0 for each other one.
+/// let program = [
+///     bpf_stmt(BPF_LD | BPF_W | BPF_ABS, 0),
+///     bpf_jump(BPF_JMP | BPF_JEQ | BPF_K, 39, 0, 1),
+///     bpf_stmt(BPF_RET | BPF_K, 1),
+///     bpf_stmt(BPF_RET | BPF_K, 0),
+/// ];
+/// if check(&program) {
+///     let Outcome { word, steps } = run(&program, &call);
+/// }
+/// ```
 pub fn run(prog: BpfProgramRef<'_>, call: &[u8; 64]) -> Outcome
     requires { IsChecked prog.now }
     ensures ends { Ends prog.now call.now result.steps result.word }
@@ -68,8 +82,7 @@ pub fn run(prog: BpfProgramRef<'_>, call: &[u8; 64]) -> Outcome
 
 // Whether an instruction may stand at a place of a program of this length.
 fn is_fine(instruction: sock_filter, place: usize, length: usize) -> bool
-    requires place { place < length }
-    requires length { length ≤ BPF_MAX_LEN }
+    requires { place < length }
     ensures fine { IsTrue result ↔ IsFine instruction place length }
     ensures range { IsInRange instruction }
 {
@@ -79,7 +92,7 @@ fn is_fine(instruction: sock_filter, place: usize, length: usize) -> bool
     match code {
         LOAD => k % 4 == 0 && k <= LAST_WORD_OFFSET,
         MASK | RETURN => true,
-        JUMP => k < room as u32,
+        JUMP => (k as usize) < room,
         JUMP_EQUAL | JUMP_GREATER | JUMP_AT_LEAST => (jt as usize) < room && (jf as usize) < room,
         _ => false,
     }
@@ -96,7 +109,6 @@ fn step(
     requires fine { IsFine instruction place length }
     requires goes_on { instruction.code ≢ RETURN }
     requires next { place + 1 < length }
-    requires length { length ≤ BPF_MAX_LEN }
     ensures does { Does instruction call.now place accumulator result.0 result.1 }
     ensures later { place < result.0 }
     ensures within { result.0 < length }

@@ -134,6 +134,32 @@ impl SeccompRule {
     }
 }
 
+/// Rules are equal where their conditions are, in their order.
+impl PartialEq for SeccompRule {
+    ghost use Rattle.std.specs.Prelude.{◌≡◌, ◌↔◌, IsTrue};
+    ghost use Rattle.std.specs.Cmp.Lexicographic.{pointwise, lists_per};
+    ghost use Rattle.seccompiler.specs.contracts.condition.SeccompConditionPartialEq.TheImpl as condition_equality;
+    ghost use Rattle.seccompiler.specs.contracts.condition.SeccompConditionPartialEq.TheImpl.Laws as condition_laws;
+
+    ghost eq = { λ x y. pointwise (condition_equality.ghosts).eq x y };
+
+    ghost laws = { lists_per condition_laws.laws-law };
+
+    fn eq(&self, other: &SeccompRule) -> bool
+        ensures value { result ≡ pointwise (condition_equality.ghosts).eq self.now other.now }
+        ensures same { IsTrue result ↔ (self.now ≡ other.now) }
+    {
+        self.conditions.as_slice() == other.conditions.as_slice()
+    }
+}
+
+impl Eq for SeccompRule {
+    ghost use Rattle.std.specs.Cmp.Lexicographic.{lists_equiv};
+    ghost use Rattle.seccompiler.specs.contracts.condition.SeccompConditionEq.TheImpl.Laws as condition_laws;
+
+    ghost laws = { lists_equiv condition_laws.laws-law };
+}
+
 ghost use Rattle.std.specs.Prelude.{◌≡◌, ◌≤◌, ◌+◌, ◌++◌, length, drop};
 ghost use Rattle.seccompiler.specs.Checked.{AreInRange};
 ghost use Rattle.seccompiler.specs.Relay.{entry_code, relay_code, relay_front, offset_behind};

@@ -1,4 +1,4 @@
-use Rattle.std.proofs.Common.{refl, ◌<◌, length, arith}
+use Rattle.std.proofs.Common.{refl, ◌<◌, ◌≤◌, length, arith}
 use Rattle.std.proofs.lemmas.Bool.Decides.{nat_tests}
 use Rattle.seccompiler.specs.Checked.{IsFine, IsInRange}
 use Rattle.seccompiler.proofs.CheckedLemmas.{one_more, checked_if}
@@ -11,4 +11,5 @@ loop-place-preserved c =
 pub returns : goal.returns
 returns c =
     let some : 0 < length c.args.prog.now = grind (arith, nat_tests) in
-    checked_if c.args.prog.now c.loop-place.place _ some c.if-prog-gt-BPF_MAX_LEN.false c.loop-place-test.false c.loop-place.invariant
+    let few : length c.args.prog.now ≤ 4096 = omega arith in
+    checked_if c.args.prog.now c.loop-place.place _ some few c.loop-place-test.false c.loop-place.invariant

@@ -1,0 +1,73 @@
+-- Lengths that stop at the greatest number that a machine's number holds.
+use Rattle.std.proofs.Common.{List, ℤ, refl, ◌++◌, map, Bor, Vec, Global, sum_by, ◌≡◌, ◌==◌, ℕ, ◌+◌, ◌<◌, ◌≤◌, [], ◌∷◌, length, get_or, take, min, false, sym, ap, ◌∙◌, arith}
+use Rattle.std.proofs.lemmas.List.{take_all}
+use Rattle.std.proofs.lemmas.List.Sums.{sum_by_more, sum_by_push, sum_by-cons}
+use Rattle.std.specs.Map.{values_of}
+use Rattle.std.specs.Map.Iter.{deref}
+use Rattle.seccompiler.specs.Policy.{Rule, Chain, Filter, chains_of}
+use Rattle.seccompiler.specs.Layout.{rule_length, chain_length, chains_length, counted_length, counted_length_of}
+use Rattle.seccompiler.specs.ChainCode.{rules_length}
+
+-- Where each sum stops at m, a sum of sums stops there too.
+capped_sum : (m a b : ℕ) → min (min (min a m + min b m) m + 1) m ≡ min (a + (b + 1)) m
+capped_sum m a b = omega arith
+
+-- One rule more.
+pub capped_rule : (m : ℕ) (chain : Chain) (i : ℕ) (rule : Rule) (so_far size both more : ℕ)
+    → i < length chain → rule ≡ get_or chain i rule → so_far ≡ min (2 + rules_length (take i chain)) m → size ≡ min (rule_length rule) m
+    → both ≡ min (so_far + size) m → more ≡ min (both + 1) m → more ≡ min (2 + rules_length (take (i + 1) chain)) m
+capped_rule m chain i rule so_far size both more within is first second third fourth =
+    let sum : rules_length (take (i + 1) chain) ≡ rules_length (take i chain) + (rule_length rule + 1) = sum_by_more (λ q. rule_length q + 1) chain i rule within ∙ ap (λ q. rules_length (take i chain) + (rule_length q + 1)) (sym is) in
+    rw (fourth, third, first, second, capped_sum m (2 + rules_length (take i chain)) (rule_length rule), sum) (ap (λ n. min n m) (omega arith))
+
+-- All rules of a chain that has some.
+pub capped_chain : (m : ℕ) (chain : Chain) (i so_far : ℕ) → false ≡ (length chain == 0) → length chain ≤ i → so_far ≡ min (2 + rules_length (take i chain)) m → so_far ≡ min (chain_length chain) m
+capped_chain m [] i so_far some long first = cc
+capped_chain m (q ∷ chain) i so_far some long first = first ∙ ap (λ rules. min (2 + rules_length rules) m) (take_all i (q ∷ chain) long)
+
+-- The length of chains that are lent.
+abbrev pub lent_length : List (Bor (Vec Rule Global)) → ℕ
+lent_length lent = sum_by (λ chain. chain_length chain.now.items) lent
+
+capped_sum_of_two : (m a b : ℕ) → min (min (5 + a) m + min b m) m ≡ min (5 + (a + b)) m
+capped_sum_of_two m a b = omega arith
+
+-- One chain more.
+pub capped_chain_more : (m : ℕ) (lent : List (Bor (Vec Rule Global))) (chain : Bor (Vec Rule Global)) (rules : Chain) (so_far size more : ℕ)
+    → rules ≡ chain.now.items → so_far ≡ min (5 + lent_length lent) m → size ≡ min (chain_length rules) m → more ≡ min (so_far + size) m → more ≡ min (5 + lent_length (lent ++ chain ∷ [])) m
+capped_chain_more m lent chain rules so_far size more same first second third =
+    let sum : lent_length (lent ++ chain ∷ []) ≡ lent_length lent + chain_length chain.now.items = sum_by_push (λ c. chain_length c.now.items) lent chain in
+    rw (third, first, second, same, capped_sum_of_two m (lent_length lent) (chain_length chain.now.items), sum) refl
+
+-- The chains that a map lends are its chains.
+lent_chains : (entries : List (ℤ × Vec Rule Global)) (lent : List (Bor (Vec Rule Global))) → map deref lent ≡ values_of entries → lent_length lent ≡ chains_length (chains_of entries)
+lent_chains [] [] same = refl
+lent_chains [] (chain ∷ lent) same = cc
+lent_chains (e ∷ entries) [] same = cc
+lent_chains (e ∷ entries) (chain ∷ lent) same =
+    let first : chain.now ≡ e.1 = cc in
+    let rest : map deref lent ≡ values_of entries = cc in
+    sum_by-cons (λ c. chain_length c.now.items) chain lent
+    ∙ ap (λ v. chain_length v.items + lent_length lent) first
+    ∙ ap (λ n. chain_length e.1.items + n) (lent_chains entries lent rest)
+    ∙ sym (sum_by-cons (λ (c : ℤ × Chain). chain_length c.1) (e.0, e.1.items) (chains_of entries))
+
+counted_with_chains : (entries : List (ℤ × Vec Rule Global)) → (length entries ≡ 0 → ⊥) → counted_length_of (chains_of entries) ≡ 5 + chains_length (chains_of entries)
+counted_with_chains [] some = absurd (some refl)
+counted_with_chains (e ∷ entries) some = refl
+
+counted_without_chains : (entries : List (ℤ × Vec Rule Global)) → length entries ≡ 0 → counted_length_of (chains_of entries) ≡ 4
+counted_without_chains [] none = refl
+counted_without_chains (e ∷ entries) none = absurd (omega arith)
+
+-- All chains of a filter that has some.
+pub capped_filter : (m : ℕ) (f : Filter) (entries : List (ℤ × Vec Rule Global)) (lent : List (Bor (Vec Rule Global))) (so_far : ℕ)
+    → chains_of entries ≡ f.chains → (length entries ≡ 0 → ⊥) → map deref lent ≡ values_of entries → so_far ≡ min (5 + lent_length lent) m → so_far ≡ min (counted_length f) m
+capped_filter m f entries lent so_far same some all first =
+    first ∙ ap (λ n. min (5 + n) m) (lent_chains entries lent all) ∙ ap (λ n. min n m) (sym (counted_with_chains entries some) ∙ ap counted_length_of same)
+
+-- A filter that has none.
+pub empty_filter : (m : ℕ) (f : Filter) (entries : List (ℤ × Vec Rule Global)) → 4 ≤ m → chains_of entries ≡ f.chains → length entries ≡ 0 → 4 ≡ min (counted_length f) m
+empty_filter m f entries large same none =
+    let four : 4 ≡ min 4 m = omega arith in
+    four ∙ ap (λ n. min n m) (sym (counted_without_chains entries none) ∙ ap counted_length_of same)

@@ -1,0 +1,70 @@
+-- A list of which a part was written anew, and a list cut at an index.
+use Rattle.std.proofs.Common.{◌≡◌, ℕ, suc, ◌+◌, ◌-◌, ◌<◌, ◌≤◌, List, [], ◌∷◌, ◌++◌, length, get_or, set, take, drop, sym, ap, ◌∙◌, refl, length-drop, take-append-drop, append_assoc, arith}
+use Rattle.std.proofs.Math.ListN.{length-set}
+use Rattle.std.proofs.Math.Seq.{drop-cons, take-suc-set}
+use Rattle.std.proofs.lemmas.List.{take_all}
+use Rattle.std.proofs.lemmas.Slice.{take-put_mid}
+use lib.Seq.{length-take-le, drop_at}
+use borrow.Rule.Slice.PartMut.{put_mid, post_of, Post-is, same_len_mid}
+
+-- from the start of the part on, it has what was written, and then what it had behind the part
+pub drop-written : {X : Type 0} (a e : ℕ) (xs ys : List X) → a ≤ e → e ≤ length xs → drop a (put_mid a (e - a) xs ys) ≡ ys ++ drop e xs
+drop-written a e xs ys some within =
+    let inside : a ≤ length xs = omega arith in
+    drop_at (take a xs) (ys ++ post_of a (e - a) xs) a (length-take-le a xs inside) ∙ ap (λ l. ys ++ l) (Post-is a e xs some)
+
+-- a part has as many elements as its bounds say
+pub length-part : {X : Type 0} (a e : ℕ) (xs : List X) → a ≤ e → e ≤ length xs → length (take (e - a) (drop a xs)) ≡ e - a
+length-part a e xs some within = let left : e - a ≤ length (drop a xs) = omega (arith, length-drop a xs) in length-take-le (e - a) (drop a xs) left
+
+-- up to one place behind the part, where one more element was set, it has what it had, what was written, and that element
+pub take-written : {X : Type 0} (a e : ℕ) (xs ys : List X) (x : X) → a ≤ e → e < length xs → length ys ≡ e - a → take (e + 1) (set (put_mid a (e - a) xs ys) e x) ≡ take a xs ++ (ys ++ x ∷ [])
+take-written a e xs ys x some within long =
+    let inside : a ≤ length xs = omega arith in
+    let here : e < length (put_mid a (e - a) xs ys) = omega (arith, same_len_mid a (e - a) xs ys (long ∙ sym (length-part a e xs some (omega arith)))) in
+    let z : e + 1 ≡ suc e = omega arith in
+    let before = take-put_mid a (e - a) xs ys e (omega arith) inside in
+    ap (λ n. take n (set (put_mid a (e - a) xs ys) e x)) z ∙ take-suc-set (put_mid a (e - a) xs ys) e x here ∙ ap (λ l. l ++ x ∷ []) before ∙ append_assoc (take a xs) ys (x ∷ [])
+
+-- a list, cut at an index
+pub around : {X : Type 0} (items : List X) (i : ℕ) (x : X) → i < length items → x ≡ get_or items i x → items ≡ take i items ++ x ∷ drop (i + 1) items
+around items i x within is =
+    let e : i + 1 ≡ suc i = omega arith in
+    sym (take-append-drop i items) ∙ ap (λ l. take i items ++ l) (drop-cons items i x within ∙ ap (λ y. y ∷ drop (suc i) items) (sym is) ∙ ap (λ n. x ∷ drop n items) (sym e))
+
+-- a list whose first element, whose last, and what lies between them were written
+pub framed : {X : Type 0} (xs ys : List X) (x z : X) → length ys + 2 ≡ length xs → set (put_mid 1 (length xs - 1 - 1) (set xs 0 x) ys) (length xs - 1) z ≡ x ∷ (ys ++ z ∷ [])
+framed {X} [] ys x z long = absurd (omega arith)
+framed {X} (y ∷ xs) ys x z long =
+    let last = length (y ∷ xs) - 1 in
+    let one = x ∷ xs in
+    let e : last + 1 ≡ length one = omega arith in
+    let whole = set (put_mid 1 (last - 1) one ys) last z in
+    let count : length ys ≡ last - 1 = omega arith in
+    let long_whole : length whole ≡ length one = length-set (put_mid 1 (last - 1) one ys) last z ∙ same_len_mid 1 (last - 1) one ys (count ∙ sym (length-part 1 last one (omega arith) (omega arith))) in
+    sym (take_all (last + 1) whole (omega arith)) ∙ take-written 1 last one ys z (omega arith) (omega arith) count
+
+-- a list of four elements that were written one by one
+pub four-written : {X : Type 0} (xs : List X) (a b c d : X) → length xs ≡ 4 → set (set (set (set xs 0 a) 1 b) 2 c) 3 d ≡ a ∷ b ∷ c ∷ d ∷ []
+four-written [] a b c d long = absurd (omega arith)
+four-written (x ∷ []) a b c d long = absurd (omega arith)
+four-written (x ∷ y ∷ []) a b c d long = absurd (omega arith)
+four-written (x ∷ y ∷ z ∷ []) a b c d long = absurd (omega arith)
+four-written (x ∷ y ∷ z ∷ w ∷ []) a b c d long = refl
+four-written (x ∷ y ∷ z ∷ w ∷ v ∷ xs) a b c d long = absurd (omega arith)
+
+-- a list whose first four elements, whose last, and what lies between them were written
+pub headed : {X : Type 0} (xs ys : List X) (a b c d z : X) → length ys + 5 ≡ length xs
+    → let first = set (set (set (set xs 0 a) 1 b) 2 c) 3 d in set (put_mid 4 (length first - 1 - 4) first ys) (length first - 1) z ≡ a ∷ b ∷ c ∷ d ∷ (ys ++ z ∷ [])
+headed [] ys a b c d z long = absurd (omega arith)
+headed (x ∷ []) ys a b c d z long = absurd (omega arith)
+headed (x ∷ y ∷ []) ys a b c d z long = absurd (omega arith)
+headed (x ∷ y ∷ v ∷ []) ys a b c d z long = absurd (omega arith)
+headed (x ∷ y ∷ v ∷ w ∷ xs) ys a b c d z long =
+    let first = a ∷ b ∷ c ∷ d ∷ xs in
+    let last = length first - 1 in
+    let e : last + 1 ≡ length first = omega arith in
+    let whole = set (put_mid 4 (last - 4) first ys) last z in
+    let count : length ys ≡ last - 4 = omega arith in
+    let long_whole : length whole ≡ length first = length-set (put_mid 4 (last - 4) first ys) last z ∙ same_len_mid 4 (last - 4) first ys (count ∙ sym (length-part 4 last first (omega arith) (omega arith))) in
+    sym (take_all (last + 1) whole (omega arith)) ∙ take-written 4 last first ys z (omega arith) (omega arith) count

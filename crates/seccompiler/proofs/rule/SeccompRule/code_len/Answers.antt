@@ -1,0 +1,27 @@
+use Rattle.std.proofs.Common.{◌≡◌, ◌≤◌, ◌^◌, ◌-◌, ◌∙◌, ap, length, min, arith}
+use Rattle.seccompiler.specs.Condition.{size_of}
+use Rattle.seccompiler.specs.Layout.{rule_length}
+use Rattle.seccompiler.proofs.RuleLoops.{counted_empty, counted_more, counted_relay, counted_at, counted_rule}
+use Rattle.seccompiler.proofs.rule.SeccompRule.code_len.Goals as goal
+use Rattle.seccompiler.proofs.rule.SeccompRule.code_len.Goals.{then-offset-ge-RELAY_OFFSET, else-offset-ge-RELAY_OFFSET}
+
+pub loop-condition-init : goal.loop-condition-init
+loop-condition-init c = counted_empty
+
+pub loop-condition-preserved : goal.loop-condition-preserved
+loop-condition-preserved c =
+    let l = c.loop-condition in
+    let size : c.code_len-size.result ≡ size_of c.condition-item.result = c.code_len-size.ensures in
+    let sum = c.saturating_add-length-in-loop-condition.ensures in
+    counted_at c.deref-condition-items.result.now l.condition-index c.condition-item.result _ _ c.loop-condition-test.true c.condition-item.is
+    (elim c.if-offset-ge-RELAY_OFFSET.branch [
+      | then-offset-ge-RELAY_OFFSET w ↦ counted_relay _ c.condition-item.result l.length _ l.offset _ w.if-offset-ge-RELAY_OFFSET.true (sum ∙ cc (w.length-is, w.saturating_add-length.ensures, size)) (cc (w.offset-is, size)) l.invariant
+      | else-offset-ge-RELAY_OFFSET w ↦ counted_more _ c.condition-item.result l.length _ l.offset _ w.if-offset-ge-RELAY_OFFSET.false (sum ∙ cc (w.length-is, size)) (cc (w.offset-is, size)) l.invariant
+    ])
+
+pub returns : goal.returns
+returns c =
+    let same = c.deref-condition-items.ensures.value ∙ c.self.view_is in
+    let some : 1 ≤ length c.deref-condition-items.result.now = omega (arith, ap length c.deref-condition-items.ensures.value, c.self.invariant) in
+    counted_rule c.deref-condition-items.result.now c.loop-condition.condition-index c.loop-condition.length c.loop-condition.offset some c.loop-condition-test.false c.loop-condition.invariant
+    ∙ ap (λ q. min (rule_length q) (2 ^ 64 - 1)) same

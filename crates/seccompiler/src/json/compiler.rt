@@ -37,6 +37,7 @@ impl JsonCompiler {
     }
 
     /// The filter of a JSON filter.
+    #[tactic(auto, unfolding(crate::specs::JsonPolicy::policy_in))]
     pub fn make_seccomp_filter(
         &self,
         alloc: Global,

@@ -4,6 +4,7 @@ ghost use Rattle.std.specs.Prelude.{◌≡◌, [], OnOk};
 ghost use Rattle.std.specs.Option.{option_to_list};
 ghost use Rattle.seccompiler.specs.Policy.{chains_of};
 ghost use Rattle.seccompiler.specs.JsonFault.{Gives};
+ghost use Rattle.seccompiler.specs.JsonPolicyOf.{IsConditionOf};
 ghost use Rattle.seccompiler.specs.JsonPolicy.{build_condition, build_number, build_rule, build_rules, with_entries, with_entry, with_rules};
 
 use crate::backend::TargetArch;
@@ -35,7 +36,8 @@ impl TryFrom<JsonCondition> for SeccompCondition {
 
 // The condition of a JSON condition.
 fn condition_of(condition: &JsonCondition) -> Result<SeccompCondition, JsonFrontendError>
-    ensures { Gives (λ c. c) result (build_condition condition.now) }
+    ensures made { IsConditionOf condition.now result }
+    ensures computed { Gives (λ c. c) result (build_condition condition.now) }
 {
     Ok(SeccompCondition::new(
         condition.arg_index,

@@ -34,3 +34,4 @@ pub mod JsonShapes
 pub mod JsonFilterShapes
 pub mod JsonFilterMaps
 pub mod JsonRules
+pub mod JsonChains

@@ -35,3 +35,6 @@ pub mod JsonFilterShapes
 pub mod JsonFilterMaps
 pub mod JsonRules
 pub mod JsonChains
+pub mod JsonEntries
+pub mod NumberedChains
+pub mod JsonPolicies

@@ -1,136 +1,179 @@
 -- The policy of a JSON filter, and its first fault: each is what the walk over the entries gives.
-use Rattle.std.proofs.Common.{◌≡◌, ◌≢◌, ◌↔◌, ℕ, zero, suc, ℤ, ◌<◌, ◌++◌, List, [], ◌∷◌, Bool, true, false, ◌||◌, cond, Result, Ok, Err, Option, Some, None, All, Any, map, refl, sym, ap, ◌∙◌, subst, ◌⊎◌, inl, inr, arith, is_eq, unwrap_or, append_assoc, append-nil, length, slice_index_or, rules, Decides}
+use Rattle.std.proofs.Common.{◌≡◌, ◌≢◌, ◌↔◌, ℤ, ◌++◌, List, [], ◌∷◌, Bool, true, false, cond, Result, Ok, Err, Option, Some, None, All, Any, refl, sym, ap, ◌∙◌, subst, ◌⊎◌, inl, inr, unwrap_or, rules, Decides}
+use Rattle.std.specs.Prelude.{IfOk, IfErr, string_bytes}
 use Rattle.std.specs.List.{flat_map, list_any}
 use Rattle.std.specs.List.Sorted.{IsStrictlySortedBy}
 use Rattle.std.specs.Map.{keys_of}
 use Rattle.std.specs.Ordering.{int_cmp}
-use Rattle.std.proofs.lemmas.Bool.{true≢false}
-use Rattle.std.proofs.lemmas.List.Elements.{All-nil, All-cons, All-head, All-tail}
-use Rattle.std.proofs.lemmas.List.Folds.{Any-from_list_any, list_any-from_Any}
+use Rattle.std.proofs.lemmas.Bool.{true≢false, false_from_ne_true}
+use Rattle.std.proofs.lemmas.List.Elements.{All-nil}
 use Rattle.seccompiler.specs.contracts.backend.SeccompActionPartialEq.TheImpl as action
 use Rattle.seccompiler.specs.declared.backend.SeccompAction.{SeccompAction}
 use Rattle.seccompiler.specs.declared.backend.TargetArch.{TargetArch}
 use Rattle.seccompiler.specs.declared.backend.BackendError.TheVariants.{IdenticalActions}
+use Rattle.seccompiler.specs.declared.json.error.JsonFrontendError.{JsonFrontendError}
+use Rattle.seccompiler.specs.declared.json.error.JsonFrontendError.TheVariants as e
 use Rattle.seccompiler.specs.declared.json.types.JsonRule.{JsonRule}
 use Rattle.seccompiler.specs.declared.json.types.JsonFilter.{JsonFilter}
-use Rattle.seccompiler.specs.Policy.{Rule, Chain, Filter}
-use Rattle.seccompiler.specs.SyscallTable.{number_of, table_of}
-use Rattle.seccompiler.specs.JsonFault.{Fault, refused}
-use Rattle.seccompiler.specs.JsonPolicyOf.{rules_of, rules_for, is_number, chain_at, IsFor, IsFine, IsFaultOf, IsPolicyOf, IsFirstFault, in_entry, in_actions}
-use Rattle.seccompiler.specs.JsonPolicy.{with_rules, with_entry, with_entries, unless_identical, policy_in}
-use Rattle.seccompiler.proofs.JsonEntries.{fine_or_fault, fine_adds, fault_refuses, not_both}
-use Rattle.seccompiler.proofs.NumberedChains.{same_number, number_itself, found_after, ascends_after, same_chains}
+use Rattle.seccompiler.specs.Policy.{Chain, Filter}
+use Rattle.seccompiler.specs.Refusal.{numbers_of}
+use Rattle.seccompiler.specs.SyscallTable.{IsTableNumber}
+use Rattle.seccompiler.specs.JsonFault.{Fault, unreadable, repeated_key, not_an_object, wrong_shape, unknown_call, refused, Fails, Gives}
+use Rattle.seccompiler.specs.JsonPolicyOf.{rules_for, chain_at, IsFor, IsFine, IsFaultOf, unknown_name, index_above, empty_args, IsPolicyOf, IsFirstFault, in_entry, in_actions, IsRefusalOf}
+use Rattle.seccompiler.specs.JsonPolicy.{unless_identical, policy_in}
+use Rattle.seccompiler.proofs.JsonAdditions.{is_for, Comes, all_come, fault_comes, HasFault, all_fine_or_fault, none_wrong, any_if, if_any, in_the_end}
+use Rattle.seccompiler.proofs.NumberedChains.{same_chains}
 
-module _ (arch : TargetArch) where
-  -- Whether an entry's call has this number.
-  abbrev is_for : ℤ → JsonRule → Bool
-  is_for number entry = is_number number (number_of (table_of arch) entry.syscall)
+action_decides : (x y : SeccompAction) → Decides (action.ghosts.eq x y) (x ≡ y)
+action_decides x y = search rules
 
-  -- What a number has once these entries are added to what it had.
-  abbrev after : ℤ → List JsonRule → Option Chain → Option Chain
-  after number [] found = found
-  after number (entry ∷ entries) found = after number entries (cond (is_for number entry) (Some (unwrap_or found [] ++ rules_of entry.conditions)) found)
+-- Actions that differ pass no test of equality.
+differing : (x y : SeccompAction) → x ≢ y → action.ghosts.eq x y ≡ false
+differing x y apart = false_from_ne_true (action.ghosts.eq x y) (λ t. apart ((action_decides x y).0 t))
 
-  -- An entry with which nothing is wrong, added.
-  added_found : (number : ℤ) (entry : JsonRule) (fine : IsFine arch entry) (chains : List (ℤ × Chain))
-      → chain_at (with_rules chains fine.number (rules_of entry.conditions)) number ≡ cond (is_for number entry) (Some (unwrap_or (chain_at chains number) [] ++ rules_of entry.conditions)) (chain_at chains number)
-  added_found number entry fine chains =
-      found_after chains number fine.number _
-      ∙ same_rules (is_eq (int_cmp number fine.number)) refl
-      ∙ ap (λ o. cond (is_number number o) (Some (unwrap_or (chain_at chains number) [] ++ rules_of entry.conditions)) (chain_at chains number)) (sym fine.is_for)
+-- A fault that a filter may have, and not a text.
+abbrev IsOfFilter : Fault → Type 0
+IsOfFilter unreadable = ⊥
+IsOfFilter repeated_key = ⊥
+IsOfFilter not_an_object = ⊥
+IsOfFilter (wrong_shape name) = ⊥
+IsOfFilter (unknown_call name arch) = Unit {0}
+IsOfFilter (refused cause) = Unit {0}
+
+module _ (arch : TargetArch) (j : JsonFilter) where
+  -- The filter of some chains.
+  abbrev filter_of : List (ℤ × Chain) → Filter
+  filter_of chains = record { chains = chains; mismatch_action = j.mismatch_action; match_action = j.match_action; target_arch = arch }
+
+  -- A number that some entry is for has its entries' rules, and any other number has no chain.
+  chain_for : (comes : Comes arch [] j.rules) (number : ℤ) → list_any (is_for arch number) j.rules ≡ true → chain_at comes.found number ≡ Some (flat_map (rules_for arch number) j.rules)
+  chain_for comes number some = comes.each number ∙ in_the_end arch number j.rules None
+      ∙ ap (λ b. cond b (Some (flat_map (rules_for arch number) j.rules)) None) some
+
+  no_chain_for : (comes : Comes arch [] j.rules) (number : ℤ) → list_any (is_for arch number) j.rules ≡ false → chain_at comes.found number ≡ None
+  no_chain_for comes number none = comes.each number ∙ in_the_end arch number j.rules None
+      ∙ ap (λ b. cond b (Some (flat_map (rules_for arch number) j.rules)) None) none
+
+  -- The chains that come of entries with which nothing is wrong make the policy.
+  made : (comes : Comes arch [] j.rules) → All (IsFine arch) j.rules → j.mismatch_action ≢ j.match_action → IsPolicyOf arch j (filter_of comes.found)
+  unfolding IsStrictlySortedBy
+  made comes fine apart = record {
+    mismatch_action = refl;
+    match_action = refl;
+    target_arch = refl;
+    different = apart;
+    entries = fine;
+    chain = λ number some. chain_for comes number (if_any arch number j.rules some);
+    no_other = λ number none. no_chain_for comes number (false_from_ne_true (list_any (is_for arch number) j.rules) (λ t. none (any_if arch number j.rules t)));
+    ascending = comes.ascends tt;
+  }
+
+  -- The policy in what comes of the entries, or the last fault.
+  identical : (comes : Comes arch [] j.rules) → j.mismatch_action ≡ j.match_action → policy_in arch j ≡ Err (refused IdenticalActions)
+  unfolding policy_in
+  identical comes same = rw (comes.gives, (action_decides j.mismatch_action j.match_action).1 same) refl
+
+  different : (comes : Comes arch [] j.rules) → j.mismatch_action ≢ j.match_action → policy_in arch j ≡ Ok (filter_of comes.found)
+  unfolding policy_in
+  different comes apart = rw (comes.gives, differing j.mismatch_action j.match_action apart) refl
+
+  -- A first fault is what the walk gives.
+  pub first_fault_given : (fault : Fault) → IsFirstFault arch j fault → policy_in arch j ≡ Err fault
+  unfolding policy_in
+  first_fault_given fault (in_entry front back entry whole fine wrong) = rw (whole, fault_comes arch front entry back fault [] fine wrong) refl
+  first_fault_given fault (in_actions fine same is) = identical (all_come arch j.rules [] fine) same ∙ ap Err (sym is)
+
+  -- There is a policy or a first fault.
+  policy_or_fault : ((f : Filter) × IsPolicyOf arch j f × (policy_in arch j ≡ Ok f) × All IsTableNumber (numbers_of f.chains)) ⊎ ((fault : Fault) × IsFirstFault arch j fault × (policy_in arch j ≡ Err fault))
+  policy_or_fault = elim (all_fine_or_fault arch j.rules) [
+    | inr wrong ↦
+        let first : IsFirstFault arch j wrong.fault = in_entry wrong.front wrong.back wrong.entry wrong.whole wrong.fine wrong.wrong in
+        inr (wrong.fault, first, first_fault_given wrong.fault first)
+    | inl fine ↦ actions fine (all_come arch j.rules [] fine) (action.ghosts.eq j.mismatch_action j.match_action) refl
+  ]
     where
-      same_rules : (b : Bool) → is_eq (int_cmp number fine.number) ≡ b
-          → cond b (Some (unwrap_or (chain_at chains fine.number) [] ++ rules_of entry.conditions)) (chain_at chains number)
-          ≡ cond b (Some (unwrap_or (chain_at chains number) [] ++ rules_of entry.conditions)) (chain_at chains number)
-      same_rules true is = ap (λ n. Some (unwrap_or (chain_at chains n) [] ++ rules_of entry.conditions)) (sym (same_number number fine.number is))
-      same_rules false is = refl
+      actions : All (IsFine arch) j.rules → (comes : Comes arch [] j.rules) → (b : Bool) → action.ghosts.eq j.mismatch_action j.match_action ≡ b
+          → ((f : Filter) × IsPolicyOf arch j f × (policy_in arch j ≡ Ok f) × All IsTableNumber (numbers_of f.chains)) ⊎ ((fault : Fault) × IsFirstFault arch j fault × (policy_in arch j ≡ Err fault))
+      actions fine comes true is =
+          let same = (action_decides j.mismatch_action j.match_action).0 is in
+          inr (refused IdenticalActions, in_actions fine same refl, identical comes same)
+      actions fine comes false is =
+          let apart : j.mismatch_action ≢ j.match_action = λ same. true≢false (sym ((action_decides j.mismatch_action j.match_action).1 same) ∙ is) in
+          inl (filter_of comes.found, made comes fine apart, different comes apart, comes.in_range (All-nil IsTableNumber))
 
-  -- What comes of entries with which nothing is wrong.
-  record Comes (chains : List (ℤ × Chain)) (entries : List JsonRule) : Type 0 where
-    found : List (ℤ × Chain)
-    gives : with_entries arch chains entries ≡ Ok found
-    each : (number : ℤ) → chain_at found number ≡ after number entries (chain_at chains number)
-    ascends : IsStrictlySortedBy int_cmp (keys_of chains) → IsStrictlySortedBy int_cmp (keys_of found)
+  -- There is one policy.
+  one_policy : (f g : Filter) → IsPolicyOf arch j f → IsPolicyOf arch j g → f ≡ g
+  one_policy f g first second =
+      let chains : f.chains ≡ g.chains = same_chains f.chains g.chains first.ascending second.ascending (λ q. same_at q (list_any (is_for arch q) j.rules) refl) in
+      let mismatches : f.mismatch_action ≡ g.mismatch_action = first.mismatch_action ∙ sym second.mismatch_action in
+      let matches : f.match_action ≡ g.match_action = first.match_action ∙ sym second.match_action in
+      let archs : f.target_arch ≡ g.target_arch = first.target_arch ∙ sym second.target_arch in
+      λ i. record { chains = chains i; mismatch_action = mismatches i; match_action = matches i; target_arch = archs i }
+    where
+      same_at : (q : ℤ) (b : Bool) → list_any (is_for arch q) j.rules ≡ b → chain_at f.chains q ≡ chain_at g.chains q
+      same_at q true is = let some = any_if arch q j.rules is in first.chain q some ∙ sym (second.chain q some)
+      same_at q false is =
+          let none : Any (IsFor arch q) j.rules → ⊥ = λ some. true≢false (sym (if_any arch q j.rules some) ∙ is) in
+          first.no_other q none ∙ sym (second.no_other q none)
 
-  all_come : (entries : List JsonRule) (chains : List (ℤ × Chain)) → All (IsFine arch) entries → Comes chains entries
-  all_come [] chains fine = record { found = chains; gives = refl; each = λ number. refl; ascends = λ h. h }
-  all_come (entry ∷ entries) chains fine =
-      let first = All-head (IsFine arch) entry entries fine in
-      let more = with_rules chains first.number (rules_of entry.conditions) in
-      let rest = all_come entries more (All-tail (IsFine arch) entry entries fine) in
-      record {
-        found = rest.found;
-        gives = rw (fine_adds arch chains entry first) rest.gives;
-        each = λ number. rest.each number ∙ ap (after number entries) (added_found number entry first chains);
-        ascends = λ h. rest.ascends (ascends_after chains first.number _ h);
-      }
+  -- What has a policy has no fault.
+  no_fault : (f : Filter) (fault : Fault) → IsPolicyOf arch j f → IsFirstFault arch j fault → ⊥
+  no_fault f fault is (in_entry front back entry whole fine wrong) = none_wrong arch front entry back fault (subst (All (IsFine arch)) whole is.entries) wrong
+  no_fault f fault is (in_actions fine same told) = is.different same
 
-  -- The first entry with a fault refuses them all.
-  fault_comes : (front : List JsonRule) (entry : JsonRule) (back : List JsonRule) (fault : Fault) (chains : List (ℤ × Chain)) → All (IsFine arch) front → IsFaultOf arch entry fault
-      → with_entries arch chains (front ++ entry ∷ back) ≡ Err fault
-  fault_comes [] entry back fault chains fine wrong = rw (fault_refuses arch chains entry fault wrong) refl
-  fault_comes (first ∷ front) entry back fault chains fine wrong =
-      rw (fine_adds arch chains first (All-head (IsFine arch) first front fine)) (fault_comes front entry back fault _ (All-tail (IsFine arch) first front fine) wrong)
-
-  -- Nothing is wrong with any of the entries, or some entry is the first with a fault.
-  record HasFault (entries : List JsonRule) : Type 0 where
-    front : List JsonRule
-    entry : JsonRule
-    back : List JsonRule
-    fault : Fault
-    whole : entries ≡ front ++ entry ∷ back
-    fine : All (IsFine arch) front
-    wrong : IsFaultOf arch entry fault
-
-  all_fine_or_fault : (entries : List JsonRule) → All (IsFine arch) entries ⊎ HasFault entries
-  all_fine_or_fault [] = inl (All-nil (IsFine arch))
-  all_fine_or_fault (entry ∷ entries) = elim (fine_or_fault arch entry) [
-    | inr wrong ↦ inr (record { front = []; entry = entry; back = entries; fault = wrong.0; whole = refl; fine = All-nil (IsFine arch); wrong = wrong.1 })
-    | inl fine ↦ elim (all_fine_or_fault entries) [
-      | inl all ↦ inl (All-cons (IsFine arch) entry entries fine all)
-      | inr later ↦ inr (record { front = entry ∷ later.front; entry = later.entry; back = later.back; fault = later.fault; whole = ap (λ es. entry ∷ es) later.whole; fine = All-cons (IsFine arch) entry later.front fine later.fine; wrong = later.wrong })
-    ]
+  -- The walk gives exactly the policy, or exactly the first fault.
+  pub policy_given : (f : Filter) → (policy_in arch j ≡ Ok f) ↔ IsPolicyOf arch j f
+  policy_given f = elim policy_or_fault [
+    | inl has ↦ (
+        λ h. let same : has.0 ≡ f = let e : Ok has.0 ≡ Ok f = sym has.2 ∙ h in cc in subst (IsPolicyOf arch j) same has.1,
+        λ is. has.2 ∙ ap Ok (one_policy has.0 f has.1 is),
+      )
+    | inr wrong ↦ (λ h. let e = sym wrong.2 ∙ h in cc, λ is. absurd (no_fault f wrong.0 is wrong.1))
   ]
 
-  -- No entry with a fault stands among entries with which nothing is wrong.
-  none_wrong : (front : List JsonRule) (entry : JsonRule) (back : List JsonRule) (fault : Fault) → All (IsFine arch) (front ++ entry ∷ back) → IsFaultOf arch entry fault → ⊥
-  none_wrong [] entry back fault fine wrong = not_both arch entry fault (All-head (IsFine arch) entry back fine) wrong
-  none_wrong (first ∷ front) entry back fault fine wrong = none_wrong front entry back fault (All-tail (IsFine arch) first (front ++ entry ∷ back) fine) wrong
+  pub fault_given : (fault : Fault) → (policy_in arch j ≡ Err fault) ↔ IsFirstFault arch j fault
+  fault_given fault = elim policy_or_fault [
+    | inl has ↦ (λ h. let e = sym has.2 ∙ h in cc, λ is. absurd (no_fault has.0 fault has.1 is))
+    | inr wrong ↦ (
+        λ h. let same : wrong.0 ≡ fault = let e : Err wrong.0 ≡ Err fault = sym wrong.2 ∙ h in cc in subst (IsFirstFault arch j) same wrong.1,
+        first_fault_given fault,
+      )
+  ]
 
-  -- Whether an entry is for a number.
-  for_if : (number : ℤ) (o : Option ℤ) → is_number number o ≡ true → o ≡ Some number
-  for_if number None h = absurd (true≢false (sym h))
-  for_if number (Some other) h = ap Some (sym (same_number number other h))
+  -- The policy's numbers are those of a table.
+  numbers_given : (f : Filter) → policy_in arch j ≡ Ok f → All IsTableNumber (numbers_of f.chains)
+  numbers_given f h = elim policy_or_fault [
+    | inl has ↦ (let same : has.0 ≡ f = let e : Ok has.0 ≡ Ok f = sym has.2 ∙ h in cc in subst (λ (f : Filter). All IsTableNumber (numbers_of f.chains)) same has.3)
+    | inr wrong ↦ (let e = sym wrong.2 ∙ h in cc)
+  ]
 
-  if_for : (number : ℤ) (o : Option ℤ) → o ≡ Some number → is_number number o ≡ true
-  if_for number o is = ap (is_number number) is ∙ number_itself number number refl
+  -- What a call gives that gives this.
+  pub given_policy : (r : Result Filter JsonFrontendError) → Gives (λ f. f) r (policy_in arch j) → IfOk r (IsPolicyOf arch j)
+  given_policy (Ok f) gives = (policy_given f).0 gives
+  given_policy (Err error) gives = tt
 
-  any_if : (number : ℤ) (entries : List JsonRule) → list_any (is_for number) entries ≡ true → Any (IsFor arch number) entries
-  any_if number entries h =
-      let some = Any-from_list_any (is_for number) entries h in
-      (some.0, some.1, some.2, some.3, for_if number _ some.4)
+  pub given_numbers : (r : Result Filter JsonFrontendError) → Gives (λ f. f) r (policy_in arch j) → IfOk r (λ f. All IsTableNumber (numbers_of f.chains))
+  given_numbers (Ok f) gives = numbers_given f gives
+  given_numbers (Err error) gives = tt
 
-  if_any : (number : ℤ) (entries : List JsonRule) → Any (IsFor arch number) entries → list_any (is_for number) entries ≡ true
-  if_any number entries some = list_any-from_Any (is_for number) entries (some.0, some.1, some.2, some.3, if_for number _ some.4)
+  -- No fault of a text is that of a filter.
+  of_filter : (fault : Fault) → IsFirstFault arch j fault → IsOfFilter fault
+  of_filter fault (in_entry front back entry whole fine (unknown_name unknown is)) = subst IsOfFilter (sym is) tt
+  of_filter fault (in_entry front back entry whole fine (index_above number conditions known are above is)) = subst IsOfFilter (sym is) tt
+  of_filter fault (in_entry front back entry whole fine (empty_args number known are is)) = subst IsOfFilter (sym is) tt
+  of_filter fault (in_actions fine same is) = subst IsOfFilter (sym is) tt
 
-  -- Where no entry is for a number, none adds a rule to its chain.
-  no_rules : (number : ℤ) (entries : List JsonRule) → list_any (is_for number) entries ≡ false → flat_map (rules_for arch number) entries ≡ []
-  no_rules number [] none = refl
-  no_rules number (entry ∷ entries) none = elim (is_for number entry) as (λ b. (b || list_any (is_for number) entries) ≡ false → (cond b (rules_of entry.conditions) [] ++ flat_map (rules_for arch number) entries) ≡ [])
-      [ true ↦ λ h. absurd (true≢false h) | false ↦ λ h. no_rules number entries h ] none
+  -- The error that tells what the walk gives tells the first fault.
+  told : (error : JsonFrontendError) → Fails error (policy_in arch j) → IsRefusalOf arch j error
+  told (e.Backend cause) fails = ((fault_given _).0 fails.0, fails.1)
+  told (e.SerdeJson cause) fails = of_filter unreadable ((fault_given unreadable).0 fails.0)
+  told (e.SyscallName name other) fails = (fault_given _).0 fails
+  told (e.Read cause) fails = fails
+  told e.RepeatedKey fails = of_filter repeated_key ((fault_given repeated_key).0 fails)
+  told e.NotAnObject fails = of_filter not_an_object ((fault_given not_an_object).0 fails)
+  told (e.Shape name) fails = of_filter (wrong_shape (string_bytes name)) ((fault_given _).0 fails)
+  told e.OutOfMemory fails = tt
 
-  -- What a number has in the end: what it had and its entries' rules, if an entry is for it.
-  in_the_end : (number : ℤ) (entries : List JsonRule) (found : Option Chain)
-      → after number entries found ≡ cond (list_any (is_for number) entries) (Some (unwrap_or found [] ++ flat_map (rules_for arch number) entries)) found
-  in_the_end number [] found = refl
-  in_the_end number (entry ∷ entries) found =
-      let later : Option Chain → Option Chain = λ o. cond (list_any (is_for number) entries) (Some (unwrap_or o [] ++ flat_map (rules_for arch number) entries)) o in
-      in_the_end number entries (cond (is_for number entry) (Some (unwrap_or found [] ++ rules_of entry.conditions)) found)
-      ∙ joined (is_for number entry) (list_any (is_for number) entries) (rules_of entry.conditions) (flat_map (rules_for arch number) entries) found (no_rules number entries)
-    where
-      joined : (b any : Bool) (own rest : List Rule) (found : Option Chain) → (any ≡ false → rest ≡ [])
-          → (let o : Option Chain = cond b (Some (unwrap_or found [] ++ own)) found in cond any (Some (unwrap_or o [] ++ rest)) o)
-          ≡ cond (b || any) (Some (unwrap_or found [] ++ (cond b own [] ++ rest))) found
-      joined true true own rest found none = ap Some (append_assoc (unwrap_or found []) own rest)
-      joined true false own rest found none = ap (λ r. Some (unwrap_or found [] ++ r)) (sym (append-nil own) ∙ ap (λ r. own ++ r) (sym (none refl)))
-      joined false any own rest found none = refl
+  pub given_refusal : (r : Result Filter JsonFrontendError) → Gives (λ f. f) r (policy_in arch j) → IfErr r (IsRefusalOf arch j)
+  given_refusal (Ok f) gives = tt
+  given_refusal (Err error) gives = told error gives

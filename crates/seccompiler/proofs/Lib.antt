@@ -37,4 +37,5 @@ pub mod JsonRules
 pub mod JsonChains
 pub mod JsonEntries
 pub mod NumberedChains
+pub mod JsonAdditions
 pub mod JsonPolicies

@@ -1,5 +1,5 @@
 -- Which filter is the policy of a JSON filter, and which fault is the first of one that has none.
-use Rattle.std.specs.Prelude.{◌≡◌, ◌≢◌, ◌≤◌, ◌<◌, ℕ, ℤ, Bool, false, List, [], ◌∷◌, ◌++◌, Option, Some, None, All, Any, IfSome, map, if◌then◌else◌, Result, Ok, Err}
+use Rattle.std.specs.Prelude.{◌≡◌, ◌≢◌, ◌≤◌, ◌<◌, ℕ, ℤ, Bool, false, List, [], ◌∷◌, ◌++◌, Option, Some, None, All, Any, IfSome, map, if◌then◌else◌, Result, Ok, Err, string_bytes}
 use Rattle.std.specs.BTreeMap.{is_at}
 use Rattle.std.specs.List.{flat_map}
 use Rattle.std.specs.List.Sorted.{IsStrictlySortedBy}
@@ -7,8 +7,9 @@ use Rattle.std.specs.Map.{lookup}
 use Rattle.std.specs.Ordering.{int_cmp, is_eq}
 use Rattle.seccompiler.specs.declared.backend.TargetArch.{TargetArch}
 use Rattle.seccompiler.specs.declared.backend.BackendError.TheVariants.{EmptyRule, IdenticalActions, InvalidArgumentNumber}
+use Rattle.seccompiler.specs.declared.backend.BackendError.TheVariants as of_backend
 use Rattle.seccompiler.specs.declared.json.error.JsonFrontendError.{JsonFrontendError}
-use Rattle.seccompiler.specs.declared.json.error.JsonFrontendError.TheVariants.{Backend}
+use Rattle.seccompiler.specs.declared.json.error.JsonFrontendError.TheVariants.{Backend, SerdeJson, SyscallName, Read, RepeatedKey, NotAnObject, Shape, OutOfMemory}
 use Rattle.seccompiler.specs.declared.json.types.JsonCondition.{JsonCondition}
 use Rattle.seccompiler.specs.declared.json.types.JsonRule.{JsonRule}
 use Rattle.seccompiler.specs.declared.json.types.JsonFilter.{JsonFilter}
@@ -84,3 +85,15 @@ pub data IsFirstFault (arch : TargetArch) (j : JsonFilter) (fault : Fault) : Typ
   in_entry : (front back : List JsonRule) (entry : JsonRule) → j.rules ≡ front ++ entry ∷ back → All (IsFine arch) front
       → IsFaultOf arch entry fault → IsFirstFault arch j fault
   in_actions : All (IsFine arch) j.rules → j.mismatch_action ≡ j.match_action → fault ≡ refused IdenticalActions → IsFirstFault arch j fault
+
+-- Why a JSON filter has no policy, as an error tells it: its first fault, in which no want of memory stands. Want of memory
+-- may come in place of it, and no other error comes.
+abbrev pub IsRefusalOf : TargetArch → JsonFilter → JsonFrontendError → Type 0
+IsRefusalOf arch j (Backend cause) = IsFirstFault arch j (refused cause) × (cause ≢ of_backend.OutOfMemory)
+IsRefusalOf arch j (SerdeJson cause) = ⊥
+IsRefusalOf arch j (SyscallName name other) = IsFirstFault arch j (unknown_call (string_bytes name) other)
+IsRefusalOf arch j (Read cause) = ⊥
+IsRefusalOf arch j RepeatedKey = ⊥
+IsRefusalOf arch j NotAnObject = ⊥
+IsRefusalOf arch j (Shape name) = ⊥
+IsRefusalOf arch j OutOfMemory = Unit {0}

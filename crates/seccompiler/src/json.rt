@@ -5,11 +5,11 @@
 //! [`read_filters`] turns the value of a text into filters.
 
 mod compiler;
-mod entries;
 mod error;
 mod filters;
 mod members;
 mod parts;
+mod policy;
 mod read;
 mod repeats;
 mod types;

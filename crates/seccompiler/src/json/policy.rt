@@ -1,17 +1,18 @@
-// From the entries of a JSON filter to the chains of a filter.
+// From JSON filters to filters.
 
 ghost use Rattle.std.specs.Prelude.{◌≡◌, [], OnOk};
 ghost use Rattle.std.specs.Option.{option_to_list};
 ghost use Rattle.seccompiler.specs.Policy.{chains_of};
 ghost use Rattle.seccompiler.specs.JsonFault.{Gives};
 ghost use Rattle.seccompiler.specs.JsonPolicyOf.{IsConditionOf};
-ghost use Rattle.seccompiler.specs.JsonPolicy.{build_condition, build_number, build_rule, build_rules, with_entries, with_entry, with_rules};
+ghost use Rattle.seccompiler.specs.JsonPolicy.{build_condition, build_number, build_rule, build_rules, policy_in, with_entries, with_entry, with_rules};
 
 use crate::backend::TargetArch;
 use crate::condition::SeccompCondition;
+use crate::filter::SeccompFilter;
 use crate::json::error::JsonFrontendError;
 use crate::json::parts::JsonConditions;
-use crate::json::types::{JsonCondition, JsonRule};
+use crate::json::types::{JsonCondition, JsonFilter, JsonRule};
 use crate::rule::SeccompRule;
 use crate::syscall_table::SyscallTable;
 use std::alloc::{AllocError, Global};
@@ -122,8 +123,8 @@ fn add_entry(
     Ok(())
 }
 
-/// The chains of the entries' calls.
-pub(crate) fn chains_of_entries(
+// The chains of the entries' calls.
+fn chains_of_entries(
     alloc: Global,
     arch: TargetArch,
     entries: &[JsonRule],
@@ -135,4 +136,22 @@ pub(crate) fn chains_of_entries(
         add_entry(alloc, arch, &mut chains, entry)?;
     }
     Ok(chains)
+}
+
+/// The filter of a JSON filter.
+#[tactic(auto, unfolding(crate::specs::JsonPolicy::policy_in))]
+pub fn seccomp_filter(
+    alloc: Global,
+    arch: TargetArch,
+    filter: &JsonFilter,
+) -> Result<SeccompFilter, JsonFrontendError>
+    ensures { Gives (λ f. f) result (policy_in arch filter.now) }
+{
+    let chains = chains_of_entries(alloc, arch, filter.rules.as_slice())?;
+    Ok(SeccompFilter::new(
+        chains,
+        filter.mismatch_action,
+        filter.match_action,
+        arch,
+    )?)
 }

@@ -3,7 +3,7 @@ use mir.Val.{SFits}
 use Rattle.std.specs.Option.{option_to_list}
 use Rattle.std.proofs.lemmas.Int.{to_z-of_z}
 use Rattle.seccompiler.proofs.JsonChains.{chains_with_rules}
-use Rattle.seccompiler.proofs.json.entries.add_rule.Goals as goal
+use Rattle.seccompiler.proofs.json.policy.add_rule.Goals as goal
 
 pub returns-in_ok-push : goal.returns-in_ok-push
 returns-in_ok-push c =

@@ -4,6 +4,8 @@
 mod error;
 mod lines;
 mod probe;
+#[cfg(test)]
+mod tests;
 mod trace;
 mod words;
 

@@ -2,6 +2,14 @@
 #![tactic(auto)]
 
 #[cfg(test)]
+mod actions;
+#[cfg(test)]
+mod architectures;
+#[cfg(test)]
+mod builders;
+#[cfg(test)]
+mod conditions;
+#[cfg(test)]
 mod instructions;
 #[cfg(test)]
 mod json_shapes;

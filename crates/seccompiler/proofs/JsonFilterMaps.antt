@@ -1,12 +1,11 @@
 -- What the filters of an object, or its first fault, tell of it.
-use Rattle.std.proofs.Common.{◌≡◌, ℕ, List, [], ◌∷◌, Bool, true, false, cond, Result, Ok, Err, Option, Some, None, String, Global, Less, Greater, string_bytes, string_cmp, nat_cmp, is_eq, map, refl, sym, ap, ◌∙◌, subst, ◌⊎◌, inl, inr, IfOk}
+use Rattle.std.proofs.Common.{◌≡◌, ℕ, List, [], ◌∷◌, Bool, false, cond, Result, Ok, Err, Option, Some, None, String, Global, Less, string_bytes, string_cmp, nat_cmp, is_eq, map, refl, sym, ap, ◌∙◌, ◌⊎◌, inl, inr, IfOk}
 use Rattle.std.specs.BTreeMap.{is_at}
 use Rattle.std.specs.Cmp.Lexicographic.{slice_cmp}
 use Rattle.std.specs.List.{AllByRecursion}
 use Rattle.std.specs.List.Sorted.{IsStrictlySortedBy}
 use Rattle.std.specs.Map.{keys_of, lookup}
 use Rattle.std.specs.Ordering.{ordering_reverse}
-use Rattle.std.proofs.lemmas.Bool.{true≢false}
 use Rattle.std.proofs.lemmas.Cmp.{nat_list_cmp_total, tied_itself}
 use Rattle.serde_json.specs.Data.{Data, null, boolean, number, string, array, object, Members, no_members, member}
 use Rattle.serde_json.specs.Find.{get_member}
@@ -70,9 +69,10 @@ each_found (member k d members) [] h name v there = absurd (then_none k (filter_
 each_found (member k d members) (x ∷ filters) h name v there =
     let step = then_ok k (filter_in d) (filters_under members) (named x) (map named filters) h in
     elim (found name k d members v there) [
-      inl here ↦ (x.1, taken name x filters (here.0 ∙ step.same_name), filter-tells v x.1 (ap filter_in (sym here.1) ∙ step.filter))
-    | inr later ↦ let behind = each_found members filters step.later name v later.1 in
-        (behind.0, skipped name x filters k step.same_name later.0 ∙ behind.1, behind.2) ]
+      | inl here ↦ (x.1, taken name x filters (here.0 ∙ step.same_name), filter-tells v x.1 (ap filter_in (sym here.1) ∙ step.filter))
+      | inr later ↦ let behind = each_found members filters step.later name v later.1 in
+          (behind.0, skipped name x filters k step.same_name later.0 ∙ behind.1, behind.2)
+    ]
 
 none_found : (members : Members) (filters : List Found) → filters_under members ≡ Ok (map named filters) → (name : List ℕ) → get_member name members ≡ None → lookup (at name) filters ≡ None
 none_found no_members [] h name there = refl
@@ -93,15 +93,17 @@ are_filters (array items) m h = cc
 are_filters (object members) m h = record {
   is_object = (members, refl);
   each = each_found members m.0.entries h;
-  no_other = none_found members m.0.entries h }
+  no_other = none_found members m.0.entries h;
+}
 
 -- In order, a name behind the first one is above it.
 above_first : (e : Entry) (entries : List Entry) → AllByRecursion (λ y. string_cmp e.0 y ≡ Less) (keys_of entries) → (name : List ℕ) (v : Data) → get_member name (members_view entries) ≡ Some v → slice_cmp nat_cmp (string_bytes e.0) name ≡ Less
 above_first e [] h name v there = cc
 above_first e (x ∷ entries) h name v there =
     elim (found name (string_bytes x.0) (view x.1) (members_view entries) v there) [
-      inl here ↦ ap (slice_cmp nat_cmp (string_bytes e.0)) here.0 ∙ h.0
-    | inr later ↦ above_first e entries h.1 name v later.1 ]
+      | inl here ↦ ap (slice_cmp nat_cmp (string_bytes e.0)) here.0 ∙ h.0
+      | inr later ↦ above_first e entries h.1 name v later.1
+    ]
 
 -- No name is below itself, and none is both above and below another.
 not_below_itself : (name other : List ℕ) → name ≡ other → slice_cmp nat_cmp name other ≡ Less → ⊥
@@ -116,33 +118,39 @@ unfolding IsStrictlySortedBy
 least_fault [] sorted name h = cc
 least_fault (e ∷ entries) sorted name h =
     elim (then_err (string_bytes e.0) (filter_in (view e.1)) (filters_under (members_view entries)) (wrong_shape name) h) [
-      inl here ↦
-        let own : name ≡ string_bytes e.0 = let same = here.1 in cc in
-        record {
-          value = view e.1;
-          there = member_here name e entries own;
-          faulty = λ f is. let read = filter-from (view e.1) f is in let none = here.0 in cc;
-          below = λ other v there below. absurd (elim (found other (string_bytes e.0) (view e.1) (members_view entries) v there) [
-              inl first ↦ not_below_itself other name (first.0 ∙ sym own) below
-            | inr later ↦ not_both other name below (ap (λ n. slice_cmp nat_cmp n other) own ∙ above_first e entries sorted.0 other v later.1) ]) }
-    | inr later ↦
-        let rest = least_fault entries sorted.1 name later.2 in
-        let above = above_first e entries sorted.0 name rest.value rest.there in
-        record {
-          value = rest.value;
-          there = member_later name e entries (λ same. not_below_itself (string_bytes e.0) name (sym same) above) ∙ rest.there;
-          faulty = rest.faulty;
-          below = λ other v there below. elim (found other (string_bytes e.0) (view e.1) (members_view entries) v there) [
-              inl first ↦ (later.0, filter-tells v later.0 (ap filter_in (sym first.1) ∙ later.1))
-            | inr more ↦ rest.below other v more.1 below ] } ]
+      | inl here ↦
+          let own : name ≡ string_bytes e.0 = let same = here.1 in cc in
+          record {
+            value = view e.1;
+            there = member_here name e entries own;
+            faulty = λ f is. let read = filter-from (view e.1) f is in let none = here.0 in cc;
+            below = λ other v there below. absurd (elim (found other (string_bytes e.0) (view e.1) (members_view entries) v there) [
+              | inl first ↦ not_below_itself other name (first.0 ∙ sym own) below
+              | inr later ↦ not_both other name below (ap (λ n. slice_cmp nat_cmp n other) own ∙ above_first e entries sorted.0 other v later.1)
+            ]);
+          }
+      | inr later ↦
+          let rest = least_fault entries sorted.1 name later.2 in
+          let above = above_first e entries sorted.0 name rest.value rest.there in
+          record {
+            value = rest.value;
+            there = member_later name e entries (λ same. not_below_itself (string_bytes e.0) name (sym same) above) ∙ rest.there;
+            faulty = rest.faulty;
+            below = λ other v there below. elim (found other (string_bytes e.0) (view e.1) (members_view entries) v there) [
+              | inl first ↦ (later.0, filter-tells v later.0 (ap filter_in (sym first.1) ∙ later.1))
+              | inr more ↦ rest.below other v more.1 below
+            ];
+          }
+    ]
 
 -- A walk has no other fault than a wrong shape.
 only_shape : (members : Members) (fault : Fault) → filters_under members ≡ Err fault → (name : List ℕ) × (fault ≡ wrong_shape name)
 only_shape no_members fault h = cc
 only_shape (member k d members) fault h =
     elim (then_err k (filter_in d) (filters_under members) fault h) [
-      inl here ↦ (k, here.1)
-    | inr later ↦ only_shape members fault later.2 ]
+      | inl here ↦ (k, here.1)
+      | inr later ↦ only_shape members fault later.2
+    ]
 
 -- A value that is refused as none is no object.
 pub no_object : (d : Data) → filters_in d ≡ Err not_an_object → IsObject d → ⊥

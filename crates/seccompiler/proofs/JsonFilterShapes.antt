@@ -1,5 +1,5 @@
 -- The functions that read conditions, entries and filters give exactly what the value is.
-use Rattle.std.proofs.Common.{◌≡◌, ℕ, ◌^◌, ◌-◌, List, [], ◌∷◌, Bool, true, false, ◌&&◌, Option, Some, None, option_map, codes, refl, sym, ap, ◌∙◌, subst, ◌⊎◌, inl, inr}
+use Rattle.std.proofs.Common.{◌≡◌, ℕ, ◌^◌, ◌-◌, List, [], ◌∷◌, true, ◌&&◌, Option, Some, None, option_map, codes, refl, sym, ap, ◌∙◌, subst, ◌⊎◌, inl, inr}
 use Rattle.serde_json.specs.Data.{Data, null, boolean, number, string, array, object, Items, no_items, item}
 use Rattle.serde_json.specs.Find.{get, as_str, as_array}
 use Rattle.seccompiler.specs.declared.backend.SeccompAction.{SeccompAction}
@@ -7,7 +7,7 @@ use Rattle.seccompiler.specs.declared.json.types.JsonCondition.{JsonCondition}
 use Rattle.seccompiler.specs.declared.json.types.JsonRule.{JsonRule}
 use Rattle.seccompiler.specs.declared.json.types.JsonFilter.{JsonFilter}
 use Rattle.seccompiler.specs.JsonReading.{◌>>=◌, has_only, whole, is_comment, arg_len_in, operator_in, action_in, condition_names, condition_in, conditions_in, args_in, entry_names, entry_in, entries_in, one_of, filter_names, filter_in}
-use Rattle.seccompiler.specs.JsonShape.{Has, Under, Lacks, IsWhole, IsAction, IsOperator, IsArgLen, IsCommented, IsCondition, OneByOne, IsListOf, IsArgs, IsEntry, IsUnderOne, IsFilter}
+use Rattle.seccompiler.specs.JsonShape.{IsWhole, IsOperator, IsArgLen, IsCommented, IsCondition, OneByOne, IsArgs, IsEntry, IsUnderOne, IsFilter}
 use Rattle.seccompiler.proofs.OptionSteps.{bind_some, map_some, guarded_some, both_true}
 use Rattle.seccompiler.proofs.JsonNames.{has_only-tells, has_only-from}
 use Rattle.seccompiler.proofs.JsonShapes.{whole-tells, whole-from, under-tells, under-from, action-tells, action-from, operator-tells, operator-from, arg_len-tells, arg_len-from}
@@ -57,15 +57,19 @@ condition-tells d c h =
       arg_index = under-tells (whole 255) (IsWhole 255) (whole-tells 255) d (codes "index") i.0 i.1;
       arg_len = under-tells arg_len_in IsArgLen arg_len-tells d (codes "type") l.0 l.1;
       operator = under-tells operator_in IsOperator operator-tells d (codes "op") o.0 o.1;
-      value = under-tells (whole (2 ^ 64 - 1)) (IsWhole (2 ^ 64 - 1)) (whole-tells (2 ^ 64 - 1)) d (codes "val") v.0 v.1 })
+      value = under-tells (whole (2 ^ 64 - 1)) (IsWhole (2 ^ 64 - 1)) (whole-tells (2 ^ 64 - 1)) d (codes "val") v.0 v.1;
+    })
 
 pub condition-from : (d : Data) (c : JsonCondition) → IsCondition d c → condition_in d ≡ Some c
 unfolding condition_in
-condition-from d c h = rw (has_only-from condition_names d h.names, comment-from d h.comment,
-    under-from (whole 255) (IsWhole 255) (whole-from 255) d (codes "index") c.arg_index h.arg_index,
-    under-from arg_len_in IsArgLen arg_len-from d (codes "type") c.arg_len h.arg_len,
-    under-from operator_in IsOperator operator-from d (codes "op") c.operator h.operator,
-    under-from (whole (2 ^ 64 - 1)) (IsWhole (2 ^ 64 - 1)) (whole-from (2 ^ 64 - 1)) d (codes "val") c.value h.value) refl
+condition-from d c h = rw (
+  has_only-from condition_names d h.names,
+  comment-from d h.comment,
+  under-from (whole 255) (IsWhole 255) (whole-from 255) d (codes "index") c.arg_index h.arg_index,
+  under-from arg_len_in IsArgLen arg_len-from d (codes "type") c.arg_len h.arg_len,
+  under-from operator_in IsOperator operator-from d (codes "op") c.operator h.operator,
+  under-from (whole (2 ^ 64 - 1)) (IsWhole (2 ^ 64 - 1)) (whole-from (2 ^ 64 - 1)) d (codes "val") c.value h.value,
+) refl
 
 conditions-tells : (items : Items) (cs : List JsonCondition) → conditions_in items ≡ Some cs → OneByOne IsCondition items cs
 conditions-tells no_items [] h = tt
@@ -124,13 +128,17 @@ entry-tells d r h =
       names = has_only-tells entry_names d tests.0;
       comment = comment-tells d tests.1;
       syscall = under-tells as_str (λ v t. v ≡ string t) text-tells d (codes "syscall") s.0 s.1;
-      conditions = args-tells_at d a.0 (get (codes "args") d) refl a.1 })
+      conditions = args-tells_at d a.0 (get (codes "args") d) refl a.1;
+    })
 
 pub entry-from : (d : Data) (r : JsonRule) → IsEntry d r → entry_in d ≡ Some r
 unfolding entry_in
-entry-from d r h = rw (has_only-from entry_names d h.names, comment-from d h.comment,
-    under-from as_str (λ v t. v ≡ string t) text-from d (codes "syscall") r.syscall h.syscall,
-    args-from d r.conditions h.conditions) refl
+entry-from d r h = rw (
+  has_only-from entry_names d h.names,
+  comment-from d h.comment,
+  under-from as_str (λ v t. v ≡ string t) text-from d (codes "syscall") r.syscall h.syscall,
+  args-from d r.conditions h.conditions,
+) refl
 
 entries-tells : (items : Items) (rs : List JsonRule) → entries_in items ≡ Some rs → OneByOne IsEntry items rs
 entries-tells no_items [] h = tt
@@ -185,17 +193,20 @@ filter-tells d f h =
       names = has_only-tells filter_names d whole_value.0;
       mismatch_action = one-tells d (codes "mismatch_action") (codes "default_action") n.0 _ _ refl refl n.1;
       match_action = one-tells d (codes "match_action") (codes "filter_action") m.0 _ _ refl refl m.1;
-      rules = (list.0, list.1, (items.0, list.2, entries-tells items.0 rules.0 rules.1)) })
+      rules = (list.0, list.1, (items.0, list.2, entries-tells items.0 rules.0 rules.1));
+    })
 
 pub filter-from : (d : Data) (f : JsonFilter) → IsFilter d f → filter_in d ≡ Some f
 unfolding filter_in
 filter-from d f h =
     let list = h.rules.2 in
-    rw (has_only-from filter_names d h.names,
-    one-from d (codes "mismatch_action") (codes "default_action") f.mismatch_action h.mismatch_action,
-    one-from d (codes "match_action") (codes "filter_action") f.match_action h.match_action,
-    under-from as_array (λ v is. v ≡ array is) list-from d (codes "filter") list.0 (h.rules.0, h.rules.1, list.1),
-    entries-from list.0 f.rules list.2) refl
+    rw (
+      has_only-from filter_names d h.names,
+      one-from d (codes "mismatch_action") (codes "default_action") f.mismatch_action h.mismatch_action,
+      one-from d (codes "match_action") (codes "filter_action") f.match_action h.match_action,
+      under-from as_array (λ v is. v ≡ array is) list-from d (codes "filter") list.0 (h.rules.0, h.rules.1, list.1),
+      entries-from list.0 f.rules list.2,
+    ) refl
 
 -- A value is at most one filter.
 pub one_filter : (d : Data) (f g : JsonFilter) → IsFilter d f → IsFilter d g → f ≡ g

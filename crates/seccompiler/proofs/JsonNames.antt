@@ -1,5 +1,5 @@
 -- The names of an object: what is under one, and whether they are all among some.
-use Rattle.std.proofs.Common.{◌≡◌, ◌≢◌, ℕ, List, [], ◌∷◌, Bool, true, false, ◌&&◌, Option, Some, None, Ordering, Less, Equal, Greater, refl, sym, ap, ◌∙◌, subst, Contains, bytes_eq, nat_cmp, is_eq, ◌⊎◌, inl, inr}
+use Rattle.std.proofs.Common.{◌≡◌, ℕ, List, true, false, Option, Some, None, Ordering, Less, Equal, Greater, refl, sym, ap, ◌∙◌, subst, Contains, bytes_eq, nat_cmp, is_eq, ◌⊎◌, inl, inr}
 use Rattle.std.specs.List.{list_any}
 use Rattle.std.specs.Ordering.{match_ordering}
 use Rattle.std.specs.Cmp.Lexicographic.{slice_cmp}
@@ -7,11 +7,11 @@ use Rattle.std.proofs.lemmas.Cmp.{nat_list_cmp_total, nat_list_eq_equiv, tied_it
 use Rattle.std.proofs.lemmas.Map.Text.{is_eq-slice_cmp}
 use Rattle.std.proofs.lemmas.Map.Views.{Contains-from_any, list_any-from_Contains}
 use Rattle.std.proofs.lemmas.Slice.Eq.{bytes_eq-Decides}
-use Rattle.std.proofs.lemmas.Bool.{and_from, true≢false}
+use Rattle.std.proofs.lemmas.Bool.{and_from}
 use Rattle.serde_json.specs.Data.{Data, null, boolean, number, string, array, object, Members, no_members, member}
 use Rattle.serde_json.specs.Find.{get, get_member}
 use Rattle.seccompiler.specs.JsonReading.{only_names, has_only}
-use Rattle.seccompiler.specs.JsonShape.{IsObject, Has, HasOnly}
+use Rattle.seccompiler.specs.JsonShape.{HasOnly}
 use Rattle.seccompiler.proofs.OptionSteps.{both_true}
 
 -- Two texts that compare equal are equal.
@@ -54,8 +54,9 @@ only_names-tells names no_members h name v there = cc
 only_names-tells names (member other d members) h name v there =
     let parts = both_true (list_any (bytes_eq other) names) (only_names names members) h in
     elim (found name other d members v there) [
-      inl here ↦ subst (Contains names) (sym here.0) (Contains-from_any {eq = bytes_eq} (λ x y. (bytes_eq-Decides x y).0) other names parts.0)
-    | inr later ↦ only_names-tells names members parts.1 name v later.1 ]
+      | inl here ↦ subst (Contains names) (sym here.0) (Contains-from_any {eq = bytes_eq} (λ x y. (bytes_eq-Decides x y).0) other names parts.0)
+      | inr later ↦ only_names-tells names members parts.1 name v later.1
+    ]
 
 only_names-from : (names : List (List ℕ)) (members : Members) → ((name : List ℕ) (v : Data) → get_member name members ≡ Some v → Contains names name) → only_names names members ≡ true
 only_names-from names no_members h = refl

@@ -1,10 +1,10 @@
 -- The functions that read a JSON value give exactly what the value is.
-use Rattle.std.proofs.Common.{◌≡◌, ℕ, ◌≤◌, ◌^◌, ◌-◌, List, [], ◌∷◌, Bool, true, false, ◌&&◌, cond, nat_le, Option, Some, None, option_map, codes, bytes_eq, refl, sym, ap, ◌∙◌, subst, ◌⊎◌, inl, inr, Contains, arith, Decides}
-use Rattle.std.proofs.lemmas.Bool.{and_from, true≢false, false_from_ne_true, leb-true, le-leb}
+use Rattle.std.proofs.Common.{◌≡◌, ℕ, ◌≤◌, ◌^◌, ◌-◌, List, [], ◌∷◌, true, false, nat_le, Option, Some, option_map, codes, bytes_eq, refl, sym, ap, ◌∙◌, subst, inl, inr}
+use Rattle.std.proofs.lemmas.Bool.{true≢false, false_from_ne_true, leb-true, le-leb}
 use Rattle.std.proofs.lemmas.Cmp.{nat_list_eq_equiv}
 use Rattle.std.proofs.lemmas.Map.Views.{list_any-from_Contains}
 use Rattle.std.proofs.lemmas.Slice.Eq.{bytes_eq-Decides}
-use Rattle.serde_json.specs.Data.{Data, null, boolean, number, string, array, object, Num, unsigned, negative, float, Items, no_items, item, Members}
+use Rattle.serde_json.specs.Data.{Data, null, boolean, number, string, array, object, unsigned, negative, float}
 use Rattle.serde_json.specs.Find.{get}
 use Rattle.seccompiler.specs.declared.backend.SeccompAction.{SeccompAction}
 use Rattle.seccompiler.specs.declared.backend.SeccompAction.TheVariants.{Allow, Errno, KillThread, KillProcess, Log, Trace, Trap}
@@ -13,8 +13,8 @@ use Rattle.seccompiler.specs.declared.backend.SeccompCmpOp.TheVariants.{Eq, Ge, 
 use Rattle.seccompiler.specs.declared.backend.SeccompCmpArgLen.{SeccompCmpArgLen}
 use Rattle.seccompiler.specs.declared.backend.SeccompCmpArgLen.TheVariants.{Dword, Qword}
 use Rattle.seccompiler.specs.JsonReading.{◌>>=◌, has_only, whole, numbered_in, plain_action, numbered_action, action_in, arg_len_in, plain_operator, operator_in}
-use Rattle.seccompiler.specs.JsonShape.{IsObject, Has, Under, Lacks, HasOnly, IsWhole, IsNumbered, IsAction, IsOperator, IsArgLen}
-use Rattle.seccompiler.proofs.OptionSteps.{bind_some, map_some, guarded_some, chosen_some, either_some, both_true}
+use Rattle.seccompiler.specs.JsonShape.{IsObject, Has, Under, IsWhole, IsNumbered, IsAction, IsOperator, IsArgLen}
+use Rattle.seccompiler.proofs.OptionSteps.{bind_some, map_some, guarded_some, chosen_some, either_some}
 use Rattle.seccompiler.proofs.JsonNames.{has_only-tells, has_only-from}
 
 pub whole-tells : (most : ℕ) (d : Data) (n : ℕ) → whole most d ≡ Some n → IsWhole most d n
@@ -66,19 +66,32 @@ no_other_name d only other v differs there = false_from_ne_true (has_only (only 
 numbered_action-tells : (d : Data) (a : SeccompAction) → numbered_action d ≡ Some a → IsAction d a
 numbered_action-tells d a h =
     elim (either_some (has_only (codes "errno" ∷ []) d) _ _ a h) [
-      inl errno ↦ let step = map_some (get (codes "errno") d >>= whole (2 ^ 32 - 1)) Errno a errno.1 in
-        subst (IsAction d) step.2 (numbered-made (2 ^ 32 - 1) (codes "errno") d step.0 errno.0 step.1)
-    | inr rest ↦ let trace = guarded_some (has_only (codes "trace" ∷ []) d) _ a rest in
-        let step = map_some (get (codes "trace") d >>= whole (2 ^ 32 - 1)) Trace a trace.1 in
-        subst (IsAction d) step.2 (numbered-made (2 ^ 32 - 1) (codes "trace") d step.0 trace.0 step.1) ]
+      | inl errno ↦ let step = map_some (get (codes "errno") d >>= whole (2 ^ 32 - 1)) Errno a errno.1 in
+          subst (IsAction d) step.2 (numbered-made (2 ^ 32 - 1) (codes "errno") d step.0 errno.0 step.1)
+      | inr rest ↦ let trace = guarded_some (has_only (codes "trace" ∷ []) d) _ a rest in
+          let step = map_some (get (codes "trace") d >>= whole (2 ^ 32 - 1)) Trace a trace.1 in
+          subst (IsAction d) step.2 (numbered-made (2 ^ 32 - 1) (codes "trace") d step.0 trace.0 step.1)
+    ]
 
 plain_action-tells : (s : List ℕ) (a : SeccompAction) → plain_action s ≡ Some a → IsAction (string s) a
 plain_action-tells s a h =
-    elim (chosen_some (bytes_eq s (codes "allow")) Allow a _ h) [ inl t ↦ subst (IsAction (string s)) t.1 (said s (codes "allow") t.0) | inr h ↦
-    elim (chosen_some (bytes_eq s (codes "kill_thread")) KillThread a _ h) [ inl t ↦ subst (IsAction (string s)) t.1 (said s (codes "kill_thread") t.0) | inr h ↦
-    elim (chosen_some (bytes_eq s (codes "kill_process")) KillProcess a _ h) [ inl t ↦ subst (IsAction (string s)) t.1 (said s (codes "kill_process") t.0) | inr h ↦
-    elim (chosen_some (bytes_eq s (codes "log")) Log a _ h) [ inl t ↦ subst (IsAction (string s)) t.1 (said s (codes "log") t.0) | inr h ↦
-    elim (chosen_some (bytes_eq s (codes "trap")) Trap a _ h) [ inl t ↦ subst (IsAction (string s)) t.1 (said s (codes "trap") t.0) | inr h ↦ cc ] ] ] ] ]
+    elim (chosen_some (bytes_eq s (codes "allow")) Allow a _ h) [
+      | inl t ↦ subst (IsAction (string s)) t.1 (said s (codes "allow") t.0)
+      | inr h ↦
+          elim (chosen_some (bytes_eq s (codes "kill_thread")) KillThread a _ h) [
+            | inl t ↦ subst (IsAction (string s)) t.1 (said s (codes "kill_thread") t.0)
+            | inr h ↦
+                elim (chosen_some (bytes_eq s (codes "kill_process")) KillProcess a _ h) [
+                  | inl t ↦ subst (IsAction (string s)) t.1 (said s (codes "kill_process") t.0)
+                  | inr h ↦
+                      elim (chosen_some (bytes_eq s (codes "log")) Log a _ h) [
+                        | inl t ↦ subst (IsAction (string s)) t.1 (said s (codes "log") t.0)
+                        | inr h ↦
+                            elim (chosen_some (bytes_eq s (codes "trap")) Trap a _ h) [ inl t ↦ subst (IsAction (string s)) t.1 (said s (codes "trap") t.0) | inr h ↦ cc ]
+                      ]
+                ]
+          ]
+    ]
 
 pub action-tells : (d : Data) (a : SeccompAction) → action_in d ≡ Some a → IsAction d a
 action-tells null a h = cc
@@ -103,12 +116,27 @@ action-from d Trap h = ap action_in h
 
 plain_operator-tells : (s : List ℕ) (o : SeccompCmpOp) → plain_operator s ≡ Some o → IsOperator (string s) o
 plain_operator-tells s o h =
-    elim (chosen_some (bytes_eq s (codes "eq")) Eq o _ h) [ inl t ↦ subst (IsOperator (string s)) t.1 (said s (codes "eq") t.0) | inr h ↦
-    elim (chosen_some (bytes_eq s (codes "ge")) Ge o _ h) [ inl t ↦ subst (IsOperator (string s)) t.1 (said s (codes "ge") t.0) | inr h ↦
-    elim (chosen_some (bytes_eq s (codes "gt")) Gt o _ h) [ inl t ↦ subst (IsOperator (string s)) t.1 (said s (codes "gt") t.0) | inr h ↦
-    elim (chosen_some (bytes_eq s (codes "le")) Le o _ h) [ inl t ↦ subst (IsOperator (string s)) t.1 (said s (codes "le") t.0) | inr h ↦
-    elim (chosen_some (bytes_eq s (codes "lt")) Lt o _ h) [ inl t ↦ subst (IsOperator (string s)) t.1 (said s (codes "lt") t.0) | inr h ↦
-    elim (chosen_some (bytes_eq s (codes "ne")) Ne o _ h) [ inl t ↦ subst (IsOperator (string s)) t.1 (said s (codes "ne") t.0) | inr h ↦ cc ] ] ] ] ] ]
+    elim (chosen_some (bytes_eq s (codes "eq")) Eq o _ h) [
+      | inl t ↦ subst (IsOperator (string s)) t.1 (said s (codes "eq") t.0)
+      | inr h ↦
+          elim (chosen_some (bytes_eq s (codes "ge")) Ge o _ h) [
+            | inl t ↦ subst (IsOperator (string s)) t.1 (said s (codes "ge") t.0)
+            | inr h ↦
+                elim (chosen_some (bytes_eq s (codes "gt")) Gt o _ h) [
+                  | inl t ↦ subst (IsOperator (string s)) t.1 (said s (codes "gt") t.0)
+                  | inr h ↦
+                      elim (chosen_some (bytes_eq s (codes "le")) Le o _ h) [
+                        | inl t ↦ subst (IsOperator (string s)) t.1 (said s (codes "le") t.0)
+                        | inr h ↦
+                            elim (chosen_some (bytes_eq s (codes "lt")) Lt o _ h) [
+                              | inl t ↦ subst (IsOperator (string s)) t.1 (said s (codes "lt") t.0)
+                              | inr h ↦
+                                  elim (chosen_some (bytes_eq s (codes "ne")) Ne o _ h) [ inl t ↦ subst (IsOperator (string s)) t.1 (said s (codes "ne") t.0) | inr h ↦ cc ]
+                            ]
+                      ]
+                ]
+          ]
+    ]
 
 pub operator-tells : (d : Data) (o : SeccompCmpOp) → operator_in d ≡ Some o → IsOperator d o
 operator-tells null o h = cc
@@ -134,8 +162,11 @@ operator-from d Ne h = ap operator_in h
 
 plain_arg_len-tells : (s : List ℕ) (l : SeccompCmpArgLen) → arg_len_in (string s) ≡ Some l → IsArgLen (string s) l
 plain_arg_len-tells s l h =
-    elim (chosen_some (bytes_eq s (codes "dword")) Dword l _ h) [ inl t ↦ subst (IsArgLen (string s)) t.1 (said s (codes "dword") t.0) | inr h ↦
-    elim (chosen_some (bytes_eq s (codes "qword")) Qword l _ h) [ inl t ↦ subst (IsArgLen (string s)) t.1 (said s (codes "qword") t.0) | inr h ↦ cc ] ]
+    elim (chosen_some (bytes_eq s (codes "dword")) Dword l _ h) [
+      | inl t ↦ subst (IsArgLen (string s)) t.1 (said s (codes "dword") t.0)
+      | inr h ↦
+          elim (chosen_some (bytes_eq s (codes "qword")) Qword l _ h) [ inl t ↦ subst (IsArgLen (string s)) t.1 (said s (codes "qword") t.0) | inr h ↦ cc ]
+    ]
 
 pub arg_len-tells : (d : Data) (l : SeccompCmpArgLen) → arg_len_in d ≡ Some l → IsArgLen d l
 arg_len-tells null l h = cc

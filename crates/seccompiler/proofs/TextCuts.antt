@@ -1,5 +1,5 @@
 -- Each text has a cut into pieces, and the colons that the walk counts are its pieces that are one.
-use Rattle.std.proofs.Common.{◌≡◌, ◌≢◌, ℕ, ◌+◌, List, [], ◌∷◌, ◌++◌, refl, sym, ap, ◌∙◌, append_assoc, append-nil, count_by, cond, Bool, ◌⊎◌, inl, inr, subst}
+use Rattle.std.proofs.Common.{◌≡◌, ℕ, ◌+◌, List, [], ◌∷◌, ◌++◌, refl, sym, ap, ◌∙◌, append_assoc, append-nil, count_by, cond, Bool, ◌⊎◌, inl, inr, subst}
 use Rattle.std.specs.List.{AllByRecursion, flat_map}
 use Rattle.std.proofs.lemmas.Bool.{ne_eqb}
 use Rattle.std.proofs.lemmas.Bool.Decides.{eqb_tells}
@@ -42,10 +42,15 @@ count_of_cut text pieces ending cut = ap (colons_from outside) cut.spelled ∙ p
 
 -- A piece in front of a text that has a cut.
 add_piece : (piece : Piece) (text : List ℕ) → IsPiece piece → HasCut text → HasCut (piece_bytes piece ++ text)
-add_piece piece text h (pieces, ending, cut) = (piece ∷ pieces, ending, record {
+add_piece piece text h (pieces, ending, cut) = (
+  piece ∷ pieces,
+  ending,
+  record {
     each = (h, cut.each);
     last = cut.last;
-    spelled = ap (λ t. piece_bytes piece ++ t) cut.spelled ∙ sym (append_assoc (piece_bytes piece) (flat_map piece_bytes pieces) (ending_bytes ending)) })
+    spelled = ap (λ t. piece_bytes piece ++ t) cut.spelled ∙ sym (append_assoc (piece_bytes piece) (flat_map piece_bytes pieces) (ending_bytes ending));
+  },
+)
 
 -- The text goes on behind these items of a string: it ends, with a lone backslash or without, or the string is closed and a text with a cut follows.
 abbrev GoesOn : List StringItem → List ℕ → Type 0
@@ -77,11 +82,15 @@ cuts_of [] = (([], closed, record { each = tt; last = tt; spelled = refl }), ([]
 cuts_of (b ∷ text) =
     let before = cuts_of text in
     let by_byte = elim (eqb_tells b 34) as (λ _. HasCut (b ∷ text) × InString (b ∷ text)) [
-        inl same ↦ subst (λ x. HasCut (x ∷ text) × InString (x ∷ text)) (sym same.1) (open_string text before.1, ([], tt, inr (inr (text, refl, before.0))))
-      | inr differs ↦ (add_piece (byte b) text differs.1 before.0, elim (eqb_tells b 92) as (λ _. InString (b ∷ text)) [
-          inl same ↦ subst (λ x. InString (x ∷ text)) (sym same.1) before.2
-        | inr other ↦ add_item (plain b) text (differs.1, other.1) before.1 ])
-      ] in
+      | inl same ↦ subst (λ x. HasCut (x ∷ text) × InString (x ∷ text)) (sym same.1) (open_string text before.1, ([], tt, inr (inr (text, refl, before.0))))
+      | inr differs ↦ (
+        add_piece (byte b) text differs.1 before.0,
+        elim (eqb_tells b 92) as (λ _. InString (b ∷ text)) [
+          | inl same ↦ subst (λ x. InString (x ∷ text)) (sym same.1) before.2
+          | inr other ↦ add_item (plain b) text (differs.1, other.1) before.1
+        ],
+      )
+    ] in
     (by_byte.0, by_byte.1, add_item (escaped b) text tt before.1)
 
 pub cut_of : (text : List ℕ) → HasCut text

@@ -1,5 +1,5 @@
 -- The parts of a filter that a JSON value is, as functions: each gives the part, or none.
-use Rattle.std.specs.Prelude.{◌≡◌, ℕ, ◌^◌, ◌-◌, ◌&&◌, ◌||◌, List, [], ◌∷◌, Bool, true, false, nat_le, if◌then◌else◌, Result, Ok, Err, Option, Some, None, option_map, option_and_then, codes}
+use Rattle.std.specs.Prelude.{ℕ, ◌^◌, ◌-◌, ◌&&◌, List, [], ◌∷◌, Bool, true, false, nat_le, if◌then◌else◌, Result, Ok, Err, Option, Some, None, option_map, codes}
 use Rattle.std.specs.List.{list_any}
 use Rattle.std.specs.Str.{bytes_eq}
 use Rattle.serde_json.specs.Data.{Data, null, boolean, number, string, array, object, Items, no_items, item, Members, no_members, member}
@@ -106,11 +106,11 @@ condition_names = codes "index" ∷ codes "type" ∷ codes "op" ∷ codes "val" 
 
 unfoldable pub condition_in : Data → Option JsonCondition
 condition_in d = if has_only condition_names d && is_comment (get (codes "comment") d) then (do
-    i ← get (codes "index") d >>= whole 255
-    l ← get (codes "type") d >>= arg_len_in
-    o ← get (codes "op") d >>= operator_in
-    v ← get (codes "val") d >>= whole (2 ^ 64 - 1)
-    Some (record { arg_index = i; arg_len = l; operator = o; value = v })) else None
+  i ← get (codes "index") d >>= whole 255
+  l ← get (codes "type") d >>= arg_len_in
+  o ← get (codes "op") d >>= operator_in
+  v ← get (codes "val") d >>= whole (2 ^ 64 - 1)
+  Some (record { arg_index = i; arg_len = l; operator = o; value = v })) else None
 
 abbrev pub conditions_in : Items → Option (List JsonCondition)
 conditions_in no_items = Some []
@@ -135,9 +135,9 @@ entry_names = codes "syscall" ∷ codes "args" ∷ codes "comment" ∷ []
 
 unfoldable pub entry_in : Data → Option JsonRule
 entry_in d = if has_only entry_names d && is_comment (get (codes "comment") d) then (do
-    s ← get (codes "syscall") d >>= as_str
-    a ← args_in (get (codes "args") d)
-    Some (record { syscall = s; conditions = a })) else None
+  s ← get (codes "syscall") d >>= as_str
+  a ← args_in (get (codes "args") d)
+  Some (record { syscall = s; conditions = a })) else None
 
 abbrev pub entries_in : Items → Option (List JsonRule)
 entries_in no_items = Some []
@@ -159,11 +159,11 @@ filter_names = codes "mismatch_action" ∷ codes "default_action" ∷ codes "mat
 
 unfoldable pub filter_in : Data → Option JsonFilter
 filter_in d = if has_only filter_names d then (do
-    n ← one_of (get (codes "mismatch_action") d) (get (codes "default_action") d) >>= action_in
-    m ← one_of (get (codes "match_action") d) (get (codes "filter_action") d) >>= action_in
-    items ← get (codes "filter") d >>= as_array
-    rs ← entries_in items
-    Some (record { mismatch_action = n; match_action = m; rules = rs })) else None
+  n ← one_of (get (codes "mismatch_action") d) (get (codes "default_action") d) >>= action_in
+  m ← one_of (get (codes "match_action") d) (get (codes "filter_action") d) >>= action_in
+  items ← get (codes "filter") d >>= as_array
+  rs ← entries_in items
+  Some (record { mismatch_action = n; match_action = m; rules = rs })) else None
 
 -- A filter with its name, and those behind it.
 abbrev pub then_filter : List ℕ → Option JsonFilter → Result (List Named) Fault → Result (List Named) Fault

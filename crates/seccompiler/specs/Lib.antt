@@ -28,3 +28,4 @@ pub mod JsonTexts
 pub mod Place
 pub mod TextPieces
 pub mod TextWalk
+pub mod Equality

@@ -29,8 +29,9 @@ loop-name-preserved c =
     record {
       so_far = (done ++ e ∷ [], all ∙ sym (append_assoc done (e ∷ []) left), ap (map (λ n. n.0)) added ∙ simp (map-append, l.invariant.so_far.2));
       rest = ap (λ fs. with_front fs rest) added ∙ sym (with_front-then_filter before (string_bytes e.0) f rest)
-        ∙ ap (λ o. with_front before (then_filter (string_bytes e.0) o rest)) (sym shaped)
-        ∙ ap (λ es. with_front before (filters_under (members_view es))) (sym c.in-Some.ensures.steps) ∙ l.invariant.rest }
+          ∙ ap (λ o. with_front before (then_filter (string_bytes e.0) o rest)) (sym shaped)
+          ∙ ap (λ es. with_front before (filters_under (members_view es))) (sym c.in-Some.ensures.steps) ∙ l.invariant.rest;
+    }
 
 pub returns-in-None-2-clause-refusal : goal.returns-in-None-2-clause-refusal
 returns-in-None-2-clause-refusal c =

@@ -10,6 +10,7 @@ returns-clause-cut c = cut_of c.args.text.now
 
 pub returns-clause-repeats : goal.returns-clause-repeats
 returns-clause-repeats c =
-    let cut = cut_of c.args.text.now in
-    (λ told. record { pieces = cut.0; ending = cut.1; cut = cut.2; more = (returns-clause-each_cut c cut.0 cut.1 cut.2).0 told },
-    λ found. (returns-clause-each_cut c found.pieces found.ending found.cut).1 found.more)
+    let cut = cut_of c.args.text.now in (
+      λ told. record { pieces = cut.0; ending = cut.1; cut = cut.2; more = (returns-clause-each_cut c cut.0 cut.1 cut.2).0 told },
+      λ found. (returns-clause-each_cut c found.pieces found.ending found.cut).1 found.more,
+    )

@@ -1,11 +1,10 @@
 // Conditions: what is refused, their instructions, and when they hold.
 
-use crate::builders::{ALLOW, Parts, TRAP, call, condition, one_rule, rule};
+use crate::builders::{ALLOW, Parts, SeccompData, TRAP, call, condition, one_rule, rule};
 use crate::instructions::{jump_at_least, jump_equal, jump_greater, load, mask};
 use seccompiler::backend::BackendError;
 use seccompiler::backend::SeccompCmpArgLen::{Dword, Qword};
 use seccompiler::backend::SeccompCmpOp::{Eq, Ge, Gt, Le, Lt, MaskedEq, Ne};
-use seccompiler::bpf::sock_filter;
 use seccompiler::condition::SeccompCondition;
 use seccompiler::machine::{check, run};
 use std::alloc::Global;
@@ -192,6 +191,15 @@ fn codes_at_the_first_and_the_last_offset(rt: HostRuntime) -> Result<(), Fail> {
     Ok(())
 }
 
+// Call 7 with this argument, and all other arguments 0.
+fn call_with(index: u8, argument: u64) -> SeccompData {
+    let mut arguments = [0; 6];
+    if let Some(slot) = arguments.get_mut(usize::from(index)) {
+        *slot = argument;
+    }
+    call(7, arguments)
+}
+
 // Asserts that the condition holds for each of these arguments, or for none: by itself, and as the
 // one rule of a filter, by the filter's program and decision.
 fn assert_holds(
@@ -201,12 +209,13 @@ fn assert_holds(
     arguments: &[u64],
     holds: bool,
 ) -> Result<(), Fail> {
+    let (index, _, _, _) = parts;
     let filter = one_rule(alloc, rule(alloc, &[parts])?)?;
     let program = filter.to_bpf(alloc)?;
     assert!(rt; check(&program), "the program of {parts:?} is refused");
     let word = if holds { ALLOW } else { TRAP };
     for argument in arguments {
-        let record = call(7, [*argument; 6]).record();
+        let record = call_with(index, *argument).record();
         assert_eq!(rt;
             condition(parts)?.holds(&record),
             holds,
@@ -245,6 +254,51 @@ fn order_borders(rt: HostRuntime) -> Result<(), Fail> {
         assert_holds(&rt, alloc, qword, &QWORD_LESS, less)?;
         assert_holds(&rt, alloc, qword, &QWORD_EQUAL, equal)?;
         assert_holds(&rt, alloc, qword, &QWORD_GREATER, greater)?;
+    }
+    Ok(())
+}
+
+#[test]
+fn masks_and_greatest_values(rt: HostRuntime) -> Result<(), Fail> {
+    let alloc = rt.alloc();
+    for (parts, holds, fails) in [
+        // Under the mask the value's low half is 4, and its high half 6.
+        (
+            (3, Dword, MaskedEq(MASK), VALUE),
+            &[4, 5, 6, 7, 0x2_0000_0004][..],
+            &[0, 8, 12, 0x6_0000_0000, 0x6_0000_000c][..],
+        ),
+        (
+            (3, Qword, MaskedEq(MASK), VALUE),
+            &[0x6_0000_0004, 0x7_0000_0005, 0xf_0000_0007][..],
+            &[4, 0x2_0000_0004, 0x6_0000_0000, 0x6_0000_000c][..],
+        ),
+        (
+            (0, Qword, MaskedEq(u64::MAX), 0),
+            &[0][..],
+            &[1, 4294967296, u64::MAX][..],
+        ),
+        (
+            (2, Qword, Le, 4294967310),
+            &[4294967310, 14][..],
+            &[4294967311, 8589934592][..],
+        ),
+        ((0, Dword, Gt, 4294967295), &[][..], &[u64::MAX, 0][..]),
+        (
+            (0, Dword, Eq, 4294967297),
+            &[1, 4294967297][..],
+            &[0, 4294967296][..],
+        ),
+        ((0, Qword, Ne, 4294967296), &[0, 1][..], &[4294967296][..]),
+        ((0, Qword, Ge, 0), &[0, 4294967296, u64::MAX][..], &[][..]),
+        (
+            (0, Qword, Gt, u64::MAX),
+            &[][..],
+            &[0, 4294967295, u64::MAX][..],
+        ),
+    ] {
+        assert_holds(&rt, alloc, parts, holds, true)?;
+        assert_holds(&rt, alloc, parts, fails, false)?;
     }
     Ok(())
 }

@@ -10,10 +10,22 @@ mod builders;
 #[cfg(test)]
 mod conditions;
 #[cfg(test)]
+mod filters;
+#[cfg(test)]
 mod instructions;
 #[cfg(test)]
 mod json_shapes;
 #[cfg(test)]
 mod json_texts;
 #[cfg(test)]
+mod limits;
+#[cfg(test)]
 mod machine;
+#[cfg(test)]
+mod policies;
+#[cfg(test)]
+mod programs;
+#[cfg(test)]
+mod relays;
+#[cfg(test)]
+mod rules;

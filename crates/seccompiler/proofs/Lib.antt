@@ -22,4 +22,5 @@ pub mod CallNumbers
 pub mod Chains
 pub mod Searches
 pub mod Equality
+pub mod FilterEquality
 pub mod Reordering

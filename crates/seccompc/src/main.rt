@@ -4,6 +4,8 @@
 mod error;
 mod lines;
 mod probe;
+#[cfg(test)]
+mod tests;
 mod trace;
 mod words;
 
@@ -24,12 +26,14 @@ fn main(rt: HostRuntime) -> ExitCode {
         Err(_) => return usage(&rt),
     };
     let done = match read_words(&words) {
-        Some(Command::Probe {
-            arch,
-            nr,
-            index,
-            value,
-        }) => probe::probe(
+        Some(
+            Command::Probe {
+                arch,
+                nr,
+                index,
+                value,
+            },
+        ) => probe::probe(
             rt.alloc(),
             arch,
             nr,
@@ -53,8 +57,9 @@ fn words_behind_the_name(rt: &(impl Env + AllocGlobal)) -> io::Result<Vec<String
 
 // Says how the program is called: status 2.
 fn usage(rt: &impl Eprint) -> ExitCode {
-    let _ = rt
-        .eprintln("usage: seccompc probe ARCH NR INDEX VALUE | list ARCH | run ARCH FILE NAME");
+    let _ = rt.eprintln(
+        "usage: seccompc probe ARCH NR INDEX VALUE | list ARCH | run ARCH FILE NAME",
+    );
     ExitCode::from(2)
 }
 

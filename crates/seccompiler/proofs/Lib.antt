@@ -22,6 +22,7 @@ pub mod CallNumbers
 pub mod Chains
 pub mod Searches
 pub mod Equality
+pub mod FilterEquality
 pub mod Reordering
 pub mod TableNames
 pub mod TableFacts

@@ -34,3 +34,9 @@ pub mod JsonNames
 pub mod JsonShapes
 pub mod JsonFilterShapes
 pub mod JsonFilterMaps
+pub mod JsonRules
+pub mod JsonChains
+pub mod JsonEntries
+pub mod NumberedChains
+pub mod JsonAdditions
+pub mod JsonPolicies

@@ -16,6 +16,8 @@ pub mod Pieces
 pub mod ChainCode
 pub mod Compiled
 pub mod Refusal
+pub mod JsonPolicyOf
+pub mod JsonPolicy
 pub mod Reorder
 pub mod LowHalf
 pub mod JsonEquality

@@ -2,3 +2,4 @@
 pub mod Numbers
 pub mod Hexadecimal
 pub mod Records
+pub mod Faults

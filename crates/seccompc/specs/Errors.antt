@@ -1,15 +1,16 @@
 -- The errors of the program's engines: how a refusal becomes one, their texts, and what they leave as it was.
 use Rattle.std.specs.Prelude.{◌≡◌, ◌≢◌, ℕ, List, ◌++◌, Option, Some, codes, decimal, ⊤}
 use Rattle.std.specs.IoError.{error_kind}
+use Rattle.std.specs.declared.io.Error.{Error}
 use Rattle.std.specs.declared.io.ErrorKind.TheVariants as kind
-use Rattle.seccompiler.specs.declared.error.Error.{Error}
+use Rattle.seccompiler.specs.declared.error.Error.{Error as LibraryError}
 use Rattle.seccompiler.specs.declared.error.Error.TheVariants as library
 use Rattle.seccompiler.specs.Errors.{error_text}
 use Rattle.seccompc.specs.declared.error.ToolError.{ToolError}
 use Rattle.seccompc.specs.declared.error.ToolError.TheVariants.{Library, ShortRecord, Read, Write, OutOfMemory}
 
 -- A refusal of the library; want of memory stays want of memory.
-abbrev pub from_library : Error → ToolError
+abbrev pub from_library : LibraryError → ToolError
 from_library (library.Backend e) = Library (library.Backend e)
 from_library (library.JsonFrontend e) = Library (library.JsonFrontend e)
 from_library library.OutOfMemory = OutOfMemory
@@ -22,19 +23,23 @@ tool_text (Read e) = Some (codes "Error reading input.")
 tool_text (Write e) = Some (codes "Error writing output.")
 tool_text OutOfMemory = Some (codes "Out of memory.")
 
--- An error of reading: never want of memory as a fault of the reader.
+-- A reader's fault of another kind than want of memory.
+abbrev pub IsReadFault : Error → Type 0
+IsReadFault e = error_kind e ≢ kind.OutOfMemory
+
+-- An error of reading records.
 abbrev pub IsReadError : ToolError → Type 0
 IsReadError (Library e) = ⊥
 IsReadError (ShortRecord rest) = ⊥
-IsReadError (Read e) = error_kind e ≢ kind.OutOfMemory
+IsReadError (Read e) = IsReadFault e
 IsReadError (Write e) = ⊥
 IsReadError OutOfMemory = ⊤
 
--- An error of tracing records, which is no refusal of the library.
+-- An error of tracing records.
 abbrev pub IsTraceError : ToolError → Type 0
 IsTraceError (Library e) = ⊥
 IsTraceError (ShortRecord rest) = ⊤
-IsTraceError (Read e) = IsReadError (Read e)
+IsTraceError (Read e) = IsReadFault e
 IsTraceError (Write e) = ⊤
 IsTraceError OutOfMemory = ⊤
 

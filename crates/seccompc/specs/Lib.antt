@@ -3,3 +3,4 @@ pub mod Words
 pub mod Errors
 pub mod Lines
 pub mod Answers
+pub mod Probe

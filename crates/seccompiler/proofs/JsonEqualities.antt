@@ -1,5 +1,5 @@
 -- The tests of equality of JSON filters decide equality.
-use Rattle.std.proofs.Common.{◌≡◌, Bool, true, false, ◌&&◌, List, [], ◌∷◌, Option, Some, None, String, Global, map, refl, sym, ap, ◌∙◌, rules, Decides, string_eq, string_bytes}
+use Rattle.std.proofs.Common.{◌≡◌, Bool, ◌&&◌, List, [], ◌∷◌, Option, Some, None, String, Global, map, refl, sym, ap, ◌∙◌, rules, Decides, string_eq, string_bytes}
 use Rattle.std.specs.Option.{option_eq}
 use Rattle.std.specs.Cmp.Lexicographic.{pointwise, pointwise_decides, bytes_decides}
 use Rattle.std.proofs.lemmas.Bool.{true≢false}
@@ -12,7 +12,7 @@ use Rattle.seccompiler.specs.declared.json.types.JsonRule.{JsonRule}
 use Rattle.seccompiler.specs.declared.json.types.JsonFilter.{JsonFilter}
 use Rattle.seccompiler.specs.declared.json.types.JsonFilterMap.{JsonFilterMap}
 use Rattle.seccompiler.specs.JsonEquality.{conditions_eq, rule_eq, rules_eq, filter_eq, filter_map_eq}
-use Rattle.seccompiler.specs.JsonFilters.{Named, named, filters_of}
+use Rattle.seccompiler.specs.JsonFilters.{named, filters_of}
 
 -- of two `Option`s
 option_decides : {K : Type 0} {E : K → K → Bool} → ((x y : K) → Decides (E x y) (x ≡ y)) → (x y : Option K) → Decides (option_eq E x y) (x ≡ y)

@@ -1,12 +1,11 @@
 -- What the filters of an object, or its first fault, tell of it.
-use Rattle.std.proofs.Common.{◌≡◌, ℕ, List, [], ◌∷◌, Bool, true, false, cond, Result, Ok, Err, Option, Some, None, String, Global, Less, Greater, string_bytes, string_cmp, nat_cmp, is_eq, map, refl, sym, ap, ◌∙◌, subst, ◌⊎◌, inl, inr, IfOk}
+use Rattle.std.proofs.Common.{◌≡◌, ℕ, List, [], ◌∷◌, Bool, false, cond, Result, Ok, Err, Option, Some, None, String, Global, Less, string_bytes, string_cmp, nat_cmp, is_eq, map, refl, sym, ap, ◌∙◌, ◌⊎◌, inl, inr, IfOk}
 use Rattle.std.specs.BTreeMap.{is_at}
 use Rattle.std.specs.Cmp.Lexicographic.{slice_cmp}
 use Rattle.std.specs.List.{AllByRecursion}
 use Rattle.std.specs.List.Sorted.{IsStrictlySortedBy}
 use Rattle.std.specs.Map.{keys_of, lookup}
 use Rattle.std.specs.Ordering.{ordering_reverse}
-use Rattle.std.proofs.lemmas.Bool.{true≢false}
 use Rattle.std.proofs.lemmas.Cmp.{nat_list_cmp_total, tied_itself}
 use Rattle.serde_json.specs.Data.{Data, null, boolean, number, string, array, object, Members, no_members, member}
 use Rattle.serde_json.specs.Find.{get_member}

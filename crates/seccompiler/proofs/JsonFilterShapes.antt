@@ -1,5 +1,5 @@
 -- The functions that read conditions, entries and filters give exactly what the value is.
-use Rattle.std.proofs.Common.{◌≡◌, ℕ, ◌^◌, ◌-◌, List, [], ◌∷◌, Bool, true, false, ◌&&◌, Option, Some, None, option_map, codes, refl, sym, ap, ◌∙◌, subst, ◌⊎◌, inl, inr}
+use Rattle.std.proofs.Common.{◌≡◌, ℕ, ◌^◌, ◌-◌, List, [], ◌∷◌, true, ◌&&◌, Option, Some, None, option_map, codes, refl, sym, ap, ◌∙◌, subst, ◌⊎◌, inl, inr}
 use Rattle.serde_json.specs.Data.{Data, null, boolean, number, string, array, object, Items, no_items, item}
 use Rattle.serde_json.specs.Find.{get, as_str, as_array}
 use Rattle.seccompiler.specs.declared.backend.SeccompAction.{SeccompAction}
@@ -7,7 +7,7 @@ use Rattle.seccompiler.specs.declared.json.types.JsonCondition.{JsonCondition}
 use Rattle.seccompiler.specs.declared.json.types.JsonRule.{JsonRule}
 use Rattle.seccompiler.specs.declared.json.types.JsonFilter.{JsonFilter}
 use Rattle.seccompiler.specs.JsonReading.{◌>>=◌, has_only, whole, is_comment, arg_len_in, operator_in, action_in, condition_names, condition_in, conditions_in, args_in, entry_names, entry_in, entries_in, one_of, filter_names, filter_in}
-use Rattle.seccompiler.specs.JsonShape.{Has, Under, Lacks, IsWhole, IsAction, IsOperator, IsArgLen, IsCommented, IsCondition, OneByOne, IsListOf, IsArgs, IsEntry, IsUnderOne, IsFilter}
+use Rattle.seccompiler.specs.JsonShape.{IsWhole, IsOperator, IsArgLen, IsCommented, IsCondition, OneByOne, IsArgs, IsEntry, IsUnderOne, IsFilter}
 use Rattle.seccompiler.proofs.OptionSteps.{bind_some, map_some, guarded_some, both_true}
 use Rattle.seccompiler.proofs.JsonNames.{has_only-tells, has_only-from}
 use Rattle.seccompiler.proofs.JsonShapes.{whole-tells, whole-from, under-tells, under-from, action-tells, action-from, operator-tells, operator-from, arg_len-tells, arg_len-from}

@@ -1,10 +1,10 @@
 -- The functions that read a JSON value give exactly what the value is.
-use Rattle.std.proofs.Common.{◌≡◌, ℕ, ◌≤◌, ◌^◌, ◌-◌, List, [], ◌∷◌, Bool, true, false, ◌&&◌, cond, nat_le, Option, Some, None, option_map, codes, bytes_eq, refl, sym, ap, ◌∙◌, subst, ◌⊎◌, inl, inr, Contains, arith, Decides}
-use Rattle.std.proofs.lemmas.Bool.{and_from, true≢false, false_from_ne_true, leb-true, le-leb}
+use Rattle.std.proofs.Common.{◌≡◌, ℕ, ◌≤◌, ◌^◌, ◌-◌, List, [], ◌∷◌, true, false, nat_le, Option, Some, option_map, codes, bytes_eq, refl, sym, ap, ◌∙◌, subst, inl, inr}
+use Rattle.std.proofs.lemmas.Bool.{true≢false, false_from_ne_true, leb-true, le-leb}
 use Rattle.std.proofs.lemmas.Cmp.{nat_list_eq_equiv}
 use Rattle.std.proofs.lemmas.Map.Views.{list_any-from_Contains}
 use Rattle.std.proofs.lemmas.Slice.Eq.{bytes_eq-Decides}
-use Rattle.serde_json.specs.Data.{Data, null, boolean, number, string, array, object, Num, unsigned, negative, float, Items, no_items, item, Members}
+use Rattle.serde_json.specs.Data.{Data, null, boolean, number, string, array, object, unsigned, negative, float}
 use Rattle.serde_json.specs.Find.{get}
 use Rattle.seccompiler.specs.declared.backend.SeccompAction.{SeccompAction}
 use Rattle.seccompiler.specs.declared.backend.SeccompAction.TheVariants.{Allow, Errno, KillThread, KillProcess, Log, Trace, Trap}
@@ -13,8 +13,8 @@ use Rattle.seccompiler.specs.declared.backend.SeccompCmpOp.TheVariants.{Eq, Ge, 
 use Rattle.seccompiler.specs.declared.backend.SeccompCmpArgLen.{SeccompCmpArgLen}
 use Rattle.seccompiler.specs.declared.backend.SeccompCmpArgLen.TheVariants.{Dword, Qword}
 use Rattle.seccompiler.specs.JsonReading.{◌>>=◌, has_only, whole, numbered_in, plain_action, numbered_action, action_in, arg_len_in, plain_operator, operator_in}
-use Rattle.seccompiler.specs.JsonShape.{IsObject, Has, Under, Lacks, HasOnly, IsWhole, IsNumbered, IsAction, IsOperator, IsArgLen}
-use Rattle.seccompiler.proofs.OptionSteps.{bind_some, map_some, guarded_some, chosen_some, either_some, both_true}
+use Rattle.seccompiler.specs.JsonShape.{IsObject, Has, Under, IsWhole, IsNumbered, IsAction, IsOperator, IsArgLen}
+use Rattle.seccompiler.proofs.OptionSteps.{bind_some, map_some, guarded_some, chosen_some, either_some}
 use Rattle.seccompiler.proofs.JsonNames.{has_only-tells, has_only-from}
 
 pub whole-tells : (most : ℕ) (d : Data) (n : ℕ) → whole most d ≡ Some n → IsWhole most d n

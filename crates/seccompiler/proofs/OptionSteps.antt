@@ -1,5 +1,5 @@
 -- What a chain of `Option`s that gives a value had at each step.
-use Rattle.std.proofs.Common.{◌≡◌, Bool, true, false, ◌&&◌, cond, Option, Some, None, option_map, refl, ap, ◌⊎◌, inl, inr}
+use Rattle.std.proofs.Common.{◌≡◌, Bool, true, false, ◌&&◌, cond, Option, Some, None, option_map, refl, ◌⊎◌, inl, inr}
 use Rattle.seccompiler.specs.JsonReading.{◌>>=◌}
 
 module _ {A B : Type 0} where

@@ -12,11 +12,11 @@ use Rattle.std.proofs.lemmas.Map.Text.{is_text}
 use Rattle.serde_json.specs.Data.{Data}
 use Rattle.seccompiler.specs.Errors.{from_backend, from_frontend}
 use Rattle.serde_json.specs.Find.{get}
-use Rattle.seccompiler.specs.JsonAnswers.{IsValueOf, HasPolicy, ArePoliciesOf, OfValue, IsFirstFault}
+use Rattle.seccompiler.specs.JsonAnswers.{IsValueOf, HasPolicy, ArePoliciesOf, OfValue, TellsFrontendFault}
 use Rattle.seccompiler.specs.JsonFilters.{IsBelow}
 use Rattle.seccompiler.specs.JsonPolicies.{ByName, InOrder}
 use Rattle.seccompiler.specs.JsonShape.{Has}
-use Rattle.seccompiler.specs.JsonPrograms.{IsProgramOf, AreProgramsFor, IsLeastLarge, IsLeastRefusal, AreProgramsOf, HaveAllPolicies, IsLeastTooLarge, IsFirstError}
+use Rattle.seccompiler.specs.JsonPrograms.{IsProgramOf, AreProgramsFor, IsLeastLarge, IsLeastRefusal, AreProgramsOf, HaveAllPolicies, IsLeastTooLarge, TellsFirstFault}
 use Rattle.seccompiler.specs.Policy.{Filter, IsCallNumber}
 use Rattle.seccompiler.specs.Refusal.{numbers_of, IsCompilable, IsTooLarge, IsRefusal}
 use Rattle.seccompiler.specs.SyscallTable.{IsTableNumber}
@@ -118,7 +118,7 @@ module _ (arch : TargetArch) (d : Data) (made : InOrder Filter) (are : ArePolici
       }
 
   -- The refusal of the value's policies, as an error of the crate.
-  pub first_error : (text : List ℕ) (cause : BackendError) → IsValueOf text d → IsLeastRefusal (get_by_text made) cause → IsFirstError arch text (from_backend cause)
+  pub first_error : (text : List ℕ) (cause : BackendError) → IsValueOf text d → IsLeastRefusal (get_by_text made) cause → TellsFirstFault arch text (from_backend cause)
   first_error text b.EmptyRule is h = absurd h
   first_error text (b.FilterTooLarge n) is h = (d, is, least_large n h)
   first_error text b.IdenticalActions is h = absurd h
@@ -135,11 +135,11 @@ text_programs own arch same None made m programs h = tt
 text_programs own arch same (Some t) made m programs h = (h.0, h.1, subst (λ a. AreProgramsOf a (hash.get_by_text m) h.0) same (programs_of own h.0 made h.2 m programs))
 
 pub text_backend_error : (own arch : TargetArch) → own ≡ arch → (text : Option (List ℕ)) (made : InOrder Filter) (cause : BackendError) → IsLeastRefusal (get_by_text made) cause
-    → IfSome text (λ t. OfValue t (ArePoliciesOf own (get_by_text made))) → IfSome text (λ t. IsFirstError arch t (from_backend cause))
+    → IfSome text (λ t. OfValue t (ArePoliciesOf own (get_by_text made))) → IfSome text (λ t. TellsFirstFault arch t (from_backend cause))
 text_backend_error own arch same None made cause refusal h = tt
-text_backend_error own arch same (Some t) made cause refusal h = subst (λ a. IsFirstError a t (from_backend cause)) same (first_error own h.0 made h.2 t cause h.1 refusal)
+text_backend_error own arch same (Some t) made cause refusal h = subst (λ a. TellsFirstFault a t (from_backend cause)) same (first_error own h.0 made h.2 t cause h.1 refusal)
 
-first_frontend_error : (arch : TargetArch) (text : List ℕ) (e : JsonFrontendError) → IsFirstFault arch text e → IsFirstError arch text (from_frontend e)
+first_frontend_error : (arch : TargetArch) (text : List ℕ) (e : JsonFrontendError) → TellsFrontendFault arch text e → TellsFirstFault arch text (from_frontend e)
 first_frontend_error arch text (f.Backend cause) h = h
 first_frontend_error arch text (f.SerdeJson cause) h = h
 first_frontend_error arch text (f.SyscallName name known) h = h
@@ -149,6 +149,6 @@ first_frontend_error arch text f.NotAnObject h = h
 first_frontend_error arch text (f.Shape name) h = h
 first_frontend_error arch text f.OutOfMemory h = tt
 
-pub text_frontend_error : (arch : TargetArch) (text : Option (List ℕ)) (e : JsonFrontendError) → IfSome text (λ t. IsFirstFault arch t e) → IfSome text (λ t. IsFirstError arch t (from_frontend e))
+pub text_frontend_error : (arch : TargetArch) (text : Option (List ℕ)) (e : JsonFrontendError) → IfSome text (λ t. TellsFrontendFault arch t e) → IfSome text (λ t. TellsFirstFault arch t (from_frontend e))
 text_frontend_error arch None e h = tt
 text_frontend_error arch (Some t) e h = first_frontend_error arch t e h

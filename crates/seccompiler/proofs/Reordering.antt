@@ -1,6 +1,6 @@
 -- What a decision does not depend on: the order of rules and conditions, the instruction pointer, and high halves that
 -- are not compared; and what the length of a program depends on.
-use Rattle.std.proofs.Common.{◌≡◌, ◌↔◌, ℕ, ℤ, zero, suc, pos, ◌+◌, ◌*◌, ◌%◌, ◌^◌, ◌<◌, ◌≤◌, List, [], ◌∷◌, length, get_or, Option, Some, Bool, true, false, cond, refl, sym, ap, ◌∙◌, subst, arith, inl, inr}
+use Rattle.std.proofs.Common.{◌≡◌, ◌↔◌, IsTrue, ℕ, ℤ, zero, suc, pos, ◌+◌, ◌*◌, ◌%◌, ◌^◌, ◌<◌, ◌≤◌, List, [], ◌∷◌, length, get_or, Option, Some, Bool, true, false, cond, refl, sym, ap, ◌∙◌, subst, arith, inl, inr}
 use Rattle.std.specs.Prelude.{slice_index, Any}
 use Rattle.std.specs.List.{AllZip}
 use Rattle.std.specs.List.Sorted.{IsPermutation}
@@ -202,3 +202,15 @@ low_half_decides c d r s same argument holds =
 -- The length of a program and its steps past the chains come from the chains alone.
 pub length_by_map : (f g : Filter) → f.chains ≡ g.chains → (counted_length f ≡ counted_length g) × (passing_steps f ≡ passing_steps g)
 length_by_map f g same = (ap counted_length_of same, ap (λ chains. 4 + chains_steps chains) same)
+
+-- Both ways: what decides a condition by low halves decides it alike.
+pub low_half_same : (c d : Condition) (r s : List ℕ) → IsSameLowHalf c d → HasSameLowArgument c.arg_index r s → Holds c r ↔ Holds d s
+low_half_same c d r s same argument =
+    let back : IsSameLowHalf d c = record { first_length = same.second_length; second_length = same.first_length; index = sym same.index; operator = sym same.operator; value = sym same.value } in
+    (low_half_decides c d r s same argument, low_half_decides d c s r back (sym (subst (λ i. HasSameLowArgument i r s) same.index argument)))
+
+-- So does a test of the one.
+pub low_half_test : (b : Bool) (c : Condition) (r : List ℕ) → IsTrue b ↔ Holds c r → (d : Condition) (s : List ℕ) → IsSameLowHalf c d → HasSameLowArgument c.arg_index r s → IsTrue b ↔ Holds d s
+low_half_test b c r test d s same argument =
+    let both = low_half_same c d r s same argument in
+    (λ t. both.0 (test.0 t), λ h. test.1 (both.1 h))

@@ -1,5 +1,5 @@
 -- The tests of equality of JSON filters: each compares part by part.
-use Rattle.std.specs.Prelude.{◌≡◌, ℕ, Bool, true, false, ◌&&◌, nat_eq, List, Option, Some, None, String, string_eq, string_bytes, refl}
+use Rattle.std.specs.Prelude.{◌≡◌, ℕ, Bool, true, ◌&&◌, nat_eq, List, Option, Some, None, String, string_eq, string_bytes, refl}
 use Rattle.std.specs.Option.{option_eq}
 use Rattle.std.specs.Ordering.{on, eq_of_both}
 use Rattle.std.specs.Cmp.{IsPartialEquivalence, partial_equiv_from_equiv, and_per, on_per}
@@ -11,7 +11,6 @@ use Rattle.seccompiler.specs.contracts.backend.SeccompActionPartialEq.TheImpl as
 use Rattle.seccompiler.specs.contracts.backend.SeccompActionPartialEq.TheImpl.Laws as action_laws
 use Rattle.seccompiler.specs.contracts.json.types.JsonConditionPartialEq.TheImpl as condition
 use Rattle.seccompiler.specs.contracts.json.types.JsonConditionPartialEq.TheImpl.Laws as condition_laws
-use Rattle.seccompiler.specs.declared.backend.SeccompAction.{SeccompAction}
 use Rattle.seccompiler.specs.declared.json.types.JsonCondition.{JsonCondition}
 use Rattle.seccompiler.specs.declared.json.types.JsonRule.{JsonRule}
 use Rattle.seccompiler.specs.declared.json.types.JsonFilter.{JsonFilter}

@@ -14,7 +14,7 @@ use Rattle.serde_json.specs.Errors.{IsMemory}
 use Rattle.serde_json.specs.Read.{read}
 use Rattle.seccompiler.specs.JsonFault.{Fault, unreadable, repeated_key, Fails, FailsReading}
 use Rattle.seccompiler.specs.JsonFilters.{Named}
-use Rattle.seccompiler.specs.JsonPolicy.{policy_in}
+use Rattle.seccompiler.specs.JsonPolicy.{◌>>=◌, policy_in}
 use Rattle.seccompiler.specs.JsonReading.{filters_in}
 use Rattle.seccompiler.specs.JsonRepeats.{repeats}
 use Rattle.seccompiler.specs.Policy.{Filter}
@@ -30,12 +30,6 @@ NamedPolicy = List ℕ × Filter
 -- An entry of an ordered map of policies, seen so.
 abbrev pub named_policy : String Global × Filter → NamedPolicy
 named_policy entry = (string_bytes entry.0, entry.1)
-
--- What comes of an answer without fault.
-infixl 10 ◌>>=◌
-abbrev pub ◌>>=◌ : {A B : Type 0} → Result A Fault → (A → Result B Fault) → Result B Fault
-(Ok x) >>= f = f x
-(Err fault) >>= f = Err fault
 
 abbrev pub or_unreadable : Option Data → Result Data Fault
 or_unreadable None = Err unreadable

@@ -3,7 +3,7 @@ use Rattle.std.specs.Prelude.{◌≡◌, ℕ, List, Option, Some, None, Vec}
 use Rattle.std.specs.declared.alloc.Global.{Global}
 use Rattle.serde_json.specs.Data.{Data}
 use Rattle.seccompiler.specs.Compiled.{IsCompiled, Passes}
-use Rattle.seccompiler.specs.JsonAnswers.{HasPolicy, OfValue, IsFirstFault}
+use Rattle.seccompiler.specs.JsonAnswers.{HasPolicy, OfValue, TellsFrontendFault}
 use Rattle.seccompiler.specs.JsonFilters.{IsBelow}
 use Rattle.seccompiler.specs.JsonShape.{IsObject, Has, Lacks}
 use Rattle.seccompiler.specs.Policy.{Filter}
@@ -78,7 +78,7 @@ IsBackendFault arch d OutOfMemory = ⊥
 
 -- The error tells what is at fault in the text, and nothing that comes earlier in the order of faults is: all faults of
 -- the front end, and then the least name's policy that is too large. Want of memory may come in place of all.
-abbrev pub IsFirstError : TargetArch → List ℕ → Error → Type 0
-IsFirstError arch text (whole.Backend cause) = OfValue text (λ d. IsBackendFault arch d cause)
-IsFirstError arch text (whole.JsonFrontend cause) = IsFirstFault arch text cause
-IsFirstError arch text whole.OutOfMemory = Unit {0}
+abbrev pub TellsFirstFault : TargetArch → List ℕ → Error → Type 0
+TellsFirstFault arch text (whole.Backend cause) = OfValue text (λ d. IsBackendFault arch d cause)
+TellsFirstFault arch text (whole.JsonFrontend cause) = TellsFrontendFault arch text cause
+TellsFirstFault arch text whole.OutOfMemory = Unit {0}

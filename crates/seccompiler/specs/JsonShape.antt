@@ -1,5 +1,5 @@
 -- Which JSON values are which parts of a filter. Nothing but the forms given here is one.
-use Rattle.std.specs.Prelude.{◌≡◌, ℕ, ◌+◌, ◌-◌, ◌*◌, ◌^◌, ◌≤◌, ◌⊎◌, List, [], ◌∷◌, Contains, Option, Some, None, codes}
+use Rattle.std.specs.Prelude.{◌≡◌, ℕ, ◌-◌, ◌^◌, ◌≤◌, ◌⊎◌, List, [], ◌∷◌, Contains, Option, Some, None, codes}
 use Rattle.serde_json.specs.Data.{Data, null, number, string, array, object, unsigned, Items, no_items, item, Members}
 use Rattle.serde_json.specs.Find.{get}
 use Rattle.seccompiler.specs.declared.backend.SeccompAction.{SeccompAction}

@@ -5,7 +5,7 @@ ghost use Rattle.std.specs.BTreeMap as tree;
 ghost use Rattle.std.specs.HashMap as hash;
 ghost use Rattle.seccompiler.specs.Errors.{IsNoMemoryInside};
 ghost use Rattle.seccompiler.specs.JsonAnswers.{OfValue};
-ghost use Rattle.seccompiler.specs.JsonPrograms.{AreProgramsFor, IsLeastRefusal, AreProgramsOf, IsFirstError};
+ghost use Rattle.seccompiler.specs.JsonPrograms.{AreProgramsFor, IsLeastRefusal, AreProgramsOf, TellsFirstFault};
 ghost use Rattle.seccompiler.specs.Refusal.{numbers_of};
 ghost use Rattle.seccompiler.specs.SyscallTable.{IsTableNumber};
 
@@ -13,7 +13,7 @@ use crate::backend::{BackendError, TargetArch};
 use crate::bpf::BpfProgram;
 use crate::error::Result;
 use crate::filter::SeccompFilter;
-use crate::json::compiler::JsonCompiler;
+use crate::json::JsonCompiler;
 use std::alloc::Global;
 use std::collections::{BTreeMap, HashMap};
 use std::io::Read;
@@ -59,7 +59,7 @@ pub fn compile_from_json<R: Read + Drop>(
 ) -> Result<BpfMap>
     ensures programs { IfSome (R.remaining reader) (λ text.
         IfOk result (λ m. OfValue text (AreProgramsOf arch (hash.get_by_text m)))) }
-    ensures fault { IfSome (R.remaining reader) (λ text. IfErr result (IsFirstError arch text)) }
+    ensures fault { IfSome (R.remaining reader) (λ text. IfErr result (TellsFirstFault arch text)) }
     ensures memory { IfErr result IsNoMemoryInside }
 {
     let policies = JsonCompiler::new(arch).policies_from(alloc, reader)?;

@@ -32,10 +32,11 @@ impl Model for SeccompCondition {
 }
 
 impl SeccompCondition {
-    ghost use Rattle.std.specs.Prelude.{◌≡◌, ◌+◌, ◌*◌, ◌/◌, ◌%◌, ◌^◌, ◌≤◌, ◌<◌, ◌↔◌, length, IfOk, IfErr, IsOk, IsOkUnless, IsTrue};
+    ghost use Rattle.std.specs.Prelude.{◌≡◌, ℕ, List, ◌+◌, ◌*◌, ◌/◌, ◌%◌, ◌^◌, ◌≤◌, ◌<◌, ◌↔◌, length, IfOk, IfErr, IsOk, IsOkUnless, IsTrue};
     ghost use Rattle.seccompiler.specs.declared.backend.BackendError.TheVariants.{InvalidArgumentNumber, OutOfMemory};
     ghost use Rattle.seccompiler.specs.declared.backend.SeccompCmpArgLen.TheVariants.{Dword, Qword};
-    ghost use Rattle.seccompiler.specs.Condition.{Holds, size_of, condition_code};
+    ghost use Rattle.seccompiler.specs.Condition.{Condition, Holds, size_of, condition_code};
+    ghost use Rattle.seccompiler.specs.LowHalf.{IsSameLowHalf, HasSameLowArgument};
     ghost use Rattle.seccompiler.specs.Checked.{AreInRange};
     ghost use Rattle.seccompiler.specs.Pieces.{IsConditionCode};
 
@@ -81,8 +82,11 @@ impl SeccompCondition {
     }
 
     /// Whether the condition holds for the call of this record.
+    ///
+    /// With `Dword` it depends on the low 32 bits of the argument, the value and a mask alone.
     pub fn holds(&self, call: &[u8; 64]) -> bool
-        ensures { IsTrue result ↔ Holds self.now call.now }
+        ensures holds { IsTrue result ↔ Holds self.now call.now }
+        ensures low_half { (c : Condition) (r : List ℕ) → IsSameLowHalf self.now c → HasSameLowArgument self.now.arg_index call.now r → (IsTrue result ↔ Holds c r) }
     {
         let argument = part_of(self.arg_len, argument_at(call, self.arg_index));
         compares(

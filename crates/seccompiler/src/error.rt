@@ -1,7 +1,7 @@
 // What the calls of the crate's root refuse.
 
 use crate::backend::BackendError;
-use crate::json::error::JsonFrontendError;
+use crate::json::JsonFrontendError;
 use std::fmt;
 
 /// Why a call of this crate refuses.

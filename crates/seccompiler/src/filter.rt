@@ -194,3 +194,38 @@ impl SeccompFilter {
         program[last] = return_word(mismatch);
     }
 }
+
+/// Filters are equal where their chains, their actions and their architectures are.
+impl PartialEq for SeccompFilter {
+    ghost use Rattle.std.specs.Prelude.{◌≡◌, ◌↔◌, IsTrue};
+    ghost use Rattle.std.specs.Cmp.{int_eq_equiv, partial_equiv_from_equiv, and_per, on_per};
+    ghost use Rattle.std.specs.Cmp.Lexicographic.{lists_per};
+    ghost use Rattle.seccompiler.specs.Equality.{are_filters_equal};
+    ghost use Rattle.seccompiler.specs.contracts.rule.SeccompRulePartialEq.TheImpl.Laws as rule_laws;
+    ghost use Rattle.seccompiler.specs.contracts.backend.SeccompActionPartialEq.TheImpl.Laws as action_laws;
+    ghost use Rattle.seccompiler.specs.contracts.backend.TargetArchPartialEq.TheImpl.Laws as arch_laws;
+
+    ghost eq = { are_filters_equal };
+
+    ghost laws = { and_per (on_per (λ f. f.chains) (lists_per (and_per (on_per (λ e. e.0) (partial_equiv_from_equiv int_eq_equiv)) (on_per (λ e. e.1) (lists_per rule_laws.laws-law))))) (and_per (on_per (λ f. f.mismatch_action) action_laws.laws-law) (and_per (on_per (λ f. f.match_action) action_laws.laws-law) (on_per (λ f. f.target_arch) arch_laws.laws-law))) };
+
+    fn eq(&self, other: &SeccompFilter) -> bool
+        ensures value { result ≡ are_filters_equal self.now other.now }
+        ensures same { IsTrue result ↔ (self.now ≡ other.now) }
+    {
+        self.rules == other.rules
+            && self.mismatch_action == other.mismatch_action
+            && self.match_action == other.match_action
+            && self.target_arch == other.target_arch
+    }
+}
+
+impl Eq for SeccompFilter {
+    ghost use Rattle.std.specs.Cmp.{int_eq_equiv, and_equiv, on_equiv};
+    ghost use Rattle.std.specs.Cmp.Lexicographic.{lists_equiv};
+    ghost use Rattle.seccompiler.specs.contracts.rule.SeccompRuleEq.TheImpl.Laws as rule_laws;
+    ghost use Rattle.seccompiler.specs.contracts.backend.SeccompActionEq.TheImpl.Laws as action_laws;
+    ghost use Rattle.seccompiler.specs.contracts.backend.TargetArchEq.TheImpl.Laws as arch_laws;
+
+    ghost laws = { and_equiv (on_equiv (λ f. f.chains) (lists_equiv (and_equiv (on_equiv (λ e. e.0) int_eq_equiv) (on_equiv (λ e. e.1) (lists_equiv rule_laws.laws-law))))) (and_equiv (on_equiv (λ f. f.mismatch_action) action_laws.laws-law) (and_equiv (on_equiv (λ f. f.match_action) action_laws.laws-law) (on_equiv (λ f. f.target_arch) arch_laws.laws-law))) };
+}

@@ -1,14 +1,19 @@
-// The JSON front end: policies as JSON text.
+//! The JSON front end: filters written as JSON text.
+//!
+//! A text is an object that gives each filter a name, with its two actions and its entries;
+//! docs/JSON.md has the format. [`repeats_key`] tells that a text repeats a name, and
+//! [`read_filters`] turns the value of a text into filters.
 
-pub mod compile;
-pub mod compiler;
-pub mod error;
-pub mod filters;
+mod compile;
+mod compiler;
+mod error;
+mod filters;
 mod members;
-pub mod parts;
+mod parts;
+mod policy;
 mod read;
-pub mod repeats;
-pub mod types;
+mod repeats;
+mod types;
 
 pub use compiler::JsonCompiler;
 pub use error::JsonFrontendError;

@@ -27,10 +27,10 @@ impl Model for SeccompRule {
 }
 
 impl SeccompRule {
-    ghost use Rattle.std.specs.Prelude.{◌≡◌, ◌≤◌, ◌↔◌, length, min, IfOk, IfErr, IsOk, IsOkUnless, IsTrue};
+    ghost use Rattle.std.specs.Prelude.{◌≡◌, ◌*◌, ◌≤◌, ◌↔◌, length, min, IfOk, IfErr, IsOk, IsOkUnless, IsTrue};
     ghost use Rattle.seccompiler.specs.declared.backend.BackendError.TheVariants.{EmptyRule, OutOfMemory};
     ghost use Rattle.seccompiler.specs.Policy.{RuleHolds};
-    ghost use Rattle.seccompiler.specs.Groups.{groups_of, IsOnlyCut};
+    ghost use Rattle.seccompiler.specs.Groups.{total_size, groups_of, relays, IsOnlyCut};
     ghost use Rattle.seccompiler.specs.Layout.{rule_length};
     ghost use Rattle.seccompiler.specs.Pieces.{IsRuleCode};
 
@@ -87,6 +87,7 @@ impl SeccompRule {
     pub fn to_bpf(&self, alloc: Global) -> Result<BpfProgram, BackendError>
         ensures code { IfOk result (λ code. IsRuleCode self.now code.items) }
         ensures groups { IsOnlyCut self.now (groups_of self.now) }
+        ensures few_relays { 248 * relays self.now ≤ total_size self.now }
         ensures memory { IsOkUnless result OutOfMemory }
     {
         let length = self.code_len();

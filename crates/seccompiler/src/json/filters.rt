@@ -1,4 +1,4 @@
-// The filters of a JSON value.
+// The filters of a JSON value. docs/JSON.md has the format.
 
 ghost use Rattle.std.specs.Prelude.{◌≡◌, ◌↔◌, Some, IfOk, IfErr};
 ghost use Rattle.std.specs.BTreeMap.{IsOrdered};
@@ -19,7 +19,24 @@ use serde_json::value::Map;
 use std::alloc::Global;
 use std::collections::BTreeMap;
 
-/// The filters of a value, under their names.
+/// Reads a JSON value as filters under their names.
+///
+/// The value has to be an object. Each of its names is a filter's name, whichever text it is, and
+/// each of its values a filter. On `Ok` the map has exactly these names, each with its filter.
+///
+/// # Errors
+///
+/// - `NotAnObject` where the value is no object.
+/// - `Shape` with the least name, in byte order, whose value is no filter.
+/// - `OutOfMemory` where a growth was refused, in place of any answer.
+///
+/// # Examples
+///
+/// ```text
+/// let value = Value::from_str(alloc, text)?;
+/// let filters = read_filters(alloc, &value)?;
+/// let main_thread = filters.0.get("main_thread");
+/// ```
 pub fn read_filters(alloc: Global, value: &Value) -> Result<JsonFilterMap, JsonFrontendError>
     ensures filters { IfOk result (AreFilters (view value.now)) }
     ensures refusal { IfErr result (IsRefusal (view value.now)) }
@@ -37,6 +54,7 @@ pub fn read_filters(alloc: Global, value: &Value) -> Result<JsonFilterMap, JsonF
     }
 }
 
+// The same of an object's members.
 fn filters_under(
     alloc: Global,
     members: &Map<String, Value>,

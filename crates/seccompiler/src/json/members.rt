@@ -1,8 +1,9 @@
 // What the readers of a JSON object share: its names, its numbers and its comment.
 
-ghost use Rattle.std.specs.Prelude.{◌≡◌, ◌^◌, ◌-◌, map, option_map};
+ghost use Rattle.std.specs.Prelude.{◌≡◌, ◌^◌, ◌-◌, map, option_map, codes};
 ghost use Rattle.std.specs.List.{list_any};
 ghost use Rattle.std.specs.Str.{bytes_eq};
+ghost use Rattle.serde_json.specs.Find.{get};
 ghost use Rattle.serde_json.specs.View.{view, members_view};
 ghost use Rattle.seccompiler.specs.JsonReading.{has_only, only_names, whole, is_comment};
 
@@ -42,14 +43,21 @@ pub fn is_object_of(value: &Value, names: &[&str]) -> bool
     }
 }
 
-// Whether an object's comment is absent, null or a text.
-pub fn is_comment(comment: Option<&Value>) -> bool
+// Whether a comment is absent, null or a text.
+fn is_comment(comment: Option<&Value>) -> bool
     ensures { result ≡ is_comment (option_map (λ v. view v.now) comment.entry) }
 {
     match comment {
         None | Some(Value::Null | Value::String(_)) => true,
         Some(_) => false,
     }
+}
+
+// Whether an object's comment is as it may be.
+pub fn is_commented(value: &Value) -> bool
+    ensures { result ≡ is_comment (get (codes "comment") (view value.now)) }
+{
+    is_comment(value.get("comment"))
 }
 
 // A number that serde_json holds as a whole one, if it fits a `u8`.

@@ -1,11 +1,16 @@
-// The parts of a JSON filter that own memory. Contracts see each as a list.
+// The parts of a JSON filter that own memory: a call's name, conditions and entries.
+//
+// Each is made of a `String` or a `Vec` and gives it back, without taking memory. Contracts see
+// each as a list, so that a whole filter is a plain record of lists.
 
 ghost use Rattle.std.specs.Prelude.{◌≡◌, string_bytes};
 
 use crate::json::types::{JsonCondition, JsonRule};
 use std::marker::Model;
 
-/// The name of a system call, as a JSON text has it.
+/// The name of a system call, as a JSON text has it. It may be no call's name.
+///
+/// A contract sees it as its bytes. Two names are equal if their bytes are, case included.
 #[derive(Debug, Drop)]
 pub struct JsonSyscallName {
     text: String,
@@ -20,21 +25,21 @@ impl Model for JsonSyscallName {
 }
 
 impl JsonSyscallName {
-    /// The name of this text.
+    /// Makes the name of its text. Takes no memory.
     pub fn new(text: String) -> JsonSyscallName
         ensures { result ≡ string_bytes text }
     {
         JsonSyscallName { text }
     }
 
-    /// The name's text.
+    /// Gives a view of the name's text.
     pub fn as_str(&self) -> &str
         ensures { result.now ≡ self.now }
     {
         self.text.as_str()
     }
 
-    /// The name's text, given back.
+    /// Gives the text back. Takes no memory.
     pub fn into_string(self) -> String
         ensures { string_bytes result ≡ self }
     {
@@ -55,14 +60,16 @@ impl PartialEq for JsonSyscallName {
         ensures value { result ≡ name_eq self.now other.now }
         ensures same { IsTrue result ↔ (self.now ≡ other.now) }
     {
-        self.as_str() == other.as_str()
+        self.text == other.text
     }
 }
 
-/// The conditions of one JSON entry.
+/// The conditions of one JSON entry, all of which have to hold for the entry to match.
+///
+/// A contract sees it as the list of the conditions, in their order.
 #[derive(Debug, Drop)]
 pub struct JsonConditions {
-    items: Vec<JsonCondition>,
+    conditions: Vec<JsonCondition>,
 }
 
 impl Model for JsonConditions {
@@ -71,7 +78,31 @@ impl Model for JsonConditions {
 
     ghost Value = { List JsonCondition };
 
-    ghost view = { λ conditions. conditions.items.items };
+    ghost view = { λ all. all.conditions.items };
+}
+
+impl JsonConditions {
+    /// Makes the list of these conditions, in their order. Takes no memory.
+    pub fn new(conditions: Vec<JsonCondition>) -> JsonConditions
+        ensures { result ≡ conditions.items }
+    {
+        JsonConditions { conditions }
+    }
+
+    /// Gives a view of the conditions, in their order.
+    pub fn as_slice(&self) -> &[JsonCondition]
+        ensures { result.now ≡ self.now }
+    {
+        self.conditions.as_slice()
+    }
+
+    /// Gives the conditions back. Takes no memory.
+    pub fn into_vec(self) -> Vec<JsonCondition>
+        ensures { result.items ≡ self }
+    {
+        let JsonConditions { conditions } = self;
+        conditions
+    }
 }
 
 impl PartialEq for JsonConditions {
@@ -86,38 +117,16 @@ impl PartialEq for JsonConditions {
         ensures value { result ≡ conditions_eq self.now other.now }
         ensures same { IsTrue result ↔ (self.now ≡ other.now) }
     {
-        self.as_slice() == other.as_slice()
+        self.conditions == other.conditions
     }
 }
 
-impl JsonConditions {
-    /// These conditions, in this order.
-    pub fn new(items: Vec<JsonCondition>) -> JsonConditions
-        ensures { result ≡ items.items }
-    {
-        JsonConditions { items }
-    }
-
-    /// The conditions, in order.
-    pub fn as_slice(&self) -> &[JsonCondition]
-        ensures { result.now ≡ self.now }
-    {
-        self.items.as_slice()
-    }
-
-    /// The conditions, given back.
-    pub fn into_vec(self) -> Vec<JsonCondition>
-        ensures { result.items ≡ self }
-    {
-        let JsonConditions { items } = self;
-        items
-    }
-}
-
-/// The entries of one JSON filter.
+/// The entries of one JSON filter, one of which has to match for the filter to match.
+///
+/// A contract sees it as the list of the entries, in their order.
 #[derive(Debug, Drop)]
 pub struct JsonRules {
-    items: Vec<JsonRule>,
+    rules: Vec<JsonRule>,
 }
 
 impl Model for JsonRules {
@@ -126,7 +135,31 @@ impl Model for JsonRules {
 
     ghost Value = { List JsonRule };
 
-    ghost view = { λ rules. rules.items.items };
+    ghost view = { λ all. all.rules.items };
+}
+
+impl JsonRules {
+    /// Makes the list of these entries, in their order. Takes no memory.
+    pub fn new(rules: Vec<JsonRule>) -> JsonRules
+        ensures { result ≡ rules.items }
+    {
+        JsonRules { rules }
+    }
+
+    /// Gives a view of the entries, in their order.
+    pub fn as_slice(&self) -> &[JsonRule]
+        ensures { result.now ≡ self.now }
+    {
+        self.rules.as_slice()
+    }
+
+    /// Gives the entries back. Takes no memory.
+    pub fn into_vec(self) -> Vec<JsonRule>
+        ensures { result.items ≡ self }
+    {
+        let JsonRules { rules } = self;
+        rules
+    }
 }
 
 impl PartialEq for JsonRules {
@@ -141,30 +174,6 @@ impl PartialEq for JsonRules {
         ensures value { result ≡ rules_eq self.now other.now }
         ensures same { IsTrue result ↔ (self.now ≡ other.now) }
     {
-        self.as_slice() == other.as_slice()
-    }
-}
-
-impl JsonRules {
-    /// These entries, in this order.
-    pub fn new(items: Vec<JsonRule>) -> JsonRules
-        ensures { result ≡ items.items }
-    {
-        JsonRules { items }
-    }
-
-    /// The entries, in order.
-    pub fn as_slice(&self) -> &[JsonRule]
-        ensures { result.now ≡ self.now }
-    {
-        self.items.as_slice()
-    }
-
-    /// The entries, given back.
-    pub fn into_vec(self) -> Vec<JsonRule>
-        ensures { result.items ≡ self }
-    {
-        let JsonRules { items } = self;
-        items
+        self.rules == other.rules
     }
 }

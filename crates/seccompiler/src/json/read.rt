@@ -5,7 +5,7 @@ ghost use Rattle.serde_json.specs.View.{view, items_view};
 ghost use Rattle.seccompiler.specs.JsonReading.{plain_action, action_in, arg_len_in, plain_operator, operator_in, condition_in, conditions_in, args_in, entry_in, entries_in, one_of, filter_in};
 
 use crate::backend::{SeccompAction, SeccompCmpArgLen, SeccompCmpOp};
-use crate::json::members::{has_only_names, is_comment, is_object_of, u8_of, u32_of, u64_of};
+use crate::json::members::{has_only_names, is_commented, is_object_of, u8_of, u32_of, u64_of};
 use crate::json::parts::{JsonConditions, JsonRules, JsonSyscallName};
 use crate::json::types::{JsonCondition, JsonFilter, JsonRule};
 use serde_json::Value;
@@ -85,10 +85,7 @@ fn operator_of(value: &Value) -> Option<SeccompCmpOp>
 fn condition_of(value: &Value) -> Option<JsonCondition>
     ensures { result ≡ condition_in (view value.now) }
 {
-    if !is_object_of(value, &["index", "type", "op", "val", "comment"]) {
-        return None;
-    }
-    if !is_comment(value.get("comment")) {
+    if !is_object_of(value, &["index", "type", "op", "val", "comment"]) || !is_commented(value) {
         return None;
     }
     let arg_index = u8_of(value.get("index")?)?;
@@ -137,10 +134,7 @@ fn args_of(
 fn entry_of(alloc: Global, value: &Value) -> Result<Option<JsonRule>, AllocError>
     ensures { IfOk result (λ found. found ≡ entry_in (view value.now)) }
 {
-    if !is_object_of(value, &["syscall", "args", "comment"]) {
-        return Ok(None);
-    }
-    if !is_comment(value.get("comment")) {
+    if !is_object_of(value, &["syscall", "args", "comment"]) || !is_commented(value) {
         return Ok(None);
     }
     let Some(Value::String(syscall)) = value.get("syscall") else {

@@ -1,28 +1,34 @@
-// What a JSON text of filters holds.
+// A JSON text of filters, as types. docs/JSON.md has the format of the text.
 
 use crate::backend::{SeccompAction, SeccompCmpArgLen, SeccompCmpOp};
 use crate::json::parts::{JsonConditions, JsonRules, JsonSyscallName};
 use std::collections::BTreeMap;
 
 /// One condition on an argument of a system call.
+///
+/// Nothing is yet known of the index: `SeccompCondition` is the condition whose index is one of an
+/// argument. Two conditions are equal if their four parts are.
 #[derive(Debug, PartialEq, Drop)]
 pub struct JsonCondition {
-    /// The argument's index: `index` in the text. It is not yet known to be at most 5.
+    /// The argument's index, from 0: `index` in the text.
     pub arg_index: u8,
     /// How much of the argument is compared: `type` in the text.
     pub arg_len: SeccompCmpArgLen,
     /// How the argument is compared: `op` in the text.
     pub operator: SeccompCmpOp,
-    /// The value that the argument is compared with: `val` in the text.
+    /// What the argument is compared with: `val` in the text.
     pub value: u64,
 }
 
-/// One entry of a filter's list: a system call, and the conditions on its arguments if there are any.
+/// One entry of a filter: a system call, and conditions on its arguments.
+///
+/// Two entries are equal if their parts are. No conditions at all (`None`) differ from an empty list
+/// of them, which is refused later on.
 #[derive(Debug, Drop)]
 pub struct JsonRule {
-    /// The call's name.
+    /// The call's name: `syscall` in the text. It may be no call's.
     pub syscall: JsonSyscallName,
-    /// The conditions: `args` in the text. `None` where the text has none, or null.
+    /// The conditions: `args` in the text, `None` where the text has none, or null.
     pub conditions: Option<JsonConditions>,
 }
 
@@ -42,14 +48,16 @@ impl PartialEq for JsonRule {
     }
 }
 
-/// One filter.
+/// One filter: what it answers, and which calls match it.
+///
+/// Two filters are equal if their actions are, and their entries one by one.
 #[derive(Debug, Drop)]
 pub struct JsonFilter {
-    /// What the filter answers where no rule matches.
+    /// What the filter answers where no entry matches: `mismatch_action` or `default_action`.
     pub mismatch_action: SeccompAction,
-    /// What the filter answers where a rule matches.
+    /// What the filter answers where an entry matches: `match_action` or `filter_action`.
     pub match_action: SeccompAction,
-    /// The entries, in the text's order.
+    /// The entries, in the text's order: `filter` in the text.
     pub rules: JsonRules,
 }
 
@@ -71,7 +79,9 @@ impl PartialEq for JsonFilter {
     }
 }
 
-/// The filters of a text, under their names.
+/// The filters of a text under their names, in byte order of the names.
+///
+/// Two maps are equal if they have the same names, each with an equal filter.
 #[derive(Debug, Drop)]
 pub struct JsonFilterMap(pub BTreeMap<String, JsonFilter>);
 

@@ -6,7 +6,7 @@ use Rattle.seccompiler.proofs.rule.SeccompRule.holds.Goals as goal
 
 pub loop-condition-preserved : goal.loop-condition-preserved
 loop-condition-preserved c =
-    All-one_more (λ condition. Holds condition c.args.call.now) c.deref-condition-items.result.now c.loop-condition.condition-index c.condition-item.result c.loop-condition-test.true c.condition-item.is c.loop-condition.invariant (c.if-not-holds.ensures.0 refl)
+    All-one_more (λ condition. Holds condition c.args.call.now) c.deref-condition-items.result.now c.loop-condition.condition-index c.condition-item.result c.loop-condition-test.true c.condition-item.is c.loop-condition.invariant (c.if-not-holds.ensures.holds.0 refl)
 
 pub returns : goal.returns
 returns c =

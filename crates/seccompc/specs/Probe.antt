@@ -1,0 +1,78 @@
+-- The filter that a probe's words ask for, and what is wrong with words that ask for none.
+use Rattle.std.specs.Prelude.{◌≡◌, ℕ, ℤ, ◌<◌, ◌≤◌, List, [], ◌∷◌, Result, Ok, Err, String, string_bytes, ⊤}
+use Rattle.std.specs.Str.{str_to_ascii_lowercase}
+use Rattle.std.specs.declared.alloc.Global.{Global}
+use Rattle.seccompiler.specs.declared.backend.TargetArch.{TargetArch}
+use Rattle.seccompiler.specs.declared.backend.SeccompCmpArgLen.TheVariants.{Qword}
+use Rattle.seccompiler.specs.declared.backend.SeccompCmpOp.TheVariants.{Eq}
+use Rattle.seccompiler.specs.declared.backend.SeccompAction.TheVariants.{Allow, KillProcess}
+use Rattle.seccompiler.specs.declared.backend.BackendError.TheVariants.{InvalidArgumentNumber, InvalidTargetArch, InvalidSyscallNumber}
+use Rattle.seccompiler.specs.declared.error.Error.{Error}
+use Rattle.seccompiler.specs.declared.error.Error.TheVariants.{Backend}
+use Rattle.seccompiler.specs.Texts.{arch_text}
+use Rattle.seccompiler.specs.declared.bpf.sock_filter.{sock_filter}
+use Rattle.seccompiler.specs.Policy.{Filter, IsCallNumber}
+use Rattle.seccompiler.specs.Compiled.{IsCompiled}
+use Rattle.seccompc.specs.Errors.{IsReadFault}
+use Rattle.seccompc.specs.declared.error.ToolError.{ToolError}
+use Rattle.seccompc.specs.declared.error.ToolError.TheVariants.{Library, ShortRecord, Read, Write, OutOfMemory}
+
+-- The filter that allows a call of this number where all 8 bytes of the argument equal the value, and else kills the
+-- process.
+abbrev pub probe_filter : TargetArch → ℤ → ℕ → ℕ → Filter
+probe_filter target nr index value = record {
+  chains = (nr, (record { arg_index = index; arg_len = Qword; operator = Eq; value = value } ∷ []) ∷ []) ∷ [];
+  mismatch_action = KillProcess;
+  match_action = Allow;
+  target_arch = target;
+}
+
+-- The text is the architecture's name, ASCII case aside.
+abbrev pub IsNameOf : List ℕ → TargetArch → Type 0
+IsNameOf text target = str_to_ascii_lowercase text ≡ arch_text target
+
+-- The text names an architecture, a call has an argument of this index, and the number is a call number.
+pub record IsFaultless (arch : List ℕ) (nr : ℤ) (index : ℕ) : Type 0 where
+  pub target : TargetArch
+  pub named : IsNameOf arch target
+  pub argument : index ≤ 5
+  pub number : IsCallNumber nr
+
+-- The first of these that is so: the text names no architecture, no call has an argument of this index, the number is
+-- no call number.
+pub data IsFirstFault (arch : List ℕ) (nr : ℤ) (index : ℕ) (e : Error) : Type 0 where
+  no_architecture : (text : String Global) → ((target : TargetArch) → IsNameOf arch target → ⊥) → string_bytes text ≡ arch
+      → e ≡ Backend (InvalidTargetArch text) → IsFirstFault arch nr index e
+  no_argument : (target : TargetArch) → IsNameOf arch target → 5 < index → e ≡ Backend InvalidArgumentNumber → IsFirstFault arch nr index e
+  no_call_number : (target : TargetArch) → IsNameOf arch target → index ≤ 5 → (IsCallNumber nr → ⊥)
+      → e ≡ Backend (InvalidSyscallNumber nr) → IsFirstFault arch nr index e
+
+-- When each answer of a probe comes: a refusal of the library is the words' first fault, and any other answer but want
+-- of memory comes of words without one. A reader's fault for want of memory is answered as such, and not as `Read`.
+abbrev pub AnswersWords : List ℕ → ℤ → ℕ → Result ⊤ ToolError → Type 0
+AnswersWords arch nr index (Ok done) = IsFaultless arch nr index
+AnswersWords arch nr index (Err (Library e)) = IsFirstFault arch nr index e
+AnswersWords arch nr index (Err (ShortRecord rest)) = IsFaultless arch nr index
+AnswersWords arch nr index (Err (Read e)) = IsFaultless arch nr index × IsReadFault e
+AnswersWords arch nr index (Err (Write e)) = IsFaultless arch nr index
+AnswersWords arch nr index (Err OutOfMemory) = ⊤
+
+-- The filter is the one that words without the first two faults ask for.
+pub record IsFilterFor (arch : List ℕ) (nr : ℤ) (index value : ℕ) (f : Filter) : Type 0 where
+  pub target : TargetArch
+  pub named : IsNameOf arch target
+  pub argument : index ≤ 5
+  pub filter : f ≡ probe_filter target nr index value
+
+-- The program is compiled for the filter that words without a fault ask for.
+pub record IsCompiledFor (arch : List ℕ) (nr : ℤ) (index value : ℕ) (program : List sock_filter) : Type 0 where
+  pub faultless : IsFaultless arch nr index
+  pub compiled : IsCompiled (probe_filter faultless.target nr index value) program
+
+-- The error is the first fault, or want of memory.
+abbrev pub IsRefusedProbe : List ℕ → ℤ → ℕ → ToolError → Type 0
+IsRefusedProbe arch nr index (Library e) = IsFirstFault arch nr index e
+IsRefusedProbe arch nr index (ShortRecord rest) = ⊥
+IsRefusedProbe arch nr index (Read e) = ⊥
+IsRefusedProbe arch nr index (Write e) = ⊥
+IsRefusedProbe arch nr index OutOfMemory = ⊤

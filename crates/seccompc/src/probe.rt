@@ -1,0 +1,93 @@
+// The filter of one condition, and what its program does with records.
+
+ghost use Rattle.std.specs.Prelude.{◌≡◌, IfOk, IfErr, IfSome};
+ghost use Rattle.seccompiler.specs.declared.backend.TargetArch.{TargetArch};
+ghost use Rattle.seccompc.specs.Lines.{Traced};
+ghost use Rattle.seccompc.specs.Errors.{KeepsOutput};
+ghost use Rattle.seccompc.specs.Answers.{AnswersRecords};
+ghost use Rattle.seccompc.specs.Probe.{probe_filter, IsNameOf, AnswersWords, IsFilterFor, IsCompiledFor, IsRefusedProbe};
+
+use crate::error::ToolError;
+use crate::trace::trace;
+use seccompiler::{
+    BpfProgram, SeccompAction, SeccompCmpArgLen, SeccompCmpOp, SeccompCondition, SeccompFilter,
+    SeccompRule, TargetArch,
+};
+use std::alloc::Global;
+use std::collections::BTreeMap;
+use std::io::{Read, Write};
+
+/// Shows what the program of a filter of one condition does with records: for each whole record of
+/// 64 bytes the line of the word that the program returns and the steps that it takes.
+///
+/// The filter allows call `nr` where all 8 bytes of argument `index`, numbered from 0, equal
+/// `value`, and kills the process at any other call and on any other architecture than `arch`. A
+/// line is the word in 8 lower-case hexadecimal digits, a space, the steps in decimal, a line feed.
+/// All records are read before the first line is written, and all lines are written at once.
+///
+/// # Errors
+///
+/// The first of these: `Library` with `InvalidTargetArch` and the text as it was given where `arch`
+/// is no architecture's name, ASCII case aside; `Library` with `InvalidArgumentNumber` where `index`
+/// is above 5; `Library` with `InvalidSyscallNumber` where `nr` lies outside 0 to 4294967295; `Read`
+/// where the reader fails; `Write` where the writer does; `ShortRecord` where 1 to 63 bytes are
+/// left, after the lines of the whole records are written. `OutOfMemory` comes in place of any of
+/// these where memory is refused, and where the reader fails for want of memory. On any error but
+/// `Write` and `ShortRecord` nothing is written.
+pub fn probe<R: Read + Drop, W: Write>(
+    alloc: Global,
+    arch: &str,
+    nr: i64,
+    index: u8,
+    value: u64,
+    records: R,
+    out: &mut W,
+) -> Result<(), ToolError>
+    // When each answer comes.
+    ensures words { AnswersWords arch.now nr index result }
+
+    // What it answers and writes where the records are known.
+    ensures traced { IfSome (R.remaining records) (λ bytes. (target : TargetArch) → IsNameOf arch.now target → AnswersRecords (Traced (probe_filter target nr index value)) bytes result (W.contents out.old) (W.contents out.new)) }
+    ensures unwritten { IfErr result (λ e. KeepsOutput e out.old out.new) }
+{
+    let program = program_of(alloc, arch, nr, index, value)?;
+    trace(alloc, &program, records, out)
+}
+
+// The filter's program.
+fn program_of(
+    alloc: Global,
+    arch: &str,
+    nr: i64,
+    index: u8,
+    value: u64,
+) -> Result<BpfProgram, ToolError>
+    ensures compiled { IfOk result (λ program. IsCompiledFor arch.now nr index value program.items) }
+    ensures refused { IfErr result (IsRefusedProbe arch.now nr index) }
+{
+    Ok(filter_of(alloc, arch, nr, index, value)?.to_bpf(alloc)?)
+}
+
+// The filter that lets call `nr` pass where argument `index` equals `value`.
+fn filter_of(
+    alloc: Global,
+    arch: &str,
+    nr: i64,
+    index: u8,
+    value: u64,
+) -> Result<SeccompFilter, ToolError>
+    ensures made { IfOk result (IsFilterFor arch.now nr index value) }
+    ensures refused { IfErr result (IsRefusedProbe arch.now nr index) }
+{
+    let arch = TargetArch::from_text(alloc, arch)?;
+    let condition = SeccompCondition::new(index, SeccompCmpArgLen::Qword, SeccompCmpOp::Eq, value)?;
+    let rule = SeccompRule::new(vec![in alloc; condition]?)?;
+    let mut rules = BTreeMap::new(alloc);
+    drop(rules.insert(nr, vec![in alloc; rule]?)?);
+    Ok(SeccompFilter::new(
+        rules,
+        SeccompAction::KillProcess,
+        SeccompAction::Allow,
+        arch,
+    )?)
+}

@@ -1,0 +1,5 @@
+// Tests of the engines and of the words, with scripted readers and writers.
+
+mod probe;
+mod scripted;
+mod words;

@@ -1,5 +1,5 @@
 -- What the policies of a value, or the first fault, tell of the value.
-use Rattle.std.proofs.Common.{◌≡◌, ℕ, List, Bool, true, false, cond, Result, Ok, Err, Option, Some, None, String, Global, BTreeMap, string_bytes, string_cmp, map, refl, sym, ap, ◌∙◌, subst, IfOk, IfErr, IfSome}
+use Rattle.std.proofs.Common.{◌≡◌, ℕ, List, Bool, true, false, cond, Result, Ok, Err, Option, Some, None, string_bytes, string_cmp, map, refl, sym, ap, ◌∙◌, subst, IfOk, IfErr, IfSome}
 use Rattle.std.specs.BTreeMap.{IsOrdered, get_by_text}
 use Rattle.std.specs.HashMap as hash
 use Rattle.std.specs.List.Sorted.{IsStrictlySortedBy}
@@ -9,11 +9,10 @@ use Rattle.std.proofs.lemmas.Map.Text.{is_text}
 use Rattle.serde_json.specs.Data.{Data}
 use Rattle.serde_json.specs.Find.{get}
 use Rattle.serde_json.specs.Read.{read}
-use Rattle.seccompiler.specs.JsonAnswers.{IsReadAs, IsValueOf, HasPolicy, ArePoliciesOf, AreAllFilters, IsLeastRefused, TellsFrontendFault, OfValue}
+use Rattle.seccompiler.specs.JsonAnswers.{IsReadAs, IsValueOf, ArePoliciesOf, AreAllFilters, IsLeastRefused, TellsFrontendFault, OfValue}
 use Rattle.seccompiler.specs.JsonFault.{Fault, unreadable, refused, unknown_call, Fails, Gives}
 use Rattle.seccompiler.specs.JsonFilters.{filters_of, AreFilters, IsRefusal}
 use Rattle.seccompiler.specs.JsonPolicies.{named_policy, value_of, or_unreadable, policies_in, InOrder, ByName, HasExactly, policies_of, GivesInOrder, GivesPolicies, IsPolicyError}
-use Rattle.seccompiler.specs.JsonPolicy.{policy_in}
 use Rattle.seccompiler.specs.JsonShape.{Has, IsFilter}
 use Rattle.seccompiler.specs.Policy.{Filter}
 use Rattle.seccompiler.specs.declared.backend.TargetArch.{TargetArch}

@@ -1,7 +1,7 @@
 -- The steps from a text to its policies: the value, the walk over the filters, and the order of faults.
-use Rattle.std.proofs.Common.{◌≡◌, ◌≢◌, ℕ, ◌++◌, List, [], ◌∷◌, Bool, true, false, cond, Result, Ok, Err, Option, Some, None, String, Global, string_bytes, string_cmp, bytes_eq, map, refl, sym, ap, ◌∙◌, append_assoc, ◌⊎◌, inl, inr}
+use Rattle.std.proofs.Common.{◌≡◌, ℕ, ◌++◌, List, [], ◌∷◌, Bool, true, false, cond, Result, Ok, Err, Option, Some, None, String, Global, string_bytes, bytes_eq, map, refl, sym, ap, ◌∙◌, append_assoc, ◌⊎◌, inl, inr}
 use Rattle.std.specs.List.{AllByRecursion}
-use Rattle.std.specs.Map.{keys_of, lookup}
+use Rattle.std.specs.Map.{lookup}
 use Rattle.std.specs.Str.{IsUtf8, is_utf8}
 use Rattle.std.proofs.lemmas.Bool.{cases_Bool}
 use Rattle.std.proofs.lemmas.Map.Text.{is_text}

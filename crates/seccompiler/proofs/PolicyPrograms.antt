@@ -1,6 +1,6 @@
 -- The programs of a list of policies under their names, and what their refusal tells of it.
-use Rattle.std.proofs.Common.{◌≡◌, ℕ, ◌≤◌, ℤ, pos, negsuc, ◌++◌, List, [], ◌∷◌, Result, Ok, Err, Option, Some, None, String, Global, Vec, string_bytes, string_cmp, refl, sym, ap, ◌∙◌, subst, IfOk, IfErr, IfSome, arith}
-use Rattle.std.specs.Prelude.{All, Contains}
+use Rattle.std.proofs.Common.{◌≡◌, ℕ, ℤ, pos, negsuc, ◌++◌, List, [], ◌∷◌, Option, Some, None, Global, Vec, string_bytes, string_cmp, refl, sym, ap, ◌∙◌, subst, IfSome, arith}
+use Rattle.std.specs.Prelude.{All}
 use Rattle.std.specs.BTreeMap.{get_by_text}
 use Rattle.std.specs.HashMap as hash
 use Rattle.std.specs.List.{AllByRecursion}
@@ -13,12 +13,11 @@ use Rattle.serde_json.specs.Data.{Data}
 use Rattle.seccompiler.specs.Errors.{from_backend, from_frontend}
 use Rattle.serde_json.specs.Find.{get}
 use Rattle.seccompiler.specs.JsonAnswers.{IsValueOf, HasPolicy, ArePoliciesOf, OfValue, TellsFrontendFault}
-use Rattle.seccompiler.specs.JsonFilters.{IsBelow}
 use Rattle.seccompiler.specs.JsonPolicies.{ByName, InOrder}
 use Rattle.seccompiler.specs.JsonShape.{Has}
 use Rattle.seccompiler.specs.JsonPrograms.{IsProgramOf, AreProgramsFor, IsLeastLarge, IsLeastRefusal, AreProgramsOf, HaveAllPolicies, IsLeastTooLarge, TellsFirstFault}
 use Rattle.seccompiler.specs.Policy.{Filter, IsCallNumber}
-use Rattle.seccompiler.specs.Refusal.{numbers_of, IsCompilable, IsTooLarge, IsRefusal}
+use Rattle.seccompiler.specs.Refusal.{numbers_of, IsCompilable, IsRefusal}
 use Rattle.seccompiler.specs.SyscallTable.{IsTableNumber}
 use Rattle.seccompiler.specs.declared.backend.BackendError.{BackendError}
 use Rattle.seccompiler.specs.declared.backend.BackendError.TheVariants as b

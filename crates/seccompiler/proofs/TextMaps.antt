@@ -1,5 +1,5 @@
 -- Look-ups by text in lists of entries and in maps.
-use Rattle.std.proofs.Common.{◌≡◌, ℕ, ◌++◌, List, [], ◌∷◌, Bool, true, false, cond, Option, Some, None, String, Global, Ordering, Less, Greater, string_bytes, string_cmp, string_eq, nat_cmp, bytes_eq, is_eq, map, refl, sym, ap, ◌∙◌, subst, ◌⊎◌, inl, inr}
+use Rattle.std.proofs.Common.{◌≡◌, ℕ, ◌++◌, List, [], ◌∷◌, true, false, cond, Option, Some, None, String, Global, Less, Greater, string_bytes, string_cmp, string_eq, nat_cmp, bytes_eq, map, refl, sym, ap, ◌∙◌, subst, inl, inr}
 use Rattle.std.specs.BTreeMap.{is_at, insert_entry}
 use Rattle.std.specs.Cmp.Lexicographic.{slice_cmp}
 use Rattle.std.specs.HashMap.{HashMap, UpdatesBy, get_by_text}

@@ -1,8 +1,7 @@
-use Rattle.std.proofs.Common.{◌≡◌, ◌∷◌, ◌++◌, [], String, Global, string_cmp, sym, ap, ◌∙◌, subst, append_assoc, append-nil}
+use Rattle.std.proofs.Common.{◌≡◌, ◌∷◌, ◌++◌, [], string_cmp, sym, ap, ◌∙◌, subst, append_assoc, append-nil}
 use Rattle.std.specs.Prelude.{All}
 use Rattle.std.specs.List.Sorted.{IsStrictlySortedBy}
 use Rattle.std.specs.Map.{keys_of, lookup}
-use Rattle.std.proofs.lemmas.List.Elements.{All-contains, Contains-append_right}
 use Rattle.std.proofs.lemmas.Map.Text.{is_text}
 use Rattle.std.proofs.lemmas.Result.{err_from_is_err_and}
 use Rattle.seccompiler.specs.JsonPrograms.{IsProgramOf}
@@ -14,11 +13,14 @@ use Rattle.seccompiler.proofs.TextMaps.{agrees_more, agree_none, all_more}
 use Rattle.seccompiler.proofs.compile.programs.Goals as goal
 
 pub loop-name-init : goal.loop-name-init
-loop-name-init c = ([], record {
-  all = sym c.into_iter-name-iterator.ensures.into_iter_gives.0;
-  programs = λ q. agree_none IsProgramOf _ (ap (lookup (is_text q)) c.new-found.ensures.empty);
-  compilable = tt;
-})
+loop-name-init c = (
+  [],
+  record {
+    all = sym c.into_iter-name-iterator.ensures.into_iter_gives.0;
+    programs = λ q. agree_none IsProgramOf _ (ap (lookup (is_text q)) c.new-found.ensures.empty);
+    compilable = tt;
+  },
+)
 
 pub returns-in_err-program-clause-refused : goal.returns-in_err-program-clause-refused
 returns-in_err-program-clause-refused c =
@@ -39,12 +41,14 @@ loop-name-preserved c =
     let left = c.next.new.self in
     let all : c.args.policies.entries ≡ done ++ e ∷ left = l.invariant.1.all ∙ ap (λ es. done ++ es) c.in-Some.ensures.steps in
     let sorted : IsStrictlySortedBy string_cmp (keys_of (done ++ e ∷ left)) = subst (λ es. IsStrictlySortedBy string_cmp (keys_of es)) all c.into_iter-name-iterator.ensures.into_iter_gives.5 in
-    let made : IsProgramOf e.1 c.in_ok-program.program = record { compiled = c.in_ok-program.ensures.compiled; passes = c.in_ok-program.ensures.passes } in
-    (done ++ e ∷ [], record {
-      all = all ∙ sym (append_assoc done (e ∷ []) left);
-      programs = agrees_more IsProgramOf done e left l.found c.insert.new.self c.in_ok-program.program l.invariant.1.programs sorted made c.in_ok-insert.ensures.updates;
-      compilable = all_more (λ e. IsCompilable e.1) done e l.invariant.1.compilable c.in_ok-program.ensures.compilable;
-    })
+    let made : IsProgramOf e.1 c.in_ok-program.program = record { compiled = c.in_ok-program.ensures.compiled; passes = c.in_ok-program.ensures.passes } in (
+      done ++ e ∷ [],
+      record {
+        all = all ∙ sym (append_assoc done (e ∷ []) left);
+        programs = agrees_more IsProgramOf done e left l.found c.insert.new.self c.in_ok-program.program l.invariant.1.programs sorted made c.in_ok-insert.ensures.updates;
+        compilable = all_more (λ e. IsCompilable e.1) done e l.invariant.1.compilable c.in_ok-program.ensures.compilable;
+      },
+    )
 
 pub returns-clause-programs : goal.returns-clause-programs
 returns-clause-programs c =

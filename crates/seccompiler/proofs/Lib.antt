@@ -40,3 +40,7 @@ pub mod JsonEntries
 pub mod NumberedChains
 pub mod JsonAdditions
 pub mod JsonPolicies
+pub mod TextMaps
+pub mod JsonPolicySteps
+pub mod JsonPolicyFaults
+pub mod PolicyPrograms

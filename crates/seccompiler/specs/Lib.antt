@@ -18,6 +18,9 @@ pub mod Compiled
 pub mod Refusal
 pub mod JsonPolicyOf
 pub mod JsonPolicy
+pub mod JsonPolicies
+pub mod JsonAnswers
+pub mod JsonPrograms
 pub mod Reorder
 pub mod LowHalf
 pub mod JsonEquality

@@ -4,6 +4,7 @@
 //! docs/JSON.md has the format. [`repeats_key`] tells that a text repeats a name, and
 //! [`read_filters`] turns the value of a text into filters.
 
+mod compile;
 mod compiler;
 mod error;
 mod filters;

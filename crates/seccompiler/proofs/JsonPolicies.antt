@@ -125,9 +125,9 @@ module _ (arch : TargetArch) (j : JsonFilter) where
   pub policy_given : (f : Filter) → (policy_in arch j ≡ Ok f) ↔ IsPolicyOf arch j f
   policy_given f = elim policy_or_fault [
     | inl has ↦ (
-        λ h. let same : has.0 ≡ f = let e : Ok has.0 ≡ Ok f = sym has.2 ∙ h in cc in subst (IsPolicyOf arch j) same has.1,
-        λ is. has.2 ∙ ap Ok (one_policy has.0 f has.1 is),
-      )
+      λ h. let same : has.0 ≡ f = let e : Ok has.0 ≡ Ok f = sym has.2 ∙ h in cc in subst (IsPolicyOf arch j) same has.1,
+      λ is. has.2 ∙ ap Ok (one_policy has.0 f has.1 is),
+    )
     | inr wrong ↦ (λ h. let e = sym wrong.2 ∙ h in cc, λ is. absurd (no_fault f wrong.0 is wrong.1))
   ]
 
@@ -135,9 +135,9 @@ module _ (arch : TargetArch) (j : JsonFilter) where
   fault_given fault = elim policy_or_fault [
     | inl has ↦ (λ h. let e = sym has.2 ∙ h in cc, λ is. absurd (no_fault has.0 fault has.1 is))
     | inr wrong ↦ (
-        λ h. let same : wrong.0 ≡ fault = let e : Err wrong.0 ≡ Err fault = sym wrong.2 ∙ h in cc in subst (IsFirstFault arch j) same wrong.1,
-        first_fault_given fault,
-      )
+      λ h. let same : wrong.0 ≡ fault = let e : Err wrong.0 ≡ Err fault = sym wrong.2 ∙ h in cc in subst (IsFirstFault arch j) same wrong.1,
+      first_fault_given fault,
+    )
   ]
 
   -- The policy's numbers are those of a table.

@@ -8,4 +8,8 @@ mod json_shapes;
 #[cfg(test)]
 mod json_texts;
 #[cfg(test)]
+mod kernels;
+#[cfg(test)]
 mod machine;
+#[cfg(test)]
+mod texts;

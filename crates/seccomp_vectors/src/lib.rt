@@ -18,6 +18,8 @@ mod json_shapes;
 #[cfg(test)]
 mod json_texts;
 #[cfg(test)]
+mod kernels;
+#[cfg(test)]
 mod limits;
 #[cfg(test)]
 mod machine;
@@ -29,3 +31,5 @@ mod programs;
 mod relays;
 #[cfg(test)]
 mod rules;
+#[cfg(test)]
+mod texts;

@@ -49,10 +49,7 @@ fn condition_of(condition: &JsonCondition) -> Result<SeccompCondition, JsonFront
 }
 
 // The rule of the conditions, in their order.
-fn rule_of(
-    alloc: Global,
-    conditions: &[JsonCondition],
-) -> Result<SeccompRule, JsonFrontendError>
+fn rule_of(alloc: Global, conditions: &[JsonCondition]) -> Result<SeccompRule, JsonFrontendError>
     ensures { Gives (λ rule. rule) result (build_rule conditions.now) }
 {
     let mut found = Vec::new(alloc);
@@ -63,11 +60,7 @@ fn rule_of(
 }
 
 // The number of the call of this name.
-fn call_number(
-    alloc: Global,
-    arch: TargetArch,
-    name: &str,
-) -> Result<i64, JsonFrontendError>
+fn call_number(alloc: Global, arch: TargetArch, name: &str) -> Result<i64, JsonFrontendError>
     ensures { Gives (λ number. number) result (build_number arch name.now) }
 {
     match SyscallTable::new(arch).get_syscall_nr(name) {
@@ -148,10 +141,5 @@ pub fn seccomp_filter(
     ensures { Gives (λ f. f) result (policy_in arch filter.now) }
 {
     let chains = chains_of_entries(alloc, arch, filter.rules.as_slice())?;
-    Ok(SeccompFilter::new(
-        chains,
-        filter.mismatch_action,
-        filter.match_action,
-        arch,
-    )?)
+    Ok(SeccompFilter::new(chains, filter.mismatch_action, filter.match_action, arch)?)
 }

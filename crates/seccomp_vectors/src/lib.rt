@@ -14,6 +14,8 @@ mod filters;
 #[cfg(test)]
 mod instructions;
 #[cfg(test)]
+mod json_policies;
+#[cfg(test)]
 mod json_shapes;
 #[cfg(test)]
 mod json_texts;

@@ -101,7 +101,8 @@ fn own_rule(
     }
 }
 
-// Adds what the entry stands for: a chain for its call's number, and its rule at the end of that.
+// Adds what the entry stands for: a chain for its call's number, if there is none yet, and the entry's
+// rule at the end of that chain.
 fn add_entry(
     alloc: Global,
     arch: TargetArch,
@@ -131,7 +132,7 @@ fn chains_of_entries(
     Ok(chains)
 }
 
-/// The filter of a JSON filter.
+/// The filter of a JSON filter on an architecture.
 #[tactic(auto, unfolding(crate::specs::JsonPolicy::policy_in))]
 pub fn seccomp_filter(
     alloc: Global,

@@ -1,4 +1,4 @@
-use Rattle.std.proofs.Common.{rules, ◌≡◌, ◌++◌, w64, ap, ◌∙◌, sym, unwrap_or, append-nil}
+use Rattle.std.proofs.Common.{rules, ◌++◌, w64, ap, ◌∙◌, sym, unwrap_or, append-nil}
 use mir.Val.{SFits}
 use Rattle.std.specs.Option.{option_to_list}
 use Rattle.std.proofs.lemmas.Int.{to_z-of_z}

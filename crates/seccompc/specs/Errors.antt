@@ -1,5 +1,5 @@
 -- The errors of the program's engines: how a refusal becomes one, their texts, and what they leave as it was.
-use Rattle.std.specs.Prelude.{◌≡◌, ◌≢◌, ℕ, List, ◌++◌, codes, decimal, ⊤}
+use Rattle.std.specs.Prelude.{◌≡◌, ◌≢◌, ℕ, List, ◌++◌, Option, Some, codes, decimal, ⊤}
 use Rattle.std.specs.IoError.{error_kind}
 use Rattle.std.specs.declared.io.Error.{Error}
 use Rattle.std.specs.declared.io.ErrorKind.TheVariants as kind
@@ -14,13 +14,13 @@ abbrev pub from_library : LibraryError → ToolError
 from_library library.OutOfMemory = OutOfMemory
 from_library refusal = Library refusal
 
--- The text of an error.
-abbrev pub tool_text : ToolError → List ℕ
+-- The text of an error, where it is known.
+abbrev pub tool_text : ToolError → Option (List ℕ)
 tool_text (Library e) = error_text e
-tool_text (ShortRecord rest) = codes "The input ends inside a record, after " ++ decimal rest ++ codes " bytes of it."
-tool_text (Read e) = codes "Error reading input."
-tool_text (Write e) = codes "Error writing output."
-tool_text OutOfMemory = codes "Out of memory."
+tool_text (ShortRecord rest) = Some (codes "The input ends inside a record, after " ++ decimal rest ++ codes " bytes of it.")
+tool_text (Read e) = Some (codes "Error reading input.")
+tool_text (Write e) = Some (codes "Error writing output.")
+tool_text OutOfMemory = Some (codes "Out of memory.")
 
 -- A reader's fault of another kind than want of memory.
 abbrev pub IsReadFault : Error → Type 0

@@ -23,10 +23,9 @@ pub enum ToolError {
 
 /// The error's text.
 impl fmt::Display for ToolError {
-    ghost use Rattle.std.specs.Prelude.{Some};
     ghost use Rattle.seccompc.specs.Errors.{tool_text};
 
-    ghost output = { λ error. Some (tool_text error) };
+    ghost output = { tool_text };
 
     fn fmt<W: fmt::Write>(&self, f: &mut fmt::Formatter<W>) -> fmt::Result {
         match self {

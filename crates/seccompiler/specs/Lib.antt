@@ -17,6 +17,11 @@ pub mod Pieces
 pub mod ChainCode
 pub mod Compiled
 pub mod Refusal
+pub mod JsonPolicyOf
+pub mod JsonPolicy
+pub mod JsonPolicies
+pub mod JsonAnswers
+pub mod JsonPrograms
 pub mod Reorder
 pub mod LowHalf
 pub mod JsonEquality

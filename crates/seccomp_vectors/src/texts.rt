@@ -1,5 +1,6 @@
 // The texts of architectures and of the errors of the backend and of the crate's root.
 
+use seccompiler::json::JsonFrontendError;
 use seccompiler::{BackendError, Error, TargetArch};
 use std::alloc::Global;
 use std::test::Fail;
@@ -67,6 +68,7 @@ fn errors_of_the_backend(rt: HostRuntime) -> Result<(), Fail> {
 #[test]
 fn errors_of_the_root(rt: HostRuntime) -> Result<(), Fail> {
     let alloc = rt.alloc();
+    let name = text(alloc, "nosyscall")?;
     for (error, want) in [
         (
             Error::Backend(BackendError::FilterTooLarge(5002)),
@@ -78,6 +80,10 @@ fn errors_of_the_root(rt: HostRuntime) -> Result<(), Fail> {
         (
             Error::ThreadSync(4711),
             "Seccomp filter synchronization failed in thread `4711`",
+        ),
+        (
+            Error::JsonFrontend(JsonFrontendError::SyscallName(name, TargetArch::aarch64)),
+            "Json Frontend error: Invalid syscall name: nosyscall for given arch: aarch64.",
         ),
         (Error::OutOfMemory, "Out of memory."),
     ] {

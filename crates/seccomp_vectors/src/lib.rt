@@ -14,6 +14,12 @@ mod filters;
 #[cfg(test)]
 mod instructions;
 #[cfg(test)]
+mod json_faults;
+#[cfg(test)]
+mod json_policies;
+#[cfg(test)]
+mod json_programs;
+#[cfg(test)]
 mod json_shapes;
 #[cfg(test)]
 mod json_texts;

@@ -87,30 +87,6 @@ pub fn long_rule(alloc: Global, conditions: &[(usize, Parts)]) -> Result<Seccomp
     Ok(SeccompRule::new(made)?)
 }
 
-// The chain of these rules.
-pub fn chain(alloc: Global, rules: &[&[Parts]]) -> Result<Vec<SeccompRule>, Fail> {
-    let mut made = Vec::new(alloc);
-    for conditions in rules {
-        made.push(rule(alloc, conditions)?)?;
-    }
-    Ok(made)
-}
-
-// The x86_64 filter of these chains.
-pub fn filter(
-    alloc: Global,
-    chains: &[(i64, &[&[Parts]])],
-    mismatch_action: SeccompAction,
-    match_action: SeccompAction,
-) -> Result<SeccompFilter, Fail> {
-    let mut rules = BTreeMap::new(alloc);
-    for (number, conditions) in chains {
-        drop(rules.insert(*number, chain(alloc, conditions)?)?);
-    }
-    let arch = TargetArch::x86_64;
-    Ok(SeccompFilter::new(rules, mismatch_action, match_action, arch)?)
-}
-
 // The x86_64 filter of one chain, which traps what the chain does not match.
 pub fn one_chain(
     alloc: Global,

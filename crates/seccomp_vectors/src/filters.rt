@@ -1,7 +1,7 @@
 // Filters: what is refused, what orders and halves do not change, and their copies.
 
 use crate::builders::{AARCH64, ALLOW, KILL_PROCESS, RISCV64, SeccompData, TRAP, X86_64, call};
-use crate::policies::{empty_policy, readme_policy, three_calls, three_calls_reversed};
+use crate::policies::{empty_policy, three_calls, three_calls_reversed, two_calls};
 use seccompiler::backend::SeccompAction::{Allow, Errno, Trap};
 use seccompiler::backend::SeccompCmpArgLen::{Dword, Qword};
 use seccompiler::backend::{BackendError, TargetArch};
@@ -112,7 +112,7 @@ fn a_copy_is_equal(rt: HostRuntime) -> Result<(), Fail> {
     let alloc = rt.alloc();
     for (name, filter) in [
         ("no chain", empty_policy(alloc)?),
-        ("two calls", readme_policy(alloc)?),
+        ("two calls", two_calls(alloc)?),
         ("three calls", three_calls(alloc, Qword)?),
     ] {
         let copy = filter.clone(alloc)?;

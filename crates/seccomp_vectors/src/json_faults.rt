@@ -1,6 +1,6 @@
 // Which fault of a JSON text is told, and that it is the first.
 
-use crate::json_policies::{COMPARES, filter_text, policy, repeated};
+use crate::json_samples::{COMPARES, filter_text, policy, repeated};
 use seccompiler::backend::{BackendError, TargetArch};
 use seccompiler::json::{JsonCompiler, JsonFrontendError};
 use seccompiler::{Error, compile_from_json};

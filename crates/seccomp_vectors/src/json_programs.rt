@@ -1,18 +1,17 @@
 // JSON texts, and the filters and programs that they give.
 
-use crate::builders::{ALLOW, Parts, TRAP, call, chain, filter};
-use crate::json_policies::{
-    COMPARES, MAIN_THREAD, README, READS, compiled, one_filter, policy, repeated,
+use crate::builders::{ALLOW, Parts, TRAP, call};
+use crate::json_samples::{
+    COMPARES, Chains, MAIN_THREAD, README, READS, compiled, filter, filter_for, one_filter, policy,
+    repeated,
 };
-use crate::policies::readme_policy;
+use crate::policies::two_calls;
 use seccompiler::backend::SeccompAction::{Allow, Errno, Trap};
 use seccompiler::backend::SeccompCmpArgLen::{Dword, Qword};
 use seccompiler::backend::SeccompCmpOp::{Eq, Ge, Gt, Le, Lt, MaskedEq, Ne};
 use seccompiler::backend::TargetArch;
 use seccompiler::compile_from_json;
-use seccompiler::filter::SeccompFilter;
 use seccompiler::machine::{Outcome, run};
-use std::collections::BTreeMap;
 use std::test::Fail;
 
 #[test]
@@ -113,13 +112,18 @@ fn the_policy_of_a_main_thread_on_aarch64(rt: HostRuntime) -> Result<(), Fail> {
         &[(2, Qword, Eq, 4294967336)],
     ];
     let madvise: &[&[Parts]] = &[&[(0, Dword, Eq, 0), (1, Dword, Eq, 0)]];
-    let mut chains = BTreeMap::new(alloc);
-    for number in [135, 132, 215, 93, 139, 98, 172] {
-        drop(chains.insert(number, Vec::new(alloc))?);
-    }
-    drop(chains.insert(29, chain(alloc, ioctl)?)?);
-    drop(chains.insert(233, chain(alloc, madvise)?)?);
-    let wanted = SeccompFilter::new(chains, Errno(1000), Allow, TargetArch::aarch64)?;
+    let chains: Chains = &[
+        (29, ioctl),
+        (93, &[]),
+        (98, &[]),
+        (132, &[]),
+        (135, &[]),
+        (139, &[]),
+        (172, &[]),
+        (215, &[]),
+        (233, madvise),
+    ];
+    let wanted = filter_for(alloc, TargetArch::aarch64, chains, Errno(1000), Allow)?;
     let made = one_filter(alloc, TargetArch::aarch64, MAIN_THREAD, "main_thread")?;
     assert!(rt; made == wanted, "the filter under aarch64's numbers");
     Ok(())
@@ -130,11 +134,7 @@ fn the_policy_of_the_readme(rt: HostRuntime) -> Result<(), Fail> {
     let alloc = rt.alloc();
     let program = compiled(alloc, README, "main_thread")?;
     assert_eq!(rt; program.len(), 24, "the length");
-    assert_eq!(rt;
-        program,
-        readme_policy(alloc)?.to_bpf(alloc)?,
-        "the program"
-    );
+    assert_eq!(rt; program, two_calls(alloc)?.to_bpf(alloc)?, "the program");
     Ok(())
 }
 
@@ -159,7 +159,8 @@ fn filters_with_comments(rt: HostRuntime) -> Result<(), Fail> {
         &[(3, Qword, Gt, 65), (1, Qword, Lt, 80)],
         &[(3, Qword, Ge, 65)],
     ];
-    let wanted = filter(alloc, &[(0, &[]), (16, ioctl), (202, futex)], Trap, Allow)?;
+    let chains: Chains = &[(0, &[]), (16, ioctl), (202, futex)];
+    let wanted = filter(alloc, chains, Trap, Allow)?;
     let made = one_filter(alloc, TargetArch::x86_64, text, "a")?;
     assert!(rt; made == wanted, "the filter of five entries");
     Ok(())

@@ -20,9 +20,13 @@ mod json_policies;
 #[cfg(test)]
 mod json_programs;
 #[cfg(test)]
+mod json_samples;
+#[cfg(test)]
 mod json_shapes;
 #[cfg(test)]
 mod json_texts;
+#[cfg(test)]
+mod kernels;
 #[cfg(test)]
 mod limits;
 #[cfg(test)]
@@ -35,3 +39,5 @@ mod programs;
 mod relays;
 #[cfg(test)]
 mod rules;
+#[cfg(test)]
+mod texts;

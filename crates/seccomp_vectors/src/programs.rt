@@ -4,85 +4,93 @@ use crate::builders::{
     AARCH64, ALLOW, KILL_PROCESS, SeccompData, TRAP, X86_64, assert_answers, call,
 };
 use crate::instructions::{give, jump, jump_at_least, jump_equal, jump_greater, load, mask};
-use crate::policies::{empty_policy, readme_policy, three_calls, two_arguments};
+use crate::policies::{empty_policy, three_calls, two_arguments, two_calls};
 use seccompiler::backend::SeccompCmpArgLen::{Dword, Qword};
+use seccompiler::bpf::sock_filter;
+use seccompiler::filter::SeccompFilter;
+use std::alloc::Global;
+use std::process::Abort;
 use std::test::Fail;
 
-#[test]
-fn filters_have_these_instructions(rt: HostRuntime) -> Result<(), Fail> {
-    let alloc = rt.alloc();
-    for (name, filter, want) in [
-        (
-            "no chain",
-            empty_policy(alloc)?,
-            &[
-                load(4),
-                jump_equal(X86_64, 1, 0),
-                give(KILL_PROCESS),
-                give(ALLOW),
-            ][..],
-        ),
-        (
-            "two arguments of one call",
-            two_arguments(alloc)?,
-            &[
-                load(4),
-                jump_equal(X86_64, 1, 0),
-                give(KILL_PROCESS),
-                load(0),
-                jump_equal(72, 0, 1),
-                jump(1),
-                jump(6),
-                load(24),
-                jump_equal(2, 0, 3),
-                load(16),
-                jump_equal(1, 0, 1),
-                give(ALLOW),
-                give(KILL_PROCESS),
-                give(KILL_PROCESS),
-            ][..],
-        ),
-        (
-            "a call with two rules and one with none",
-            readme_policy(alloc)?,
-            &[
-                load(4),
-                jump_equal(X86_64, 1, 0),
-                give(KILL_PROCESS),
-                load(0),
-                jump_equal(72, 0, 1),
-                jump(1),
-                jump(6),
-                load(32),
-                jump_equal(1, 0, 3),
-                load(24),
-                jump_equal(2, 0, 1),
-                give(ALLOW),
-                jump(1),
-                jump(4),
-                load(24),
-                jump_equal(1, 0, 1),
-                give(ALLOW),
-                give(KILL_PROCESS),
-                jump_equal(288, 0, 1),
-                jump(1),
-                jump(2),
-                give(ALLOW),
-                give(KILL_PROCESS),
-                give(KILL_PROCESS),
-            ][..],
-        ),
-    ] {
-        let program = filter.to_bpf(alloc)?;
-        assert_eq!(rt; program.as_slice(), want, "the program of {name}");
-    }
+// Asserts that the filter compiles to these instructions.
+fn assert_program(
+    rt: &impl Abort,
+    alloc: Global,
+    name: &str,
+    filter: &SeccompFilter,
+    want: &[sock_filter],
+) -> Result<(), Fail> {
+    let program = filter.to_bpf(alloc)?;
+    assert_eq!(rt; program.as_slice(), want, "the program of {name}");
     Ok(())
 }
 
 #[test]
-fn three_calls_by_low_halves(rt: HostRuntime) -> Result<(), Fail> {
+fn instructions_of_small_filters(rt: HostRuntime) -> Result<(), Fail> {
     let alloc = rt.alloc();
-    let program = three_calls(alloc, Dword)?.to_bpf(alloc)?;
+    let want = [
+        load(4),
+        jump_equal(X86_64, 1, 0),
+        give(KILL_PROCESS),
+        give(ALLOW),
+    ];
+    assert_program(&rt, alloc, "no chain", &empty_policy(alloc)?, &want)?;
+    let want = [
+        load(4),
+        jump_equal(X86_64, 1, 0),
+        give(KILL_PROCESS),
+        load(0),
+        jump_equal(72, 0, 1),
+        jump(1),
+        jump(6),
+        load(24),
+        jump_equal(2, 0, 3),
+        load(16),
+        jump_equal(1, 0, 1),
+        give(ALLOW),
+        give(KILL_PROCESS),
+        give(KILL_PROCESS),
+    ];
+    assert_program(
+        &rt,
+        alloc,
+        "one rule of two conditions",
+        &two_arguments(alloc)?,
+        &want,
+    )?;
+    let want = [
+        load(4),
+        jump_equal(X86_64, 1, 0),
+        give(KILL_PROCESS),
+        load(0),
+        jump_equal(72, 0, 1),
+        jump(1),
+        jump(6),
+        load(32),
+        jump_equal(1, 0, 3),
+        load(24),
+        jump_equal(2, 0, 1),
+        give(ALLOW),
+        jump(1),
+        jump(4),
+        load(24),
+        jump_equal(1, 0, 1),
+        give(ALLOW),
+        give(KILL_PROCESS),
+        jump_equal(288, 0, 1),
+        jump(1),
+        jump(2),
+        give(ALLOW),
+        give(KILL_PROCESS),
+        give(KILL_PROCESS),
+    ];
+    assert_program(&rt, alloc, "two calls", &two_calls(alloc)?, &want)?;
+    Ok(())
+}
+
+#[test]
+fn instructions_of_low_halves(rt: HostRuntime) -> Result<(), Fail> {
+    let alloc = rt.alloc();
     let want = [
         load(4),
         jump_equal(X86_64, 1, 0),
@@ -124,18 +132,13 @@ fn three_calls_by_low_halves(rt: HostRuntime) -> Result<(), Fail> {
         give(TRAP),
         give(TRAP),
     ];
-    assert_eq!(rt;
-        program.as_slice(),
-        want.as_slice(),
-        "the program of Dword conditions"
-    );
-    Ok(())
+    let filter = three_calls(alloc, Dword)?;
+    assert_program(&rt, alloc, "three calls, Dword", &filter, &want)
 }
 
 #[test]
-fn three_calls_by_both_halves(rt: HostRuntime) -> Result<(), Fail> {
+fn instructions_of_both_halves(rt: HostRuntime) -> Result<(), Fail> {
     let alloc = rt.alloc();
-    let program = three_calls(alloc, Qword)?.to_bpf(alloc)?;
     let want = [
         load(4),
         jump_equal(X86_64, 1, 0),
@@ -194,62 +197,54 @@ fn three_calls_by_both_halves(rt: HostRuntime) -> Result<(), Fail> {
         give(TRAP),
         give(TRAP),
     ];
-    assert_eq!(rt;
-        program.as_slice(),
-        want.as_slice(),
-        "the program of Qword conditions"
-    );
-    Ok(())
+    let filter = three_calls(alloc, Qword)?;
+    assert_program(&rt, alloc, "three calls, Qword", &filter, &want)
 }
 
 #[test]
-fn filters_give_these_answers(rt: HostRuntime) -> Result<(), Fail> {
+fn words_and_steps(rt: HostRuntime) -> Result<(), Fail> {
     let alloc = rt.alloc();
     let of_aarch64 = SeccompData {
         arch: AARCH64,
         ..call(0, [0; 6])
     };
-    for (name, filter, answers) in [
-        (
-            "no chain",
-            empty_policy(alloc)?,
-            &[(call(0, [0; 6]), ALLOW, 3), (of_aarch64, KILL_PROCESS, 3)][..],
-        ),
-        (
-            "two arguments of one call",
-            two_arguments(alloc)?,
-            &[
-                (call(72, [1, 2, 0, 0, 0, 0]), ALLOW, 10),
-                (call(72, [1, 3, 0, 0, 0, 0]), KILL_PROCESS, 8),
-                (call(72, [2, 2, 0, 0, 0, 0]), KILL_PROCESS, 10),
-                (call(5, [0; 6]), KILL_PROCESS, 6),
-            ][..],
-        ),
-        (
-            "a call with two rules and one with none",
-            readme_policy(alloc)?,
-            &[
-                (call(72, [0, 2, 1, 0, 0, 0]), ALLOW, 10),
-                (call(72, [0, 1, 0, 0, 0, 0]), ALLOW, 11),
-                (call(72, [0, 2, 0, 0, 0, 0]), KILL_PROCESS, 11),
-                (call(288, [0; 6]), ALLOW, 9),
-                (call(5, [0; 6]), KILL_PROCESS, 9),
-            ][..],
-        ),
-        (
-            "three calls by low halves",
-            three_calls(alloc, Dword)?,
-            &[
-                (call(1, [0, 0, 12, 0, 0, 0]), ALLOW, 10),
-                (call(1, [0, 0, 10, 0, 0, 0]), TRAP, 16),
-                (call(2, [0; 6]), TRAP, 12),
-                (call(9, [0, 3, 0, 0, 0, 0]), TRAP, 13),
-                (call(9, [0, 36, 0, 0, 0, 0]), ALLOW, 13),
-                (call(10, [0; 6]), ALLOW, 12),
-            ][..],
-        ),
-    ] {
-        assert_answers(&rt, alloc, name, &filter, answers)?;
-    }
+    let answers = [(call(0, [0; 6]), ALLOW, 3), (of_aarch64, KILL_PROCESS, 3)];
+    assert_answers(&rt, alloc, "no chain", &empty_policy(alloc)?, &answers)?;
+    let answers = [
+        (call(72, [1, 2, 0, 0, 0, 0]), ALLOW, 10),
+        (call(72, [1, 3, 0, 0, 0, 0]), KILL_PROCESS, 8),
+        (call(72, [2, 2, 0, 0, 0, 0]), KILL_PROCESS, 10),
+        (call(5, [0; 6]), KILL_PROCESS, 6),
+    ];
+    assert_answers(
+        &rt,
+        alloc,
+        "one rule of two conditions",
+        &two_arguments(alloc)?,
+        &answers,
+    )?;
+    let answers = [
+        (call(72, [0, 2, 1, 0, 0, 0]), ALLOW, 10),
+        (call(72, [0, 1, 0, 0, 0, 0]), ALLOW, 11),
+        (call(72, [0, 2, 0, 0, 0, 0]), KILL_PROCESS, 11),
+        (call(288, [0; 6]), ALLOW, 9),
+        (call(5, [0; 6]), KILL_PROCESS, 9),
+    ];
+    assert_answers(&rt, alloc, "two calls", &two_calls(alloc)?, &answers)?;
+    let answers = [
+        (call(1, [0, 0, 12, 0, 0, 0]), ALLOW, 10),
+        (call(1, [0, 0, 10, 0, 0, 0]), TRAP, 16),
+        (call(2, [0; 6]), TRAP, 12),
+        (call(9, [0, 3, 0, 0, 0, 0]), TRAP, 13),
+        (call(9, [0, 36, 0, 0, 0, 0]), ALLOW, 13),
+        (call(10, [0; 6]), ALLOW, 12),
+    ];
+    assert_answers(
+        &rt,
+        alloc,
+        "three calls",
+        &three_calls(alloc, Dword)?,
+        &answers,
+    )?;
     Ok(())
 }

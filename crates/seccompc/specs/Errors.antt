@@ -11,9 +11,8 @@ use Rattle.seccompc.specs.declared.error.ToolError.TheVariants.{Library, ShortRe
 
 -- A refusal of the library; want of memory stays want of memory.
 abbrev pub from_library : LibraryError → ToolError
-from_library (library.Backend e) = Library (library.Backend e)
-from_library (library.JsonFrontend e) = Library (library.JsonFrontend e)
 from_library library.OutOfMemory = OutOfMemory
+from_library refusal = Library refusal
 
 -- The text of an error, where it is known.
 abbrev pub tool_text : ToolError → Option (List ℕ)

@@ -9,6 +9,9 @@ mod tests;
 mod trace;
 mod words;
 
+ghost use Rattle.std.specs.Prelude.{◌≡◌, OnOk, OnErr};
+ghost use Rattle.std.specs.Process.{exit_status};
+
 use crate::error::ToolError;
 use crate::words::{Command, read_words};
 use std::io::ErrorKind;
@@ -20,33 +23,14 @@ fn main(rt: HostRuntime) -> ExitCode {
     let words = match words_behind_the_name(&rt) {
         Ok(words) => words,
         Err(error) if error.kind() == ErrorKind::OutOfMemory => {
-            return failure(&rt, &ToolError::OutOfMemory);
+            return answered(&rt, Err(ToolError::OutOfMemory));
         }
         // A word that is no text is no command's.
-        Err(_) => return usage(&rt),
+        Err(_) => return misused(&rt),
     };
-    let done = match read_words(&words) {
-        Some(
-            Command::Probe {
-                arch,
-                nr,
-                index,
-                value,
-            },
-        ) => probe::probe(
-            rt.alloc(),
-            arch,
-            nr,
-            index,
-            value,
-            rt.reader(),
-            &mut io::writer(&rt),
-        ),
-        None => return usage(&rt),
-    };
-    match done {
-        Ok(()) => ExitCode::SUCCESS,
-        Err(error) => failure(&rt, &error),
+    match read_words(&words) {
+        Some(command) => answered(&rt, carry_out(&rt, command)),
+        None => misused(&rt),
     }
 }
 
@@ -55,16 +39,49 @@ fn words_behind_the_name(rt: &(impl Env + AllocGlobal)) -> io::Result<Vec<String
     Ok(env::args(rt)?.skip(1).collect(rt.alloc())?)
 }
 
-// Says how the program is called: status 2.
-fn usage(rt: &impl Eprint) -> ExitCode {
-    let _ = rt.eprintln(
-        "usage: seccompc probe ARCH NR INDEX VALUE | list ARCH | run ARCH FILE NAME",
-    );
-    ExitCode::from(2)
+// Carries out a command, from standard input to standard output.
+fn carry_out(
+    rt: &(impl Input + Print + AllocGlobal),
+    command: Command<'_>,
+) -> Result<(), ToolError> {
+    match command {
+        Command::Probe {
+            arch,
+            nr,
+            index,
+            value,
+        } => probe::probe(
+            rt.alloc(),
+            arch,
+            nr,
+            index,
+            value,
+            rt.reader(),
+            &mut io::writer(rt),
+        ),
+    }
 }
 
-// Says what failed: status 1.
-fn failure(rt: &impl Eprint, error: &ToolError) -> ExitCode {
-    let _ = rt.eprintln(error);
-    ExitCode::FAILURE
+// Status 0, or status 1 where a command failed, with the error's text on standard error.
+fn answered(rt: &impl Eprint, answer: Result<(), ToolError>) -> ExitCode
+    ensures done { OnOk answer (exit_status result ≡ 0) }
+    ensures failed { OnErr answer (exit_status result ≡ 1) }
+{
+    match answer {
+        Ok(()) => ExitCode::SUCCESS,
+        Err(error) => {
+            let _ = rt.eprintln(&error);
+            ExitCode::FAILURE
+        }
+    }
+}
+
+const USAGE: &str = "usage: seccompc probe ARCH NR INDEX VALUE | list ARCH | run ARCH FILE NAME";
+
+// Status 2, with how the program is called on standard error.
+fn misused(rt: &impl Eprint) -> ExitCode
+    ensures { exit_status result ≡ 2 }
+{
+    let _ = rt.eprintln(USAGE);
+    ExitCode::from(2)
 }

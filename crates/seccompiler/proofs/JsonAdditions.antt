@@ -1,9 +1,8 @@
 -- What entries add to the chains, one after the other.
-use Rattle.std.proofs.Common.{◌≡◌, ℤ, ◌++◌, List, [], ◌∷◌, Bool, true, false, ◌||◌, cond, Result, Ok, Err, Option, Some, None, All, Any, refl, sym, ap, ◌∙◌, ◌⊎◌, inl, inr, is_eq, unwrap_or, append_assoc, append-nil}
+use Rattle.std.proofs.Common.{◌≡◌, ℤ, ◌++◌, List, [], ◌∷◌, Bool, true, false, ◌||◌, cond, Ok, Err, Option, Some, None, All, Any, refl, sym, ap, ◌∙◌, ◌⊎◌, inl, inr, is_eq, unwrap_or, append_assoc, append-nil}
 use Rattle.std.specs.List.{flat_map, list_any}
 use Rattle.std.specs.List.Sorted.{IsStrictlySortedBy}
 use Rattle.std.specs.Map.{keys_of}
-use Rattle.std.specs.Option.{IfSome}
 use Rattle.std.specs.Ordering.{int_cmp}
 use Rattle.std.proofs.lemmas.Bool.{true≢false}
 use Rattle.std.proofs.lemmas.List.Elements.{All-nil, All-cons, All-head, All-tail}

@@ -1,7 +1,5 @@
 -- An entry of a JSON filter: nothing is wrong with it, or one fault is its first; and what comes of it.
-use Rattle.std.proofs.Common.{◌≡◌, ◌≢◌, ℕ, ℤ, ◌≤◌, ◌<◌, List, [], ◌∷◌, Result, Ok, Err, Option, Some, None, All, Any, map, refl, sym, ap, ◌∙◌, ◌⊎◌, inl, inr, arith}
-use Rattle.std.specs.Option.{IfSome}
-use Rattle.std.proofs.lemmas.List.Elements.{All-nil}
+use Rattle.std.proofs.Common.{◌≡◌, ℤ, List, [], ◌∷◌, Ok, Err, Option, Some, None, refl, sym, ap, ◌∙◌, ◌⊎◌, inl, inr}
 use Rattle.seccompiler.specs.declared.backend.TargetArch.{TargetArch}
 use Rattle.seccompiler.specs.declared.backend.BackendError.TheVariants.{EmptyRule, InvalidArgumentNumber}
 use Rattle.seccompiler.specs.declared.json.types.JsonCondition.{JsonCondition}
@@ -10,8 +8,8 @@ use Rattle.seccompiler.specs.Policy.{Chain}
 use Rattle.seccompiler.specs.SyscallTable.{number_of, table_of}
 use Rattle.seccompiler.specs.JsonFault.{Fault, unknown_call, refused}
 use Rattle.seccompiler.specs.JsonPolicyOf.{rules_of, IsFor, IsFine, IsFaultOf, unknown_name, index_above, empty_args}
-use Rattle.seccompiler.specs.JsonPolicy.{build_rules, build_number, or_unknown, with_rules, with_entry}
-use Rattle.seccompiler.proofs.JsonRules.{AreWithin, HasAbove, none_above, within_or_above, some_refused, rules_built}
+use Rattle.seccompiler.specs.JsonPolicy.{with_rules, with_entry}
+use Rattle.seccompiler.proofs.JsonRules.{within_or_above, some_refused, rules_built}
 
 -- An entry with a known call and these conditions is fine or has its first fault there.
 with_conditions : (arch : TargetArch) (entry : JsonRule) (number : ℤ) (conditions : Option (List JsonCondition)) → IsFor arch number entry → entry.conditions ≡ conditions

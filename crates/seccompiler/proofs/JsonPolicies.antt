@@ -1,10 +1,8 @@
 -- The policy of a JSON filter, and its first fault: each is what the walk over the entries gives.
-use Rattle.std.proofs.Common.{◌≡◌, ◌≢◌, ◌↔◌, ℤ, ◌++◌, List, [], ◌∷◌, Bool, true, false, cond, Result, Ok, Err, Option, Some, None, All, Any, refl, sym, ap, ◌∙◌, subst, ◌⊎◌, inl, inr, unwrap_or, rules, Decides}
+use Rattle.std.proofs.Common.{◌≡◌, ◌≢◌, ◌↔◌, ℤ, List, [], Bool, true, false, cond, Result, Ok, Err, Some, None, All, Any, refl, sym, ap, ◌∙◌, subst, ◌⊎◌, inl, inr, rules, Decides}
 use Rattle.std.specs.Prelude.{IfOk, IfErr, string_bytes}
 use Rattle.std.specs.List.{flat_map, list_any}
 use Rattle.std.specs.List.Sorted.{IsStrictlySortedBy}
-use Rattle.std.specs.Map.{keys_of}
-use Rattle.std.specs.Ordering.{int_cmp}
 use Rattle.std.proofs.lemmas.Bool.{true≢false, false_from_ne_true}
 use Rattle.std.proofs.lemmas.List.Elements.{All-nil}
 use Rattle.seccompiler.specs.contracts.backend.SeccompActionPartialEq.TheImpl as action
@@ -13,15 +11,14 @@ use Rattle.seccompiler.specs.declared.backend.TargetArch.{TargetArch}
 use Rattle.seccompiler.specs.declared.backend.BackendError.TheVariants.{IdenticalActions}
 use Rattle.seccompiler.specs.declared.json.error.JsonFrontendError.{JsonFrontendError}
 use Rattle.seccompiler.specs.declared.json.error.JsonFrontendError.TheVariants as e
-use Rattle.seccompiler.specs.declared.json.types.JsonRule.{JsonRule}
 use Rattle.seccompiler.specs.declared.json.types.JsonFilter.{JsonFilter}
 use Rattle.seccompiler.specs.Policy.{Chain, Filter}
 use Rattle.seccompiler.specs.Refusal.{numbers_of}
 use Rattle.seccompiler.specs.SyscallTable.{IsTableNumber}
 use Rattle.seccompiler.specs.JsonFault.{Fault, unreadable, repeated_key, not_an_object, wrong_shape, unknown_call, refused, Fails, Gives}
-use Rattle.seccompiler.specs.JsonPolicyOf.{rules_for, chain_at, IsFor, IsFine, IsFaultOf, unknown_name, index_above, empty_args, IsPolicyOf, IsFirstFault, in_entry, in_actions, IsRefusalOf}
-use Rattle.seccompiler.specs.JsonPolicy.{unless_identical, policy_in}
-use Rattle.seccompiler.proofs.JsonAdditions.{is_for, Comes, all_come, fault_comes, HasFault, all_fine_or_fault, none_wrong, any_if, if_any, in_the_end}
+use Rattle.seccompiler.specs.JsonPolicyOf.{rules_for, chain_at, IsFor, IsFine, unknown_name, index_above, empty_args, IsPolicyOf, IsFirstFault, in_entry, in_actions, IsRefusalOf}
+use Rattle.seccompiler.specs.JsonPolicy.{policy_in}
+use Rattle.seccompiler.proofs.JsonAdditions.{is_for, Comes, all_come, fault_comes, all_fine_or_fault, none_wrong, any_if, if_any, in_the_end}
 use Rattle.seccompiler.proofs.NumberedChains.{same_chains}
 
 action_decides : (x y : SeccompAction) → Decides (action.ghosts.eq x y) (x ≡ y)
@@ -125,9 +122,9 @@ module _ (arch : TargetArch) (j : JsonFilter) where
   pub policy_given : (f : Filter) → (policy_in arch j ≡ Ok f) ↔ IsPolicyOf arch j f
   policy_given f = elim policy_or_fault [
     | inl has ↦ (
-        λ h. let same : has.0 ≡ f = let e : Ok has.0 ≡ Ok f = sym has.2 ∙ h in cc in subst (IsPolicyOf arch j) same has.1,
-        λ is. has.2 ∙ ap Ok (one_policy has.0 f has.1 is),
-      )
+      λ h. let same : has.0 ≡ f = let e : Ok has.0 ≡ Ok f = sym has.2 ∙ h in cc in subst (IsPolicyOf arch j) same has.1,
+      λ is. has.2 ∙ ap Ok (one_policy has.0 f has.1 is),
+    )
     | inr wrong ↦ (λ h. let e = sym wrong.2 ∙ h in cc, λ is. absurd (no_fault f wrong.0 is wrong.1))
   ]
 
@@ -135,9 +132,9 @@ module _ (arch : TargetArch) (j : JsonFilter) where
   fault_given fault = elim policy_or_fault [
     | inl has ↦ (λ h. let e = sym has.2 ∙ h in cc, λ is. absurd (no_fault has.0 fault has.1 is))
     | inr wrong ↦ (
-        λ h. let same : wrong.0 ≡ fault = let e : Err wrong.0 ≡ Err fault = sym wrong.2 ∙ h in cc in subst (IsFirstFault arch j) same wrong.1,
-        first_fault_given fault,
-      )
+      λ h. let same : wrong.0 ≡ fault = let e : Err wrong.0 ≡ Err fault = sym wrong.2 ∙ h in cc in subst (IsFirstFault arch j) same wrong.1,
+      first_fault_given fault,
+    )
   ]
 
   -- The policy's numbers are those of a table.

@@ -1,5 +1,5 @@
 -- The conditions of an entry: what comes of them, and the steps of a walk over them.
-use Rattle.std.proofs.Common.{◌≡◌, ◌≢◌, ℕ, zero, suc, ◌≤◌, ◌<◌, ◌++◌, List, [], ◌∷◌, Bool, true, false, cond, Result, Ok, Err, Option, Some, None, All, Any, map, refl, sym, ap, ◌∙◌, subst, ◌⊎◌, inl, inr, arith, nat_le, length, slice_index_or}
+use Rattle.std.proofs.Common.{◌≡◌, ◌≢◌, zero, suc, ◌≤◌, ◌<◌, ◌++◌, List, [], ◌∷◌, true, false, Result, Ok, Err, Option, Some, None, All, Any, map, refl, sym, subst, ◌⊎◌, inl, inr, arith, nat_le}
 use Rattle.std.specs.Option.{IfSome}
 use Rattle.std.proofs.lemmas.Bool.Decides.{leb_tells}
 use Rattle.std.proofs.lemmas.List.Elements.{All-nil, All-cons, All-head, All-tail}

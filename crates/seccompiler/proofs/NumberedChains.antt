@@ -1,11 +1,11 @@
 -- Chains under their numbers, after one was put among them.
-use Rattle.std.proofs.Common.{◌≡◌, ℤ, List, [], ◌∷◌, Bool, true, false, cond, Option, Some, None, Ordering, Less, Equal, Greater, is_eq, refl, sym, ap, ◌∙◌, subst, All}
-use Rattle.std.specs.Cmp.{Equal-is}
+use Rattle.std.proofs.Common.{◌≡◌, ℤ, List, [], ◌∷◌, Bool, true, false, cond, Option, Some, None, Ordering, Less, Equal, Greater, is_eq, refl, sym, ap, ◌∙◌}
 use Rattle.std.specs.List.{AllByRecursion}
 use Rattle.std.specs.List.Sorted.{IsStrictlySortedBy}
 use Rattle.std.specs.Ordering.{int_cmp, match_ordering, ordering_reverse}
-use Rattle.std.specs.Map.{lookup, keys_of}
+use Rattle.std.specs.Map.{keys_of}
 use Rattle.std.specs.BTreeMap.{insert_entry}
+use Rattle.std.proofs.lemmas.Bool.Decides.{Decides-int_eq}
 use Rattle.std.proofs.lemmas.Cmp.{int_cmp_total, tied_itself}
 use Rattle.std.proofs.lemmas.List.Elements.{All-from_recursion, recursion_from_All}
 use Rattle.std.proofs.lemmas.Map.Lookups.{exact_signed}
@@ -15,10 +15,10 @@ use Rattle.seccompiler.specs.JsonPolicyOf.{chain_at}
 
 -- A test of numbers tells whether they are equal.
 pub same_number : (q k : ℤ) → is_eq (int_cmp q k) ≡ true → q ≡ k
-same_number q k h = exact_signed q k ((Equal-is (int_cmp q k)).0 h)
+same_number q k h = (Decides-int_eq q k).0 h
 
 pub number_itself : (q k : ℤ) → q ≡ k → is_eq (int_cmp q k) ≡ true
-number_itself q k same = ap (λ n. is_eq (int_cmp q n)) (sym same) ∙ ap is_eq (tied_itself int_cmp_total q)
+number_itself q k same = (Decides-int_eq q k).1 same
 
 -- The same look-up made twice at one number is made once.
 twice : {X : Type 0} (b : Bool) (v w : X) (rest : Option X) → cond b (Some v) rest ≡ cond b (Some v) (cond b (Some w) rest)

@@ -1,5 +1,6 @@
 -- The crate's error: how a refusal of one of its modules becomes one, its text, and where want of memory stands.
 use Rattle.std.specs.Prelude.{◌≢◌, ℕ, List, ◌++◌, Option, Some, option_map, codes}
+use Rattle.std.specs.Fmt.{signed_decimal}
 use Rattle.seccompiler.specs.declared.backend.BackendError.{BackendError}
 use Rattle.seccompiler.specs.declared.backend.BackendError.TheVariants as backend
 use Rattle.seccompiler.specs.declared.error.Error.{Error}
@@ -34,11 +35,19 @@ from_frontend frontend.OutOfMemory = whole.OutOfMemory
 -- The text of an error, where it is known: that of JSON that can't be read ends in serde_json's own words.
 abbrev pub error_text : Error → Option (List ℕ)
 error_text (whole.Backend e) = Some (codes "Backend error: " ++ backend_text e)
+error_text whole.EmptyFilter = Some (codes "Cannot install empty filter.")
+error_text (whole.Prctl number) = Some (codes "Error calling `prctl`: " ++ signed_decimal number)
+error_text (whole.Seccomp number) = Some (codes "Error calling `seccomp`: " ++ signed_decimal number)
+error_text (whole.ThreadSync thread) = Some (codes "Seccomp filter synchronization failed in thread `" ++ signed_decimal thread ++ codes "`")
 error_text (whole.JsonFrontend e) = option_map (λ text. codes "Json Frontend error: " ++ text) (json_text e)
 error_text whole.OutOfMemory = Some (codes "Out of memory.")
 
 -- Want of memory stands in the error itself, if it is at fault, and nowhere inside.
 abbrev pub IsNoMemoryInside : Error → Type 0
 IsNoMemoryInside (whole.Backend e) = e ≢ backend.OutOfMemory
+IsNoMemoryInside whole.EmptyFilter = Unit {0}
+IsNoMemoryInside (whole.Prctl number) = Unit {0}
+IsNoMemoryInside (whole.Seccomp number) = Unit {0}
+IsNoMemoryInside (whole.ThreadSync thread) = Unit {0}
 IsNoMemoryInside (whole.JsonFrontend e) = (e ≢ frontend.OutOfMemory) × IsNoMemoryInFrontend e
 IsNoMemoryInside whole.OutOfMemory = Unit {0}

@@ -1,10 +1,10 @@
 -- Which filter is the policy of a JSON filter, and which fault is the first of one that has none.
-use Rattle.std.specs.Prelude.{◌≡◌, ◌≢◌, ◌≤◌, ◌<◌, ℕ, ℤ, Bool, false, List, [], ◌∷◌, ◌++◌, Option, Some, None, All, Any, IfSome, map, if◌then◌else◌, Result, Ok, Err, string_bytes}
+use Rattle.std.specs.Prelude.{◌≡◌, ◌≢◌, ◌≤◌, ◌<◌, ℤ, Bool, false, List, [], ◌∷◌, ◌++◌, Option, Some, None, All, Any, IfSome, map, if◌then◌else◌, Result, Ok, Err, string_bytes}
 use Rattle.std.specs.BTreeMap.{is_at}
 use Rattle.std.specs.List.{flat_map}
 use Rattle.std.specs.List.Sorted.{IsStrictlySortedBy}
 use Rattle.std.specs.Map.{lookup}
-use Rattle.std.specs.Ordering.{int_cmp, is_eq}
+use Rattle.std.specs.Ordering.{int_cmp, int_eq}
 use Rattle.seccompiler.specs.declared.backend.TargetArch.{TargetArch}
 use Rattle.seccompiler.specs.declared.backend.BackendError.TheVariants.{EmptyRule, IdenticalActions, InvalidArgumentNumber}
 use Rattle.seccompiler.specs.declared.backend.BackendError.TheVariants as of_backend
@@ -28,7 +28,7 @@ abbrev pub IsConditionOf : JsonCondition → Result Condition JsonFrontendError 
 IsConditionOf c (Ok made) = (c.arg_index ≤ 5) × (made ≡ condition_of c)
 IsConditionOf c (Err e) = (5 < c.arg_index) × (e ≡ Backend InvalidArgumentNumber)
 
--- The rules that an entry's conditions stand for: one of all of them, in order, or none where there are no conditions.
+-- The rules that an entry's conditions stand for: one that has them all, in order, or no rule where there is no list of them.
 abbrev pub rules_of : Option (List JsonCondition) → List Rule
 rules_of None = []
 rules_of (Some conditions) = map condition_of conditions ∷ []
@@ -40,7 +40,7 @@ IsFor arch number entry = number_of (table_of arch) entry.syscall ≡ Some numbe
 -- Whether a call's number, if it has one, is this one.
 abbrev pub is_number : ℤ → Option ℤ → Bool
 is_number number None = false
-is_number number (Some other) = is_eq (int_cmp number other)
+is_number number (Some other) = int_eq number other
 
 -- The rules that an entry adds to the chain of a number: its own, if its call has this number.
 abbrev pub rules_for : TargetArch → ℤ → JsonRule → List Rule
@@ -50,17 +50,17 @@ rules_for arch number entry = if is_number number (number_of (table_of arch) ent
 abbrev pub chain_at : List (ℤ × Chain) → ℤ → Option Chain
 chain_at chains number = lookup (is_at (int_cmp number)) chains
 
--- Nothing is wrong with an entry: its call has a number, and its conditions, if it has any, are not none, and
--- have an index of at most 5 each.
+-- Nothing is wrong with an entry: its call has a number; and its list of conditions, if there is one, is not empty, and
+-- has an index of at most 5 in each condition.
 pub record IsFine (arch : TargetArch) (entry : JsonRule) : Type 0 where
   pub number : ℤ
   pub is_for : IsFor arch number entry
   pub indices : IfSome entry.conditions (λ conditions. All (λ c. c.arg_index ≤ 5) conditions)
   pub some : entry.conditions ≢ Some []
 
--- The filter is the policy of a JSON filter on an architecture: it has its actions, which differ; the numbers that have
--- a chain are those of its entries' calls; and the chain of a number has, in order, a rule for each entry with this
--- number and with conditions.
+-- The filter is the policy of a JSON filter on an architecture. It has the JSON filter's actions, which differ. Nothing is
+-- wrong with any entry. The numbers that have a chain are those of the entries' calls, and the chain of a number is the
+-- list that has, in order, one rule for each entry with this number and with conditions: these conditions, in order.
 pub record IsPolicyOf (arch : TargetArch) (j : JsonFilter) (f : Filter) : Type 0 where
   pub mismatch_action : f.mismatch_action ≡ j.mismatch_action
   pub match_action : f.match_action ≡ j.match_action
@@ -72,7 +72,7 @@ pub record IsPolicyOf (arch : TargetArch) (j : JsonFilter) (f : Filter) : Type 0
   pub ascending : IsStrictlySortedBy int_cmp (numbers_of f.chains)
 
 -- The first thing that is wrong with an entry: its call has no number on the architecture; else some condition has an
--- index above 5; else it has conditions, but none.
+-- index above 5; else the list of its conditions is there, and empty.
 pub data IsFaultOf (arch : TargetArch) (entry : JsonRule) (fault : Fault) : Type 0 where
   unknown_name : number_of (table_of arch) entry.syscall ≡ None → fault ≡ unknown_call entry.syscall arch → IsFaultOf arch entry fault
   index_above : (number : ℤ) (conditions : List JsonCondition) → IsFor arch number entry → entry.conditions ≡ Some conditions

@@ -80,5 +80,9 @@ IsBackendFault arch d OutOfMemory = ⊥
 -- the front end, and then the least name's policy that is too large. Want of memory may come in place of all.
 abbrev pub TellsFirstFault : TargetArch → List ℕ → Error → Type 0
 TellsFirstFault arch text (whole.Backend cause) = OfValue text (λ d. IsBackendFault arch d cause)
+TellsFirstFault arch text whole.EmptyFilter = ⊥
+TellsFirstFault arch text (whole.Prctl number) = ⊥
+TellsFirstFault arch text (whole.Seccomp number) = ⊥
+TellsFirstFault arch text (whole.ThreadSync thread) = ⊥
 TellsFirstFault arch text (whole.JsonFrontend cause) = TellsFrontendFault arch text cause
 TellsFirstFault arch text whole.OutOfMemory = Unit {0}

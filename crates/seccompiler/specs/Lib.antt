@@ -7,6 +7,7 @@ pub mod Action
 pub mod SyscallTable
 pub mod Texts
 pub mod Errors
+pub mod Install
 pub mod Condition
 pub mod Policy
 pub mod Groups

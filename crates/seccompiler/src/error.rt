@@ -11,6 +11,14 @@ use std::fmt;
 pub enum Error {
     /// The backend refuses.
     Backend(BackendError),
+    /// A program of no instructions was to be installed.
+    EmptyFilter,
+    /// The call that sets `no_new_privs` failed with this error number, as `prctl(2)` lists them.
+    Prctl(i32),
+    /// The call that installs a filter failed with this error number, as `seccomp(2)` lists them.
+    Seccomp(i32),
+    /// The thread of this id could not take the filter that all threads were to have.
+    ThreadSync(i64),
     /// The JSON front end refuses.
     JsonFrontend(JsonFrontendError),
     /// A growth of memory was refused.
@@ -29,6 +37,13 @@ impl fmt::Display for Error {
     fn fmt<W: fmt::Write>(&self, f: &mut fmt::Formatter<W>) -> fmt::Result {
         match self {
             Error::Backend(error) => write!(f, "Backend error: {error}"),
+            Error::EmptyFilter => f.write_str("Cannot install empty filter."),
+            Error::Prctl(number) => write!(f, "Error calling `prctl`: {number}"),
+            Error::Seccomp(number) => write!(f, "Error calling `seccomp`: {number}"),
+            Error::ThreadSync(thread) => write!(
+                f,
+                "Seccomp filter synchronization failed in thread `{thread}`"
+            ),
             Error::JsonFrontend(error) => write!(f, "Json Frontend error: {error}"),
             Error::OutOfMemory => f.write_str("Out of memory."),
         }

@@ -49,10 +49,7 @@ fn condition_of(condition: &JsonCondition) -> Result<SeccompCondition, JsonFront
 }
 
 // The rule of the conditions, in their order.
-fn rule_of(
-    alloc: Global,
-    conditions: &[JsonCondition],
-) -> Result<SeccompRule, JsonFrontendError>
+fn rule_of(alloc: Global, conditions: &[JsonCondition]) -> Result<SeccompRule, JsonFrontendError>
     ensures { Gives (λ rule. rule) result (build_rule conditions.now) }
 {
     let mut found = Vec::new(alloc);
@@ -63,11 +60,7 @@ fn rule_of(
 }
 
 // The number of the call of this name.
-fn call_number(
-    alloc: Global,
-    arch: TargetArch,
-    name: &str,
-) -> Result<i64, JsonFrontendError>
+fn call_number(alloc: Global, arch: TargetArch, name: &str) -> Result<i64, JsonFrontendError>
     ensures { Gives (λ number. number) result (build_number arch name.now) }
 {
     match SyscallTable::new(arch).get_syscall_nr(name) {
@@ -108,7 +101,8 @@ fn own_rule(
     }
 }
 
-// Adds what the entry stands for: a chain for its call's number, and its rule at the end of that.
+// Adds what the entry stands for: a chain for its call's number, if there is none yet, and the entry's
+// rule at the end of that chain.
 fn add_entry(
     alloc: Global,
     arch: TargetArch,
@@ -138,7 +132,7 @@ fn chains_of_entries(
     Ok(chains)
 }
 
-/// The filter of a JSON filter.
+/// The filter of a JSON filter on an architecture.
 #[tactic(auto, unfolding(crate::specs::JsonPolicy::policy_in))]
 pub fn seccomp_filter(
     alloc: Global,
@@ -148,10 +142,5 @@ pub fn seccomp_filter(
     ensures { Gives (λ f. f) result (policy_in arch filter.now) }
 {
     let chains = chains_of_entries(alloc, arch, filter.rules.as_slice())?;
-    Ok(SeccompFilter::new(
-        chains,
-        filter.mismatch_action,
-        filter.match_action,
-        arch,
-    )?)
+    Ok(SeccompFilter::new(chains, filter.mismatch_action, filter.match_action, arch)?)
 }

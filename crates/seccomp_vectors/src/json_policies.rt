@@ -1,6 +1,7 @@
 // Which filter stands for a JSON filter, and which fault is told of one that has none.
 
-use crate::builders::{Parts, filter};
+use crate::builders::Parts;
+use crate::json_samples::filter;
 use seccompiler::backend::SeccompAction::{Allow, Log, Trap};
 use seccompiler::backend::SeccompCmpArgLen::{Dword, Qword};
 use seccompiler::backend::SeccompCmpOp::{Ge, Gt, Le, Lt, MaskedEq, Ne};

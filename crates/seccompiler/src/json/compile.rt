@@ -40,11 +40,11 @@ fn hashed(
 ) -> Result<HashMap<String, SeccompFilter>, AllocError>
     ensures { IfOk result (λ m. (name : List ℕ) → hash.get_by_text m name ≡ tree.get_by_text policies name) }
 {
-    let mut found = HashMap::new(alloc);
+    let mut made = HashMap::new(alloc);
     for (name, policy) in policies {
-        drop(found.insert(name, policy)?);
+        drop(made.insert(name, policy)?);
     }
-    Ok(found)
+    Ok(made)
 }
 
 impl JsonCompiler {

@@ -7,7 +7,7 @@ use Rattle.seccompiler.proofs.TextMaps.{agrees_more, agree_none, agree_same, by_
 use Rattle.seccompiler.proofs.json.compile.hashed.Goals as goal
 
 pub loop-name-init : goal.loop-name-init
-loop-name-init c = ([], sym c.into_iter-name-iterator.ensures.into_iter_gives.0, λ q. agree_none (λ p v. p ≡ v) _ (ap (lookup (is_text q)) c.new-found.ensures.empty))
+loop-name-init c = ([], sym c.into_iter-name-iterator.ensures.into_iter_gives.0, λ q. agree_none (λ p v. p ≡ v) _ (ap (lookup (is_text q)) c.new-made.ensures.empty))
 
 pub loop-name-preserved : goal.loop-name-preserved
 loop-name-preserved c =
@@ -17,7 +17,7 @@ loop-name-preserved c =
     let left = c.next.new.self in
     let all : c.args.policies.entries ≡ done ++ e ∷ left = l.invariant.1 ∙ ap (λ es. done ++ es) c.in-Some.ensures.steps in
     let sorted : IsStrictlySortedBy string_cmp (keys_of (done ++ e ∷ left)) = subst (λ es. IsStrictlySortedBy string_cmp (keys_of es)) all c.into_iter-name-iterator.ensures.into_iter_gives.5 in
-    (done ++ e ∷ [], all ∙ sym (append_assoc done (e ∷ []) left), agrees_more (λ p v. p ≡ v) done e left l.found c.insert.new.self e.1 l.invariant.2 sorted refl c.in_ok-insert.ensures.updates)
+    (done ++ e ∷ [], all ∙ sym (append_assoc done (e ∷ []) left), agrees_more (λ p v. p ≡ v) done e left l.made c.insert.new.self e.1 l.invariant.2 sorted refl c.in_ok-insert.ensures.updates)
 
 pub returns : goal.returns
 returns c =

@@ -33,3 +33,6 @@ pub mod JsonNames
 pub mod JsonShapes
 pub mod JsonFilterShapes
 pub mod JsonFilterMaps
+pub mod TextMaps
+pub mod JsonPolicySteps
+pub mod JsonPolicyFaults

@@ -16,6 +16,9 @@ pub mod Pieces
 pub mod ChainCode
 pub mod Compiled
 pub mod Refusal
+pub mod JsonPolicy
+pub mod JsonPolicies
+pub mod JsonAnswers
 pub mod Reorder
 pub mod LowHalf
 pub mod JsonEquality

@@ -4,6 +4,8 @@
 //! docs/JSON.md has the format. [`repeats_key`] tells that a text repeats a name, and
 //! [`read_filters`] turns the value of a text into filters.
 
+pub mod compile;
+pub mod compiler;
 mod error;
 mod filters;
 mod members;
@@ -12,6 +14,7 @@ mod read;
 mod repeats;
 mod types;
 
+pub use compiler::JsonCompiler;
 pub use error::JsonFrontendError;
 pub use filters::read_filters;
 pub use parts::{JsonConditions, JsonRules, JsonSyscallName};

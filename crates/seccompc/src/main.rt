@@ -3,7 +3,11 @@
 
 mod error;
 mod lines;
+mod list;
+mod listing;
+mod policy;
 mod probe;
+mod run;
 #[cfg(test)]
 mod tests;
 mod trace;
@@ -14,7 +18,7 @@ use crate::words::{Command, read_words};
 use std::io::ErrorKind;
 use std::process::ExitCode;
 use std::rt::Env;
-use std::{env, io};
+use std::{env, fs, io};
 
 fn main(rt: HostRuntime) -> ExitCode {
     let words = match words_behind_the_name(&rt) {
@@ -42,6 +46,26 @@ fn main(rt: HostRuntime) -> ExitCode {
             rt.reader(),
             &mut io::writer(&rt),
         ),
+        Some(Command::List { arch }) => {
+            list::list(rt.alloc(), arch, rt.reader(), &mut io::writer(&rt))
+        }
+        Some(Command::Run { arch, file, name }) => {
+            let policy = match fs::open(&rt, file) {
+                Ok(policy) => policy,
+                Err(error) if error.kind() == ErrorKind::OutOfMemory => {
+                    return failure(&rt, &ToolError::OutOfMemory);
+                }
+                Err(_) => return unopened(&rt),
+            };
+            run::run_policy(
+                rt.alloc(),
+                arch,
+                policy,
+                name,
+                rt.reader(),
+                &mut io::writer(&rt),
+            )
+        }
         None => return usage(&rt),
     };
     match done {
@@ -61,6 +85,12 @@ fn usage(rt: &impl Eprint) -> ExitCode {
         "usage: seccompc probe ARCH NR INDEX VALUE | list ARCH | run ARCH FILE NAME",
     );
     ExitCode::from(2)
+}
+
+// Says that the policy's file can't be opened: status 1.
+fn unopened(rt: &impl Eprint) -> ExitCode {
+    let _ = rt.eprintln("Error opening the policy file.");
+    ExitCode::FAILURE
 }
 
 // Says what failed: status 1.

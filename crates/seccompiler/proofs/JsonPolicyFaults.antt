@@ -1,6 +1,7 @@
 -- What the policies of a value, or the first fault, tell of the value.
-use Rattle.std.proofs.Common.{◌≡◌, ℕ, List, Bool, true, false, cond, Result, Ok, Err, Option, Some, None, String, Global, BTreeMap, string_bytes, string_cmp, map, refl, sym, ap, ◌∙◌, subst, IfOk, IfErr}
+use Rattle.std.proofs.Common.{◌≡◌, ℕ, List, Bool, true, false, cond, Result, Ok, Err, Option, Some, None, String, Global, BTreeMap, string_bytes, string_cmp, map, refl, sym, ap, ◌∙◌, subst, IfOk, IfErr, IfSome}
 use Rattle.std.specs.BTreeMap.{IsOrdered, get_by_text}
+use Rattle.std.specs.HashMap as hash
 use Rattle.std.specs.List.Sorted.{IsStrictlySortedBy}
 use Rattle.std.specs.Map.{keys_of, lookup}
 use Rattle.std.specs.Str.{is_utf8}
@@ -11,7 +12,7 @@ use Rattle.serde_json.specs.Read.{read}
 use Rattle.seccompiler.specs.JsonAnswers.{IsReadAs, IsValueOf, HasPolicy, ArePoliciesOf, AreAllFilters, IsLeastRefused, IsFirstFault, OfValue}
 use Rattle.seccompiler.specs.JsonFault.{Fault, unreadable, refused, unknown_call, Fails, Gives}
 use Rattle.seccompiler.specs.JsonFilters.{filters_of, AreFilters, IsRefusal}
-use Rattle.seccompiler.specs.JsonPolicies.{named_policy, value_of, or_unreadable, policies_in, InOrder, IsPolicyError}
+use Rattle.seccompiler.specs.JsonPolicies.{named_policy, value_of, or_unreadable, policies_in, InOrder, ByName, HasExactly, policies_of, GivesInOrder, GivesPolicies, IsPolicyError}
 use Rattle.seccompiler.specs.JsonPolicy.{policy_in}
 use Rattle.seccompiler.specs.JsonShape.{Has, IsFilter}
 use Rattle.seccompiler.specs.Policy.{Filter}
@@ -21,7 +22,7 @@ use Rattle.seccompiler.specs.declared.json.error.JsonFrontendError.TheVariants a
 use Rattle.seccompiler.specs.declared.json.types.JsonFilter.{JsonFilter}
 use Rattle.seccompiler.specs.declared.json.types.JsonFilterMap.{JsonFilterMap}
 use Rattle.seccompiler.proofs.JsonPolicySteps.{value_of-ok, value_of-read, each_policy, no_policy, stops_at, Succeeds}
-use Rattle.seccompiler.proofs.TextMaps.{by_text, found_there, found_in_front}
+use Rattle.seccompiler.proofs.TextMaps.{by_text, by_bytes, found_there, found_in_front}
 
 -- ---- the text
 
@@ -134,3 +135,27 @@ module _ (d : Data) (m : JsonFilterMap) (are : AreFilters d m) where
   pub fault_given : (arch : TargetArch) (text : List ℕ) (r : Result (InOrder Filter) JsonFrontendError) → IsValueOf text d → IsOrdered string_cmp m.0 → IfErr r IsPolicyError → Gives (λ ps. map named_policy ps.entries) r (policies_in arch (filters_of m)) → IfErr r (IsFirstFault arch text)
   fault_given arch text (Ok made) is ordered own h = tt
   fault_given arch text (Err e) is ordered own h = refused_fault arch text e is ordered own h
+
+-- ---- the hashed map
+
+-- A map that finds the same is of the same policies.
+same_policies : (arch : TargetArch) (d : Data) (find other : List ℕ → Option Filter) → ((q : List ℕ) → other q ≡ find q) → ArePoliciesOf arch find d → ArePoliciesOf arch other d
+same_policies arch d find other same are = record {
+  is_object = are.is_object;
+  each = λ name v there. let known = are.each name v there in (known.0, same name ∙ known.1, known.2);
+  no_other = λ name none. same name ∙ are.no_other name none;
+}
+
+-- A hashed map that finds the same as an ordered one has exactly its policies.
+same_entries : (m : InOrder Filter) (n : ByName Filter) → ((q : List ℕ) → hash.get_by_text n q ≡ get_by_text m q) → HasExactly n (map named_policy m.entries)
+same_entries m n same name = same name ∙ by_text name m.entries ∙ sym (by_bytes name m.entries)
+
+pub hashed_policies : (arch : TargetArch) (text : Option (List ℕ)) (m : InOrder Filter) (n : ByName Filter) → ((q : List ℕ) → hash.get_by_text n q ≡ get_by_text m q)
+    → IfSome text (λ t. OfValue t (ArePoliciesOf arch (get_by_text m))) → IfSome text (λ t. OfValue t (ArePoliciesOf arch (hash.get_by_text n)))
+hashed_policies arch None m n same h = tt
+hashed_policies arch (Some t) m n same h = (h.0, h.1, same_policies arch h.0 (get_by_text m) (hash.get_by_text n) same h.2)
+
+pub hashed_answer : (arch : TargetArch) (text : Option (List ℕ)) (m : InOrder Filter) (n : ByName Filter) → ((q : List ℕ) → hash.get_by_text n q ≡ get_by_text m q)
+    → IfSome text (λ t. GivesInOrder (Ok m) (policies_of arch t)) → IfSome text (λ t. GivesPolicies (Ok n) (policies_of arch t))
+hashed_answer arch None m n same h = tt
+hashed_answer arch (Some t) m n same h = (map named_policy m.entries, h, same_entries m n same)

@@ -19,6 +19,7 @@ pub mod Refusal
 pub mod JsonPolicy
 pub mod JsonPolicies
 pub mod JsonAnswers
+pub mod JsonPrograms
 pub mod Reorder
 pub mod LowHalf
 pub mod JsonEquality

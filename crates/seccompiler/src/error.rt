@@ -1,6 +1,7 @@
 // What the calls of the crate's root refuse.
 
 use crate::backend::BackendError;
+use crate::json::JsonFrontendError;
 use std::fmt;
 
 /// Why a call of this crate refuses.
@@ -10,6 +11,8 @@ use std::fmt;
 pub enum Error {
     /// The backend refuses.
     Backend(BackendError),
+    /// The JSON front end refuses.
+    JsonFrontend(JsonFrontendError),
     /// A growth of memory was refused.
     OutOfMemory,
 }
@@ -19,14 +22,14 @@ pub type Result<T> = std::result::Result<T, Error>;
 
 /// The error's text.
 impl fmt::Display for Error {
-    ghost use Rattle.std.specs.Prelude.{Some};
     ghost use Rattle.seccompiler.specs.Errors.{error_text};
 
-    ghost output = { λ error. Some (error_text error) };
+    ghost output = { error_text };
 
     fn fmt<W: fmt::Write>(&self, f: &mut fmt::Formatter<W>) -> fmt::Result {
         match self {
             Error::Backend(error) => write!(f, "Backend error: {error}"),
+            Error::JsonFrontend(error) => write!(f, "Json Frontend error: {error}"),
             Error::OutOfMemory => f.write_str("Out of memory."),
         }
     }
@@ -43,6 +46,21 @@ impl From<BackendError> for Error {
         match refusal {
             BackendError::OutOfMemory => Error::OutOfMemory,
             refusal => Error::Backend(refusal),
+        }
+    }
+}
+
+/// The front end's want of memory is the crate's; any other refusal stays the front end's.
+impl From<JsonFrontendError> for Error {
+    ghost use Rattle.std.specs.Prelude.{◌≡◌};
+    ghost use Rattle.seccompiler.specs.Errors.{from_frontend};
+
+    ghost from_gives = { λ refusal error. error ≡ from_frontend refusal };
+
+    fn from(refusal: JsonFrontendError) -> Error {
+        match refusal {
+            JsonFrontendError::OutOfMemory => Error::OutOfMemory,
+            refusal => Error::JsonFrontend(refusal),
         }
     }
 }

@@ -4,6 +4,7 @@
 pub mod backend;
 pub mod bpf;
 pub(crate) mod chain;
+pub mod compile;
 pub mod condition;
 pub mod error;
 pub mod filter;
@@ -15,6 +16,7 @@ pub mod syscall_table;
 
 pub use backend::{BackendError, SeccompAction, SeccompCmpArgLen, SeccompCmpOp, TargetArch};
 pub use bpf::{BpfProgram, BpfProgramRef, sock_filter};
+pub use compile::{BpfMap, compile_from_json};
 pub use condition::SeccompCondition;
 pub use error::{Error, Result};
 pub use filter::SeccompFilter;

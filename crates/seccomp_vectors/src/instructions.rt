@@ -27,6 +27,11 @@ pub fn jump_greater(k: u32, jt: u8, jf: u8) -> sock_filter {
     bpf_jump(0x25, k, jt, jf)
 }
 
+// Jumps over `jt` instructions where the accumulator is at least `k`, else over `jf`.
+pub fn jump_at_least(k: u32, jt: u8, jf: u8) -> sock_filter {
+    bpf_jump(0x35, k, jt, jf)
+}
+
 // Ends, and returns the word `k`.
 pub fn give(k: u32) -> sock_filter {
     bpf_stmt(0x06, k)

@@ -2,10 +2,30 @@
 #![tactic(auto)]
 
 #[cfg(test)]
+mod actions;
+#[cfg(test)]
+mod architectures;
+#[cfg(test)]
+mod builders;
+#[cfg(test)]
+mod conditions;
+#[cfg(test)]
+mod filters;
+#[cfg(test)]
 mod instructions;
 #[cfg(test)]
 mod json_shapes;
 #[cfg(test)]
 mod json_texts;
 #[cfg(test)]
+mod limits;
+#[cfg(test)]
 mod machine;
+#[cfg(test)]
+mod policies;
+#[cfg(test)]
+mod programs;
+#[cfg(test)]
+mod relays;
+#[cfg(test)]
+mod rules;

@@ -1,5 +1,8 @@
 -- What the programs of a policy mean for the answers of the engines.
-use Rattle.std.proofs.Common.{◌≡◌, ◌≢◌, ℕ, ◌<◌, ◌⊎◌, List, [], ◌∷◌, Option, Some, None, IfSome, IfErr, Result, Ok, Err, Vec, String, Global, All, Contains, string_bytes, string_cmp, map, refl, sym, subst, ap, ◌∙◌, ⊎_elim}
+use Rattle.std.proofs.Common.{◌≡◌, ◌≢◌, ℕ, ◌<◌, ◌⊎◌, List, [], ◌∷◌, Option, Some, None, IfSome, IfErr, Result, Ok, Err, Vec, String, Global, All, Contains, string_bytes, string_cmp, nat_cmp, map, refl, sym, subst, ap, ◌∙◌, ⊎_elim}
+use Rattle.std.specs.Prelude.{⊤}
+use Rattle.std.specs.Cmp.Lexicographic.{slice_cmp}
+use Rattle.std.proofs.lemmas.Simd.{map-map}
 use Rattle.std.specs.BTreeMap as tree
 use Rattle.std.specs.List.{concat}
 use Rattle.std.specs.List.Sorted.{IsStrictlySortedBy}
@@ -18,7 +21,7 @@ use Rattle.seccompiler.specs.declared.error.Error.TheVariants as library
 use Rattle.seccompiler.specs.Compiled.{IsCompiled}
 use Rattle.seccompiler.specs.Errors.{from_backend, IsNoMemoryInside}
 use Rattle.seccompiler.specs.JsonAnswers.{OfValue}
-use Rattle.seccompiler.specs.JsonPrograms.{AreProgramsOf, IsFirstError}
+use Rattle.seccompiler.specs.JsonPrograms.{AreProgramsOf, TellsFirstFault}
 use Rattle.seccompiler.specs.JsonShape.{Has, Under, Lacks}
 use Rattle.seccompiler.specs.Policy.{Filter}
 use Rattle.seccompiler.specs.Texts.{IsInvalidArch}
@@ -46,7 +49,7 @@ name_refused arch known backend.OutOfMemory none cause = tt
 
 -- What the library refuses of a policy is its first fault.
 pub policy_refused : (arch : List ℕ) (known : Option (List ℕ)) (target : TargetArch) (e : Error) → IsNameOf arch target → IsNoMemoryInside e
-    → IfSome known (λ text. IsFirstError target text e) → IsRefusedPolicy arch known (from_library e)
+    → IfSome known (λ text. TellsFirstFault target text e) → IsRefusedPolicy arch known (from_library e)
 policy_refused arch known target (library.Backend e) named memory first = of_policy target named (λ same. cc) memory first
 policy_refused arch known target (library.JsonFrontend e) named memory first = of_policy target named (λ same. cc) memory first
 policy_refused arch known target library.OutOfMemory named memory first = tt
@@ -88,7 +91,7 @@ FindsPrograms arch known find = OfNamed arch (λ target. IfSome known (λ text. 
 pub faultless : (arch : List ℕ) (known : Option (List ℕ)) (find : Find) (P : TargetArch → Data → Type 0) → FindsPrograms arch known find
     → ((target : TargetArch) (d : Data) → AreProgramsOf target find d → P target d) → IsFaultless arch known P
 faultless arch None find P h shows = (h.0, h.1, tt)
-faultless arch (Some text) find P h shows = (h.0, h.1, h.2.0, h.2.1, all_programs h.0 find h.2.0 h.2.2, shows h.0 h.2.0 h.2.2)
+faultless arch (Some text) find P h shows = (h.0, h.1, (h.2.0, h.2.1, (all_programs h.0 find h.2.0 h.2.2, shows h.0 h.2.0 h.2.2)))
 
 -- The name is in no filter where nothing is found under it.
 pub no_filter : (arch : List ℕ) (known : Option (List ℕ)) (find : Find) (name : List ℕ) → FindsPrograms arch known find → find name ≡ None

@@ -10,7 +10,7 @@ use Rattle.seccompiler.specs.declared.error.Error.TheVariants as library
 use Rattle.seccompiler.specs.declared.bpf.sock_filter.{sock_filter}
 use Rattle.seccompiler.specs.Errors.{IsNoMemoryInside}
 use Rattle.seccompiler.specs.JsonAnswers.{HasPolicy, OfValue}
-use Rattle.seccompiler.specs.JsonPrograms.{IsFirstError}
+use Rattle.seccompiler.specs.JsonPrograms.{TellsFirstFault}
 use Rattle.seccompiler.specs.JsonShape.{IsObject, Has, Under, Lacks}
 use Rattle.seccompiler.specs.Policy.{Filter}
 use Rattle.seccompc.specs.Answers.{WritesLines}
@@ -31,7 +31,7 @@ pub data IsPolicyFault (arch : List ℕ) (known : Option (List ℕ)) (e : Error)
   no_architecture : (text : String Global) → ((target : TargetArch) → IsNameOf arch target → ⊥) → string_bytes text ≡ arch
       → e ≡ library.Backend (InvalidTargetArch text) → IsPolicyFault arch known e
   of_policy : (target : TargetArch) → IsNameOf arch target → e ≢ library.OutOfMemory → IsNoMemoryInside e
-      → IfSome known (λ text. IsFirstError target text e) → IsPolicyFault arch known e
+      → IfSome known (λ text. TellsFirstFault target text e) → IsPolicyFault arch known e
 
 -- The error is the first fault, or want of memory.
 abbrev pub IsRefusedPolicy : List ℕ → Option (List ℕ) → ToolError → Type 0

@@ -1,5 +1,5 @@
 -- What the policies of a value, or the first fault, tell of the value.
-use Rattle.std.proofs.Common.{◌≡◌, ℕ, List, Bool, true, false, cond, Result, Ok, Err, Option, Some, None, String, Global, BTreeMap, string_bytes, string_cmp, map, refl, sym, ap, ◌∙◌, subst, IfOk, IfErr, IfSome}
+use Rattle.std.proofs.Common.{◌≡◌, ℕ, List, Bool, true, false, cond, Result, Ok, Err, Option, Some, None, string_bytes, string_cmp, map, refl, sym, ap, ◌∙◌, subst, IfOk, IfErr, IfSome}
 use Rattle.std.specs.BTreeMap.{IsOrdered, get_by_text}
 use Rattle.std.specs.HashMap as hash
 use Rattle.std.specs.List.Sorted.{IsStrictlySortedBy}
@@ -9,11 +9,10 @@ use Rattle.std.proofs.lemmas.Map.Text.{is_text}
 use Rattle.serde_json.specs.Data.{Data}
 use Rattle.serde_json.specs.Find.{get}
 use Rattle.serde_json.specs.Read.{read}
-use Rattle.seccompiler.specs.JsonAnswers.{IsReadAs, IsValueOf, HasPolicy, ArePoliciesOf, AreAllFilters, IsLeastRefused, IsFirstFault, OfValue}
+use Rattle.seccompiler.specs.JsonAnswers.{IsReadAs, IsValueOf, ArePoliciesOf, AreAllFilters, IsLeastRefused, TellsFrontendFault, OfValue}
 use Rattle.seccompiler.specs.JsonFault.{Fault, unreadable, refused, unknown_call, Fails, Gives}
 use Rattle.seccompiler.specs.JsonFilters.{filters_of, AreFilters, IsRefusal}
 use Rattle.seccompiler.specs.JsonPolicies.{named_policy, value_of, or_unreadable, policies_in, InOrder, ByName, HasExactly, policies_of, GivesInOrder, GivesPolicies, IsPolicyError}
-use Rattle.seccompiler.specs.JsonPolicy.{policy_in}
 use Rattle.seccompiler.specs.JsonShape.{Has, IsFilter}
 use Rattle.seccompiler.specs.Policy.{Filter}
 use Rattle.seccompiler.specs.declared.backend.TargetArch.{TargetArch}
@@ -21,6 +20,7 @@ use Rattle.seccompiler.specs.declared.json.error.JsonFrontendError.{JsonFrontend
 use Rattle.seccompiler.specs.declared.json.error.JsonFrontendError.TheVariants as e
 use Rattle.seccompiler.specs.declared.json.types.JsonFilter.{JsonFilter}
 use Rattle.seccompiler.specs.declared.json.types.JsonFilterMap.{JsonFilterMap}
+use Rattle.seccompiler.proofs.JsonPolicies.{policy_given, fault_given}
 use Rattle.seccompiler.proofs.JsonPolicySteps.{value_of-ok, value_of-read, each_policy, no_policy, stops_at, Succeeds}
 use Rattle.seccompiler.proofs.TextMaps.{by_text, by_bytes, found_there, found_in_front}
 
@@ -41,7 +41,7 @@ unfolding value_of
 no_other_fault text fault h = unreadable_alone (is_utf8 text) (read text) fault h
 
 -- An error that tells why a text has no value tells its first fault.
-pub unread_fault : (arch : TargetArch) (text : List ℕ) (e : JsonFrontendError) → Fails e (value_of text) → IsFirstFault arch text e
+pub unread_fault : (arch : TargetArch) (text : List ℕ) (e : JsonFrontendError) → Fails e (value_of text) → TellsFrontendFault arch text e
 unread_fault arch text (e.Backend x) h = let other = no_other_fault text (refused x) h.0 in cc
 unread_fault arch text (e.SerdeJson x) h = λ d is. let read_it = sym h.0 ∙ value_of-ok text d is.utf8 is.value in cc
 unread_fault arch text (e.SyscallName name known) h = let other = no_other_fault text (unknown_call (string_bytes name) known) h in cc
@@ -52,7 +52,7 @@ unread_fault arch text (e.Shape name) h = let other = no_other_fault text _ h in
 unread_fault arch text e.OutOfMemory h = tt
 
 -- A refusal of the text's value is the text's first fault.
-pub refusal_fault : (arch : TargetArch) (text : List ℕ) (d : Data) (e : JsonFrontendError) → IsValueOf text d → IsRefusal d e → IsFirstFault arch text e
+pub refusal_fault : (arch : TargetArch) (text : List ℕ) (d : Data) (e : JsonFrontendError) → IsValueOf text d → IsRefusal d e → TellsFrontendFault arch text e
 refusal_fault arch text d (e.Backend x) is h = absurd h
 refusal_fault arch text d (e.SerdeJson x) is h = absurd h
 refusal_fault arch text d (e.SyscallName name known) is h = absurd h
@@ -87,7 +87,7 @@ module _ (d : Data) (m : JsonFilterMap) (are : AreFilters d m) where
     each = λ name v there.
         let known = are.each name v there in
         let policy = each_policy arch m.0.entries made.entries h name known.0 (sym (by_text name m.0.entries) ∙ known.1) in
-        (policy.0, by_text name made.entries ∙ policy.1, record { filter = known.0; is_filter = known.2; is_policy = policy.2 });
+        (policy.0, by_text name made.entries ∙ policy.1, record { filter = known.0; is_filter = known.2; is_policy = (policy_given arch known.0 policy.0).0 policy.2 });
     no_other = λ name none. by_text name made.entries ∙ no_policy arch m.0.entries made.entries h name (sym (by_text name m.0.entries) ∙ are.no_other name none);
   }
 
@@ -108,16 +108,16 @@ module _ (d : Data) (m : JsonFilterMap) (are : AreFilters d m) where
         there = own.there;
         filter = e.1;
         is_filter = own.is_filter;
-        is_refused = stop.is_refused;
+        is_refused = (fault_given arch e.1 fault).0 stop.is_refused;
         below = λ other v there less.
             let known = are.each other v there in
             let found : lookup (is_text other) m.0.entries ≡ Some known.0 = sym (by_text other m.0.entries) ∙ known.1 in
             let policy = found_in_front (Succeeds arch) stop.front e stop.back sorted stop.before other known.0 (ap (lookup (is_text other)) (sym stop.whole) ∙ found) less in
-            (policy.0, record { filter = known.0; is_filter = known.2; is_policy = policy.1 });
+            (policy.0, record { filter = known.0; is_filter = known.2; is_policy = (policy_given arch known.0 policy.0).0 policy.1 });
       }
 
   -- An error of making the policies is the text's first fault.
-  pub refused_fault : (arch : TargetArch) (text : List ℕ) (e : JsonFrontendError) → IsValueOf text d → IsOrdered string_cmp m.0 → IsPolicyError e → Fails e (policies_in arch (filters_of m)) → IsFirstFault arch text e
+  pub refused_fault : (arch : TargetArch) (text : List ℕ) (e : JsonFrontendError) → IsValueOf text d → IsOrdered string_cmp m.0 → IsPolicyError e → Fails e (policies_in arch (filters_of m)) → TellsFrontendFault arch text e
   refused_fault arch text (e.Backend x) is ordered own h = (d, is, least_refused arch (refused x) ordered h.0)
   refused_fault arch text (e.SerdeJson x) is ordered own h = absurd own
   refused_fault arch text (e.SyscallName name known) is ordered own h = (d, is, least_refused arch (unknown_call (string_bytes name) known) ordered h)
@@ -128,13 +128,13 @@ module _ (d : Data) (m : JsonFilterMap) (are : AreFilters d m) where
   refused_fault arch text e.OutOfMemory is ordered own h = tt
 
   -- What the walk gives, as a whole.
-  pub policies_given : (arch : TargetArch) (text : List ℕ) (r : Result (InOrder Filter) JsonFrontendError) → IsValueOf text d → Gives (λ ps. map named_policy ps.entries) r (policies_in arch (filters_of m)) → IfOk r (λ ps. OfValue text (ArePoliciesOf arch (get_by_text ps)))
-  policies_given arch text (Ok made) is h = (d, is, are_policies arch made h)
-  policies_given arch text (Err e) is h = tt
+  pub policies_told : (arch : TargetArch) (text : List ℕ) (r : Result (InOrder Filter) JsonFrontendError) → IsValueOf text d → Gives (λ ps. map named_policy ps.entries) r (policies_in arch (filters_of m)) → IfOk r (λ ps. OfValue text (ArePoliciesOf arch (get_by_text ps)))
+  policies_told arch text (Ok made) is h = (d, is, are_policies arch made h)
+  policies_told arch text (Err e) is h = tt
 
-  pub fault_given : (arch : TargetArch) (text : List ℕ) (r : Result (InOrder Filter) JsonFrontendError) → IsValueOf text d → IsOrdered string_cmp m.0 → IfErr r IsPolicyError → Gives (λ ps. map named_policy ps.entries) r (policies_in arch (filters_of m)) → IfErr r (IsFirstFault arch text)
-  fault_given arch text (Ok made) is ordered own h = tt
-  fault_given arch text (Err e) is ordered own h = refused_fault arch text e is ordered own h
+  pub fault_told : (arch : TargetArch) (text : List ℕ) (r : Result (InOrder Filter) JsonFrontendError) → IsValueOf text d → IsOrdered string_cmp m.0 → IfErr r IsPolicyError → Gives (λ ps. map named_policy ps.entries) r (policies_in arch (filters_of m)) → IfErr r (TellsFrontendFault arch text)
+  fault_told arch text (Ok made) is ordered own h = tt
+  fault_told arch text (Err e) is ordered own h = refused_fault arch text e is ordered own h
 
 -- ---- the hashed map
 

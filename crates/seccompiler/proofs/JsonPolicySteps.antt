@@ -1,7 +1,7 @@
 -- The steps from a text to its policies: the value, the walk over the filters, and the order of faults.
-use Rattle.std.proofs.Common.{◌≡◌, ◌≢◌, ℕ, ◌++◌, List, [], ◌∷◌, Bool, true, false, cond, Result, Ok, Err, Option, Some, None, String, Global, string_bytes, string_cmp, bytes_eq, map, refl, sym, ap, ◌∙◌, append_assoc, ◌⊎◌, inl, inr}
+use Rattle.std.proofs.Common.{◌≡◌, ℕ, ◌++◌, List, [], ◌∷◌, Bool, true, false, cond, Result, Ok, Err, Option, Some, None, String, Global, string_bytes, bytes_eq, map, refl, sym, ap, ◌∙◌, append_assoc, ◌⊎◌, inl, inr}
 use Rattle.std.specs.List.{AllByRecursion}
-use Rattle.std.specs.Map.{keys_of, lookup}
+use Rattle.std.specs.Map.{lookup}
 use Rattle.std.specs.Str.{IsUtf8, is_utf8}
 use Rattle.std.proofs.lemmas.Bool.{cases_Bool}
 use Rattle.std.proofs.lemmas.Map.Text.{is_text}
@@ -10,8 +10,9 @@ use Rattle.serde_json.specs.Data.{Data}
 use Rattle.serde_json.specs.Read.{read}
 use Rattle.seccompiler.specs.JsonFault.{Fault, Fails, FailsReading, unreadable, repeated_key}
 use Rattle.seccompiler.specs.JsonFilters.{named}
-use Rattle.seccompiler.specs.JsonPolicies.{NamedPolicy, named_policy, ◌>>=◌, or_unreadable, value_of, then_policy, policies_in, policies_of, IsNoMemoryInside}
-use Rattle.seccompiler.specs.JsonPolicy.{policy_in}
+use Rattle.seccompiler.specs.JsonPolicies.{NamedPolicy, named_policy, or_unreadable, value_of, then_policy, policies_in, policies_of, IsPolicyError, IsNoMemoryInside}
+use Rattle.seccompiler.specs.JsonPolicyOf.{IsRefusalOf}
+use Rattle.seccompiler.specs.JsonPolicy.{◌>>=◌, policy_in}
 use Rattle.seccompiler.specs.JsonReading.{filters_in}
 use Rattle.seccompiler.specs.JsonRepeats.{repeats}
 use Rattle.seccompiler.specs.Policy.{Filter}
@@ -191,3 +192,14 @@ fails_reading e.RepeatedKey r h = h
 fails_reading e.NotAnObject r h = h
 fails_reading (e.Shape name) r h = h
 fails_reading e.OutOfMemory r h = h
+
+-- An error that tells a filter's refusal is of the kind that making a filter gives.
+pub policy_error : (arch : TargetArch) (j : JsonFilter) (e : JsonFrontendError) → IsRefusalOf arch j e → IsPolicyError e
+policy_error arch j (e.Backend x) h = tt
+policy_error arch j (e.SerdeJson x) h = absurd h
+policy_error arch j (e.SyscallName name known) h = tt
+policy_error arch j (e.Read x) h = absurd h
+policy_error arch j e.RepeatedKey h = absurd h
+policy_error arch j e.NotAnObject h = absurd h
+policy_error arch j (e.Shape name) h = absurd h
+policy_error arch j e.OutOfMemory h = tt

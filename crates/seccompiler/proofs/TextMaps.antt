@@ -1,5 +1,5 @@
 -- Look-ups by text in lists of entries and in maps.
-use Rattle.std.proofs.Common.{◌≡◌, ℕ, ◌++◌, List, [], ◌∷◌, Bool, true, false, cond, Option, Some, None, String, Global, Ordering, Less, Greater, string_bytes, string_cmp, string_eq, nat_cmp, bytes_eq, is_eq, map, refl, sym, ap, ◌∙◌, subst, ◌⊎◌, inl, inr}
+use Rattle.std.proofs.Common.{◌≡◌, ℕ, ◌++◌, List, [], ◌∷◌, true, false, cond, Option, Some, None, String, Global, Less, Greater, string_bytes, string_cmp, string_eq, nat_cmp, bytes_eq, map, refl, sym, ap, ◌∙◌, subst, inl, inr}
 use Rattle.std.specs.BTreeMap.{is_at, insert_entry}
 use Rattle.std.specs.Cmp.Lexicographic.{slice_cmp}
 use Rattle.std.specs.HashMap.{HashMap, UpdatesBy, get_by_text}
@@ -116,6 +116,11 @@ insert_last (x ∷ made) name v (d ∷ done) e back names same h =
     let above : slice_cmp nat_cmp (string_bytes name) (string_bytes x.0) ≡ Greater =
     rw (same, first) (nat_list_cmp_total.antisymm (string_bytes e.0) (string_bytes d.0) ∙ ap ordering_reverse (below_middle d.0 done e back h.0)) in
     rw above (ap (λ ms. x ∷ ms) (insert_last made name v done e back others same h.1))
+
+-- What holds of each entry holds with one more at the end.
+pub all_more : {X : Type 0} (P : X → Type 0) (xs : List X) (x : X) → AllByRecursion P xs → P x → AllByRecursion P (xs ++ x ∷ [])
+all_more P [] x all h = (h, tt)
+all_more P (y ∷ xs) x all h = (all.0, all_more P xs x all.1 h)
 
 turned : (p q : List ℕ) → bytes_eq p q ≡ false → bytes_eq q p ≡ false
 turned p q h = false_from_ne_true (bytes_eq q p) (λ t. true≢false (sym ((bytes_eq-Decides p q).1 (sym ((bytes_eq-Decides q p).0 t))) ∙ h))

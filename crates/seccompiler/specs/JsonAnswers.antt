@@ -1,11 +1,11 @@
 -- What the policies of a JSON text are, and which of its faults is told.
-use Rattle.std.specs.Prelude.{◌≡◌, ℕ, List, Option, Some, None, Ok, Err, string_bytes}
+use Rattle.std.specs.Prelude.{◌≡◌, ℕ, List, Option, Some, None, string_bytes}
 use Rattle.std.specs.Str.{IsUtf8}
 use Rattle.serde_json.specs.Data.{Data}
 use Rattle.serde_json.specs.Read.{read}
 use Rattle.seccompiler.specs.JsonFault.{Fault, unknown_call, refused}
 use Rattle.seccompiler.specs.JsonFilters.{IsBelow, IsLeastFault}
-use Rattle.seccompiler.specs.JsonPolicy.{policy_in}
+use Rattle.seccompiler.specs.JsonPolicyOf.{IsPolicyOf, IsFirstFault}
 use Rattle.seccompiler.specs.JsonRepeats.{Repeats}
 use Rattle.seccompiler.specs.JsonShape.{IsObject, Has, Lacks, IsFilter}
 use Rattle.seccompiler.specs.Policy.{Filter}
@@ -32,7 +32,7 @@ OfValue text P = (d : Data) × IsValueOf text d × P d
 pub record HasPolicy (arch : TargetArch) (value : Data) (policy : Filter) : Type 0 where
   pub filter : JsonFilter
   pub is_filter : IsFilter value filter
-  pub is_policy : policy_in arch filter ≡ Ok policy
+  pub is_policy : IsPolicyOf arch filter policy
 
 -- The value is an object, and what is found under a name is the policy of the name's value; under no other name
 -- there is anything.
@@ -46,7 +46,7 @@ pub record AreAllFilters (d : Data) : Type 0 where
   pub is_object : IsObject d
   pub each : (name : List ℕ) (value : Data) → Has d name value → (f : JsonFilter) × IsFilter value f
 
--- All values are filters; one has this fault, and no name below its name has any.
+-- All values are filters; this is the first fault of one, and each name below its name has a policy.
 pub record IsLeastRefused (arch : TargetArch) (fault : Fault) (d : Data) : Type 0 where
   pub all_filters : AreAllFilters d
   pub name : List ℕ
@@ -54,18 +54,18 @@ pub record IsLeastRefused (arch : TargetArch) (fault : Fault) (d : Data) : Type 
   pub there : Has d name value
   pub filter : JsonFilter
   pub is_filter : IsFilter value filter
-  pub is_refused : policy_in arch filter ≡ Err fault
+  pub is_refused : IsFirstFault arch filter fault
   pub below : (other : List ℕ) (v : Data) → Has d other v → IsBelow other name → (policy : Filter) × HasPolicy arch v policy
 
 -- The error tells what is at fault in the text, and nothing that comes earlier in the order of faults is: the bytes
 -- are no JSON; a name is repeated; the top is no object; a filter has a wrong shape; a filter is refused. The least
 -- name's fault comes first. A failed read tells nothing of the text, and want of memory may come in place of all.
-abbrev pub IsFirstFault : TargetArch → List ℕ → JsonFrontendError → Type 0
-IsFirstFault arch text (Backend cause) = OfValue text (IsLeastRefused arch (refused cause))
-IsFirstFault arch text (SerdeJson cause) = (d : Data) → IsReadAs text d → ⊥
-IsFirstFault arch text (SyscallName name known) = OfValue text (IsLeastRefused arch (unknown_call (string_bytes name) known))
-IsFirstFault arch text (Read cause) = Unit {0}
-IsFirstFault arch text RepeatedKey = (d : Data) × IsReadAs text d × Repeats text d
-IsFirstFault arch text NotAnObject = OfValue text (λ d. IsObject d → ⊥)
-IsFirstFault arch text (Shape name) = OfValue text (λ d. IsLeastFault d (string_bytes name))
-IsFirstFault arch text OutOfMemory = Unit {0}
+abbrev pub TellsFrontendFault : TargetArch → List ℕ → JsonFrontendError → Type 0
+TellsFrontendFault arch text (Backend cause) = OfValue text (IsLeastRefused arch (refused cause))
+TellsFrontendFault arch text (SerdeJson cause) = (d : Data) → IsReadAs text d → ⊥
+TellsFrontendFault arch text (SyscallName name known) = OfValue text (IsLeastRefused arch (unknown_call (string_bytes name) known))
+TellsFrontendFault arch text (Read cause) = Unit {0}
+TellsFrontendFault arch text RepeatedKey = (d : Data) × IsReadAs text d × Repeats text d
+TellsFrontendFault arch text NotAnObject = OfValue text (λ d. IsObject d → ⊥)
+TellsFrontendFault arch text (Shape name) = OfValue text (λ d. IsLeastFault d (string_bytes name))
+TellsFrontendFault arch text OutOfMemory = Unit {0}

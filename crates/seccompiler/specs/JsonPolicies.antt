@@ -1,5 +1,5 @@
 -- The policies of a JSON text, as functions of its bytes, and what an answer of the front end tells of them.
-use Rattle.std.specs.Prelude.{◌≡◌, ◌≢◌, ℕ, List, [], ◌∷◌, Bool, if◌then◌else◌, Result, Ok, Err, Option, Some, None, String, string_bytes, map}
+use Rattle.std.specs.Prelude.{◌≡◌, ◌≢◌, ℕ, List, [], ◌∷◌, if◌then◌else◌, Result, Ok, Err, Option, Some, None, String, string_bytes, map}
 use Rattle.std.specs.BTreeMap.{BTreeMap}
 use Rattle.std.specs.HashMap.{HashMap, get_by_text}
 use Rattle.std.specs.IoError.{error_kind}
@@ -12,9 +12,9 @@ use Rattle.std.specs.declared.io.ErrorKind.TheVariants as kind
 use Rattle.serde_json.specs.Data.{Data}
 use Rattle.serde_json.specs.Errors.{IsMemory}
 use Rattle.serde_json.specs.Read.{read}
-use Rattle.seccompiler.specs.JsonFault.{Fault, unreadable, repeated_key, Fails, FailsReading}
+use Rattle.seccompiler.specs.JsonFault.{Fault, unreadable, repeated_key, FailsReading}
 use Rattle.seccompiler.specs.JsonFilters.{Named}
-use Rattle.seccompiler.specs.JsonPolicy.{policy_in}
+use Rattle.seccompiler.specs.JsonPolicy.{◌>>=◌, policy_in}
 use Rattle.seccompiler.specs.JsonReading.{filters_in}
 use Rattle.seccompiler.specs.JsonRepeats.{repeats}
 use Rattle.seccompiler.specs.Policy.{Filter}
@@ -30,12 +30,6 @@ NamedPolicy = List ℕ × Filter
 -- An entry of an ordered map of policies, seen so.
 abbrev pub named_policy : String Global × Filter → NamedPolicy
 named_policy entry = (string_bytes entry.0, entry.1)
-
--- What comes of an answer without fault.
-infixl 10 ◌>>=◌
-abbrev pub ◌>>=◌ : {A B : Type 0} → Result A Fault → (A → Result B Fault) → Result B Fault
-(Ok x) >>= f = f x
-(Err fault) >>= f = Err fault
 
 abbrev pub or_unreadable : Option Data → Result Data Fault
 or_unreadable None = Err unreadable

@@ -3,7 +3,7 @@ use Rattle.std.specs.Prelude.{◌≡◌, ℕ, List, Option, Some, None, Vec}
 use Rattle.std.specs.declared.alloc.Global.{Global}
 use Rattle.serde_json.specs.Data.{Data}
 use Rattle.seccompiler.specs.Compiled.{IsCompiled, Passes}
-use Rattle.seccompiler.specs.JsonAnswers.{HasPolicy, OfValue, IsFirstFault}
+use Rattle.seccompiler.specs.JsonAnswers.{HasPolicy, OfValue, TellsFrontendFault}
 use Rattle.seccompiler.specs.JsonFilters.{IsBelow}
 use Rattle.seccompiler.specs.JsonShape.{IsObject, Has, Lacks}
 use Rattle.seccompiler.specs.Policy.{Filter}
@@ -19,6 +19,29 @@ use Rattle.seccompiler.specs.declared.error.Error.TheVariants as whole
 pub record IsProgramOf (policy : Filter) (program : Vec sock_filter Global) : Type 0 where
   pub compiled : IsCompiled policy program.items
   pub passes : Passes policy program.items
+
+-- A program stands under each policy's name, and there is none under another name.
+pub record AreProgramsFor (policies : List ℕ → Option Filter) (programs : List ℕ → Option (Vec sock_filter Global)) : Type 0 where
+  pub each : (name : List ℕ) (policy : Filter) → policies name ≡ Some policy → (program : Vec sock_filter Global) × (programs name ≡ Some program) × IsProgramOf policy program
+  pub no_other : (name : List ℕ) → policies name ≡ None → programs name ≡ None
+
+-- One of the policies is too large, n telling its length, and none whose name is below its name is.
+pub record IsLeastLarge (policies : List ℕ → Option Filter) (n : ℕ) : Type 0 where
+  pub name : List ℕ
+  pub policy : Filter
+  pub there : policies name ≡ Some policy
+  pub too_large : IsTooLarge policy n
+  pub below : (other : List ℕ) (q : Filter) → policies other ≡ Some q → IsBelow other name → IsCompilable q
+
+-- Policies whose numbers are those of a table are refused for their length alone.
+abbrev pub IsLeastRefusal : (List ℕ → Option Filter) → BackendError → Type 0
+IsLeastRefusal policies EmptyRule = ⊥
+IsLeastRefusal policies (FilterTooLarge n) = IsLeastLarge policies n
+IsLeastRefusal policies IdenticalActions = ⊥
+IsLeastRefusal policies InvalidArgumentNumber = ⊥
+IsLeastRefusal policies (InvalidTargetArch t) = ⊥
+IsLeastRefusal policies (InvalidSyscallNumber n) = ⊥
+IsLeastRefusal policies OutOfMemory = Unit {0}
 
 -- The value is an object, and what is found under a name is a program for the policy of the name's value; under no
 -- other name there is anything.
@@ -55,7 +78,7 @@ IsBackendFault arch d OutOfMemory = ⊥
 
 -- The error tells what is at fault in the text, and nothing that comes earlier in the order of faults is: all faults of
 -- the front end, and then the least name's policy that is too large. Want of memory may come in place of all.
-abbrev pub IsFirstError : TargetArch → List ℕ → Error → Type 0
-IsFirstError arch text (whole.Backend cause) = OfValue text (λ d. IsBackendFault arch d cause)
-IsFirstError arch text (whole.JsonFrontend cause) = IsFirstFault arch text cause
-IsFirstError arch text whole.OutOfMemory = Unit {0}
+abbrev pub TellsFirstFault : TargetArch → List ℕ → Error → Type 0
+TellsFirstFault arch text (whole.Backend cause) = OfValue text (λ d. IsBackendFault arch d cause)
+TellsFirstFault arch text (whole.JsonFrontend cause) = TellsFrontendFault arch text cause
+TellsFirstFault arch text whole.OutOfMemory = Unit {0}

@@ -16,6 +16,7 @@ pub mod Pieces
 pub mod ChainCode
 pub mod Compiled
 pub mod Refusal
+pub mod JsonPolicyOf
 pub mod JsonPolicy
 pub mod JsonPolicies
 pub mod JsonAnswers

@@ -4,12 +4,13 @@
 //! docs/JSON.md has the format. [`repeats_key`] tells that a text repeats a name, and
 //! [`read_filters`] turns the value of a text into filters.
 
-pub mod compile;
-pub mod compiler;
+mod compile;
+mod compiler;
 mod error;
 mod filters;
 mod members;
 mod parts;
+mod policy;
 mod read;
 mod repeats;
 mod types;

@@ -4,7 +4,7 @@ ghost use Rattle.std.specs.Prelude.{◌≡◌, ℕ, List, All, Some, IfSome, IfO
 ghost use Rattle.std.specs.BTreeMap as tree;
 ghost use Rattle.std.specs.HashMap as hash;
 ghost use Rattle.serde_json.specs.View.{view};
-ghost use Rattle.seccompiler.specs.JsonAnswers.{IsReadAs, OfValue, ArePoliciesOf, IsFirstFault};
+ghost use Rattle.seccompiler.specs.JsonAnswers.{IsReadAs, OfValue, ArePoliciesOf, TellsFrontendFault};
 ghost use Rattle.seccompiler.specs.JsonFault.{Gives};
 ghost use Rattle.seccompiler.specs.JsonFilters.{filters_of};
 ghost use Rattle.seccompiler.specs.JsonPolicies.{value_of, policies_in, policies_of, named_policy, GivesInOrder, GivesPolicies, IsPolicyError, IsNoMemoryInside};
@@ -75,7 +75,7 @@ impl JsonCompiler {
         text: &[u8],
     ) -> Result<BTreeMap<String, SeccompFilter>, JsonFrontendError>
         ensures policies { IfOk result (λ m. OfValue text.now (ArePoliciesOf self.now (tree.get_by_text m))) }
-        ensures fault { IfErr result (IsFirstFault self.now text.now) }
+        ensures fault { IfErr result (TellsFrontendFault self.now text.now) }
         ensures computed { Gives (λ m. map named_policy m.entries) result (policies_of self.now text.now) }
         ensures numbers { IfOk result (λ m. All (λ e. All IsTableNumber (numbers_of e.1.chains)) m.entries) }
     {
@@ -95,7 +95,7 @@ impl JsonCompiler {
     ) -> Result<BTreeMap<String, SeccompFilter>, JsonFrontendError>
         ensures policies { IfSome (R.remaining reader) (λ text.
             IfOk result (λ m. OfValue text (ArePoliciesOf self.now (tree.get_by_text m)))) }
-        ensures fault { IfSome (R.remaining reader) (λ text. IfErr result (IsFirstFault self.now text)) }
+        ensures fault { IfSome (R.remaining reader) (λ text. IfErr result (TellsFrontendFault self.now text)) }
         ensures computed { IfSome (R.remaining reader) (λ text. GivesInOrder result (policies_of self.now text)) }
         ensures memory { IfErr result IsNoMemoryInside }
         ensures numbers { IfOk result (λ m. All (λ e. All IsTableNumber (numbers_of e.1.chains)) m.entries) }
@@ -134,7 +134,7 @@ impl JsonCompiler {
     ) -> Result<HashMap<String, SeccompFilter>, JsonFrontendError>
         ensures policies { IfSome (R.remaining reader) (λ text.
             IfOk result (λ m. OfValue text (ArePoliciesOf self.now (hash.get_by_text m)))) }
-        ensures fault { IfSome (R.remaining reader) (λ text. IfErr result (IsFirstFault self.now text)) }
+        ensures fault { IfSome (R.remaining reader) (λ text. IfErr result (TellsFrontendFault self.now text)) }
         ensures memory { IfErr result IsNoMemoryInside }
 
         // The same as a function of the text.

@@ -1,15 +1,16 @@
-use Rattle.std.proofs.Common.{◌≡◌, ◌∷◌, ◌++◌, [], Ok, String, Global, string_bytes, string_cmp, map, sym, ap, ◌∙◌, subst, append_assoc}
+use Rattle.std.proofs.Common.{◌≡◌, ◌∷◌, ◌++◌, [], Ok, string_bytes, string_cmp, map, sym, ap, ◌∙◌, subst, append_assoc}
 use Rattle.std.specs.Prelude.{All}
 use Rattle.std.specs.List.Sorted.{IsStrictlySortedBy}
 use Rattle.std.specs.Map.{keys_of}
 use Rattle.std.proofs.lemmas.List.{map-append}
 use Rattle.std.proofs.lemmas.List.Elements.{All-push}
+use Rattle.std.proofs.lemmas.Result.{err_from_is_err_and}
 use Rattle.seccompiler.specs.JsonFilters.{named}
 use Rattle.seccompiler.specs.JsonPolicies.{named_policy, policies_in, then_policy}
 use Rattle.seccompiler.specs.JsonPolicy.{policy_in}
 use Rattle.seccompiler.specs.Refusal.{numbers_of}
 use Rattle.seccompiler.specs.SyscallTable.{IsTableNumber}
-use Rattle.seccompiler.proofs.JsonPolicySteps.{Found, Made, with_front, with_front-then_policy}
+use Rattle.seccompiler.proofs.JsonPolicySteps.{Found, Made, with_front, with_front-then_policy, policy_error}
 use Rattle.seccompiler.proofs.TextMaps.{insert_last}
 use Rattle.seccompiler.proofs.json.compiler.JsonCompiler.policies.Goals as goal
 
@@ -39,3 +40,6 @@ loop-name-preserved c =
           ∙ ap (λ es. with_front before (policies_in arch (map named es))) (sym c.in-Some.ensures.steps) ∙ l.invariant.rest;
       numbers = subst (All (λ e. All IsTableNumber (numbers_of e.1.chains))) (sym added) (All-push (λ e. All IsTableNumber (numbers_of e.1.chains)) l.found.entries entry l.invariant.numbers c.in_ok-policy.ensures.numbers);
     }
+
+pub returns-in_err-policy-clause-own_error : goal.returns-in_err-policy-clause-own_error
+returns-in_err-policy-clause-own_error c = let p = err_from_is_err_and c.from_residual.result c.from_residual.ensures.1 in rw (p.1, p.2) (policy_error _ _ _ c.in_err-policy.ensures.refusal)

@@ -1,4 +1,4 @@
-use Rattle.std.proofs.Common.{◌≡◌, ◌↔◌, ℕ, List, Bool, true, false, sym, ◌∙◌, Ok, IsTrue}
+use Rattle.std.proofs.Common.{◌≡◌, ◌↔◌, ℕ, List, Bool, false, sym, ◌∙◌, Ok, IsTrue}
 use Rattle.std.proofs.lemmas.Bool.{true≢false}
 use Rattle.std.proofs.lemmas.Result.{err_from_is_err_and}
 use Rattle.seccompiler.specs.JsonAnswers.{IsValueOf}
@@ -6,7 +6,7 @@ use Rattle.serde_json.specs.Data.{Data}
 use Rattle.seccompiler.specs.JsonPolicies.{value_of}
 use Rattle.seccompiler.specs.JsonRepeats.{Repeats}
 use Rattle.seccompiler.proofs.JsonPolicySteps.{policies_of-unread, policies_of-repeated, policies_of-single, fails_first}
-use Rattle.seccompiler.proofs.JsonPolicyFaults.{read_as, unread_fault, refusal_fault, policies_given, fault_given}
+use Rattle.seccompiler.proofs.JsonPolicyFaults.{read_as, unread_fault, refusal_fault, policies_told, fault_told}
 use Rattle.seccompiler.proofs.json.compiler.JsonCompiler.policies_of.Goals as goal
 
 -- A text without a repeated name has the value that was read of it.
@@ -40,12 +40,12 @@ returns-in_err-filters-clause-computed c =
 pub returns-clause-policies : goal.returns-clause-policies
 returns-clause-policies c =
     let is : IsValueOf c.args.text.now _ = value_alone _ _ _ c.in_ok-value.ensures c.repeats_key.ensures.repeats c.if-repeats_key.false in
-    policies_given _ _ c.in_ok-filters.ensures.filters c.args.self.now c.args.text.now c.policies.result is c.policies.ensures.computed
+    policies_told _ _ c.in_ok-filters.ensures.filters c.args.self.now c.args.text.now c.policies.result is c.policies.ensures.computed
 
 pub returns-clause-fault : goal.returns-clause-fault
 returns-clause-fault c =
     let is : IsValueOf c.args.text.now _ = value_alone _ _ _ c.in_ok-value.ensures c.repeats_key.ensures.repeats c.if-repeats_key.false in
-    fault_given _ _ c.in_ok-filters.ensures.filters c.args.self.now c.args.text.now c.policies.result is c.policies.ensures.ordered c.policies.ensures.own_error c.policies.ensures.computed
+    fault_told _ _ c.in_ok-filters.ensures.filters c.args.self.now c.args.text.now c.policies.result is c.policies.ensures.ordered c.policies.ensures.own_error c.policies.ensures.computed
 
 pub returns-clause-computed : goal.returns-clause-computed
 returns-clause-computed c =

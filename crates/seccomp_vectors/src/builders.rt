@@ -1,0 +1,134 @@
+// Records, conditions, rules and filters as tables write them, and what a filter's program answers.
+
+use seccompiler::backend::{SeccompAction, SeccompCmpArgLen, SeccompCmpOp, TargetArch};
+use seccompiler::condition::SeccompCondition;
+use seccompiler::filter::SeccompFilter;
+use seccompiler::machine::{Outcome, check, run};
+use seccompiler::rule::SeccompRule;
+use std::alloc::Global;
+use std::collections::BTreeMap;
+use std::process::Abort;
+use std::test::Fail;
+
+// The words of the actions, as `linux/seccomp.h` has them.
+pub const ALLOW: u32 = 0x7fff_0000;
+
+pub const TRAP: u32 = 0x0003_0000;
+
+pub const KILL_PROCESS: u32 = 0x8000_0000;
+
+// The architecture words, as `linux/audit.h` has them.
+pub const X86_64: u32 = 0xc000_003e;
+
+pub const AARCH64: u32 = 0xc000_00b7;
+
+pub const RISCV64: u32 = 0xc000_00f3;
+
+// The fields of `struct seccomp_data`, in its order.
+#[derive(Clone, Copy, Debug)]
+pub struct SeccompData {
+    pub number: u32,
+    pub arch: u32,
+    pub instruction_pointer: u64,
+    pub arguments: [u64; 6],
+}
+
+impl SeccompData {
+    // The 64 bytes of the record, little-endian.
+    pub fn record(&self) -> [u8; 64] {
+        let mut record = [0; 64];
+        record[0..4].copy_from_slice(&self.number.to_le_bytes());
+        record[4..8].copy_from_slice(&self.arch.to_le_bytes());
+        record[8..16].copy_from_slice(&self.instruction_pointer.to_le_bytes());
+        for index in 0..6 {
+            let start = 16 + 8 * index;
+            record[start..start + 8].copy_from_slice(&self.arguments[index].to_le_bytes());
+        }
+        record
+    }
+}
+
+// A call of x86_64 with these arguments and instruction pointer 0.
+pub fn call(number: u32, arguments: [u64; 6]) -> SeccompData {
+    SeccompData {
+        number,
+        arch: X86_64,
+        instruction_pointer: 0,
+        arguments,
+    }
+}
+
+// A condition's argument index, length, operator and value.
+pub type Parts = (u8, SeccompCmpArgLen, SeccompCmpOp, u64);
+
+pub fn condition(parts: Parts) -> Result<SeccompCondition, Fail> {
+    let (arg_index, arg_len, operator, value) = parts;
+    Ok(SeccompCondition::new(arg_index, arg_len, operator, value)?)
+}
+
+// A rule of these conditions.
+pub fn rule(alloc: Global, conditions: &[Parts]) -> Result<SeccompRule, Fail> {
+    let mut made = Vec::new(alloc);
+    for parts in conditions {
+        made.push(condition(*parts)?)?;
+    }
+    Ok(SeccompRule::new(made)?)
+}
+
+// A rule of these conditions, each as many times as it says.
+pub fn long_rule(alloc: Global, conditions: &[(usize, Parts)]) -> Result<SeccompRule, Fail> {
+    let mut made = Vec::new(alloc);
+    for (count, parts) in conditions {
+        let repeated = condition(*parts)?;
+        for _ in 0..*count {
+            made.push(repeated)?;
+        }
+    }
+    Ok(SeccompRule::new(made)?)
+}
+
+// The x86_64 filter of one chain, which traps what the chain does not match.
+pub fn one_chain(
+    alloc: Global,
+    number: i64,
+    rules: Vec<SeccompRule>,
+) -> Result<SeccompFilter, Fail> {
+    let mut chains = BTreeMap::new(alloc);
+    drop(chains.insert(number, rules)?);
+    let (trap, allow) = (SeccompAction::Trap, SeccompAction::Allow);
+    Ok(SeccompFilter::new(chains, trap, allow, TargetArch::x86_64)?)
+}
+
+// The x86_64 filter of one rule on call 7, which traps what the rule does not match.
+pub fn one_rule(alloc: Global, rule: SeccompRule) -> Result<SeccompFilter, Fail> {
+    one_chain(alloc, 7, vec![in alloc; rule]?)
+}
+
+// Asserts that the filter compiles to a program of `program_len` instructions that passes the
+// checker, and that the program and `decide` answer each call by the word, the program in so many
+// steps.
+pub fn assert_answers(
+    rt: &impl Abort,
+    alloc: Global,
+    name: &str,
+    filter: &SeccompFilter,
+    answers: &[(SeccompData, u32, usize)],
+) -> Result<(), Fail> {
+    let program = filter.to_bpf(alloc)?;
+    assert_eq!(rt; filter.program_len(), program.len(), "the length of {name}");
+    assert!(rt; check(&program), "the program of {name} is refused");
+    for (call, word, steps) in answers {
+        let (record, word, steps) = (call.record(), *word, *steps);
+        assert_eq!(rt;
+            run(&program, &record),
+            Outcome { word, steps },
+            "{name} on {call:?}"
+        );
+        assert_eq!(rt;
+            filter.decide(&record),
+            word,
+            "the decision of {name} on {call:?}"
+        );
+    }
+    Ok(())
+}

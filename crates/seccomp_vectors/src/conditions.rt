@@ -1,0 +1,304 @@
+// Conditions: what is refused, their instructions, and when they hold.
+
+use crate::builders::{ALLOW, Parts, SeccompData, TRAP, call, condition, one_rule, rule};
+use crate::instructions::{jump_at_least, jump_equal, jump_greater, load, mask};
+use seccompiler::backend::BackendError;
+use seccompiler::backend::SeccompCmpArgLen::{Dword, Qword};
+use seccompiler::backend::SeccompCmpOp::{Eq, Ge, Gt, Le, Lt, MaskedEq, Ne};
+use seccompiler::condition::SeccompCondition;
+use seccompiler::machine::{check, run};
+use std::alloc::Global;
+use std::process::Abort;
+use std::test::Fail;
+
+// A value whose halves, 7 and 5, differ.
+const VALUE: u64 = 0x7_0000_0005;
+
+// A mask whose halves, 6 and 12, differ.
+const MASK: u64 = 0x6_0000_000c;
+
+// Arguments whose low half is less than 5, and greater than 5.
+const DWORD_LESS: [u64; 4] = [0, 4, 0x7_0000_0004, 0xffff_ffff_0000_0004];
+
+const DWORD_EQUAL: [u64; 4] = [5, 0x6_0000_0005, 0x7_0000_0005, 0xffff_ffff_0000_0005];
+
+const DWORD_GREATER: [u64; 4] = [6, 0xffff_ffff, 0x6_0000_0006, 0x7_0000_0006];
+
+// Arguments less than the value, and greater than it, by either half.
+const QWORD_LESS: [u64; 5] = [0, 5, 0x6_0000_0006, 0x6_ffff_ffff, 0x7_0000_0004];
+
+const QWORD_EQUAL: [u64; 1] = [0x7_0000_0005];
+
+const QWORD_GREATER: [u64; 5] = [
+    0x7_0000_0006,
+    0x8_0000_0000,
+    0x8_0000_0004,
+    0x8_0000_0005,
+    0xffff_ffff_ffff_ffff,
+];
+
+#[test]
+fn indices_above_5_are_refused(rt: HostRuntime) -> Result<(), Fail> {
+    assert!(rt; SeccompCondition::new(5, Dword, Eq, 60).is_ok(), "index 5");
+    for index in [6, 7] {
+        assert_eq!(rt;
+            SeccompCondition::new(index, Dword, Eq, 60),
+            Err(BackendError::InvalidArgumentNumber),
+            "index {index}"
+        );
+    }
+    let on_argument_1 = condition((1, Dword, Eq, 4294967296))?;
+    assert_eq!(rt;
+        on_argument_1.get_data_offsets(),
+        (28, 24),
+        "the offsets of argument 1"
+    );
+    assert_eq!(rt;
+        on_argument_1.split_value(),
+        (1, 0),
+        "the halves of 4294967296"
+    );
+    Ok(())
+}
+
+#[test]
+fn each_operator_has_its_code(rt: HostRuntime) -> Result<(), Fail> {
+    let alloc = rt.alloc();
+    for (operator, arg_len, want) in [
+        (Eq, Dword, &[load(40), jump_equal(5, 0, 9)][..]),
+        (Ne, Dword, &[load(40), jump_equal(5, 9, 0)][..]),
+        (Ge, Dword, &[load(40), jump_at_least(5, 0, 9)][..]),
+        (Gt, Dword, &[load(40), jump_greater(5, 0, 9)][..]),
+        (Le, Dword, &[load(40), jump_greater(5, 9, 0)][..]),
+        (Lt, Dword, &[load(40), jump_at_least(5, 9, 0)][..]),
+        (
+            MaskedEq(MASK),
+            Dword,
+            &[load(40), mask(12), jump_equal(4, 0, 9)][..],
+        ),
+        (
+            Eq,
+            Qword,
+            &[
+                load(44),
+                jump_equal(7, 0, 11),
+                load(40),
+                jump_equal(5, 0, 9),
+            ][..],
+        ),
+        (
+            Ne,
+            Qword,
+            &[load(44), jump_equal(7, 0, 2), load(40), jump_equal(5, 9, 0)][..],
+        ),
+        (
+            Ge,
+            Qword,
+            &[
+                load(44),
+                jump_greater(7, 3, 0),
+                jump_equal(7, 0, 11),
+                load(40),
+                jump_at_least(5, 0, 9),
+            ][..],
+        ),
+        (
+            Gt,
+            Qword,
+            &[
+                load(44),
+                jump_greater(7, 3, 0),
+                jump_equal(7, 0, 11),
+                load(40),
+                jump_greater(5, 0, 9),
+            ][..],
+        ),
+        (
+            Le,
+            Qword,
+            &[
+                load(44),
+                jump_greater(7, 12, 0),
+                jump_equal(7, 0, 2),
+                load(40),
+                jump_greater(5, 9, 0),
+            ][..],
+        ),
+        (
+            Lt,
+            Qword,
+            &[
+                load(44),
+                jump_greater(7, 12, 0),
+                jump_equal(7, 0, 2),
+                load(40),
+                jump_at_least(5, 9, 0),
+            ][..],
+        ),
+        (
+            MaskedEq(MASK),
+            Qword,
+            &[
+                load(44),
+                mask(6),
+                jump_equal(6, 0, 12),
+                load(40),
+                mask(12),
+                jump_equal(4, 0, 9),
+            ][..],
+        ),
+    ] {
+        let code = condition((3, arg_len, operator, VALUE))?.to_bpf(alloc, 9)?;
+        assert_eq!(rt;
+            code.as_slice(),
+            want,
+            "the code of {operator:?} of a {arg_len:?}"
+        );
+    }
+    Ok(())
+}
+
+#[test]
+fn codes_at_the_first_and_the_last_offset(rt: HostRuntime) -> Result<(), Fail> {
+    let alloc = rt.alloc();
+    let at_most = condition((2, Qword, Le, 4294967310))?.to_bpf(alloc, 1)?;
+    let at_most_code = [
+        load(36),
+        jump_greater(1, 4, 0),
+        jump_equal(1, 0, 2),
+        load(32),
+        jump_greater(14, 1, 0),
+    ];
+    assert_eq!(rt;
+        at_most.as_slice(),
+        at_most_code.as_slice(),
+        "Le at offset 1"
+    );
+    let masked = condition((0, Qword, MaskedEq(u64::MAX), 0))?.to_bpf(alloc, 248)?;
+    let masked_code = [
+        load(20),
+        mask(4294967295),
+        jump_equal(0, 0, 251),
+        load(16),
+        mask(4294967295),
+        jump_equal(0, 0, 248),
+    ];
+    assert_eq!(rt;
+        masked.as_slice(),
+        masked_code.as_slice(),
+        "MaskedEq at offset 248"
+    );
+    Ok(())
+}
+
+// Call 7 with this argument, and all other arguments 0.
+fn call_with(index: u8, argument: u64) -> SeccompData {
+    let mut arguments = [0; 6];
+    if let Some(slot) = arguments.get_mut(usize::from(index)) {
+        *slot = argument;
+    }
+    call(7, arguments)
+}
+
+// Asserts that the condition holds for each of these arguments, or for none: by itself, and as the
+// one rule of a filter, by the filter's program and decision.
+fn assert_holds(
+    rt: &impl Abort,
+    alloc: Global,
+    parts: Parts,
+    arguments: &[u64],
+    holds: bool,
+) -> Result<(), Fail> {
+    let (index, _, _, _) = parts;
+    let filter = one_rule(alloc, rule(alloc, &[parts])?)?;
+    let program = filter.to_bpf(alloc)?;
+    assert!(rt; check(&program), "the program of {parts:?} is refused");
+    let word = if holds { ALLOW } else { TRAP };
+    for argument in arguments {
+        let record = call_with(index, *argument).record();
+        assert_eq!(rt;
+            condition(parts)?.holds(&record),
+            holds,
+            "{parts:?} on {argument}"
+        );
+        assert_eq!(rt;
+            run(&program, &record).word,
+            word,
+            "the program of {parts:?} on {argument}"
+        );
+        assert_eq!(rt;
+            filter.decide(&record),
+            word,
+            "the decision of {parts:?} on {argument}"
+        );
+    }
+    Ok(())
+}
+
+#[test]
+fn order_borders(rt: HostRuntime) -> Result<(), Fail> {
+    let alloc = rt.alloc();
+    for (operator, less, equal, greater) in [
+        (Eq, false, true, false),
+        (Ne, true, false, true),
+        (Ge, false, true, true),
+        (Gt, false, false, true),
+        (Le, true, true, false),
+        (Lt, true, false, false),
+    ] {
+        let dword = (0, Dword, operator, VALUE);
+        assert_holds(&rt, alloc, dword, &DWORD_LESS, less)?;
+        assert_holds(&rt, alloc, dword, &DWORD_EQUAL, equal)?;
+        assert_holds(&rt, alloc, dword, &DWORD_GREATER, greater)?;
+        let qword = (5, Qword, operator, VALUE);
+        assert_holds(&rt, alloc, qword, &QWORD_LESS, less)?;
+        assert_holds(&rt, alloc, qword, &QWORD_EQUAL, equal)?;
+        assert_holds(&rt, alloc, qword, &QWORD_GREATER, greater)?;
+    }
+    Ok(())
+}
+
+#[test]
+fn masks_and_greatest_values(rt: HostRuntime) -> Result<(), Fail> {
+    let alloc = rt.alloc();
+    for (parts, holds, fails) in [
+        // Under the mask the value's low half is 4, and its high half 6.
+        (
+            (3, Dword, MaskedEq(MASK), VALUE),
+            &[4, 5, 6, 7, 0x2_0000_0004][..],
+            &[0, 8, 12, 0x6_0000_0000, 0x6_0000_000c][..],
+        ),
+        (
+            (3, Qword, MaskedEq(MASK), VALUE),
+            &[0x6_0000_0004, 0x7_0000_0005, 0xf_0000_0007][..],
+            &[4, 0x2_0000_0004, 0x6_0000_0000, 0x6_0000_000c][..],
+        ),
+        (
+            (0, Qword, MaskedEq(u64::MAX), 0),
+            &[0][..],
+            &[1, 4294967296, u64::MAX][..],
+        ),
+        (
+            (2, Qword, Le, 4294967310),
+            &[4294967310, 14][..],
+            &[4294967311, 8589934592][..],
+        ),
+        ((0, Dword, Gt, 4294967295), &[][..], &[u64::MAX, 0][..]),
+        (
+            (0, Dword, Eq, 4294967297),
+            &[1, 4294967297][..],
+            &[0, 4294967296][..],
+        ),
+        ((0, Qword, Ne, 4294967296), &[0, 1][..], &[4294967296][..]),
+        ((0, Qword, Ge, 0), &[0, 4294967296, u64::MAX][..], &[][..]),
+        (
+            (0, Qword, Gt, u64::MAX),
+            &[][..],
+            &[0, 4294967295, u64::MAX][..],
+        ),
+    ] {
+        assert_holds(&rt, alloc, parts, holds, true)?;
+        assert_holds(&rt, alloc, parts, fails, false)?;
+    }
+    Ok(())
+}

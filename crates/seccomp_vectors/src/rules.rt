@@ -1,0 +1,87 @@
+// Rules: what is refused, their instructions, when they hold, and their copies.
+
+use crate::builders::{call, rule};
+use crate::instructions::{jump, jump_equal, load, mask};
+use seccompiler::backend::BackendError;
+use seccompiler::backend::SeccompCmpArgLen::{Dword, Qword};
+use seccompiler::backend::SeccompCmpOp::{Eq, MaskedEq};
+use seccompiler::rule::SeccompRule;
+use std::alloc::Global;
+use std::test::Fail;
+
+// Argument 0 is 1, and argument 2 has bits 1 and 3 as 14 has them.
+fn two_conditions(alloc: Global) -> Result<SeccompRule, Fail> {
+    rule(alloc, &[(0, Dword, Eq, 1), (2, Qword, MaskedEq(10), 14)])
+}
+
+#[test]
+fn a_rule_needs_a_condition(rt: HostRuntime) {
+    let refusal = Err(BackendError::EmptyRule);
+    assert_eq!(rt;
+        SeccompRule::new(Vec::new(rt.alloc())),
+        refusal,
+        "a rule of no conditions"
+    );
+}
+
+#[test]
+fn the_first_condition_stands_last(rt: HostRuntime) -> Result<(), Fail> {
+    let alloc = rt.alloc();
+    let code = two_conditions(alloc)?.to_bpf(alloc)?;
+    let want = [
+        jump(1),
+        jump(10),
+        load(36),
+        mask(0),
+        jump_equal(0, 0, 6),
+        load(32),
+        mask(10),
+        jump_equal(10, 0, 3),
+        load(16),
+        jump_equal(1, 0, 1),
+    ];
+    assert_eq!(rt;
+        code.as_slice(),
+        want.as_slice(),
+        "the code of two conditions"
+    );
+    Ok(())
+}
+
+#[test]
+fn all_conditions_must_hold(rt: HostRuntime) -> Result<(), Fail> {
+    let rule = two_conditions(rt.alloc())?;
+    for (first, third, holds) in [
+        (1, 10, true),
+        (1, 14, true),
+        (1, 4294967306, true),
+        (4294967297, 10, true),
+        (1, 8, false),
+        (2, 10, false),
+        (0, 0, false),
+    ] {
+        let record = call(7, [first, 0, third, 0, 0, 0]).record();
+        assert_eq!(rt;
+            rule.holds(&record),
+            holds,
+            "arguments 0 and 2 are {first} and {third}"
+        );
+    }
+    Ok(())
+}
+
+#[test]
+fn a_copy_is_equal(rt: HostRuntime) -> Result<(), Fail> {
+    let alloc = rt.alloc();
+    let original = two_conditions(alloc)?;
+    let copy = original.clone(alloc)?;
+    assert_eq!(rt; copy, original, "the copy");
+    assert_eq!(rt;
+        copy.to_bpf(alloc)?,
+        original.to_bpf(alloc)?,
+        "the copy's code"
+    );
+    let turned = rule(alloc, &[(2, Qword, MaskedEq(10), 14), (0, Dword, Eq, 1)])?;
+    assert_ne!(rt; turned, original, "the conditions in another order");
+    Ok(())
+}

@@ -6,3 +6,4 @@ pub mod Faults
 pub mod Escapes
 pub mod Names
 pub mod Policies
+pub mod Listings

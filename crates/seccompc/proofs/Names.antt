@@ -1,5 +1,5 @@
 -- Look-ups by name in a list of programs with distinct names.
-use Rattle.std.proofs.Common.{◌≡◌, ℕ, suc, ◌++◌, List, [], ◌∷◌, Bool, true, false, cond, Option, Some, None, String, Global, Less, All, Contains, string_bytes, string_cmp, string_eq, nat_cmp, bytes_eq, map, refl, sym, ap, ◌∙◌, subst, inl, inr, arith}
+use Rattle.std.proofs.Common.{◌≡◌, ℕ, suc, ◌++◌, List, [], ◌∷◌, Bool, true, false, cond, Option, Some, None, String, Global, Vec, Less, All, Contains, string_bytes, string_cmp, string_eq, nat_cmp, bytes_eq, map, refl, sym, ap, ◌∙◌, subst, inl, inr, arith}
 use Rattle.std.specs.BTreeMap.{is_at}
 use Rattle.std.specs.Cmp.Lexicographic.{slice_cmp}
 use Rattle.std.specs.List.{AllByRecursion, IsDistinct}
@@ -10,6 +10,7 @@ use Rattle.std.proofs.lemmas.Cmp.{nat_list_cmp_total, tied_itself}
 use Rattle.std.proofs.lemmas.List.Elements.{All-nil, All-cons}
 use Rattle.std.proofs.lemmas.Map.Text.{is_eq-slice_cmp, is_text, text_cmp}
 use Rattle.std.proofs.lemmas.Slice.Eq.{bytes_eq-Decides}
+use Rattle.seccompiler.specs.declared.bpf.sock_filter.{sock_filter}
 
 -- A name is itself.
 itself : (name : List ℕ) → bytes_eq name name ≡ true
@@ -20,6 +21,10 @@ turned p q h = false_from_ne_true (bytes_eq q p) (λ t. let same = sym h ∙ (by
 
 not_below_itself : (name : List ℕ) → slice_cmp nat_cmp name name ≡ Less → ⊥
 not_below_itself name h = let same = sym h ∙ tied_itself nat_list_cmp_total name in cc
+
+-- A program with its name.
+abbrev pub Entry : Type 0
+Entry = String Global × Vec sock_filter Global
 
 module _ {X : Type 0} where
   -- An ordered map finds a text as a hashed one does.

@@ -28,12 +28,12 @@ use Rattle.seccompiler.specs.Texts.{IsInvalidArch}
 use Rattle.seccompc.specs.Answers.{WritesLines, AnswersRecords}
 use Rattle.seccompc.specs.Errors.{from_library, IsTraceError}
 use Rattle.seccompc.specs.Lines.{AreLines, Traced}
-use Rattle.seccompc.specs.Listing.{HasProgram, Listed, listing_of}
+use Rattle.seccompc.specs.Listing.{NamedProgram, named_program, HasProgram, Listed, listing_of}
 use Rattle.seccompc.specs.Policies.{OfNamed, IsPolicyFault, IsRefusedPolicy, no_architecture, of_policy, HaveAllPrograms, IsFaultless, WritesListing, WritesTrace, WritesAll, WritesShort, UnderName, AnswersRun}
 use Rattle.seccompc.specs.Probe.{IsNameOf}
 use Rattle.seccompc.specs.declared.error.ToolError.{ToolError}
 use Rattle.seccompc.specs.declared.error.ToolError.TheVariants as tool
-use Rattle.seccompc.proofs.Names.{each_found, found_name, names_ordered}
+use Rattle.seccompc.proofs.Names.{Entry, each_found, found_name, names_ordered}
 
 -- A name that is refused is no architecture's.
 pub name_refused : (arch : List ℕ) (known : Option (List ℕ)) (e : BackendError) → ((target : TargetArch) → IsNameOf arch target → Err e ≡ Ok target)
@@ -150,17 +150,28 @@ ran arch known find name program records (Err (tool.Read e)) old new h found lin
 ran arch known find name program records (Err (tool.Write e)) old new h found lines cause = under_name arch known find name program (λ target value. ⊤) h found (λ target value has. tt)
 ran arch known find name program records (Err tool.OutOfMemory) old new h found lines cause = tt
 
+-- The names of programs in a map.
+names_of : (entries : List Entry) → map (λ (p : NamedProgram). p.0) (map named_program entries) ≡ map (λ e. string_bytes e.0) entries
+names_of entries = map-map (λ (p : NamedProgram). p.0) named_program entries
+
 -- The listing of programs in order is the value's, where the same is found under their names.
-pub listed : (target : TargetArch) (find : Find) (d : Data) (entries : List (String Global × Vec sock_filter Global)) (text : List ℕ) → AreProgramsOf target find d
+pub listed : (target : TargetArch) (find : Find) (d : Data) (entries : List Entry) (text : List ℕ) → AreProgramsOf target find d
     → ((name : List ℕ) → lookup (is_text name) entries ≡ find name) → IsStrictlySortedBy string_cmp (keys_of entries)
-    → text ≡ concat (map (λ e. listing_of (string_bytes e.0, e.1.items)) entries) → Listed target d text
+    → text ≡ concat (map listing_of (map named_program entries)) → Listed target d text
 listed target find d entries text programs same sorted is = record {
-  programs = map (λ e. (string_bytes e.0, e.1.items)) entries;
-  ordered = subst (IsStrictlySortedBy (slice_cmp nat_cmp)) (sym (map-map (λ e. (string_bytes e.0, e.1.items)) (λ p. p.0) entries)) (names_ordered entries sorted);
-  each = All-map (λ p. Under d p.0 (λ value. HasProgram target value p.1)) (λ e. (string_bytes e.0, e.1.items)) entries
+  programs = map named_program entries;
+  ordered = subst (IsStrictlySortedBy (slice_cmp nat_cmp)) (sym (names_of entries)) (names_ordered entries sorted);
+  each = All-map (λ (p : NamedProgram). Under d p.0 (λ value. HasProgram target value p.1)) named_program entries
       (each_found (λ name (program : Vec sock_filter Global). Under d name (λ value. HasProgram target value program.items)) entries sorted
           (λ name program there. found_there target find d programs name program (sym (same name) ∙ there)));
   complete = λ name value has. let own = programs.each name value has in
-      subst (λ names. Contains names name) (sym (map-map (λ e. (string_bytes e.0, e.1.items)) (λ p. p.0) entries)) (found_name name own.1 entries (same name ∙ own.2));
-  listings = is ∙ sym (ap concat (map-map (λ e. (string_bytes e.0, e.1.items)) listing_of entries));
+      subst (λ names. Contains names name) (sym (names_of entries)) (found_name name own.1 entries (same name ∙ own.2));
+  listings = is;
 }
+
+-- The answer of a listing that is written.
+pub written : (arch : List ℕ) (known : Option (List ℕ)) (find : Find) (entries : List Entry) (text sent : List ℕ) (old new : Option (List ℕ)) → FindsPrograms arch known find
+    → ((name : List ℕ) → lookup (is_text name) entries ≡ find name) → IsStrictlySortedBy string_cmp (keys_of entries)
+    → text ≡ concat (map listing_of (map named_program entries)) → sent ≡ text → Appends old new sent → IsFaultless arch known (WritesListing old new)
+written arch known find entries text sent old new h same sorted is sends appends = faultless arch known find (WritesListing old new) h
+    (λ target d programs. record { text = text; listed = listed target find d entries text programs same sorted is; appends = subst (Appends old new) sends appends })

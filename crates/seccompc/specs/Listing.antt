@@ -1,10 +1,11 @@
 -- What the program writes for programs under their names: each name with its program's length, and each instruction.
-use Rattle.std.specs.Prelude.{◌≡◌, ℕ, ◌==◌, ◌||◌, Bool, if◌then◌else◌, List, [], ◌∷◌, ◌++◌, length, map, All, Contains, codes, decimal}
+use Rattle.std.specs.Prelude.{◌≡◌, ℕ, ◌==◌, ◌||◌, Bool, if◌then◌else◌, List, [], ◌∷◌, ◌++◌, length, map, All, Contains, String, Vec, string_bytes, codes, decimal}
 use Rattle.std.specs.Char.{is_ascii_control}
 use Rattle.std.specs.Ordering.{nat_cmp}
 use Rattle.std.specs.Cmp.Lexicographic.{slice_cmp}
 use Rattle.std.specs.List.{concat}
 use Rattle.std.specs.List.Sorted.{IsStrictlySortedBy}
+use Rattle.std.specs.declared.alloc.Global.{Global}
 use Rattle.serde_json.specs.Data.{Data}
 use Rattle.seccompiler.specs.declared.bpf.sock_filter.{sock_filter}
 use Rattle.seccompiler.specs.declared.backend.TargetArch.{TargetArch}
@@ -41,6 +42,10 @@ instruction_lines program = concat (map instruction_line program)
 -- A program with its name, which is given by its bytes.
 abbrev pub NamedProgram : Type 0
 NamedProgram = List ℕ × List sock_filter
+
+-- An entry of an ordered map of programs, seen so.
+abbrev pub named_program : String Global × Vec sock_filter Global → NamedProgram
+named_program entry = (string_bytes entry.0, entry.1.items)
 
 -- The listing of one.
 abbrev pub listing_of : NamedProgram → List ℕ

@@ -1,10 +1,10 @@
 // The listing of programs under their names.
 
-ghost use Rattle.std.specs.Prelude.{◌≡◌, ℕ, List, ◌++◌, map, IfOk, OnOk, string_bytes, encode_utf8};
+ghost use Rattle.std.specs.Prelude.{◌≡◌, ℕ, List, ◌++◌, map, IfOk, OnOk, string_bytes, string_cmp, encode_utf8};
 ghost use Rattle.std.specs.List.{concat};
 ghost use Rattle.std.specs.BTreeMap as tree;
 ghost use Rattle.std.specs.HashMap as hash;
-ghost use Rattle.seccompc.specs.Listing.{escaped, header_of, instruction_line, instruction_lines, listing_of};
+ghost use Rattle.seccompc.specs.Listing.{is_escaped, escaped, header_of, instruction_line, instruction_lines, named_program, listing_of};
 
 use seccompiler::{BpfMap, BpfProgram, BpfProgramRef, sock_filter};
 use std::alloc::{AllocError, Global};
@@ -29,7 +29,8 @@ pub(crate) fn listing(
     alloc: Global,
     programs: &BTreeMap<String, BpfProgram>,
 ) -> Result<String, AllocError>
-    ensures { IfOk result (λ text. string_bytes text ≡ concat (map (λ e. listing_of (string_bytes e.0, e.1.items)) programs.now.entries)) }
+    ensures listings { IfOk result (λ text. string_bytes text ≡ concat (map listing_of (map named_program programs.now.entries))) }
+    ensures ordered { tree.IsOrdered string_cmp programs.now }
 {
     let mut text = String::new(alloc);
     for (name, program) in programs {
@@ -58,11 +59,18 @@ fn push_escaped(text: &mut String, name: &str) -> Result<(), AllocError>
     Ok(())
 }
 
+// Whether a character is written by its number.
+fn is_escaped(character: char) -> bool
+    ensures { result ≡ is_escaped character }
+{
+    character.is_ascii_control() || character == '\\'
+}
+
 // Adds a character of a name.
 fn push_character(text: &mut String, character: char) -> Result<(), AllocError>
     ensures { OnOk result (string_bytes text.new ≡ string_bytes text.old ++ escaped (encode_utf8 character)) }
 {
-    if character.is_ascii_control() || character == '\\' {
+    if is_escaped(character) {
         let number = u32::from(character);
         write!(text, "\\x{number:02x}")
     } else {

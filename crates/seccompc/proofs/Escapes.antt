@@ -43,7 +43,7 @@ character_moved old new rest left bytes total written cut same =
     ap (λ l. l ++ escaped left) written ∙ append_assoc old (escaped bytes) (escaped left) ∙ ap (λ l. old ++ l) (sym (escaped-append bytes left)) ∙ sym (ap (λ r. old ++ escaped r) cut) ∙ same
 
 -- The pieces that an escaped character is written by.
-pub number_written : (c : ℕ) → is_escaped c ≡ true → 92 ∷ 120 ∷ (padded_integral (format_spec 32 0 4 2 (2 ^ 64 - 1)) false [] (digits 16 false c) ++ []) ≡ escaped (encode_utf8 c)
+pub number_written : (c : ℕ) → is_escaped c ≡ true → 92 ∷ 120 ∷ padded_integral (format_spec 32 0 4 2 (2 ^ 64 - 1)) false [] (digits 16 false c) ≡ escaped (encode_utf8 c)
 number_written c is =
     let low : c < 128 = grind (arith, nat_tests) in
-    rw (hexadecimal_written 2 c (omega arith) (omega arith) (omega (arith, low)), append-nil (hexadecimal 2 c)) (sym (character_escaped c is))
+    rw (hexadecimal_written 2 c (omega arith) (omega arith) (omega (arith, low))) (sym (character_escaped c is))

@@ -1,11 +1,11 @@
 -- Lines of instructions and listings of programs, one after the other.
-use Rattle.std.proofs.Common.{◌≡◌, ℕ, zero, suc, ◌+◌, ◌-◌, ◌^◌, ◌<◌, false, List, [], ◌∷◌, ◌++◌, length, take, get_or, map, codes, refl, sym, ap, ◌∙◌, append_assoc, append-nil, arith}
+use Rattle.std.proofs.Common.{◌≡◌, ℕ, zero, suc, ◌+◌, ◌-◌, ◌^◌, ◌<◌, false, List, [], ◌∷◌, ◌++◌, length, take, get_or, map, codes, string_bytes, refl, sym, ap, ◌∙◌, append_assoc, append-nil, arith}
 use Rattle.std.specs.Fmt.{digits, padded_integral, format_spec}
 use Rattle.std.specs.List.{concat}
 use Rattle.std.proofs.lemmas.List.{take_more}
 use Rattle.seccompiler.specs.declared.bpf.sock_filter.{sock_filter}
 use Rattle.seccompc.specs.Lines.{hexadecimal}
-use Rattle.seccompc.specs.Listing.{instruction_line, instruction_lines, named_program, listing_of}
+use Rattle.seccompc.specs.Listing.{header_of, instruction_line, instruction_lines, named_program, listing_of}
 use Rattle.seccompc.proofs.Hexadecimal.{hexadecimal_written}
 use Rattle.seccompc.proofs.Names.{Entry}
 
@@ -43,3 +43,13 @@ listings entries = concat (map listing_of (map named_program entries))
 pub listings_push : (entries : List Entry) (e : Entry) → listings (entries ++ e ∷ []) ≡ listings entries ++ listing_of (named_program e)
 listings_push [] e = append-nil (listing_of (named_program e))
 listings_push (x ∷ entries) e = ap (λ l. listing_of (named_program x) ++ l) (listings_push entries e) ∙ sym (append_assoc (listing_of (named_program x)) (listings entries) (listing_of (named_program e)))
+
+-- A program's header and its lines are its listing.
+pub listing_more : (done : List Entry) (e : Entry) (count : ℕ) (name : List ℕ) (program : List sock_filter) (old middle new : List ℕ) → old ≡ listings done
+    → middle ≡ old ++ header_of count name → new ≡ middle ++ instruction_lines program → count ≡ length e.1.items → name ≡ string_bytes e.0 → program ≡ e.1.items
+    → new ≡ listings (done ++ e ∷ [])
+listing_more done e count name program old middle new so_far header lines same_count same_name same_program =
+    let begun : middle ≡ listings done ++ header_of (length e.1.items) (string_bytes e.0) =
+    header ∙ ap (λ l. l ++ header_of count name) so_far ∙ ap (λ n. listings done ++ header_of n name) same_count ∙ ap (λ m. listings done ++ header_of (length e.1.items) m) same_name in
+    lines ∙ ap (λ p. middle ++ instruction_lines p) same_program ∙ ap (λ l. l ++ instruction_lines e.1.items) begun
+    ∙ append_assoc (listings done) (header_of (length e.1.items) (string_bytes e.0)) (instruction_lines e.1.items) ∙ sym (listings_push done e)

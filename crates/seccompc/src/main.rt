@@ -3,7 +3,11 @@
 
 mod error;
 mod lines;
+mod list;
+mod listing;
+mod policy;
 mod probe;
+mod run;
 #[cfg(test)]
 mod tests;
 mod trace;
@@ -16,8 +20,8 @@ use crate::error::ToolError;
 use crate::words::{Command, read_words};
 use std::io::ErrorKind;
 use std::process::ExitCode;
-use std::rt::Env;
-use std::{env, io};
+use std::rt::{Env, Files};
+use std::{env, fs, io};
 
 fn main(rt: HostRuntime) -> ExitCode {
     let words = match words_behind_the_name(&rt) {
@@ -29,7 +33,7 @@ fn main(rt: HostRuntime) -> ExitCode {
         Err(_) => return misused(&rt),
     };
     match read_words(&words) {
-        Some(command) => answered(&rt, carry_out(&rt, command)),
+        Some(command) => carry_out(&rt, command),
         None => misused(&rt),
     }
 }
@@ -41,24 +45,32 @@ fn words_behind_the_name(rt: &(impl Env + AllocGlobal)) -> io::Result<Vec<String
 
 // Carries out a command, from standard input to standard output.
 fn carry_out(
-    rt: &(impl Input + Print + AllocGlobal),
+    rt: &(impl Files + Input + Print + Eprint + AllocGlobal),
     command: Command<'_>,
-) -> Result<(), ToolError> {
+) -> ExitCode {
+    let alloc = rt.alloc();
+    let mut out = io::writer(rt);
     match command {
         Command::Probe {
             arch,
             nr,
             index,
             value,
-        } => probe::probe(
-            rt.alloc(),
-            arch,
-            nr,
-            index,
-            value,
-            rt.reader(),
-            &mut io::writer(rt),
+        } => answered(
+            rt,
+            probe::probe(alloc, arch, nr, index, value, rt.reader(), &mut out),
         ),
+        Command::List { arch } => answered(rt, list::list(alloc, arch, rt.reader(), &mut out)),
+        Command::Run { arch, file, name } => match fs::open(rt, file) {
+            Ok(policy) => answered(
+                rt,
+                run::run_policy(alloc, arch, policy, name, rt.reader(), &mut out),
+            ),
+            Err(error) if error.kind() == ErrorKind::OutOfMemory => {
+                answered(rt, Err(ToolError::OutOfMemory))
+            }
+            Err(_) => unopened(rt),
+        },
     }
 }
 
@@ -74,6 +86,14 @@ fn answered(rt: &impl Eprint, answer: Result<(), ToolError>) -> ExitCode
             ExitCode::FAILURE
         }
     }
+}
+
+// Status 1, where the policy's file can't be opened.
+fn unopened(rt: &impl Eprint) -> ExitCode
+    ensures { exit_status result ≡ 1 }
+{
+    let _ = rt.eprintln("Error opening the policy file.");
+    ExitCode::FAILURE
 }
 
 const USAGE: &str = "usage: seccompc probe ARCH NR INDEX VALUE | list ARCH | run ARCH FILE NAME";

@@ -10,6 +10,7 @@ use Rattle.std.proofs.lemmas.Int.{ints}
 use Rattle.std.proofs.lemmas.List.Elements.{All-contains, All-head, All-tail}
 use Rattle.std.proofs.lemmas.Map.Text.{is_text}
 use Rattle.serde_json.specs.Data.{Data}
+use Rattle.seccompiler.specs.Checked.{IsChecked}
 use Rattle.seccompiler.specs.Errors.{from_backend, from_frontend}
 use Rattle.serde_json.specs.Find.{get}
 use Rattle.seccompiler.specs.JsonAnswers.{IsValueOf, HasPolicy, ArePoliciesOf, OfValue, TellsFrontendFault}
@@ -151,3 +152,17 @@ first_frontend_error arch text f.OutOfMemory h = tt
 pub text_frontend_error : (arch : TargetArch) (text : Option (List ℕ)) (e : JsonFrontendError) → IfSome text (λ t. TellsFrontendFault arch t e) → IfSome text (λ t. TellsFirstFault arch t (from_frontend e))
 text_frontend_error arch None e h = tt
 text_frontend_error arch (Some t) e h = first_frontend_error arch t e h
+
+-- A program that is found under a name may be run.
+checked_under : (policies : List ℕ → Option Filter) (programs : List ℕ → Option (Vec sock_filter Global)) → AreProgramsFor policies programs
+    → (name : List ℕ) (had : Option Filter) → policies name ≡ had → (found : Option (Vec sock_filter Global)) → programs name ≡ found → IfSome found (λ program. IsChecked program.items)
+checked_under policies programs are name had of None is = tt
+checked_under policies programs are name None of (Some program) is = let none : Some program ≡ None = sym is ∙ are.no_other name of in cc
+checked_under policies programs are name (Some policy) of (Some program) is =
+    let own = are.each name policy of in
+    let same : own.0 ≡ program = let e : Some own.0 ≡ Some program = sym own.1 ∙ is in cc in
+    subst (λ (p : Vec sock_filter Global). IsChecked p.items) same own.2.compiled.checked
+
+pub all_checked : (policies : List ℕ → Option Filter) (programs : List ℕ → Option (Vec sock_filter Global)) → AreProgramsFor policies programs
+    → (name : List ℕ) → IfSome (programs name) (λ program. IsChecked program.items)
+all_checked policies programs are name = checked_under policies programs are name (policies name) refl (programs name) refl

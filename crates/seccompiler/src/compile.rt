@@ -3,6 +3,7 @@
 ghost use Rattle.std.specs.Prelude.{◌≡◌, ◌≢◌, ℕ, List, All, IfSome, IfOk, IfErr};
 ghost use Rattle.std.specs.BTreeMap as tree;
 ghost use Rattle.std.specs.HashMap as hash;
+ghost use Rattle.seccompiler.specs.Checked.{IsChecked};
 ghost use Rattle.seccompiler.specs.Errors.{IsNoMemoryInside};
 ghost use Rattle.seccompiler.specs.JsonAnswers.{OfValue};
 ghost use Rattle.seccompiler.specs.JsonPrograms.{AreProgramsFor, IsLeastRefusal, AreProgramsOf, TellsFirstFault};
@@ -61,6 +62,9 @@ pub fn compile_from_json<R: Read + Drop>(
         IfOk result (λ m. OfValue text (AreProgramsOf arch (hash.get_by_text m)))) }
     ensures fault { IfSome (R.remaining reader) (λ text. IfErr result (TellsFirstFault arch text)) }
     ensures memory { IfErr result IsNoMemoryInside }
+
+    // Each program may be run, whatever the text is.
+    ensures checked { IfOk result (λ m. (name : List ℕ) → IfSome (hash.get_by_text m name) (λ program. IsChecked program.items)) }
 {
     let policies = JsonCompiler::new(arch).policies_from(alloc, reader)?;
     Ok(programs(alloc, policies)?)

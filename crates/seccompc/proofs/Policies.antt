@@ -51,6 +51,10 @@ name_refused arch known backend.OutOfMemory none cause = tt
 pub policy_refused : (arch : List ℕ) (known : Option (List ℕ)) (target : TargetArch) (e : Error) → IsNameOf arch target → IsNoMemoryInside e
     → IfSome known (λ text. TellsFirstFault target text e) → IsRefusedPolicy arch known (from_library e)
 policy_refused arch known target (library.Backend e) named memory first = of_policy target named (λ same. cc) memory first
+policy_refused arch known target library.EmptyFilter named memory first = of_policy target named (λ same. cc) memory first
+policy_refused arch known target (library.Prctl number) named memory first = of_policy target named (λ same. cc) memory first
+policy_refused arch known target (library.Seccomp number) named memory first = of_policy target named (λ same. cc) memory first
+policy_refused arch known target (library.ThreadSync thread) named memory first = of_policy target named (λ same. cc) memory first
 policy_refused arch known target (library.JsonFrontend e) named memory first = of_policy target named (λ same. cc) memory first
 policy_refused arch known target library.OutOfMemory named memory first = tt
 
@@ -163,7 +167,7 @@ listed target find d entries text programs same sorted is = record {
   ordered = subst (IsStrictlySortedBy (slice_cmp nat_cmp)) (sym (names_of entries)) (names_ordered entries sorted);
   each = All-map (λ (p : NamedProgram). Under d p.0 (λ value. HasProgram target value p.1)) named_program entries
       (each_found (λ name (program : Vec sock_filter Global). Under d name (λ value. HasProgram target value program.items)) entries sorted
-          (λ name program there. found_there target find d programs name program (sym (same name) ∙ there)));
+      (λ name program there. found_there target find d programs name program (sym (same name) ∙ there)));
   complete = λ name value has. let own = programs.each name value has in
       subst (λ names. Contains names name) (sym (names_of entries)) (found_name name own.1 entries (same name ∙ own.2));
   listings = is;

@@ -26,9 +26,9 @@ pub character_plain : (c : ℕ) → is_escaped c ≡ false → escaped (encode_u
 character_plain c plain = elim (cases_lt c 128) [
   | inl low ↦ rw (encode_ascii c low, plain) refl
   | inr big ↦ escaped_high (encode_utf8 c) (λ k room. elim (cases_lt (get_or (encode_utf8 c) k 0) 128) [
-      | inl low ↦ absurd (omega (arith, inside_one c [] (encode_utf8 c) k (sym (append-nil _)) room low))
-      | inr high ↦ high
-    ])
+    | inl low ↦ absurd (omega (arith, inside_one c [] (encode_utf8 c) k (sym (append-nil _)) room low))
+    | inr high ↦ high
+  ])
 ]
 
 -- One that is escaped is written by its number.

@@ -79,12 +79,12 @@ module _ {X : Type 0} where
   each_found P (e ∷ entries) sorted found =
       let own : lookup (is_text (string_bytes e.0)) (e ∷ entries) ≡ Some e.1 = rw (itself (string_bytes e.0)) refl in
       All-cons (λ f. P (string_bytes f.0) f.1) e entries (found (string_bytes e.0) e.1 own)
-          (each_found P entries sorted.1 (λ q x there. elim (cases_Bool (bytes_eq q (string_bytes e.0))) [
-            | inl t ↦
-                let less = above_first e.0 entries sorted.0 q x there in
-                absurd (not_below_itself (string_bytes e.0) (subst (λ r. slice_cmp nat_cmp (string_bytes e.0) r ≡ Less) ((bytes_eq-Decides q (string_bytes e.0)).0 t) less))
-            | inr f ↦ found q x (rw f there)
-          ]))
+      (each_found P entries sorted.1 (λ q x there. elim (cases_Bool (bytes_eq q (string_bytes e.0))) [
+        | inl t ↦
+            let less = above_first e.0 entries sorted.0 q x there in
+            absurd (not_below_itself (string_bytes e.0) (subst (λ r. slice_cmp nat_cmp (string_bytes e.0) r ≡ Less) ((bytes_eq-Decides q (string_bytes e.0)).0 t) less))
+        | inr f ↦ found q x (rw f there)
+      ]))
 
   -- A name that is found is there.
   pub found_name : (q : List ℕ) (x : X) (entries : List (String Global × X)) → lookup (is_text q) entries ≡ Some x → Contains (map (λ e. string_bytes e.0) entries) q

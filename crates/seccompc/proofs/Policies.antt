@@ -163,7 +163,7 @@ listed target find d entries text programs same sorted is = record {
   ordered = subst (IsStrictlySortedBy (slice_cmp nat_cmp)) (sym (names_of entries)) (names_ordered entries sorted);
   each = All-map (λ (p : NamedProgram). Under d p.0 (λ value. HasProgram target value p.1)) named_program entries
       (each_found (λ name (program : Vec sock_filter Global). Under d name (λ value. HasProgram target value program.items)) entries sorted
-          (λ name program there. found_there target find d programs name program (sym (same name) ∙ there)));
+      (λ name program there. found_there target find d programs name program (sym (same name) ∙ there)));
   complete = λ name value has. let own = programs.each name value has in
       subst (λ names. Contains names name) (sym (names_of entries)) (found_name name own.1 entries (same name ∙ own.2));
   listings = is;

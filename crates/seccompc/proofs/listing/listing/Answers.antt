@@ -10,7 +10,10 @@ loop-name-preserved c =
     let e : Entry = (c.in-Some.name.now, c.in-Some.program.now) in
     let left = c.next.new.self in
     let all : c.args.programs.now.entries ≡ done ++ e ∷ left = l.invariant.1 ∙ ap (λ es. done ++ es) c.in-Some.ensures.steps in
-    let count : c.len.result ≡ length e.1.items = c.len.ensures ∙ sym c.deref.ensures.len ∙ ap length c.deref.ensures.value in
-    (done ++ e ∷ [], all ∙ sym (append_assoc done (e ∷ []) left), listing_more done e c.len.result c.as_str.result.now c.deref.result.now
-        (string_bytes l.text) (string_bytes c.push_header.new.text) (string_bytes c.push_instructions.new.text) l.invariant.2
-        c.in_ok-push_header.ensures c.in_ok-push_instructions.ensures count c.as_str.ensures.value c.deref.ensures.value)
+    let count : c.len.result ≡ length e.1.items = c.len.ensures ∙ sym c.deref.ensures.len ∙ ap length c.deref.ensures.value in (
+      done ++ e ∷ [],
+      all ∙ sym (append_assoc done (e ∷ []) left),
+      listing_more done e c.len.result c.as_str.result.now c.deref.result.now
+          (string_bytes l.text) (string_bytes c.push_header.new.text) (string_bytes c.push_instructions.new.text) l.invariant.2
+          c.in_ok-push_header.ensures c.in_ok-push_instructions.ensures count c.as_str.ensures.value c.deref.ensures.value,
+    )

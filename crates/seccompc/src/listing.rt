@@ -13,12 +13,12 @@ use std::collections::BTreeMap;
 // The same programs, in byte order of their names.
 pub(crate) fn in_order(
     alloc: Global,
-    programs: BpfMap,
+    unordered: BpfMap,
 ) -> Result<BTreeMap<String, BpfProgram>, AllocError>
-    ensures { IfOk result (λ m. (name : List ℕ) → tree.get_by_text m name ≡ hash.get_by_text programs name) }
+    ensures { IfOk result (λ m. (name : List ℕ) → tree.get_by_text m name ≡ hash.get_by_text unordered name) }
 {
     let mut found = BTreeMap::new(alloc);
-    for (name, program) in programs {
+    for (name, program) in unordered {
         drop(found.insert(name, program)?);
     }
     Ok(found)

@@ -1,7 +1,7 @@
 // The statuses that the program ends with, and what it says on standard error.
 
 use crate::error::ToolError;
-use crate::{answered, misused};
+use crate::{answered, misused, unopened};
 use std::cell::RefCell;
 use std::fmt::Display;
 use std::io;
@@ -67,5 +67,22 @@ fn other_words_end_with_the_usage(rt: HostRuntime) {
         recorded.text.into_inner().as_str(),
         "usage: seccompc probe ARCH NR INDEX VALUE | list ARCH | run ARCH FILE NAME\n",
         "what standard error says of other words"
+    );
+}
+
+#[test]
+fn an_unopened_policy_ends_with_status_1(rt: HostRuntime) {
+    let recorded = Recorded {
+        text: RefCell::new(String::new(rt.alloc())),
+    };
+    assert_eq!(rt;
+        unopened(&recorded),
+        ExitCode::FAILURE,
+        "the status of a policy that can't be opened"
+    );
+    assert_eq!(rt;
+        recorded.text.into_inner().as_str(),
+        "Error opening the policy file.\n",
+        "what standard error says of a policy that can't be opened"
     );
 }

@@ -73,6 +73,34 @@ fn read_words_takes_any_name(rt: HostRuntime) -> Result<(), Fail> {
 }
 
 #[test]
+fn read_words_gives_the_policy_commands(rt: HostRuntime) -> Result<(), Fail> {
+    for (words, want) in [
+        (&["list", "x86_64"][..], Command::List { arch: "x86_64" }),
+        (&["list", ""], Command::List { arch: "" }),
+        (
+            &["run", "x86_64", "policy.json", "main_thread"],
+            Command::Run {
+                arch: "x86_64",
+                file: "policy.json",
+                name: "main_thread",
+            },
+        ),
+        (
+            &["run", "", "", ""],
+            Command::Run {
+                arch: "",
+                file: "",
+                name: "",
+            },
+        ),
+    ] {
+        let words = owned(rt.alloc(), words)?;
+        assert_eq!(rt; read_words(&words), Some(want), "the command of {words:?}");
+    }
+    Ok(())
+}
+
+#[test]
 fn read_words_refuses_other_words(rt: HostRuntime) -> Result<(), Fail> {
     for words in [
         &[][..],
@@ -85,6 +113,14 @@ fn read_words_refuses_other_words(rt: HostRuntime) -> Result<(), Fail> {
         &["probe ", "x86_64", "72", "1", "0"],
         &["list", "x86_64", "72", "1", "0"],
         &["x86_64", "72", "1", "0"],
+        &["list"],
+        &["list", "x86_64", "x86_64"],
+        &["List", "x86_64"],
+        &["probe", "x86_64"],
+        &["run", "x86_64", "policy.json"],
+        &["run", "x86_64", "policy.json", "a", "a"],
+        &["run", "x86_64"],
+        &["list", "x86_64", "policy.json", "a"],
     ] {
         let words = owned(rt.alloc(), words)?;
         assert!(rt;

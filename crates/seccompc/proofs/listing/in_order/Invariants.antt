@@ -6,4 +6,4 @@ use Rattle.seccompc.proofs.Names.{Entry}
 use Rattle.seccompc.proofs.listing.in_order.Given as goal
 
 abbrev pub invariant-loop-name : goal.invariant-loop-name
-invariant-loop-name l = (done : List Entry) × (l.fn.programs.entries ≡ done ++ l.name-iterator) × ((q : List ℕ) → get_by_text l.found q ≡ lookup (is_text q) done)
+invariant-loop-name l = (done : List Entry) × (l.fn.unordered.entries ≡ done ++ l.name-iterator) × ((q : List ℕ) → get_by_text l.found q ≡ lookup (is_text q) done)

@@ -1,0 +1,192 @@
+// Runs of a policy's filter: the lines, and the faults in their order.
+
+use super::policies::{COMPLEX, LOGS, call, of_names};
+use super::scripted::FailingReader;
+use crate::error::ToolError;
+use crate::run::run_policy;
+use seccompiler::Error;
+use seccompiler::json::JsonFrontendError;
+use std::io::ErrorKind;
+use std::test::Fail;
+
+#[test]
+fn run_policy_traces_the_filter(rt: HostRuntime) -> Result<(), Fail> {
+    for (nr, arguments, want) in [
+        (16, [0, 0, 12], "7fff0000"),
+        (16, [1, 0, 15], "7fff0000"),
+        (16, [0, 0, 39], "7fff0000"),
+        (16, [0, 0, 4294967336], "7fff0000"),
+        (28, [0, 0, 0], "7fff0000"),
+        (39, [0, 0, 0], "7fff0000"),
+        (16, [0, 0, 13], "000503e8"),
+        (16, [0, 0, 20], "000503e8"),
+        (16, [0, 0, 4294967337], "000503e8"),
+        (28, [0, 1, 0], "000503e8"),
+        (102, [0, 0, 0], "000503e8 25\n"),
+    ] {
+        let mut out = Vec::new(rt.alloc());
+        let record = call(nr, arguments);
+        let answer = run_policy(
+            rt.alloc(),
+            "x86_64",
+            COMPLEX.as_bytes(),
+            "main_thread",
+            record.as_slice(),
+            &mut out,
+        );
+        assert!(rt; answer.is_ok(), "call {nr} {arguments:?} is {answer:?}");
+        assert!(rt;
+            out.as_slice().starts_with(want.as_bytes()),
+            "call {nr} {arguments:?} has the line {out:?}"
+        );
+    }
+    Ok(())
+}
+
+#[test]
+fn run_policy_traces_the_filter_of_the_name(rt: HostRuntime) -> Result<(), Fail> {
+    let mut policy = String::new(rt.alloc());
+    write!(
+        policy,
+        r#"{{"b":{{"mismatch_action":"log","match_action":"allow","filter":[]}},{rest}"#,
+        rest = &of_names(rt.alloc(), &["a", "c"])?.as_str()[1..]
+    )?;
+    for (name, want) in [
+        ("a", "00030000 3\n"),
+        ("b", "7ffc0000 3\n"),
+        ("c", "00030000 3\n"),
+    ] {
+        let mut out = Vec::new(rt.alloc());
+        let record = call(1, [0, 0, 0]);
+        let answer = run_policy(
+            rt.alloc(),
+            "x86_64",
+            policy.as_bytes(),
+            name,
+            record.as_slice(),
+            &mut out,
+        );
+        assert!(rt; answer.is_ok(), "{name} is {answer:?}");
+        assert_eq!(rt; out.as_slice(), want.as_bytes(), "the line of {name}");
+    }
+    Ok(())
+}
+
+#[test]
+fn run_policy_reports_a_missing_filter(rt: HostRuntime) -> Result<(), Fail> {
+    let mut out = Vec::new(rt.alloc());
+    // The missing name comes before the fault of the records' reader.
+    let reader = FailingReader {
+        bytes: &[],
+        at_once: 1,
+        kind: ErrorKind::Other,
+    };
+    let answer = run_policy(rt.alloc(), "x86_64", LOGS.as_bytes(), "b", reader, &mut out);
+    let Err(ToolError::NoFilter(name)) = answer else {
+        panic!(rt; "the name b is {answer:?}");
+    };
+    assert_eq!(rt; name.as_str(), "b", "the missing name");
+    assert_eq!(rt;
+        ToolError::NoFilter(name).to_string(rt.alloc())?.as_str(),
+        "No filter has this name: b.",
+        "the text of a missing name"
+    );
+    assert!(rt; out.is_empty(), "a missing name writes {out:?}");
+    Ok(())
+}
+
+#[test]
+fn run_policy_reports_a_rest_behind_the_lines(rt: HostRuntime) -> Result<(), Fail> {
+    let mut records = Vec::from_slice(rt.alloc(), &call(1, [0, 0, 0]))?;
+    records.push(0)?;
+    let mut out = Vec::new(rt.alloc());
+    let answer = run_policy(
+        rt.alloc(),
+        "x86_64",
+        LOGS.as_bytes(),
+        "a",
+        records.as_slice(),
+        &mut out,
+    );
+    assert!(rt;
+        matches!(answer, Err(ToolError::ShortRecord(1))),
+        "a rest of 1 byte is {answer:?}"
+    );
+    assert_eq!(rt;
+        out.as_slice(),
+        b"7ffc0000 3\n".as_slice(),
+        "the line before a rest"
+    );
+    Ok(())
+}
+
+#[test]
+fn run_policy_answers_the_first_fault(rt: HostRuntime) -> Result<(), Fail> {
+    for (arch, policy, want) in [
+        ("x8664", "[]", "Backend error: Invalid target arch: x8664."),
+        (
+            "x86_64",
+            "[]",
+            "Json Frontend error: Json is not an object of filters.",
+        ),
+        ("x86_64", "{}", "No filter has this name: b."),
+    ] {
+        let reader = FailingReader {
+            bytes: &[],
+            at_once: 1,
+            kind: ErrorKind::Other,
+        };
+        let mut out = Vec::new(rt.alloc());
+        let answer = run_policy(rt.alloc(), arch, policy.as_bytes(), "b", reader, &mut out);
+        let Err(error) = answer else {
+            panic!(rt; "{arch} {policy} has no fault");
+        };
+        assert_eq!(rt;
+            error.to_string(rt.alloc())?.as_str(),
+            want,
+            "the text at {arch} {policy}"
+        );
+        assert!(rt; out.is_empty(), "{arch} {policy} writes {out:?}");
+    }
+    Ok(())
+}
+
+#[test]
+fn run_policy_answers_failing_readers(rt: HostRuntime) {
+    for kind in [ErrorKind::Other, ErrorKind::OutOfMemory] {
+        let mut out = Vec::new(rt.alloc());
+        let policy = FailingReader {
+            bytes: LOGS.as_bytes(),
+            at_once: 7,
+            kind,
+        };
+        let answer = run_policy(rt.alloc(), "x86_64", policy, "a", &[][..], &mut out);
+        match (kind, answer) {
+            (
+                ErrorKind::Other,
+                Err(ToolError::Library(Error::JsonFrontend(JsonFrontendError::Read(_)))),
+            ) => {}
+            (ErrorKind::OutOfMemory, Err(ToolError::OutOfMemory)) => {}
+            (kind, answer) => panic!(rt; "a policy whose reader fails by {kind:?} is {answer:?}"),
+        }
+        let records = FailingReader {
+            bytes: &[0; 64],
+            at_once: 64,
+            kind,
+        };
+        let answer = run_policy(
+            rt.alloc(),
+            "x86_64",
+            LOGS.as_bytes(),
+            "a",
+            records,
+            &mut out,
+        );
+        match (kind, answer) {
+            (ErrorKind::Other, Err(ToolError::Read(_))) => {}
+            (ErrorKind::OutOfMemory, Err(ToolError::OutOfMemory)) => {}
+            (kind, answer) => panic!(rt; "records whose reader fails by {kind:?} are {answer:?}"),
+        }
+        assert!(rt; out.is_empty(), "failing readers write {out:?}");
+    }
+}

@@ -1,5 +1,5 @@
 -- What the refusals of the library mean for a probe's words.
-use Rattle.std.proofs.Common.{◌≡◌, ℕ, zero, suc, ℤ, ◌<◌, ◌≤◌, ◌⊎◌, List, [], ◌∷◌, Result, Ok, Err, All, Contains, refl, sym, subst, ap, ⊎_elim, arith}
+use Rattle.std.proofs.Common.{◌≡◌, ℕ, zero, suc, ℤ, ◌<◌, ◌⊎◌, List, [], ◌∷◌, Ok, Err, All, Contains, refl, sym, subst, ap, ⊎_elim, arith}
 use Rattle.std.proofs.lemmas.List.Elements.{All-head}
 use Rattle.seccompiler.specs.declared.bpf.sock_filter.{sock_filter}
 use Rattle.seccompiler.specs.declared.backend.TargetArch.{TargetArch}
@@ -12,7 +12,7 @@ use Rattle.seccompiler.specs.Policy.{Filter, IsCallNumber}
 use Rattle.seccompiler.specs.Compiled.{IsCompiled}
 use Rattle.seccompiler.specs.Refusal.{IsRefusal, IsCompilable, numbers_of}
 use Rattle.seccompc.specs.Errors.{from_library}
-use Rattle.seccompc.specs.Probe.{probe_filter, IsNameOf, IsFilterFor, IsCompiledFor, IsRefusedProbe, no_architecture, no_argument, no_call_number}
+use Rattle.seccompc.specs.Probe.{IsNameOf, IsFilterFor, IsCompiledFor, IsRefusedProbe, no_architecture, no_argument, no_call_number}
 
 -- A name that is refused is no architecture's.
 pub name_refused : (arch : List ℕ) (nr : ℤ) (index : ℕ) (e : BackendError) → ((target : TargetArch) → IsNameOf arch target → Err e ≡ Ok target)

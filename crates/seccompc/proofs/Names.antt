@@ -1,5 +1,5 @@
 -- Look-ups by name in a list of programs with distinct names.
-use Rattle.std.proofs.Common.{◌≡◌, ℕ, suc, ◌++◌, List, [], ◌∷◌, Bool, true, false, cond, Option, Some, None, String, Global, Vec, Less, All, Contains, string_bytes, string_cmp, string_eq, nat_cmp, bytes_eq, map, refl, sym, ap, ◌∙◌, subst, inl, inr, arith}
+use Rattle.std.proofs.Common.{◌≡◌, ℕ, suc, ◌++◌, List, [], ◌∷◌, true, false, cond, Some, None, String, Global, Vec, Less, All, Contains, string_bytes, string_cmp, string_eq, nat_cmp, bytes_eq, map, refl, sym, ◌∙◌, subst, inl, inr, arith}
 use Rattle.std.specs.BTreeMap.{is_at}
 use Rattle.std.specs.Cmp.Lexicographic.{slice_cmp}
 use Rattle.std.specs.List.{AllByRecursion, IsDistinct}

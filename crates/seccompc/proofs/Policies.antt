@@ -1,9 +1,8 @@
 -- What the programs of a policy mean for the answers of the engines.
-use Rattle.std.proofs.Common.{◌≡◌, ◌≢◌, ℕ, ◌<◌, ◌⊎◌, List, [], ◌∷◌, Option, Some, None, IfSome, IfErr, Result, Ok, Err, Vec, String, Global, All, Contains, string_bytes, string_cmp, nat_cmp, map, refl, sym, subst, ap, ◌∙◌, ⊎_elim}
+use Rattle.std.proofs.Common.{◌≡◌, ℕ, ◌<◌, ◌⊎◌, List, Option, Some, None, IfSome, IfErr, Result, Ok, Err, Vec, Global, Contains, string_bytes, string_cmp, nat_cmp, map, refl, sym, subst, ◌∙◌, ⊎_elim}
 use Rattle.std.specs.Prelude.{⊤}
 use Rattle.std.specs.Cmp.Lexicographic.{slice_cmp}
 use Rattle.std.proofs.lemmas.Simd.{map-map}
-use Rattle.std.specs.BTreeMap as tree
 use Rattle.std.specs.List.{concat}
 use Rattle.std.specs.List.Sorted.{IsStrictlySortedBy}
 use Rattle.std.specs.Map.{keys_of, lookup}
@@ -22,14 +21,14 @@ use Rattle.seccompiler.specs.Compiled.{IsCompiled}
 use Rattle.seccompiler.specs.Errors.{from_backend, IsNoMemoryInside}
 use Rattle.seccompiler.specs.JsonAnswers.{OfValue}
 use Rattle.seccompiler.specs.JsonPrograms.{AreProgramsOf, TellsFirstFault}
-use Rattle.seccompiler.specs.JsonShape.{Has, Under, Lacks}
+use Rattle.seccompiler.specs.JsonShape.{Under, Lacks}
 use Rattle.seccompiler.specs.Policy.{Filter}
 use Rattle.seccompiler.specs.Texts.{IsInvalidArch}
 use Rattle.seccompc.specs.Answers.{WritesLines, AnswersRecords}
 use Rattle.seccompc.specs.Errors.{from_library, IsTraceError}
 use Rattle.seccompc.specs.Lines.{AreLines, Traced}
 use Rattle.seccompc.specs.Listing.{NamedProgram, named_program, HasProgram, Listed, listing_of}
-use Rattle.seccompc.specs.Policies.{OfNamed, IsPolicyFault, IsRefusedPolicy, no_architecture, of_policy, HaveAllPrograms, IsFaultless, WritesListing, WritesTrace, WritesAll, WritesShort, UnderName, AnswersRun}
+use Rattle.seccompc.specs.Policies.{OfNamed, IsRefusedPolicy, no_architecture, of_policy, HaveAllPrograms, IsFaultless, WritesListing, WritesTrace, WritesAll, WritesShort, UnderName, AnswersRun}
 use Rattle.seccompc.specs.Probe.{IsNameOf}
 use Rattle.seccompc.specs.declared.error.ToolError.{ToolError}
 use Rattle.seccompc.specs.declared.error.ToolError.TheVariants as tool

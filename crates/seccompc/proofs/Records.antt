@@ -1,5 +1,5 @@
 -- Bytes in chunks of 64 are records and a rest.
-use Rattle.std.proofs.Common.{◌≡◌, ℕ, zero, suc, ◌+◌, ◌-◌, ◌*◌, ◌/◌, ◌%◌, ◌<◌, ◌≤◌, List, [], ◌∷◌, ◌++◌, length, take, drop, All, Option, Some, None, IfSome, refl, sym, subst, ap, ◌∙◌, append_assoc, take-append-drop, length-drop, length-take-le, arith}
+use Rattle.std.proofs.Common.{◌≡◌, ℕ, zero, suc, ◌+◌, ◌*◌, ◌/◌, ◌≤◌, List, ◌++◌, length, take, drop, All, Option, Some, None, IfSome, refl, sym, subst, ap, ◌∙◌, append_assoc, take-append-drop, length-drop, length-take-le, arith}
 use Rattle.std.specs.List.{concat}
 use Rattle.std.specs.Simd.{first_chunks}
 use Rattle.std.proofs.lemmas.List.{drop-drop}

@@ -1,4 +1,4 @@
-use Rattle.std.proofs.Common.{◌≡◌, ℕ, ◌^◌, ◌<◌, ◌-◌, false, [], ◌∷◌, ◌++◌, OnOk, codes, decimal, string_bytes, sym, ◌∙◌, append_assoc, arith, rules}
+use Rattle.std.proofs.Common.{◌≡◌, ℕ, ◌^◌, ◌<◌, ◌-◌, false, [], ◌∷◌, ◌++◌, codes, decimal, sym, ◌∙◌, append_assoc, arith, rules}
 use Rattle.std.specs.Fmt.{digits, padded_integral, format_spec}
 use Rattle.seccompc.specs.Lines.{hexadecimal, line_of}
 use Rattle.seccompc.proofs.Hexadecimal.{hexadecimal_written}

@@ -15,7 +15,7 @@ loop-name-preserved c =
     let done = l.invariant.0 in
     let e : Entry = (c.in-Some.name, c.in-Some.program) in
     let left = c.next.new.self in
-    let all : c.args.programs.entries ≡ done ++ e ∷ left = l.invariant.1 ∙ ap (λ es. done ++ es) c.in-Some.ensures.steps in
+    let all : c.args.unordered.entries ≡ done ++ e ∷ left = l.invariant.1 ∙ ap (λ es. done ++ es) c.in-Some.ensures.steps in
     let distinct : IsDistinct string_eq (keys_of (done ++ e ∷ left)) = subst (λ es. IsDistinct string_eq (keys_of es)) all c.into_iter-name-iterator.ensures.into_iter_gives.4 in (
       done ++ e ∷ [],
       all ∙ sym (append_assoc done (e ∷ []) left),
@@ -28,5 +28,5 @@ loop-name-preserved c =
 pub returns : goal.returns
 returns c =
     let l = c.loop-name in
-    let all : c.args.programs.entries ≡ l.invariant.0 = l.invariant.1 ∙ ap (λ es. l.invariant.0 ++ es) c.in-None.ensures.steps.0 ∙ append-nil l.invariant.0 in
+    let all : c.args.unordered.entries ≡ l.invariant.0 = l.invariant.1 ∙ ap (λ es. l.invariant.0 ++ es) c.in-None.ensures.steps.0 ∙ append-nil l.invariant.0 in
     λ q. l.invariant.2 q ∙ sym (ap (lookup (is_text q)) all)

@@ -1,4 +1,4 @@
-use Rattle.std.proofs.Common.{string_bytes, get_or, rules}
+use Rattle.std.proofs.Common.{string_bytes, get_or}
 use Rattle.std.proofs.lemmas.List.{get_or_default}
 use Rattle.seccompc.proofs.Listings.{lines_more}
 use Rattle.seccompc.proofs.listing.push_instructions.Goals as goal

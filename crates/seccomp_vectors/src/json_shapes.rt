@@ -10,9 +10,9 @@ use std::alloc::{AllocError, Global};
 use std::collections::BTreeMap;
 use std::test::Fail;
 
-const FILTER: &str = "{\"mismatch_action\":\"trap\",\"match_action\":\"allow\",\"filter\":[]}";
+const FILTER: &str = r#"{"mismatch_action":"trap","match_action":"allow","filter":[]}"#;
 
-const CONDITION: &str = "{\"index\":0,\"type\":\"dword\",\"op\":\"eq\",\"val\":5}";
+const CONDITION: &str = r#"{"index":0,"type":"dword","op":"eq","val":5}"#;
 
 // What `read_filters` answers, told apart as far as values can be compared.
 #[derive(Debug, PartialEq, Drop)]
@@ -45,21 +45,21 @@ fn shape(alloc: Global, name: &str) -> Result<Reading, AllocError> {
 
 // What is read of one filter under the name `a`.
 fn read_filter(alloc: Global, filter: &str) -> Result<Reading, Fail> {
-    let text = format!(in alloc; "{{\"a\":{filter}}}")?;
+    let text = format!(in alloc; r#"{{"a":{filter}}}"#)?;
     read_text(alloc, text.as_str())
 }
 
 // What is read of one entry, with trap and allow as the actions.
 fn read_entry(alloc: Global, entry: &str) -> Result<Reading, Fail> {
     let filter = format!(in alloc;
-        "{{\"mismatch_action\":\"trap\",\"match_action\":\"allow\",\"filter\":[{entry}]}}"
+        r#"{{"mismatch_action":"trap","match_action":"allow","filter":[{entry}]}}"#
     )?;
     read_filter(alloc, filter.as_str())
 }
 
 // What is read of one condition on `read`.
 fn read_condition(alloc: Global, condition: &str) -> Result<Reading, Fail> {
-    let entry = format!(in alloc; "{{\"syscall\":\"read\",\"args\":[{condition}]}}")?;
+    let entry = format!(in alloc; r#"{{"syscall":"read","args":[{condition}]}}"#)?;
     read_entry(alloc, entry.as_str())
 }
 
@@ -114,7 +114,7 @@ fn tops(rt: HostRuntime) -> Result<(), Fail> {
     let alloc = rt.alloc();
     let empty = Reading::Filters(JsonFilterMap(BTreeMap::new(alloc)));
     assert_eq!(rt; read_text(alloc, "{}")?, empty);
-    for text in ["[]", "null", "1", "\"a\"", "true"] {
+    for text in ["[]", "null", "1", r#""a""#, "true"] {
         assert_eq!(rt; read_text(alloc, text)?, Reading::NotAnObject, "{text}");
     }
     Ok(())
@@ -123,13 +123,13 @@ fn tops(rt: HostRuntime) -> Result<(), Fail> {
 #[test]
 fn the_least_fault_is_told(rt: HostRuntime) -> Result<(), Fail> {
     let alloc = rt.alloc();
-    let text = format!(in alloc; "{{\"b\":{{}},\"a\":{FILTER}}}")?;
+    let text = format!(in alloc; r#"{{"b":{{}},"a":{FILTER}}}"#)?;
     for (text, name) in [
-        ("{\"a\":{}}", "a"),
-        ("{\"\":{}}", ""),
-        ("{\"b\":{},\"a\":{}}", "a"),
-        ("{\"a\":{},\"B\":{}}", "B"),
-        ("{\"ab\":{},\"b\":{}}", "ab"),
+        (r#"{"a":{}}"#, "a"),
+        (r#"{"":{}}"#, ""),
+        (r#"{"b":{},"a":{}}"#, "a"),
+        (r#"{"a":{},"B":{}}"#, "B"),
+        (r#"{"ab":{},"b":{}}"#, "ab"),
         (text.as_str(), "b"),
     ] {
         assert_eq!(rt; read_text(alloc, text)?, shape(alloc, name)?, "{text}");
@@ -142,21 +142,21 @@ fn filters_of_wrong_shape(rt: HostRuntime) -> Result<(), Fail> {
     let alloc = rt.alloc();
     for filter in [
         "[]",
-        "{\"match_action\":\"allow\",\"mismatch_action\":\"log\"}",
-        "{\"match_action\":\"allow\",\"mismatch_action\":\"log\",\"filters\":[]}",
-        "{\"match_action\":\"allow\",\"mismatch_action\":\"logs\",\"filter\":[]}",
-        "{\"match_action\":\"allow\",\"mismatch_action\":\"errno\",\"filter\":[]}",
-        "{\"match_action\":\"allow\",\"mismatch_action\":\"Log\",\"filter\":[]}",
-        "{\"match_action\":{\"allow\":null},\"mismatch_action\":\"log\",\"filter\":[]}",
-        "{\"match_action\":{\"errno\":4294967296},\"mismatch_action\":\"log\",\"filter\":[]}",
-        "{\"match_action\":{\"errno\":1,\"trace\":1},\"mismatch_action\":\"log\",\"filter\":[]}",
-        "{\"match_action\":{},\"mismatch_action\":\"log\",\"filter\":[]}",
-        "{\"match_action\":\"allow\",\"filter_action\":\"allow\",\"mismatch_action\":\"log\",\"filter\":[]}",
-        "{\"match_action\":\"allow\",\"mismatch_action\":\"log\",\"default_action\":\"log\",\"filter\":[]}",
-        "{\"match_action\":\"allow\",\"filter\":[]}",
-        "{\"match_action\":\"allow\",\"mismatch_action\":\"log\",\"filter\":[],\"comment\":\"c\"}",
-        "{\"match_action\":\"allow\",\"mismatch_action\":\"log\",\"filter\":{}}",
-        "{\"match_action\":\"allow\",\"mismatch_action\":\"log\",\"filter\":null}",
+        r#"{"match_action":"allow","mismatch_action":"log"}"#,
+        r#"{"match_action":"allow","mismatch_action":"log","filters":[]}"#,
+        r#"{"match_action":"allow","mismatch_action":"logs","filter":[]}"#,
+        r#"{"match_action":"allow","mismatch_action":"errno","filter":[]}"#,
+        r#"{"match_action":"allow","mismatch_action":"Log","filter":[]}"#,
+        r#"{"match_action":{"allow":null},"mismatch_action":"log","filter":[]}"#,
+        r#"{"match_action":{"errno":4294967296},"mismatch_action":"log","filter":[]}"#,
+        r#"{"match_action":{"errno":1,"trace":1},"mismatch_action":"log","filter":[]}"#,
+        r#"{"match_action":{},"mismatch_action":"log","filter":[]}"#,
+        r#"{"match_action":"allow","filter_action":"allow","mismatch_action":"log","filter":[]}"#,
+        r#"{"match_action":"allow","mismatch_action":"log","default_action":"log","filter":[]}"#,
+        r#"{"match_action":"allow","filter":[]}"#,
+        r#"{"match_action":"allow","mismatch_action":"log","filter":[],"comment":"c"}"#,
+        r#"{"match_action":"allow","mismatch_action":"log","filter":{}}"#,
+        r#"{"match_action":"allow","mismatch_action":"log","filter":null}"#,
     ] {
         assert_eq!(rt; read_filter(alloc, filter)?, shape(alloc, "a")?, "{filter}");
     }
@@ -167,19 +167,19 @@ fn filters_of_wrong_shape(rt: HostRuntime) -> Result<(), Fail> {
 fn actions(rt: HostRuntime) -> Result<(), Fail> {
     let alloc = rt.alloc();
     for (text, action) in [
-        ("\"allow\"", SeccompAction::Allow),
-        ("\"kill_thread\"", SeccompAction::KillThread),
-        ("\"kill_process\"", SeccompAction::KillProcess),
-        ("\"log\"", SeccompAction::Log),
-        ("\"trap\"", SeccompAction::Trap),
-        ("{\"errno\":4294967295}", SeccompAction::Errno(4294967295)),
-        ("{\"trace\":0}", SeccompAction::Trace(0)),
+        (r#""allow""#, SeccompAction::Allow),
+        (r#""kill_thread""#, SeccompAction::KillThread),
+        (r#""kill_process""#, SeccompAction::KillProcess),
+        (r#""log""#, SeccompAction::Log),
+        (r#""trap""#, SeccompAction::Trap),
+        (r#"{"errno":4294967295}"#, SeccompAction::Errno(4294967295)),
+        (r#"{"trace":0}"#, SeccompAction::Trace(0)),
     ] {
         let first = format!(in alloc;
-            "{{\"mismatch_action\":{text},\"match_action\":\"log\",\"filter\":[]}}"
+            r#"{{"mismatch_action":{text},"match_action":"log","filter":[]}}"#
         )?;
         let second = format!(in alloc;
-            "{{\"default_action\":\"log\",\"filter_action\":{text},\"filter\":[]}}"
+            r#"{{"default_action":"log","filter_action":{text},"filter":[]}}"#
         )?;
         let read = read_filter(alloc, first.as_str())?;
         assert_eq!(rt;
@@ -201,15 +201,15 @@ fn actions(rt: HostRuntime) -> Result<(), Fail> {
 fn entries_without_conditions(rt: HostRuntime) -> Result<(), Fail> {
     let alloc = rt.alloc();
     for entry in [
-        "{\"syscall\":\"read\"}",
-        "{\"syscall\":\"read\",\"args\":null}",
-        "{\"syscall\":\"read\",\"comment\":null}",
-        "{\"comment\":\"c\",\"args\":null,\"syscall\":\"read\"}",
+        r#"{"syscall":"read"}"#,
+        r#"{"syscall":"read","args":null}"#,
+        r#"{"syscall":"read","comment":null}"#,
+        r#"{"comment":"c","args":null,"syscall":"read"}"#,
     ] {
         assert_eq!(rt; read_entry(alloc, entry)?, reads(alloc, None)?, "{entry}");
     }
     let none = Some(JsonConditions::new(vec![in alloc]?));
-    let entry = "{\"syscall\":\"read\",\"args\":[]}";
+    let entry = r#"{"syscall":"read","args":[]}"#;
     assert_eq!(rt; read_entry(alloc, entry)?, reads(alloc, none)?, "{entry}");
     Ok(())
 }
@@ -218,14 +218,14 @@ fn entries_without_conditions(rt: HostRuntime) -> Result<(), Fail> {
 fn entries_of_wrong_shape(rt: HostRuntime) -> Result<(), Fail> {
     let alloc = rt.alloc();
     for entry in [
-        "\"read\"",
+        r#""read""#,
         "{}",
-        "{\"syscall\":1}",
-        "{\"args\":null}",
-        "{\"syscall\":\"read\",\"args\":{}}",
-        "{\"syscall\":\"read\",\"args\":[null]}",
-        "{\"syscall\":\"read\",\"comment\":15}",
-        "{\"syscall\":\"read\",\"Args\":[]}",
+        r#"{"syscall":1}"#,
+        r#"{"args":null}"#,
+        r#"{"syscall":"read","args":{}}"#,
+        r#"{"syscall":"read","args":[null]}"#,
+        r#"{"syscall":"read","comment":15}"#,
+        r#"{"syscall":"read","Args":[]}"#,
     ] {
         assert_eq!(rt; read_entry(alloc, entry)?, shape(alloc, "a")?, "{entry}");
     }
@@ -240,7 +240,7 @@ fn conditions(rt: HostRuntime) -> Result<(), Fail> {
     assert_eq!(rt; read, reads_if(alloc, 0, dword, SeccompCmpOp::Eq, 5)?);
     let read = read_condition(
         alloc,
-        "{\"index\":255,\"type\":\"dword\",\"op\":\"eq\",\"val\":18446744073709551615,\"comment\":null}",
+        r#"{"index":255,"type":"dword","op":"eq","val":18446744073709551615,"comment":null}"#,
     )?;
     assert_eq!(rt;
         read,
@@ -248,7 +248,7 @@ fn conditions(rt: HostRuntime) -> Result<(), Fail> {
     );
     let read = read_condition(
         alloc,
-        "{\"comment\":\"c\",\"val\":0,\"op\":\"eq\",\"type\":\"qword\",\"index\":6}",
+        r#"{"comment":"c","val":0,"op":"eq","type":"qword","index":6}"#,
     )?;
     let qword = SeccompCmpArgLen::Qword;
     assert_eq!(rt; read, reads_if(alloc, 6, qword, SeccompCmpOp::Eq, 0)?);
@@ -259,20 +259,18 @@ fn conditions(rt: HostRuntime) -> Result<(), Fail> {
 fn operators(rt: HostRuntime) -> Result<(), Fail> {
     let alloc = rt.alloc();
     for (text, operator) in [
-        ("\"eq\"", SeccompCmpOp::Eq),
-        ("\"ge\"", SeccompCmpOp::Ge),
-        ("\"gt\"", SeccompCmpOp::Gt),
-        ("\"le\"", SeccompCmpOp::Le),
-        ("\"lt\"", SeccompCmpOp::Lt),
-        ("\"ne\"", SeccompCmpOp::Ne),
+        (r#""eq""#, SeccompCmpOp::Eq),
+        (r#""ge""#, SeccompCmpOp::Ge),
+        (r#""gt""#, SeccompCmpOp::Gt),
+        (r#""le""#, SeccompCmpOp::Le),
+        (r#""lt""#, SeccompCmpOp::Lt),
+        (r#""ne""#, SeccompCmpOp::Ne),
         (
-            "{\"masked_eq\":18446744073709551615}",
+            r#"{"masked_eq":18446744073709551615}"#,
             SeccompCmpOp::MaskedEq(18446744073709551615),
         ),
     ] {
-        let condition = format!(in alloc;
-            "{{\"index\":1,\"type\":\"dword\",\"op\":{text},\"val\":2}}"
-        )?;
+        let condition = format!(in alloc; r#"{{"index":1,"type":"dword","op":{text},"val":2}}"#)?;
         let want = reads_if(alloc, 1, SeccompCmpArgLen::Dword, operator, 2)?;
         assert_eq!(rt; read_condition(alloc, condition.as_str())?, want, "{text}");
     }
@@ -283,23 +281,24 @@ fn operators(rt: HostRuntime) -> Result<(), Fail> {
 fn conditions_of_wrong_shape(rt: HostRuntime) -> Result<(), Fail> {
     let alloc = rt.alloc();
     for condition in [
-        "{\"index\":256,\"type\":\"dword\",\"op\":\"eq\",\"val\":5}",
-        "{\"index\":-1,\"type\":\"dword\",\"op\":\"eq\",\"val\":5}",
-        "{\"index\":0,\"type\":\"dword\",\"op\":\"eq\",\"val\":18446744073709551616}",
-        "{\"index\":0,\"type\":\"dword\",\"op\":\"eq\",\"val\":-1846}",
-        "{\"index\":0,\"type\":\"dword\",\"op\":\"eq\",\"val\":1846.4}",
-        "{\"index\":0,\"type\":\"dword\",\"op\":\"eq\",\"val\":5.0}",
-        "{\"index\":0,\"type\":\"dword\",\"op\":\"eq\",\"val\":5,\"comment\":15}",
-        "{\"index\":0,\"type\":\"word\",\"op\":\"eq\",\"val\":5}",
-        "{\"index\":0,\"type\":\"dword\",\"op\":\"EQ\",\"val\":5}",
-        "{\"index\":0,\"type\":\"dword\",\"op\":\"masked_eq\",\"val\":5}",
-        "{\"index\":0,\"type\":\"dword\",\"op\":{\"eq\":null},\"val\":5}",
-        "{\"index\":0,\"type\":\"dword\",\"op\":\"eq\"}",
-        "{\"index\":0,\"type\":\"dword\",\"val\":5}",
-        "{\"index\":0,\"op\":\"eq\",\"val\":5}",
-        "{\"type\":\"dword\",\"op\":\"eq\",\"val\":5}",
-        "{\"index\":0,\"type\":\"dword\",\"op\":\"eq\",\"val\":5,\"mask\":1}",
-        "[0,\"dword\",\"eq\",5]",
+        r#"{"index":256,"type":"dword","op":"eq","val":5}"#,
+        r#"{"index":-1,"type":"dword","op":"eq","val":5}"#,
+        r#"{"index":0,"type":"dword","op":"eq","val":18446744073709551616}"#,
+        r#"{"index":0,"type":"dword","op":"eq","val":-1846}"#,
+        r#"{"index":0,"type":"dword","op":"eq","val":1846.4}"#,
+        r#"{"index":0,"type":"dword","op":"eq","val":5.0}"#,
+        r#"{"index":0,"type":"dword","op":"eq","val":5e0}"#,
+        r#"{"index":0,"type":"dword","op":"eq","val":5,"comment":15}"#,
+        r#"{"index":0,"type":"word","op":"eq","val":5}"#,
+        r#"{"index":0,"type":"dword","op":"EQ","val":5}"#,
+        r#"{"index":0,"type":"dword","op":"masked_eq","val":5}"#,
+        r#"{"index":0,"type":"dword","op":{"eq":null},"val":5}"#,
+        r#"{"index":0,"type":"dword","op":"eq"}"#,
+        r#"{"index":0,"type":"dword","val":5}"#,
+        r#"{"index":0,"op":"eq","val":5}"#,
+        r#"{"type":"dword","op":"eq","val":5}"#,
+        r#"{"index":0,"type":"dword","op":"eq","val":5,"mask":1}"#,
+        r#"[0,"dword","eq",5]"#,
     ] {
         assert_eq!(rt;
             read_condition(alloc, condition)?,

@@ -8,23 +8,23 @@ use std::io;
 use std::test::Fail;
 
 const POLICY: &str =
-    "{\"a\":{\"mismatch_action\":\"trap\",\"match_action\":\"allow\",\"filter\":[{\"syscall\":\"read\",\"args\":[{\"index\":0,\"type\":\"dword\",\"op\":\"eq\",\"val\":5}]}]}}";
+    r#"{"a":{"mismatch_action":"trap","match_action":"allow","filter":[{"syscall":"read","args":[{"index":0,"type":"dword","op":"eq","val":5}]}]}}"#;
 
 // The ten names of `POLICY`, each with its value.
 const PARTS: [&str; 10] = [
-    "\"a\":{\"mismatch_action\":\"trap\",\"match_action\":\"allow\",\"filter\":[{\"syscall\":\"read\",\"args\":[{\"index\":0,\"type\":\"dword\",\"op\":\"eq\",\"val\":5}]}]}",
-    "\"mismatch_action\":\"trap\"",
-    "\"match_action\":\"allow\"",
-    "\"filter\":[{\"syscall\":\"read\",\"args\":[{\"index\":0,\"type\":\"dword\",\"op\":\"eq\",\"val\":5}]}]",
-    "\"syscall\":\"read\"",
-    "\"args\":[{\"index\":0,\"type\":\"dword\",\"op\":\"eq\",\"val\":5}]",
-    "\"index\":0",
-    "\"type\":\"dword\"",
-    "\"op\":\"eq\"",
-    "\"val\":5",
+    r#""a":{"mismatch_action":"trap","match_action":"allow","filter":[{"syscall":"read","args":[{"index":0,"type":"dword","op":"eq","val":5}]}]}"#,
+    r#""mismatch_action":"trap""#,
+    r#""match_action":"allow""#,
+    r#""filter":[{"syscall":"read","args":[{"index":0,"type":"dword","op":"eq","val":5}]}]"#,
+    r#""syscall":"read""#,
+    r#""args":[{"index":0,"type":"dword","op":"eq","val":5}]"#,
+    r#""index":0"#,
+    r#""type":"dword""#,
+    r#""op":"eq""#,
+    r#""val":5"#,
 ];
 
-const FILTER: &str = "{\"mismatch_action\":\"trap\",\"match_action\":\"allow\",\"filter\":[]}";
+const FILTER: &str = r#"{"mismatch_action":"trap","match_action":"allow","filter":[]}"#;
 
 // Whether a text that serde_json reads repeats a name.
 fn repeats(alloc: Global, text: &str) -> Result<bool, Fail> {
@@ -45,21 +45,33 @@ fn a_name_of_a_policy_written_twice(rt: HostRuntime) -> Result<(), Fail> {
 }
 
 #[test]
+fn numbers_of_actions_and_operators_written_twice(rt: HostRuntime) -> Result<(), Fail> {
+    let alloc = rt.alloc();
+    for (plain, twice) in [
+        (r#""trap""#, r#"{"errno":1,"errno":1}"#),
+        (r#""eq""#, r#"{"masked_eq":1,"masked_eq":1}"#),
+    ] {
+        let (before, after) = POLICY.split_once(plain).ok_or("a part of the policy")?;
+        let text = format!(in alloc; "{before}{twice}{after}")?;
+        assert!(rt; repeats(alloc, text.as_str())?, "{text}");
+    }
+    Ok(())
+}
+
+#[test]
 fn names_written_twice(rt: HostRuntime) -> Result<(), Fail> {
     let alloc = rt.alloc();
-    for text in [
-        "{\"errno\":1,\"errno\":1}",
-        "{\"masked_eq\":1,\"masked_eq\":1}",
-        "{\"a\":{\"x\":1,\"x\":1}}",
-        "[{\"a\":1,\"a\":1}]",
-    ] {
+    for text in [r#"{"a":{"x":1,"x":1}}"#, r#"[{"a":1,"a":1}]"#] {
         assert!(rt; repeats(alloc, text)?, "{text}");
     }
-    for (first, second) in [("\"thread_1\"", "\"thread_1\""), ("\"a\"", "\"\\u0061\"")] {
+    for (first, second) in [
+        (r#""thread_1""#, r#""thread_1""#),
+        (r#""a""#, r#""\u0061""#),
+    ] {
         let text = format!(in alloc; "{{{first}:{FILTER},{second}:{FILTER}}}")?;
         assert!(rt; repeats(alloc, text.as_str())?, "{text}");
     }
-    let text = format!(in alloc; "{{\"a\":{FILTER},\"a\":3}}")?;
+    let text = format!(in alloc; r#"{{"a":{FILTER},"a":3}}"#)?;
     assert!(rt; repeats(alloc, text.as_str())?, "{text}");
     Ok(())
 }
@@ -67,8 +79,8 @@ fn names_written_twice(rt: HostRuntime) -> Result<(), Fail> {
 #[test]
 fn colons_in_strings_do_not_count(rt: HostRuntime) -> Result<(), Fail> {
     let alloc = rt.alloc();
-    let (before, after) = POLICY.split_once("\"index\":0").ok_or("an index")?;
-    let text = format!(in alloc; "{before}\"index\":0,\"comment\":\"a:\\\"b:\"{after}")?;
+    let (before, after) = POLICY.split_once(r#""index":0"#).ok_or("an index")?;
+    let text = format!(in alloc; r#"{before}"index":0,"comment":"a:\"b:"{after}"#)?;
     assert!(rt; !repeats(alloc, text.as_str())?, "{text}");
     Ok(())
 }
@@ -77,10 +89,10 @@ fn colons_in_strings_do_not_count(rt: HostRuntime) -> Result<(), Fail> {
 fn any_text_has_colons(rt: HostRuntime) {
     for (text, repeated) in [
         (":", true),
-        ("\"::", false),
-        ("\\\":", false),
-        ("\"a\\\":\":", true),
-        ("\"\\", false),
+        (r#""::"#, false),
+        (r#"\":"#, false),
+        (r#""a\":":"#, true),
+        (r#""\"#, false),
     ] {
         assert_eq!(rt;
             repeats_key(text.as_bytes(), &Value::Null),

@@ -14,9 +14,19 @@ mod filters;
 #[cfg(test)]
 mod instructions;
 #[cfg(test)]
+mod json_faults;
+#[cfg(test)]
+mod json_policies;
+#[cfg(test)]
+mod json_programs;
+#[cfg(test)]
+mod json_samples;
+#[cfg(test)]
 mod json_shapes;
 #[cfg(test)]
 mod json_texts;
+#[cfg(test)]
+mod kernels;
 #[cfg(test)]
 mod limits;
 #[cfg(test)]
@@ -29,3 +39,5 @@ mod programs;
 mod relays;
 #[cfg(test)]
 mod rules;
+#[cfg(test)]
+mod texts;

@@ -1,5 +1,5 @@
 -- The errors of the program's engines: how a refusal becomes one, their texts, and what they leave as it was.
-use Rattle.std.specs.Prelude.{◌≡◌, ◌≢◌, ℕ, List, ◌++◌, codes, decimal, ⊤}
+use Rattle.std.specs.Prelude.{◌≡◌, ◌≢◌, ℕ, List, ◌++◌, Option, Some, codes, decimal, string_bytes, ⊤}
 use Rattle.std.specs.IoError.{error_kind}
 use Rattle.std.specs.declared.io.Error.{Error}
 use Rattle.std.specs.declared.io.ErrorKind.TheVariants as kind
@@ -7,20 +7,21 @@ use Rattle.seccompiler.specs.declared.error.Error.{Error as LibraryError}
 use Rattle.seccompiler.specs.declared.error.Error.TheVariants as library
 use Rattle.seccompiler.specs.Errors.{error_text}
 use Rattle.seccompc.specs.declared.error.ToolError.{ToolError}
-use Rattle.seccompc.specs.declared.error.ToolError.TheVariants.{Library, ShortRecord, Read, Write, OutOfMemory}
+use Rattle.seccompc.specs.declared.error.ToolError.TheVariants.{Library, NoFilter, ShortRecord, Read, Write, OutOfMemory}
 
 -- A refusal of the library; want of memory stays want of memory.
 abbrev pub from_library : LibraryError → ToolError
-from_library (library.Backend e) = Library (library.Backend e)
 from_library library.OutOfMemory = OutOfMemory
+from_library refusal = Library refusal
 
--- The text of an error.
-abbrev pub tool_text : ToolError → List ℕ
+-- The text of an error, where it is known.
+abbrev pub tool_text : ToolError → Option (List ℕ)
 tool_text (Library e) = error_text e
-tool_text (ShortRecord rest) = codes "The input ends inside a record, after " ++ decimal rest ++ codes " bytes of it."
-tool_text (Read e) = codes "Error reading input."
-tool_text (Write e) = codes "Error writing output."
-tool_text OutOfMemory = codes "Out of memory."
+tool_text (NoFilter name) = Some (codes "No filter has this name: " ++ string_bytes name ++ codes ".")
+tool_text (ShortRecord rest) = Some (codes "The input ends inside a record, after " ++ decimal rest ++ codes " bytes of it.")
+tool_text (Read e) = Some (codes "Error reading input.")
+tool_text (Write e) = Some (codes "Error writing output.")
+tool_text OutOfMemory = Some (codes "Out of memory.")
 
 -- A reader's fault of another kind than want of memory.
 abbrev pub IsReadFault : Error → Type 0
@@ -29,6 +30,7 @@ IsReadFault e = error_kind e ≢ kind.OutOfMemory
 -- An error of reading records.
 abbrev pub IsReadError : ToolError → Type 0
 IsReadError (Library e) = ⊥
+IsReadError (NoFilter name) = ⊥
 IsReadError (ShortRecord rest) = ⊥
 IsReadError (Read e) = IsReadFault e
 IsReadError (Write e) = ⊥
@@ -37,6 +39,7 @@ IsReadError OutOfMemory = ⊤
 -- An error of tracing records.
 abbrev pub IsTraceError : ToolError → Type 0
 IsTraceError (Library e) = ⊥
+IsTraceError (NoFilter name) = ⊥
 IsTraceError (ShortRecord rest) = ⊤
 IsTraceError (Read e) = IsReadFault e
 IsTraceError (Write e) = ⊤
@@ -45,6 +48,7 @@ IsTraceError OutOfMemory = ⊤
 -- What is written is as it was, where the error comes before the writing.
 abbrev pub KeepsOutput : {W : Type 0} → ToolError → W → W → Type 0
 KeepsOutput (Library e) old new = new ≡ old
+KeepsOutput (NoFilter name) old new = new ≡ old
 KeepsOutput (ShortRecord rest) old new = ⊤
 KeepsOutput (Read e) old new = new ≡ old
 KeepsOutput (Write e) old new = ⊤

@@ -4,3 +4,5 @@ pub mod Errors
 pub mod Lines
 pub mod Answers
 pub mod Probe
+pub mod Listing
+pub mod Policies

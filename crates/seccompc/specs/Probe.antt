@@ -15,7 +15,7 @@ use Rattle.seccompiler.specs.Policy.{Filter, IsCallNumber}
 use Rattle.seccompiler.specs.Compiled.{IsCompiled}
 use Rattle.seccompc.specs.Errors.{IsReadFault}
 use Rattle.seccompc.specs.declared.error.ToolError.{ToolError}
-use Rattle.seccompc.specs.declared.error.ToolError.TheVariants.{Library, ShortRecord, Read, Write, OutOfMemory}
+use Rattle.seccompc.specs.declared.error.ToolError.TheVariants.{Library, NoFilter, ShortRecord, Read, Write, OutOfMemory}
 
 -- The filter that allows a call of this number where all 8 bytes of the argument equal the value, and else kills the
 -- process.
@@ -52,6 +52,7 @@ pub data IsFirstFault (arch : List ℕ) (nr : ℤ) (index : ℕ) (e : Error) : T
 abbrev pub AnswersWords : List ℕ → ℤ → ℕ → Result ⊤ ToolError → Type 0
 AnswersWords arch nr index (Ok done) = IsFaultless arch nr index
 AnswersWords arch nr index (Err (Library e)) = IsFirstFault arch nr index e
+AnswersWords arch nr index (Err (NoFilter name)) = ⊥
 AnswersWords arch nr index (Err (ShortRecord rest)) = IsFaultless arch nr index
 AnswersWords arch nr index (Err (Read e)) = IsFaultless arch nr index × IsReadFault e
 AnswersWords arch nr index (Err (Write e)) = IsFaultless arch nr index
@@ -72,6 +73,7 @@ pub record IsCompiledFor (arch : List ℕ) (nr : ℤ) (index value : ℕ) (progr
 -- The error is the first fault, or want of memory.
 abbrev pub IsRefusedProbe : List ℕ → ℤ → ℕ → ToolError → Type 0
 IsRefusedProbe arch nr index (Library e) = IsFirstFault arch nr index e
+IsRefusedProbe arch nr index (NoFilter name) = ⊥
 IsRefusedProbe arch nr index (ShortRecord rest) = ⊥
 IsRefusedProbe arch nr index (Read e) = ⊥
 IsRefusedProbe arch nr index (Write e) = ⊥

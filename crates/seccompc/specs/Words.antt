@@ -1,7 +1,7 @@
 -- The words that the program is called with, and the command that they are.
 use Rattle.std.specs.Prelude.{◌≡◌, ℕ, ℤ, pos, neg_ℤ, ◌≤ℤ◌, ◌<ℤ◌, ◌+◌, ◌-◌, ◌*◌, ◌^◌, ◌<◌, ◌≤◌, List, [], ◌∷◌, ◌++◌, length, All, codes}
 use Rattle.seccompc.specs.declared.words.Command.{Command}
-use Rattle.seccompc.specs.declared.words.Command.TheVariants.{Probe}
+use Rattle.seccompc.specs.declared.words.Command.TheVariants.{Probe, List as Listing, Run}
 
 -- The number that decimal digits write: each digit has the weight of its place.
 abbrev pub number_of : List ℕ → ℕ
@@ -39,3 +39,5 @@ pub record IsProbe (words : List (List ℕ)) (arch : List ℕ) (nr : ℤ) (index
 -- The words are this command.
 abbrev pub IsCommand : List (List ℕ) → Command → Type 0
 IsCommand words (Probe arch nr index value) = IsProbe words arch.now nr index value
+IsCommand words (Listing arch) = words ≡ codes "list" ∷ arch.now ∷ []
+IsCommand words (Run arch file name) = words ≡ codes "run" ∷ arch.now ∷ file.now ∷ name.now ∷ []

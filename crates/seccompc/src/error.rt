@@ -11,26 +11,28 @@ use std::{fmt, io};
 pub enum ToolError {
     /// The library refuses.
     Library(seccompiler::Error),
+    /// No filter of the policy has this name.
+    NoFilter(String),
     /// The records end inside a record, after so many bytes of it, from 1 to 63.
     ShortRecord(usize),
     /// The records can't be read.
     Read(io::Error),
     /// The output can't be written; how much of it went out is not known.
     Write(io::Error),
-    /// A growth of memory was refused, or reading the records failed for want of memory.
+    /// A growth of memory was refused, or reading failed for want of memory.
     OutOfMemory,
 }
 
 /// The error's text.
 impl fmt::Display for ToolError {
-    ghost use Rattle.std.specs.Prelude.{Some};
     ghost use Rattle.seccompc.specs.Errors.{tool_text};
 
-    ghost output = { λ error. Some (tool_text error) };
+    ghost output = { tool_text };
 
     fn fmt<W: fmt::Write>(&self, f: &mut fmt::Formatter<W>) -> fmt::Result {
         match self {
             ToolError::Library(error) => write!(f, "{error}"),
+            ToolError::NoFilter(name) => write!(f, "No filter has this name: {name}."),
             ToolError::ShortRecord(rest) => {
                 write!(
                     f,

@@ -3,48 +3,38 @@
 
 mod error;
 mod lines;
+mod list;
+mod listing;
+mod policy;
 mod probe;
+mod run;
+#[cfg(test)]
+mod tests;
 mod trace;
 mod words;
+
+ghost use Rattle.std.specs.Prelude.{◌≡◌, OnOk, OnErr};
+ghost use Rattle.std.specs.Process.{exit_status};
 
 use crate::error::ToolError;
 use crate::words::{Command, read_words};
 use std::io::ErrorKind;
 use std::process::ExitCode;
-use std::rt::Env;
-use std::{env, io};
+use std::rt::{Env, Files};
+use std::{env, fs, io};
 
 fn main(rt: HostRuntime) -> ExitCode {
     let words = match words_behind_the_name(&rt) {
         Ok(words) => words,
         Err(error) if error.kind() == ErrorKind::OutOfMemory => {
-            return failure(&rt, &ToolError::OutOfMemory);
+            return answered(&rt, Err(ToolError::OutOfMemory));
         }
         // A word that is no text is no command's.
-        Err(_) => return usage(&rt),
+        Err(_) => return misused(&rt),
     };
-    let done = match read_words(&words) {
-        Some(
-            Command::Probe {
-                arch,
-                nr,
-                index,
-                value,
-            },
-        ) => probe::probe(
-            rt.alloc(),
-            arch,
-            nr,
-            index,
-            value,
-            rt.reader(),
-            &mut io::writer(&rt),
-        ),
-        None => return usage(&rt),
-    };
-    match done {
-        Ok(()) => ExitCode::SUCCESS,
-        Err(error) => failure(&rt, &error),
+    match read_words(&words) {
+        Some(command) => carry_out(&rt, command),
+        None => misused(&rt),
     }
 }
 
@@ -53,16 +43,65 @@ fn words_behind_the_name(rt: &(impl Env + AllocGlobal)) -> io::Result<Vec<String
     Ok(env::args(rt)?.skip(1).collect(rt.alloc())?)
 }
 
-// Says how the program is called: status 2.
-fn usage(rt: &impl Eprint) -> ExitCode {
-    let _ = rt.eprintln(
-        "usage: seccompc probe ARCH NR INDEX VALUE | list ARCH | run ARCH FILE NAME",
-    );
-    ExitCode::from(2)
+// Carries out a command, from standard input to standard output.
+fn carry_out(
+    rt: &(impl Files + Input + Print + Eprint + AllocGlobal),
+    command: Command<'_>,
+) -> ExitCode {
+    let alloc = rt.alloc();
+    let mut out = io::writer(rt);
+    match command {
+        Command::Probe {
+            arch,
+            nr,
+            index,
+            value,
+        } => answered(
+            rt,
+            probe::probe(alloc, arch, nr, index, value, rt.reader(), &mut out),
+        ),
+        Command::List { arch } => answered(rt, list::list(alloc, arch, rt.reader(), &mut out)),
+        Command::Run { arch, file, name } => match fs::open(rt, file) {
+            Ok(policy) => answered(
+                rt,
+                run::run_policy(alloc, arch, policy, name, rt.reader(), &mut out),
+            ),
+            Err(error) if error.kind() == ErrorKind::OutOfMemory => {
+                answered(rt, Err(ToolError::OutOfMemory))
+            }
+            Err(_) => unopened(rt),
+        },
+    }
 }
 
-// Says what failed: status 1.
-fn failure(rt: &impl Eprint, error: &ToolError) -> ExitCode {
-    let _ = rt.eprintln(error);
+// Status 0, or status 1 where a command failed, with the error's text on standard error.
+fn answered(rt: &impl Eprint, answer: Result<(), ToolError>) -> ExitCode
+    ensures done { OnOk answer (exit_status result ≡ 0) }
+    ensures failed { OnErr answer (exit_status result ≡ 1) }
+{
+    match answer {
+        Ok(()) => ExitCode::SUCCESS,
+        Err(error) => {
+            let _ = rt.eprintln(&error);
+            ExitCode::FAILURE
+        }
+    }
+}
+
+// Status 1, where the policy's file can't be opened.
+fn unopened(rt: &impl Eprint) -> ExitCode
+    ensures { exit_status result ≡ 1 }
+{
+    let _ = rt.eprintln("Error opening the policy file.");
     ExitCode::FAILURE
+}
+
+const USAGE: &str = "usage: seccompc probe ARCH NR INDEX VALUE | list ARCH | run ARCH FILE NAME";
+
+// Status 2, with how the program is called on standard error.
+fn misused(rt: &impl Eprint) -> ExitCode
+    ensures { exit_status result ≡ 2 }
+{
+    let _ = rt.eprintln(USAGE);
+    ExitCode::from(2)
 }

@@ -1,7 +1,6 @@
 // Records in, their lines out.
 
-ghost use Rattle.std.specs.Prelude.{◌≡◌, IfOk, IfErr, IfSome, OnErr};
-ghost use Rattle.std.specs.Io.KnownBytes.{Appends};
+ghost use Rattle.std.specs.Prelude.{◌≡◌, IfOk, IfErr, IfSome};
 ghost use Rattle.seccompiler.specs.Checked.{IsChecked};
 ghost use Rattle.seccompc.specs.Lines.{AreLines};
 ghost use Rattle.seccompc.specs.Errors.{IsReadError, IsTraceError, KeepsOutput};

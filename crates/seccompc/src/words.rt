@@ -18,24 +18,57 @@ pub enum Command<'a> {
         /// What the argument has to equal.
         value: u64,
     },
+    /// List the programs of the policy on standard input.
+    List {
+        /// The architecture's name.
+        arch: &'a str,
+    },
+    /// Trace the program of a policy's filter on the records of standard input.
+    Run {
+        /// The architecture's name.
+        arch: &'a str,
+        /// The file that has the policy.
+        file: &'a str,
+        /// The filter's name.
+        name: &'a str,
+    },
 }
 
 /// Reads the words that follow the program's name: exactly the command that they are, or `None`
 /// where they are none. Takes no memory.
 ///
-/// The one command is `probe ARCH NR INDEX VALUE`. ARCH is any text. NR, INDEX and VALUE are one or
-/// more ASCII digits, NR with at most one `-` in front, and fit `i64`, `u8` and `u64`.
+/// The commands are `probe ARCH NR INDEX VALUE`, `list ARCH` and `run ARCH FILE NAME`. ARCH, FILE and
+/// NAME are any texts. NR, INDEX and VALUE are one or more ASCII digits, NR with at most one `-` in
+/// front, and fit `i64`, `u8` and `u64`.
 pub fn read_words(words: &[String]) -> Option<Command<'_>>
     ensures read { IfSome result (IsCommand (map string_bytes words.now)) }
     ensures unread { IfNone result ((command : Command) → IsCommand (map string_bytes words.now) command → ⊥) }
 {
-    match words {
-        [command, arch, nr, index, value] if command.as_str() == "probe" => read_probe(
-            arch.as_str(),
-            nr.as_str(),
-            index.as_str(),
-            value.as_str(),
-        ),
+    let (command, words) = words.split_first()?;
+    match command.as_str() {
+        "probe" => match words {
+            [arch, nr, index, value] => read_probe(
+                arch.as_str(),
+                nr.as_str(),
+                index.as_str(),
+                value.as_str(),
+            ),
+            _ => None,
+        },
+        "list" => match words {
+            [arch] => Some(Command::List {
+                arch: arch.as_str(),
+            }),
+            _ => None,
+        },
+        "run" => match words {
+            [arch, file, name] => Some(Command::Run {
+                arch: arch.as_str(),
+                file: file.as_str(),
+                name: name.as_str(),
+            }),
+            _ => None,
+        },
         _ => None,
     }
 }

@@ -14,19 +14,21 @@ use Rattle.std.proofs.lemmas.Map.Keys.{sorted_head, sorted_tail}
 use Rattle.seccompiler.specs.Policy.{IsCallNumber}
 use Rattle.seccompiler.specs.Refusal.{IsLeastUnfit}
 
--- A number is a call number exactly where it fits 32 unsigned bits.
+-- A number that fits 32 unsigned bits is a call number.
 call_number_if_fits : (z : ℤ) → FitsUnsignedBits 32 z → IsCallNumber z
 call_number_if_fits (pos n) fits = (n, refl, fits)
 call_number_if_fits (negsuc n) fits = absurd fits
 
+-- A call number fits 32 unsigned bits.
 fits_if_call_number : (z : ℤ) → IsCallNumber z → FitsUnsignedBits 32 z
 fits_if_call_number z (n, is, small) = subst (FitsUnsignedBits 32) (sym is) small
 
--- What a conversion to 32 unsigned bits shows where it succeeds, and where it fails.
+-- A number that converts to 32 unsigned bits is a call number.
 pub call_number_if_ok : {E : Type 0} (z y : ℤ) (r : Result ℕ E) (v : ℕ) → y ≡ z → OkIff r (FitsUnsignedBits 32 y) v → false ≡ is_err r → IsCallNumber z
 call_number_if_ok z y (Ok x) v same iff ok = call_number_if_fits z (subst (FitsUnsignedBits 32) same iff.0)
 call_number_if_ok z y (Err e) v same iff ok = cc
 
+-- A number that does not convert is none.
 pub no_call_number_if_err : {E : Type 0} (z y : ℤ) (r : Result ℕ E) (v : ℕ) → y ≡ z → OkIff r (FitsUnsignedBits 32 y) v → true ≡ is_err r → IsCallNumber z → ⊥
 no_call_number_if_err z y (Ok x) v same iff err = cc
 no_call_number_if_err z y (Err e) v same iff err = λ call. iff (subst (FitsUnsignedBits 32) (sym same) (fits_if_call_number z call))
@@ -36,6 +38,7 @@ above_behind : (front : List ℤ) (z : ℤ) (back : List ℤ) → IsStrictlySort
 above_behind [] z back ascends = sorted_head int_cmp z back ascends
 above_behind (x ∷ front) z back ascends = above_behind front z back (sorted_tail int_cmp x (front ++ z ∷ back) ascends)
 
+-- What compares as less is at most.
 le_if_less : (x y : ℤ) → int_cmp x y ≡ Less → x ≤ℤ y
 le_if_less x y less =
     let below : x <ℤ y = subst (λ o. MatchOrdering o (x <ℤ y) (x ≡ y) (y <ℤ x)) less (int_ranks x y) in
@@ -47,7 +50,7 @@ le_only z m (zero, within, is) = subst (λ y. z ≤ℤ y) is (≤ℤ_refl z)
 le_only z m (suc k, within, is) = absurd (omega arith)
 
 -- In an ascending list the first number that is no call number is the least such.
-pub first_is_least : (front : List ℤ) (z : ℤ) (back : List ℤ) → All IsCallNumber front → (IsCallNumber z → ⊥) → IsStrictlySortedBy int_cmp (front ++ z ∷ back) → IsLeastUnfit (front ++ z ∷ back) z
+first_is_least : (front : List ℤ) (z : ℤ) (back : List ℤ) → All IsCallNumber front → (IsCallNumber z → ⊥) → IsStrictlySortedBy int_cmp (front ++ z ∷ back) → IsLeastUnfit (front ++ z ∷ back) z
 first_is_least front z back fit unfit ascends = record {
   among = Contains-append_right front (z ∷ back) z (0, omega arith, refl);
   unfit = unfit;

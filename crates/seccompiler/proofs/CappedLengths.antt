@@ -29,6 +29,7 @@ capped_chain m (q ∷ chain) i so_far some long first = first ∙ ap (λ rules. 
 abbrev pub lent_length : List (Bor (Vec Rule Global)) → ℕ
 lent_length lent = sum_by (λ chain. chain_length chain.now.items) lent
 
+-- The same of two terms and the length around them.
 capped_sum_of_two : (m a b : ℕ) → min (min (5 + a) m + min b m) m ≡ min (5 + (a + b)) m
 capped_sum_of_two m a b = omega arith
 
@@ -52,10 +53,12 @@ lent_chains (e ∷ entries) (chain ∷ lent) same =
     ∙ ap (λ n. chain_length e.1.items + n) (lent_chains entries lent rest)
     ∙ sym (sum_by-cons (λ (c : ℤ × Chain). chain_length c.1) (e.0, e.1.items) (chains_of entries))
 
+-- The counted length of a filter that has chains is a sum.
 counted_with_chains : (entries : List (ℤ × Vec Rule Global)) → (length entries ≡ 0 → ⊥) → counted_length_of (chains_of entries) ≡ 5 + chains_length (chains_of entries)
 counted_with_chains [] some = absurd (some refl)
 counted_with_chains (e ∷ entries) some = refl
 
+-- The counted length of a filter that has none is 4.
 counted_without_chains : (entries : List (ℤ × Vec Rule Global)) → length entries ≡ 0 → counted_length_of (chains_of entries) ≡ 4
 counted_without_chains [] none = refl
 counted_without_chains (e ∷ entries) none = absurd (omega arith)

@@ -18,18 +18,13 @@ pub numbers_are_keys : (entries : List (ℤ × Vec Rule Global)) → keys_of (ch
 numbers_are_keys [] = refl
 numbers_are_keys (e ∷ entries) = ap (λ keys. e.0 ∷ keys) (numbers_are_keys entries)
 
--- The chains of two lists, one behind the other.
-pub chains_append : (xs ys : List (ℤ × Vec Rule Global)) → chains_of (xs ++ ys) ≡ chains_of xs ++ chains_of ys
-chains_append [] ys = refl
-chains_append (x ∷ xs) ys = ap (λ chains. (x.0, x.1.items) ∷ chains) (chains_append xs ys)
-
 -- What stands behind others that are all above a number is above it.
 above_middle : (number : ℤ) (front : List (ℤ × Chain)) (e : ℤ × Chain) (back : List (ℤ × Chain)) → AllByRecursion (λ y. int_cmp number y ≡ Less) (keys_of (front ++ e ∷ back)) → int_cmp number e.0 ≡ Less
 above_middle number [] e back all = all.0
 above_middle number (x ∷ front) e back all = above_middle number front e back all.1
 
 -- A chain whose number is above those so far goes last.
-pub insert_last : (so_far : List (ℤ × Vec Rule Global)) (number : ℤ) (chain : Vec Rule Global) (back : List (ℤ × Chain))
+insert_last : (so_far : List (ℤ × Vec Rule Global)) (number : ℤ) (chain : Vec Rule Global) (back : List (ℤ × Chain))
     → IsStrictlySortedBy int_cmp (keys_of (chains_of so_far ++ (number, chain.items) ∷ back))
     → chains_of (insert_entry int_cmp so_far number chain) ≡ chains_of so_far ++ (number, chain.items) ∷ []
 insert_last [] number chain back ascends = refl

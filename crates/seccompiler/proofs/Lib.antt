@@ -22,6 +22,7 @@ pub mod CallNumbers
 pub mod Chains
 pub mod Searches
 pub mod Equality
+pub mod FilterEquality
 pub mod Reordering
 pub mod TableNames
 pub mod TableFacts
@@ -33,3 +34,13 @@ pub mod JsonNames
 pub mod JsonShapes
 pub mod JsonFilterShapes
 pub mod JsonFilterMaps
+pub mod JsonRules
+pub mod JsonChains
+pub mod JsonEntries
+pub mod NumberedChains
+pub mod JsonAdditions
+pub mod JsonPolicies
+pub mod TextMaps
+pub mod JsonPolicySteps
+pub mod JsonPolicyFaults
+pub mod PolicyPrograms

@@ -1,9 +1,14 @@
--- The crate's error: how a refusal of one of its modules becomes one, and its text.
-use Rattle.std.specs.Prelude.{ℕ, List, ◌++◌, codes}
+-- The crate's error: how a refusal of one of its modules becomes one, its text, and where want of memory stands.
+use Rattle.std.specs.Prelude.{◌≢◌, ℕ, List, ◌++◌, Option, Some, option_map, codes}
+use Rattle.std.specs.Fmt.{signed_decimal}
 use Rattle.seccompiler.specs.declared.backend.BackendError.{BackendError}
 use Rattle.seccompiler.specs.declared.backend.BackendError.TheVariants as backend
 use Rattle.seccompiler.specs.declared.error.Error.{Error}
 use Rattle.seccompiler.specs.declared.error.Error.TheVariants as whole
+use Rattle.seccompiler.specs.declared.json.error.JsonFrontendError.{JsonFrontendError}
+use Rattle.seccompiler.specs.declared.json.error.JsonFrontendError.TheVariants as frontend
+use Rattle.seccompiler.specs.JsonPolicies.{IsNoMemoryInside as IsNoMemoryInFrontend}
+use Rattle.seccompiler.specs.JsonTexts.{json_text}
 use Rattle.seccompiler.specs.Texts.{backend_text}
 
 -- A refusal of the backend; want of memory stays want of memory.
@@ -16,7 +21,33 @@ from_backend (backend.InvalidTargetArch t) = whole.Backend (backend.InvalidTarge
 from_backend (backend.InvalidSyscallNumber n) = whole.Backend (backend.InvalidSyscallNumber n)
 from_backend backend.OutOfMemory = whole.OutOfMemory
 
--- The text of an error.
-abbrev pub error_text : Error → List ℕ
-error_text (whole.Backend e) = codes "Backend error: " ++ backend_text e
-error_text whole.OutOfMemory = codes "Out of memory."
+-- A refusal of the front end; want of memory stays want of memory.
+abbrev pub from_frontend : JsonFrontendError → Error
+from_frontend (frontend.Backend cause) = whole.JsonFrontend (frontend.Backend cause)
+from_frontend (frontend.SerdeJson cause) = whole.JsonFrontend (frontend.SerdeJson cause)
+from_frontend (frontend.SyscallName name arch) = whole.JsonFrontend (frontend.SyscallName name arch)
+from_frontend (frontend.Read cause) = whole.JsonFrontend (frontend.Read cause)
+from_frontend frontend.RepeatedKey = whole.JsonFrontend frontend.RepeatedKey
+from_frontend frontend.NotAnObject = whole.JsonFrontend frontend.NotAnObject
+from_frontend (frontend.Shape name) = whole.JsonFrontend (frontend.Shape name)
+from_frontend frontend.OutOfMemory = whole.OutOfMemory
+
+-- The text of an error, where it is known: that of JSON that can't be read ends in serde_json's own words.
+abbrev pub error_text : Error → Option (List ℕ)
+error_text (whole.Backend e) = Some (codes "Backend error: " ++ backend_text e)
+error_text whole.EmptyFilter = Some (codes "Cannot install empty filter.")
+error_text (whole.Prctl number) = Some (codes "Error calling `prctl`: " ++ signed_decimal number)
+error_text (whole.Seccomp number) = Some (codes "Error calling `seccomp`: " ++ signed_decimal number)
+error_text (whole.ThreadSync thread) = Some (codes "Seccomp filter synchronization failed in thread `" ++ signed_decimal thread ++ codes "`")
+error_text (whole.JsonFrontend e) = option_map (λ text. codes "Json Frontend error: " ++ text) (json_text e)
+error_text whole.OutOfMemory = Some (codes "Out of memory.")
+
+-- Want of memory stands in the error itself, if it is at fault, and nowhere inside.
+abbrev pub IsNoMemoryInside : Error → Type 0
+IsNoMemoryInside (whole.Backend e) = e ≢ backend.OutOfMemory
+IsNoMemoryInside whole.EmptyFilter = Unit {0}
+IsNoMemoryInside (whole.Prctl number) = Unit {0}
+IsNoMemoryInside (whole.Seccomp number) = Unit {0}
+IsNoMemoryInside (whole.ThreadSync thread) = Unit {0}
+IsNoMemoryInside (whole.JsonFrontend e) = (e ≢ frontend.OutOfMemory) × IsNoMemoryInFrontend e
+IsNoMemoryInside whole.OutOfMemory = Unit {0}

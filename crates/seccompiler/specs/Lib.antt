@@ -7,6 +7,7 @@ pub mod Action
 pub mod SyscallTable
 pub mod Texts
 pub mod Errors
+pub mod Install
 pub mod Condition
 pub mod Policy
 pub mod Groups
@@ -16,6 +17,11 @@ pub mod Pieces
 pub mod ChainCode
 pub mod Compiled
 pub mod Refusal
+pub mod JsonPolicyOf
+pub mod JsonPolicy
+pub mod JsonPolicies
+pub mod JsonAnswers
+pub mod JsonPrograms
 pub mod Reorder
 pub mod LowHalf
 pub mod JsonEquality

@@ -1,6 +1,7 @@
 // What the calls of the crate's root refuse.
 
 use crate::backend::BackendError;
+use crate::json::JsonFrontendError;
 use std::fmt;
 
 /// Why a call of this crate refuses.
@@ -10,6 +11,16 @@ use std::fmt;
 pub enum Error {
     /// The backend refuses.
     Backend(BackendError),
+    /// A program of no instructions was to be installed.
+    EmptyFilter,
+    /// The call that sets `no_new_privs` failed with this error number, as `prctl(2)` lists them.
+    Prctl(i32),
+    /// The call that installs a filter failed with this error number, as `seccomp(2)` lists them.
+    Seccomp(i32),
+    /// The thread of this id could not take the filter that all threads were to have.
+    ThreadSync(i64),
+    /// The JSON front end refuses.
+    JsonFrontend(JsonFrontendError),
     /// A growth of memory was refused.
     OutOfMemory,
 }
@@ -19,14 +30,21 @@ pub type Result<T> = std::result::Result<T, Error>;
 
 /// The error's text.
 impl fmt::Display for Error {
-    ghost use Rattle.std.specs.Prelude.{Some};
     ghost use Rattle.seccompiler.specs.Errors.{error_text};
 
-    ghost output = { λ error. Some (error_text error) };
+    ghost output = { error_text };
 
     fn fmt<W: fmt::Write>(&self, f: &mut fmt::Formatter<W>) -> fmt::Result {
         match self {
             Error::Backend(error) => write!(f, "Backend error: {error}"),
+            Error::EmptyFilter => f.write_str("Cannot install empty filter."),
+            Error::Prctl(number) => write!(f, "Error calling `prctl`: {number}"),
+            Error::Seccomp(number) => write!(f, "Error calling `seccomp`: {number}"),
+            Error::ThreadSync(thread) => write!(
+                f,
+                "Seccomp filter synchronization failed in thread `{thread}`"
+            ),
+            Error::JsonFrontend(error) => write!(f, "Json Frontend error: {error}"),
             Error::OutOfMemory => f.write_str("Out of memory."),
         }
     }
@@ -43,6 +61,21 @@ impl From<BackendError> for Error {
         match refusal {
             BackendError::OutOfMemory => Error::OutOfMemory,
             refusal => Error::Backend(refusal),
+        }
+    }
+}
+
+/// The front end's want of memory is the crate's; any other refusal stays the front end's.
+impl From<JsonFrontendError> for Error {
+    ghost use Rattle.std.specs.Prelude.{◌≡◌};
+    ghost use Rattle.seccompiler.specs.Errors.{from_frontend};
+
+    ghost from_gives = { λ refusal error. error ≡ from_frontend refusal };
+
+    fn from(refusal: JsonFrontendError) -> Error {
+        match refusal {
+            JsonFrontendError::OutOfMemory => Error::OutOfMemory,
+            refusal => Error::JsonFrontend(refusal),
         }
     }
 }

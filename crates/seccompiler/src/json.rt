@@ -4,14 +4,18 @@
 //! docs/JSON.md has the format. [`repeats_key`] tells that a text repeats a name, and
 //! [`read_filters`] turns the value of a text into filters.
 
+mod compile;
+mod compiler;
 mod error;
 mod filters;
 mod members;
 mod parts;
+mod policy;
 mod read;
 mod repeats;
 mod types;
 
+pub use compiler::JsonCompiler;
 pub use error::JsonFrontendError;
 pub use filters::read_filters;
 pub use parts::{JsonConditions, JsonRules, JsonSyscallName};

@@ -4,9 +4,11 @@
 pub mod backend;
 pub mod bpf;
 pub(crate) mod chain;
+pub mod compile;
 pub mod condition;
 pub mod error;
 pub mod filter;
+pub mod install;
 pub mod json;
 pub mod machine;
 pub(crate) mod record;
@@ -15,8 +17,10 @@ pub mod syscall_table;
 
 pub use backend::{BackendError, SeccompAction, SeccompCmpArgLen, SeccompCmpOp, TargetArch};
 pub use bpf::{BpfProgram, BpfProgramRef, sock_filter};
+pub use compile::{BpfMap, compile_from_json};
 pub use condition::SeccompCondition;
 pub use error::{Error, Result};
 pub use filter::SeccompFilter;
+pub use install::{Kernel, apply_filter, apply_filter_all_threads};
 pub use machine::Outcome;
 pub use rule::SeccompRule;

@@ -11,19 +11,19 @@ use std::{fmt, io};
 /// building the filters refuses.
 #[derive(Debug, Drop)]
 pub enum JsonFrontendError {
-    /// The backend refuses a filter. It never holds `BackendError::OutOfMemory`.
+    /// The backend refuses a filter. No call gives it with `BackendError::OutOfMemory` inside.
     Backend(BackendError),
-    /// The bytes are no JSON text in UTF-8, or nest too deep. It never stands for want of memory.
+    /// The bytes are no JSON text in UTF-8, or nest too deep. No call gives it for want of memory.
     SerdeJson(serde_json::Error),
     /// No system call of this architecture has this name.
     SyscallName(String, TargetArch),
-    /// The reader failed. It never stands for want of memory.
+    /// The reader failed. No call gives it for want of memory.
     Read(io::Error),
     /// Some object of the text has a name twice.
     RepeatedKey,
     /// The text is no object, so it names no filters.
     NotAnObject,
-    /// The filter of this name is not made as a filter is, and no lesser name's is so, in byte order.
+    /// The value of this name is no filter, and that of each lesser name, in byte order, is one.
     Shape(String),
     /// A growth of memory was refused.
     OutOfMemory,

@@ -2,7 +2,7 @@ use Rattle.std.proofs.Common.{◌≡◌, ℕ, ℤ, pos, negsuc, ◌<◌, ◌^◌
 use Rattle.std.specs.Result.{OkIff, result_ok}
 use Rattle.std.proofs.lemmas.Int.{ints, to_z-of_z}
 use Rattle.seccompc.specs.declared.words.Command.{Command}
-use Rattle.seccompc.specs.declared.words.Command.TheVariants.{Probe}
+use Rattle.seccompc.specs.declared.words.Command.TheVariants.{Probe, List as Listing, Run}
 use Rattle.seccompc.specs.Words.{IsNumberText, IsSignedText, IsSigned64, IsCommand}
 use Rattle.seccompc.proofs.words.read_probe.Goals as goal
 
@@ -12,6 +12,8 @@ no_call_number : (arch nr index value : List ℕ) → ((z : ℤ) → IsSigned64 
 no_call_number arch nr index value none (Probe a n i v) is =
     let e : nr ≡ is.nr_text = let all = is.all in cc in
     none n is.nr_fits (subst (λ text. IsSignedText text n) (sym e) is.nr_written)
+no_call_number arch nr index value none (Listing a) is = cc
+no_call_number arch nr index value none (Run a f n) is = cc
 
 -- What `try_from` gives of a number is that number, where 8 bits hold it.
 byte_same : {E : Type 0} (n b : ℕ) (r : Result ℕ E) → OkIff r (n < 2 ^ 8) n → Some b ≡ result_ok r → (b ≡ n) × (n < 2 ^ 8)

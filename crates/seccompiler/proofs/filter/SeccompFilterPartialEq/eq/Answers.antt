@@ -1,7 +1,7 @@
 use Rattle.std.proofs.Common.{◌≡◌, ◌∙◌, inl, inr}
 use Rattle.seccompiler.specs.Equality.{are_filters_equal}
 use Rattle.seccompiler.specs.contracts.filter.SeccompFilter.{the_view}
-use Rattle.seccompiler.proofs.Equality.{filter_decides, maps_equal, filters_tested}
+use Rattle.seccompiler.proofs.FilterEquality.{filter_decides, maps_equal, filters_tested}
 use Rattle.seccompiler.proofs.filter.SeccompFilterPartialEq.eq.Goals.{then-eq, else-eq, then-eq-2, else-eq-2}
 use Rattle.seccompiler.proofs.filter.SeccompFilterPartialEq.eq.Goals as goal
 

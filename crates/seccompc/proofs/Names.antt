@@ -1,0 +1,106 @@
+-- Look-ups by name in a list of programs with distinct names.
+use Rattle.std.proofs.Common.{◌≡◌, ℕ, suc, ◌++◌, List, [], ◌∷◌, Bool, true, false, cond, Option, Some, None, String, Global, Vec, Less, All, Contains, string_bytes, string_cmp, string_eq, nat_cmp, bytes_eq, map, refl, sym, ap, ◌∙◌, subst, inl, inr, arith}
+use Rattle.std.specs.BTreeMap.{is_at}
+use Rattle.std.specs.Cmp.Lexicographic.{slice_cmp}
+use Rattle.std.specs.List.{AllByRecursion, IsDistinct}
+use Rattle.std.specs.List.Sorted.{IsStrictlySortedBy}
+use Rattle.std.specs.Map.{keys_of, lookup}
+use Rattle.std.proofs.lemmas.Bool.{false_from_ne_true, cases_Bool}
+use Rattle.std.proofs.lemmas.Cmp.{nat_list_cmp_total, tied_itself}
+use Rattle.std.proofs.lemmas.List.Elements.{All-nil, All-cons}
+use Rattle.std.proofs.lemmas.Map.Text.{is_eq-slice_cmp, is_text, text_cmp}
+use Rattle.std.proofs.lemmas.Slice.Eq.{bytes_eq-Decides}
+use Rattle.seccompiler.specs.declared.bpf.sock_filter.{sock_filter}
+
+-- A name is itself.
+itself : (name : List ℕ) → bytes_eq name name ≡ true
+itself name = (bytes_eq-Decides name name).1 refl
+
+turned : (p q : List ℕ) → bytes_eq p q ≡ false → bytes_eq q p ≡ false
+turned p q h = false_from_ne_true (bytes_eq q p) (λ t. let same = sym h ∙ (bytes_eq-Decides p q).1 (sym ((bytes_eq-Decides q p).0 t)) in cc)
+
+not_below_itself : (name : List ℕ) → slice_cmp nat_cmp name name ≡ Less → ⊥
+not_below_itself name h = let same = sym h ∙ tied_itself nat_list_cmp_total name in cc
+
+-- A program with its name.
+abbrev pub Entry : Type 0
+Entry = String Global × Vec sock_filter Global
+
+module _ {X : Type 0} where
+  -- An ordered map finds a text as a hashed one does.
+  pub by_text : (q : List ℕ) (entries : List (String Global × X)) → lookup (is_at (text_cmp q)) entries ≡ lookup (is_text q) entries
+  by_text q [] = refl
+  by_text q (e ∷ entries) = rw (is_eq-slice_cmp q (string_bytes e.0), by_text q entries) refl
+
+  -- A name is none of those in front of it.
+  pub new_name : (front : List (String Global × X)) (e : String Global × X) (back : List (String Global × X)) → IsDistinct string_eq (keys_of (front ++ e ∷ back)) → lookup (is_text (string_bytes e.0)) front ≡ None
+  unfolding IsDistinct
+  new_name [] e back distinct = refl
+  new_name (x ∷ front) e back distinct =
+      let apart : string_eq x.0 e.0 ≡ false = differs front distinct.0 in
+      rw (turned (string_bytes x.0) (string_bytes e.0) apart) (new_name front e back distinct.1)
+    where
+      differs : (xs : List (String Global × X)) → AllByRecursion (λ y. string_eq x.0 y ≡ false) (keys_of (xs ++ e ∷ back)) → string_eq x.0 e.0 ≡ false
+      differs [] all = all.0
+      differs (y ∷ xs) all = differs xs all.1
+
+  -- What is found once an entry of a new name stands behind the others.
+  pub found_more : (front : List (String Global × X)) (e : String Global × X) (q : List ℕ) → lookup (is_text (string_bytes e.0)) front ≡ None
+      → lookup (is_text q) (front ++ e ∷ []) ≡ cond (bytes_eq (string_bytes e.0) q) (Some e.1) (lookup (is_text q) front)
+  found_more [] e q none = elim (cases_Bool (bytes_eq (string_bytes e.0) q)) [
+    | inl t ↦ rw (t, subst (λ r. bytes_eq r (string_bytes e.0) ≡ true) ((bytes_eq-Decides (string_bytes e.0) q).0 t) (itself (string_bytes e.0))) refl
+    | inr f ↦ rw (f, turned (string_bytes e.0) q f) refl
+  ]
+  found_more (x ∷ front) e q none = elim (cases_Bool (bytes_eq (string_bytes e.0) (string_bytes x.0))) [
+    | inl t ↦ let some : Some x.1 ≡ None = sym (rw t refl) ∙ none in cc
+    | inr f ↦
+        let behind : lookup (is_text (string_bytes e.0)) front ≡ None = rw f at none in
+        elim (cases_Bool (bytes_eq q (string_bytes x.0))) [
+          | inl t ↦
+              let same : q ≡ string_bytes x.0 = (bytes_eq-Decides q (string_bytes x.0)).0 t in
+              rw (t, subst (λ r. bytes_eq (string_bytes e.0) r ≡ false) (sym same) f) refl
+          | inr g ↦ rw g (found_more front e q behind)
+        ]
+  ]
+
+  -- In order, the first name is below each that is found behind it.
+  above_first : (first : String Global) (entries : List (String Global × X)) → AllByRecursion (λ y. string_cmp first y ≡ Less) (keys_of entries) → (q : List ℕ) (x : X) → lookup (is_text q) entries ≡ Some x → slice_cmp nat_cmp (string_bytes first) q ≡ Less
+  above_first first [] all q x there = cc
+  above_first first (e ∷ entries) all q x there = elim (cases_Bool (bytes_eq q (string_bytes e.0))) [
+    | inl t ↦ subst (λ r. slice_cmp nat_cmp (string_bytes first) r ≡ Less) (sym ((bytes_eq-Decides q (string_bytes e.0)).0 t)) all.0
+    | inr f ↦ above_first first entries all.1 q x (rw f at there)
+  ]
+
+  -- In order, what holds of all that is found holds of each entry.
+  pub each_found : (P : List ℕ → X → Type 0) (entries : List (String Global × X)) → IsStrictlySortedBy string_cmp (keys_of entries)
+      → ((q : List ℕ) (x : X) → lookup (is_text q) entries ≡ Some x → P q x) → All (λ e. P (string_bytes e.0) e.1) entries
+  unfolding IsStrictlySortedBy
+  each_found P [] sorted found = All-nil (λ e. P (string_bytes e.0) e.1)
+  each_found P (e ∷ entries) sorted found =
+      let own : lookup (is_text (string_bytes e.0)) (e ∷ entries) ≡ Some e.1 = rw (itself (string_bytes e.0)) refl in
+      All-cons (λ f. P (string_bytes f.0) f.1) e entries (found (string_bytes e.0) e.1 own)
+          (each_found P entries sorted.1 (λ q x there. elim (cases_Bool (bytes_eq q (string_bytes e.0))) [
+            | inl t ↦
+                let less = above_first e.0 entries sorted.0 q x there in
+                absurd (not_below_itself (string_bytes e.0) (subst (λ r. slice_cmp nat_cmp (string_bytes e.0) r ≡ Less) ((bytes_eq-Decides q (string_bytes e.0)).0 t) less))
+            | inr f ↦ found q x (rw f there)
+          ]))
+
+  -- A name that is found is there.
+  pub found_name : (q : List ℕ) (x : X) (entries : List (String Global × X)) → lookup (is_text q) entries ≡ Some x → Contains (map (λ e. string_bytes e.0) entries) q
+  found_name q x [] there = cc
+  found_name q x (e ∷ entries) there = elim (cases_Bool (bytes_eq q (string_bytes e.0))) [
+    | inl t ↦ (0, omega arith, sym ((bytes_eq-Decides q (string_bytes e.0)).0 t))
+    | inr f ↦ let behind = found_name q x entries (rw f at there) in (suc behind.0, omega (arith, behind.1), behind.2)
+  ]
+
+  -- The names are in byte order.
+  above_all : (first : String Global) (entries : List (String Global × X)) → AllByRecursion (λ y. string_cmp first y ≡ Less) (keys_of entries)
+      → AllByRecursion (λ y. slice_cmp nat_cmp (string_bytes first) y ≡ Less) (map (λ e. string_bytes e.0) entries)
+  above_all first [] all = tt
+  above_all first (e ∷ entries) all = (all.0, above_all first entries all.1)
+
+  pub names_ordered : (entries : List (String Global × X)) → IsStrictlySortedBy string_cmp (keys_of entries) → IsStrictlySortedBy (slice_cmp nat_cmp) (map (λ e. string_bytes e.0) entries)
+  unfolding IsStrictlySortedBy
+  names_ordered [] sorted = tt
+  names_ordered (e ∷ entries) sorted = (above_all e.0 entries sorted.0, names_ordered entries sorted.1)

@@ -1,0 +1,16 @@
+use Rattle.std.proofs.Common.{◌≡◌, ◌∷◌, ◌++◌, [], length, string_bytes, sym, ap, ◌∙◌, append_assoc}
+use Rattle.seccompc.proofs.Names.{Entry}
+use Rattle.seccompc.proofs.Listings.{listing_more}
+use Rattle.seccompc.proofs.listing.listing.Goals as goal
+
+pub loop-name-preserved : goal.loop-name-preserved
+loop-name-preserved c =
+    let l = c.loop-name in
+    let done = l.invariant.0 in
+    let e : Entry = (c.in-Some.name.now, c.in-Some.program.now) in
+    let left = c.next.new.self in
+    let all : c.args.programs.now.entries ≡ done ++ e ∷ left = l.invariant.1 ∙ ap (λ es. done ++ es) c.in-Some.ensures.steps in
+    let count : c.len.result ≡ length e.1.items = c.len.ensures ∙ sym c.deref.ensures.len ∙ ap length c.deref.ensures.value in
+    (done ++ e ∷ [], all ∙ sym (append_assoc done (e ∷ []) left), listing_more done e c.len.result c.as_str.result.now c.deref.result.now
+        (string_bytes l.text) (string_bytes c.push_header.new.text) (string_bytes c.push_instructions.new.text) l.invariant.2
+        c.in_ok-push_header.ensures c.in_ok-push_instructions.ensures count c.as_str.ensures.value c.deref.ensures.value)

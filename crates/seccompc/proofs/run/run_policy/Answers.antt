@@ -1,0 +1,27 @@
+use Rattle.std.proofs.Common.{◌≡◌, Some, None, IfSome, Vec, Global, sym, subst}
+use Rattle.std.specs.HashMap.{get_by_text}
+use Rattle.seccompiler.specs.declared.bpf.sock_filter.{sock_filter}
+use Rattle.seccompiler.specs.Checked.{IsChecked}
+use Rattle.seccompc.proofs.Policies.{no_filter, ran}
+use Rattle.seccompc.proofs.run.run_policy.Goals as goal
+
+pub returns-in_default-clause-answers : goal.returns-in_default-clause-answers
+returns-in_default-clause-answers g c =
+    let programs = c.in_ok-programs.programs in
+    let none : get_by_text programs c.args.name.now ≡ None = sym c.in_default.ensures.value in
+    (c.in_ok-from_str.ensures.ok, no_filter c.args.arch.now (g.P.Read.remaining c.args.policy) (get_by_text programs) c.args.name.now c.in_ok-programs.ensures.programs none)
+
+pub trace-requires : goal.trace-requires
+trace-requires g c =
+    let programs = c.in_ok-programs.programs in
+    let found : get_by_text programs c.args.name.now ≡ Some c.in-Some.program.now = sym c.in-Some.ensures.value in
+    let checked : IsChecked c.in-Some.program.now.items = subst (λ o. IfSome o (λ (program : Vec sock_filter Global). IsChecked program.items)) found (c.in_ok-programs.ensures.checked c.args.name.now) in
+    subst IsChecked (sym c.deref.ensures.value) checked
+
+pub returns-clause-answers : goal.returns-clause-answers
+returns-clause-answers g c =
+    let programs = c.in_ok-programs.programs in
+    let found : get_by_text programs c.args.name.now ≡ Some c.in-Some.program.now = sym c.in-Some.ensures.value in
+    let contents = g.W.Write.contents in
+    ran c.args.arch.now (g.P.Read.remaining c.args.policy) (get_by_text programs) c.args.name.now c.in-Some.program.now (g.R.Read.remaining c.args.records) c.trace.result
+    (contents c.args.out.now) (contents c.trace.new.out) c.in_ok-programs.ensures.programs found (rw c.deref.ensures.value at c.trace.ensures.lines) c.trace.ensures.cause

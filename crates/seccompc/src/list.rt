@@ -1,0 +1,43 @@
+// The programs of a policy, as text.
+
+ghost use Rattle.std.specs.Prelude.{IfErr};
+ghost use Rattle.seccompc.specs.Errors.{KeepsOutput};
+ghost use Rattle.seccompc.specs.Policies.{AnswersList};
+
+use crate::error::ToolError;
+use crate::listing::{in_order, listing};
+use crate::policy::compiled;
+use std::alloc::Global;
+use std::io::{Read, Write};
+
+/// Lists the programs of a policy's filters, in byte order of the filters' names.
+///
+/// For each filter come a line `filter LENGTH NAME` and a line for each instruction: code in 4, jt in
+/// 2, jf in 2 and k in 8 lower-case hexadecimal digits, separated by one space. In the name the bytes
+/// 00 to 1f, 7f and the backslash are written as `\x` and two lower-case hexadecimal digits, all others
+/// as they are. The whole listing is written at once.
+///
+/// # Errors
+///
+/// The first of these: `Library` with `InvalidTargetArch` and the text as it was given where `arch` is
+/// no architecture's name, ASCII case aside; `Library` with what `compile_from_json` refuses of the
+/// policy, `JsonFrontend(Read)` among it where the reader fails; `Write` where the writer fails.
+/// `OutOfMemory` comes in place of any of these where memory is refused, and where the reader fails for
+/// want of memory. On any error but `Write` nothing is written.
+pub fn list<R: Read + Drop, W: Write>(
+    alloc: Global,
+    arch: &str,
+    policy: R,
+    out: &mut W,
+) -> Result<(), ToolError>
+    // When each answer comes, and what is written.
+    ensures answers { AnswersList arch.now (R.remaining policy) result (W.contents out.old) (W.contents out.new) }
+    ensures unwritten { IfErr result (λ e. KeepsOutput e out.old out.new) }
+{
+    let programs = in_order(alloc, compiled(alloc, arch, policy)?)?;
+    let text = listing(alloc, &programs)?;
+    match out.write_all(text.as_bytes()) {
+        Ok(()) => Ok(()),
+        Err(error) => Err(ToolError::Write(error)),
+    }
+}

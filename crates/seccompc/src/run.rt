@@ -1,0 +1,46 @@
+// A filter of a policy, and what its program does with records.
+
+ghost use Rattle.std.specs.Prelude.{IfErr};
+ghost use Rattle.seccompc.specs.Errors.{KeepsOutput};
+ghost use Rattle.seccompc.specs.Policies.{AnswersRun};
+
+use crate::error::ToolError;
+use crate::policy::compiled;
+use crate::trace::trace;
+use std::alloc::Global;
+use std::io::{Read, Write};
+
+/// Shows what the program of a policy's filter does with records: for each whole record of 64 bytes the
+/// line of the word that the program returns and the steps that it takes.
+///
+/// A line is the word in 8 lower-case hexadecimal digits, a space, the steps in decimal, a line feed.
+/// The policy is read to its end and compiled, and its filter under `name` looked up, before the records
+/// are read; all records are read before the first line is written, and all lines are written at once.
+///
+/// # Errors
+///
+/// The first of these: `Library` with `InvalidTargetArch` and the text as it was given where `arch` is
+/// no architecture's name, ASCII case aside; `Library` with what `compile_from_json` refuses of the
+/// policy, `JsonFrontend(Read)` among it where its reader fails; `NoFilter` with the name where no filter
+/// of the policy has it; `Read` where the reader of the records fails; `Write` where the writer does;
+/// `ShortRecord` where 1 to 63 bytes are left, after the lines of the whole records are written.
+/// `OutOfMemory` comes in place of any of these where memory is refused, and where a reader fails for
+/// want of memory. On any error but `Write` and `ShortRecord` nothing is written.
+pub fn run_policy<P: Read + Drop, R: Read + Drop, W: Write>(
+    alloc: Global,
+    arch: &str,
+    policy: P,
+    name: &str,
+    records: R,
+    out: &mut W,
+) -> Result<(), ToolError>
+    // When each answer comes, and what is written.
+    ensures answers { AnswersRun arch.now (P.remaining policy) name.now (R.remaining records) result (W.contents out.old) (W.contents out.new) }
+    ensures unwritten { IfErr result (λ e. KeepsOutput e out.old out.new) }
+{
+    let programs = compiled(alloc, arch, policy)?;
+    let Some(program) = programs.get(name) else {
+        return Err(ToolError::NoFilter(String::from_str(alloc, name)?));
+    };
+    trace(alloc, program, records, out)
+}

@@ -1,0 +1,71 @@
+-- What the policies of a JSON text are, and which of its faults is told.
+use Rattle.std.specs.Prelude.{◌≡◌, ℕ, List, Option, Some, None, string_bytes}
+use Rattle.std.specs.Str.{IsUtf8}
+use Rattle.serde_json.specs.Data.{Data}
+use Rattle.serde_json.specs.Read.{read}
+use Rattle.seccompiler.specs.JsonFault.{Fault, unknown_call, refused}
+use Rattle.seccompiler.specs.JsonFilters.{IsBelow, IsLeastFault}
+use Rattle.seccompiler.specs.JsonPolicyOf.{IsPolicyOf, IsFirstFault}
+use Rattle.seccompiler.specs.JsonRepeats.{Repeats}
+use Rattle.seccompiler.specs.JsonShape.{IsObject, Has, Lacks, IsFilter}
+use Rattle.seccompiler.specs.Policy.{Filter}
+use Rattle.seccompiler.specs.declared.backend.TargetArch.{TargetArch}
+use Rattle.seccompiler.specs.declared.json.error.JsonFrontendError.{JsonFrontendError}
+use Rattle.seccompiler.specs.declared.json.error.JsonFrontendError.TheVariants.{Backend, SerdeJson, SyscallName, Read, RepeatedKey, NotAnObject, Shape, OutOfMemory}
+use Rattle.seccompiler.specs.declared.json.types.JsonFilter.{JsonFilter}
+
+-- The bytes are UTF-8, and serde_json reads this value of them.
+pub record IsReadAs (text : List ℕ) (d : Data) : Type 0 where
+  pub utf8 : IsUtf8 text
+  pub value : read text ≡ Some d
+
+-- The text is read as this value, and no object of it has a name twice.
+pub record IsValueOf (text : List ℕ) (d : Data) : Type 0 where
+  pub is_read : IsReadAs text d
+  pub no_repeat : Repeats text d → ⊥
+
+-- The text is of a value of which P holds.
+abbrev pub OfValue : List ℕ → (Data → Type 0) → Type 0
+OfValue text P = (d : Data) × IsValueOf text d × P d
+
+-- The value is a filter, whose policy on this architecture is this one.
+pub record HasPolicy (arch : TargetArch) (value : Data) (policy : Filter) : Type 0 where
+  pub filter : JsonFilter
+  pub is_filter : IsFilter value filter
+  pub is_policy : IsPolicyOf arch filter policy
+
+-- The value is an object, and what is found under a name is the policy of the name's value; under no other name
+-- there is anything.
+pub record ArePoliciesOf (arch : TargetArch) (find : List ℕ → Option Filter) (d : Data) : Type 0 where
+  pub is_object : IsObject d
+  pub each : (name : List ℕ) (value : Data) → Has d name value → (policy : Filter) × (find name ≡ Some policy) × HasPolicy arch value policy
+  pub no_other : (name : List ℕ) → Lacks d name → find name ≡ None
+
+-- The value is an object, and each value in it is a filter.
+pub record AreAllFilters (d : Data) : Type 0 where
+  pub is_object : IsObject d
+  pub each : (name : List ℕ) (value : Data) → Has d name value → (f : JsonFilter) × IsFilter value f
+
+-- All values are filters; this is the first fault of one, and each name below its name has a policy.
+pub record IsLeastRefused (arch : TargetArch) (fault : Fault) (d : Data) : Type 0 where
+  pub all_filters : AreAllFilters d
+  pub name : List ℕ
+  pub value : Data
+  pub there : Has d name value
+  pub filter : JsonFilter
+  pub is_filter : IsFilter value filter
+  pub is_refused : IsFirstFault arch filter fault
+  pub below : (other : List ℕ) (v : Data) → Has d other v → IsBelow other name → (policy : Filter) × HasPolicy arch v policy
+
+-- The error tells what is at fault in the text, and nothing that comes earlier in the order of faults is: the bytes
+-- are no JSON; a name is repeated; the top is no object; a filter has a wrong shape; a filter is refused. The least
+-- name's fault comes first. A failed read tells nothing of the text, and want of memory may come in place of all.
+abbrev pub TellsFrontendFault : TargetArch → List ℕ → JsonFrontendError → Type 0
+TellsFrontendFault arch text (Backend cause) = OfValue text (IsLeastRefused arch (refused cause))
+TellsFrontendFault arch text (SerdeJson cause) = (d : Data) → IsReadAs text d → ⊥
+TellsFrontendFault arch text (SyscallName name known) = OfValue text (IsLeastRefused arch (unknown_call (string_bytes name) known))
+TellsFrontendFault arch text (Read cause) = Unit {0}
+TellsFrontendFault arch text RepeatedKey = (d : Data) × IsReadAs text d × Repeats text d
+TellsFrontendFault arch text NotAnObject = OfValue text (λ d. IsObject d → ⊥)
+TellsFrontendFault arch text (Shape name) = OfValue text (λ d. IsLeastFault d (string_bytes name))
+TellsFrontendFault arch text OutOfMemory = Unit {0}

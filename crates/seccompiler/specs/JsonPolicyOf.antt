@@ -1,0 +1,99 @@
+-- Which filter is the policy of a JSON filter, and which fault is the first of one that has none.
+use Rattle.std.specs.Prelude.{◌≡◌, ◌≢◌, ◌≤◌, ◌<◌, ℤ, Bool, false, List, [], ◌∷◌, ◌++◌, Option, Some, None, All, Any, IfSome, map, if◌then◌else◌, Result, Ok, Err, string_bytes}
+use Rattle.std.specs.BTreeMap.{is_at}
+use Rattle.std.specs.List.{flat_map}
+use Rattle.std.specs.List.Sorted.{IsStrictlySortedBy}
+use Rattle.std.specs.Map.{lookup}
+use Rattle.std.specs.Ordering.{int_cmp, int_eq}
+use Rattle.seccompiler.specs.declared.backend.TargetArch.{TargetArch}
+use Rattle.seccompiler.specs.declared.backend.BackendError.TheVariants.{EmptyRule, IdenticalActions, InvalidArgumentNumber}
+use Rattle.seccompiler.specs.declared.backend.BackendError.TheVariants as of_backend
+use Rattle.seccompiler.specs.declared.json.error.JsonFrontendError.{JsonFrontendError}
+use Rattle.seccompiler.specs.declared.json.error.JsonFrontendError.TheVariants.{Backend, SerdeJson, SyscallName, Read, RepeatedKey, NotAnObject, Shape, OutOfMemory}
+use Rattle.seccompiler.specs.declared.json.types.JsonCondition.{JsonCondition}
+use Rattle.seccompiler.specs.declared.json.types.JsonRule.{JsonRule}
+use Rattle.seccompiler.specs.declared.json.types.JsonFilter.{JsonFilter}
+use Rattle.seccompiler.specs.Condition.{Condition}
+use Rattle.seccompiler.specs.Policy.{Rule, Chain, Filter}
+use Rattle.seccompiler.specs.Refusal.{numbers_of}
+use Rattle.seccompiler.specs.SyscallTable.{number_of, table_of}
+use Rattle.seccompiler.specs.JsonFault.{Fault, unknown_call, refused}
+
+-- The condition of the same four parts.
+abbrev pub condition_of : JsonCondition → Condition
+condition_of c = record { arg_index = c.arg_index; arg_len = c.arg_len; operator = c.operator; value = c.value }
+
+-- A conversion gives the condition of the same four parts where the index is at most 5, and is refused where it is above.
+abbrev pub IsConditionOf : JsonCondition → Result Condition JsonFrontendError → Type 0
+IsConditionOf c (Ok made) = (c.arg_index ≤ 5) × (made ≡ condition_of c)
+IsConditionOf c (Err e) = (5 < c.arg_index) × (e ≡ Backend InvalidArgumentNumber)
+
+-- The rules that an entry's conditions stand for: one that has them all, in order, or no rule where there is no list of them.
+abbrev pub rules_of : Option (List JsonCondition) → List Rule
+rules_of None = []
+rules_of (Some conditions) = map condition_of conditions ∷ []
+
+-- The entry's call has this number on the architecture.
+abbrev pub IsFor : TargetArch → ℤ → JsonRule → Type 0
+IsFor arch number entry = number_of (table_of arch) entry.syscall ≡ Some number
+
+-- Whether a call's number, if it has one, is this one.
+abbrev pub is_number : ℤ → Option ℤ → Bool
+is_number number None = false
+is_number number (Some other) = int_eq number other
+
+-- The rules that an entry adds to the chain of a number: its own, if its call has this number.
+abbrev pub rules_for : TargetArch → ℤ → JsonRule → List Rule
+rules_for arch number entry = if is_number number (number_of (table_of arch) entry.syscall) then rules_of entry.conditions else []
+
+-- The chain under a number, if there is one.
+abbrev pub chain_at : List (ℤ × Chain) → ℤ → Option Chain
+chain_at chains number = lookup (is_at (int_cmp number)) chains
+
+-- Nothing is wrong with an entry: its call has a number; and its list of conditions, if there is one, is not empty, and
+-- has an index of at most 5 in each condition.
+pub record IsFine (arch : TargetArch) (entry : JsonRule) : Type 0 where
+  pub number : ℤ
+  pub is_for : IsFor arch number entry
+  pub indices : IfSome entry.conditions (λ conditions. All (λ c. c.arg_index ≤ 5) conditions)
+  pub some : entry.conditions ≢ Some []
+
+-- The filter is the policy of a JSON filter on an architecture. It has the JSON filter's actions, which differ. Nothing is
+-- wrong with any entry. The numbers that have a chain are those of the entries' calls, and the chain of a number is the
+-- list that has, in order, one rule for each entry with this number and with conditions: these conditions, in order.
+pub record IsPolicyOf (arch : TargetArch) (j : JsonFilter) (f : Filter) : Type 0 where
+  pub mismatch_action : f.mismatch_action ≡ j.mismatch_action
+  pub match_action : f.match_action ≡ j.match_action
+  pub target_arch : f.target_arch ≡ arch
+  pub different : j.mismatch_action ≢ j.match_action
+  pub entries : All (IsFine arch) j.rules
+  pub chain : (number : ℤ) → Any (IsFor arch number) j.rules → chain_at f.chains number ≡ Some (flat_map (rules_for arch number) j.rules)
+  pub no_other : (number : ℤ) → (Any (IsFor arch number) j.rules → ⊥) → chain_at f.chains number ≡ None
+  pub ascending : IsStrictlySortedBy int_cmp (numbers_of f.chains)
+
+-- The first thing that is wrong with an entry: its call has no number on the architecture; else some condition has an
+-- index above 5; else the list of its conditions is there, and empty.
+pub data IsFaultOf (arch : TargetArch) (entry : JsonRule) (fault : Fault) : Type 0 where
+  unknown_name : number_of (table_of arch) entry.syscall ≡ None → fault ≡ unknown_call entry.syscall arch → IsFaultOf arch entry fault
+  index_above : (number : ℤ) (conditions : List JsonCondition) → IsFor arch number entry → entry.conditions ≡ Some conditions
+      → Any (λ c. 5 < c.arg_index) conditions → fault ≡ refused InvalidArgumentNumber → IsFaultOf arch entry fault
+  empty_args : (number : ℤ) → IsFor arch number entry → entry.conditions ≡ Some [] → fault ≡ refused EmptyRule → IsFaultOf arch entry fault
+
+-- The first fault of a JSON filter on an architecture: that of an entry, where nothing is wrong with those in front of
+-- it; or, where nothing is wrong with any entry, that its two actions are equal.
+pub data IsFirstFault (arch : TargetArch) (j : JsonFilter) (fault : Fault) : Type 0 where
+  in_entry : (front back : List JsonRule) (entry : JsonRule) → j.rules ≡ front ++ entry ∷ back → All (IsFine arch) front
+      → IsFaultOf arch entry fault → IsFirstFault arch j fault
+  in_actions : All (IsFine arch) j.rules → j.mismatch_action ≡ j.match_action → fault ≡ refused IdenticalActions → IsFirstFault arch j fault
+
+-- Why a JSON filter has no policy, as an error tells it: its first fault, in which no want of memory stands. Want of memory
+-- may come in place of it, and no other error comes.
+abbrev pub IsRefusalOf : TargetArch → JsonFilter → JsonFrontendError → Type 0
+IsRefusalOf arch j (Backend cause) = IsFirstFault arch j (refused cause) × (cause ≢ of_backend.OutOfMemory)
+IsRefusalOf arch j (SerdeJson cause) = ⊥
+IsRefusalOf arch j (SyscallName name other) = IsFirstFault arch j (unknown_call (string_bytes name) other)
+IsRefusalOf arch j (Read cause) = ⊥
+IsRefusalOf arch j RepeatedKey = ⊥
+IsRefusalOf arch j NotAnObject = ⊥
+IsRefusalOf arch j (Shape name) = ⊥
+IsRefusalOf arch j OutOfMemory = Unit {0}

@@ -64,21 +64,45 @@ fn indices_above_5_are_refused(rt: HostRuntime) -> Result<(), Fail> {
 #[test]
 fn each_operator_has_its_code(rt: HostRuntime) -> Result<(), Fail> {
     let alloc = rt.alloc();
-    for (operator, arg_len, want) in [
-        (Eq, Dword, &[load(40), jump_equal(5, 0, 9)][..]),
-        (Ne, Dword, &[load(40), jump_equal(5, 9, 0)][..]),
-        (Ge, Dword, &[load(40), jump_at_least(5, 0, 9)][..]),
-        (Gt, Dword, &[load(40), jump_greater(5, 0, 9)][..]),
-        (Le, Dword, &[load(40), jump_greater(5, 9, 0)][..]),
-        (Lt, Dword, &[load(40), jump_at_least(5, 9, 0)][..]),
+    for (parts, offset, want) in [
         (
-            MaskedEq(MASK),
-            Dword,
+            (3, Dword, Eq, VALUE),
+            9,
+            &[load(40), jump_equal(5, 0, 9)][..],
+        ),
+        (
+            (3, Dword, Ne, VALUE),
+            9,
+            &[load(40), jump_equal(5, 9, 0)][..],
+        ),
+        (
+            (3, Dword, Ge, VALUE),
+            9,
+            &[load(40), jump_at_least(5, 0, 9)][..],
+        ),
+        (
+            (3, Dword, Gt, VALUE),
+            9,
+            &[load(40), jump_greater(5, 0, 9)][..],
+        ),
+        (
+            (3, Dword, Le, VALUE),
+            9,
+            &[load(40), jump_greater(5, 9, 0)][..],
+        ),
+        (
+            (3, Dword, Lt, VALUE),
+            9,
+            &[load(40), jump_at_least(5, 9, 0)][..],
+        ),
+        (
+            (3, Dword, MaskedEq(MASK), VALUE),
+            9,
             &[load(40), mask(12), jump_equal(4, 0, 9)][..],
         ),
         (
-            Eq,
-            Qword,
+            (3, Qword, Eq, VALUE),
+            9,
             &[
                 load(44),
                 jump_equal(7, 0, 11),
@@ -87,13 +111,13 @@ fn each_operator_has_its_code(rt: HostRuntime) -> Result<(), Fail> {
             ][..],
         ),
         (
-            Ne,
-            Qword,
+            (3, Qword, Ne, VALUE),
+            9,
             &[load(44), jump_equal(7, 0, 2), load(40), jump_equal(5, 9, 0)][..],
         ),
         (
-            Ge,
-            Qword,
+            (3, Qword, Ge, VALUE),
+            9,
             &[
                 load(44),
                 jump_greater(7, 3, 0),
@@ -103,8 +127,8 @@ fn each_operator_has_its_code(rt: HostRuntime) -> Result<(), Fail> {
             ][..],
         ),
         (
-            Gt,
-            Qword,
+            (3, Qword, Gt, VALUE),
+            9,
             &[
                 load(44),
                 jump_greater(7, 3, 0),
@@ -114,8 +138,8 @@ fn each_operator_has_its_code(rt: HostRuntime) -> Result<(), Fail> {
             ][..],
         ),
         (
-            Le,
-            Qword,
+            (3, Qword, Le, VALUE),
+            9,
             &[
                 load(44),
                 jump_greater(7, 12, 0),
@@ -125,8 +149,8 @@ fn each_operator_has_its_code(rt: HostRuntime) -> Result<(), Fail> {
             ][..],
         ),
         (
-            Lt,
-            Qword,
+            (3, Qword, Lt, VALUE),
+            9,
             &[
                 load(44),
                 jump_greater(7, 12, 0),
@@ -136,8 +160,8 @@ fn each_operator_has_its_code(rt: HostRuntime) -> Result<(), Fail> {
             ][..],
         ),
         (
-            MaskedEq(MASK),
-            Qword,
+            (3, Qword, MaskedEq(MASK), VALUE),
+            9,
             &[
                 load(44),
                 mask(6),
@@ -147,47 +171,51 @@ fn each_operator_has_its_code(rt: HostRuntime) -> Result<(), Fail> {
                 jump_equal(4, 0, 9),
             ][..],
         ),
+        // At the least offset, between them, and at the greatest.
+        (
+            (2, Qword, Le, 4294967310),
+            1,
+            &[
+                load(36),
+                jump_greater(1, 4, 0),
+                jump_equal(1, 0, 2),
+                load(32),
+                jump_greater(14, 1, 0),
+            ][..],
+        ),
+        (
+            (2, Qword, MaskedEq(10), 14),
+            3,
+            &[
+                load(36),
+                mask(0),
+                jump_equal(0, 0, 6),
+                load(32),
+                mask(10),
+                jump_equal(10, 0, 3),
+            ][..],
+        ),
+        (
+            (0, Qword, MaskedEq(u64::MAX), 0),
+            248,
+            &[
+                load(20),
+                mask(4294967295),
+                jump_equal(0, 0, 251),
+                load(16),
+                mask(4294967295),
+                jump_equal(0, 0, 248),
+            ][..],
+        ),
     ] {
-        let code = condition((3, arg_len, operator, VALUE))?.to_bpf(alloc, 9)?;
+        assert!(rt; 1 <= offset && offset <= 248, "offset {offset}");
+        let code = condition(parts)?.to_bpf(alloc, offset)?;
         assert_eq!(rt;
             code.as_slice(),
             want,
-            "the code of {operator:?} of a {arg_len:?}"
+            "the code of {parts:?} at offset {offset}"
         );
     }
-    Ok(())
-}
-
-#[test]
-fn codes_at_the_first_and_the_last_offset(rt: HostRuntime) -> Result<(), Fail> {
-    let alloc = rt.alloc();
-    let at_most = condition((2, Qword, Le, 4294967310))?.to_bpf(alloc, 1)?;
-    let at_most_code = [
-        load(36),
-        jump_greater(1, 4, 0),
-        jump_equal(1, 0, 2),
-        load(32),
-        jump_greater(14, 1, 0),
-    ];
-    assert_eq!(rt;
-        at_most.as_slice(),
-        at_most_code.as_slice(),
-        "Le at offset 1"
-    );
-    let masked = condition((0, Qword, MaskedEq(u64::MAX), 0))?.to_bpf(alloc, 248)?;
-    let masked_code = [
-        load(20),
-        mask(4294967295),
-        jump_equal(0, 0, 251),
-        load(16),
-        mask(4294967295),
-        jump_equal(0, 0, 248),
-    ];
-    assert_eq!(rt;
-        masked.as_slice(),
-        masked_code.as_slice(),
-        "MaskedEq at offset 248"
-    );
     Ok(())
 }
 

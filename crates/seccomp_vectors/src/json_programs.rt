@@ -11,7 +11,7 @@ use seccompiler::backend::SeccompCmpArgLen::{Dword, Qword};
 use seccompiler::backend::SeccompCmpOp::{Eq, Ge, Gt, Le, Lt, MaskedEq, Ne};
 use seccompiler::backend::TargetArch;
 use seccompiler::compile_from_json;
-use seccompiler::machine::{Outcome, run};
+use seccompiler::machine::{Outcome, check, run};
 use std::test::Fail;
 
 #[test]
@@ -54,6 +54,7 @@ fn a_call_with_and_without_arguments(rt: HostRuntime) -> Result<(), Fail> {
     let alloc = rt.alloc();
     let both = format!(in alloc; "{READS},{COMPARES}")?;
     let program = compiled(alloc, policy(alloc, both.as_str())?.as_str(), "a")?;
+    assert!(rt; check(&program), "the program is refused");
     for (first, word, steps) in [(5, ALLOW, 8), (6, TRAP, 8)] {
         let record = call(0, [first, 0, 0, 0, 0, 0]).record();
         assert_eq!(rt;
@@ -70,6 +71,7 @@ fn the_policy_of_a_main_thread(rt: HostRuntime) -> Result<(), Fail> {
     let alloc = rt.alloc();
     let program = compiled(alloc, MAIN_THREAD, "main_thread")?;
     assert_eq!(rt; program.len(), 79, "the length");
+    assert!(rt; check(&program), "the program is refused");
     let errno = 0x0005_03e8;
     for (number, arguments, word) in [
         (16, [0, 0, 12, 0, 0, 0], ALLOW),

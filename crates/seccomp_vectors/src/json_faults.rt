@@ -109,7 +109,7 @@ fn readers_that_fail(rt: HostRuntime) -> Result<(), Fail> {
 }
 
 #[test]
-fn faults_of_texts(rt: HostRuntime) -> Result<(), Fail> {
+fn keys_that_are_repeated(rt: HostRuntime) -> Result<(), Fail> {
     let alloc = rt.alloc();
     let empty = filter_text(alloc, "")?;
     let again = format!(in alloc; "{{\"thread_1\":{empty},\"thread_1\":{empty}}}")?;
@@ -118,13 +118,28 @@ fn faults_of_texts(rt: HostRuntime) -> Result<(), Fail> {
         alloc,
         r#"{"syscall":"read","args":[{"index":0,"index":0,"type":"dword","op":"eq","val":1}]}"#,
     )?;
+    for text in [again, escaped, twice] {
+        assert_eq!(rt;
+            filters(alloc, text.as_bytes()),
+            Answer::RepeatedKey,
+            "compile of {text}"
+        );
+        assert_eq!(rt;
+            programs(alloc, text.as_bytes()),
+            Answer::RepeatedKey,
+            "compile_from_json of {text}"
+        );
+    }
+    Ok(())
+}
+
+#[test]
+fn faults_of_texts(rt: HostRuntime) -> Result<(), Fail> {
+    let alloc = rt.alloc();
     for (text, answer) in [
         ("", Answer::SerdeJson),
         ("hjkln", Answer::SerdeJson),
         ("{1}", Answer::SerdeJson),
-        (again.as_str(), Answer::RepeatedKey),
-        (escaped.as_str(), Answer::RepeatedKey),
-        (twice.as_str(), Answer::RepeatedKey),
         ("[]", Answer::NotAnObject),
         ("{\"a\":{}}", shape(alloc)?),
         (

@@ -10,31 +10,39 @@ use std::collections::BTreeMap;
 use std::process::Abort;
 use std::test::Fail;
 
-// The words of the actions, as `linux/seccomp.h` has them.
+/// `SECCOMP_RET_ALLOW` of `linux/seccomp.h`.
 pub const ALLOW: u32 = 0x7fff_0000;
 
+/// `SECCOMP_RET_TRAP` of `linux/seccomp.h`.
 pub const TRAP: u32 = 0x0003_0000;
 
+/// `SECCOMP_RET_KILL_PROCESS` of `linux/seccomp.h`.
 pub const KILL_PROCESS: u32 = 0x8000_0000;
 
-// The architecture words, as `linux/audit.h` has them.
+/// `AUDIT_ARCH_X86_64` of `linux/audit.h`.
 pub const X86_64: u32 = 0xc000_003e;
 
+/// `AUDIT_ARCH_AARCH64` of `linux/audit.h`.
 pub const AARCH64: u32 = 0xc000_00b7;
 
+/// `AUDIT_ARCH_RISCV64` of `linux/audit.h`.
 pub const RISCV64: u32 = 0xc000_00f3;
 
-// The fields of `struct seccomp_data`, in its order.
+/// The fields of `struct seccomp_data`, in its order.
 #[derive(Clone, Copy, Debug)]
 pub struct SeccompData {
+    /// The call number.
     pub number: u32,
+    /// The architecture word.
     pub arch: u32,
+    /// The address of the instruction that made the call.
     pub instruction_pointer: u64,
+    /// The call's arguments.
     pub arguments: [u64; 6],
 }
 
 impl SeccompData {
-    // The 64 bytes of the record, little-endian.
+    /// The 64 bytes of the record, little-endian.
     pub fn record(&self) -> [u8; 64] {
         let mut record = [0; 64];
         record[0..4].copy_from_slice(&self.number.to_le_bytes());
@@ -48,7 +56,7 @@ impl SeccompData {
     }
 }
 
-// A call of x86_64 with these arguments and instruction pointer 0.
+/// A call of x86_64 with these arguments and instruction pointer 0.
 pub fn call(number: u32, arguments: [u64; 6]) -> SeccompData {
     SeccompData {
         number,
@@ -58,15 +66,16 @@ pub fn call(number: u32, arguments: [u64; 6]) -> SeccompData {
     }
 }
 
-// A condition's argument index, length, operator and value.
+/// A condition's argument index, length, operator and value.
 pub type Parts = (u8, SeccompCmpArgLen, SeccompCmpOp, u64);
 
+/// The condition of these parts.
 pub fn condition(parts: Parts) -> Result<SeccompCondition, Fail> {
     let (arg_index, arg_len, operator, value) = parts;
     Ok(SeccompCondition::new(arg_index, arg_len, operator, value)?)
 }
 
-// A rule of these conditions.
+/// A rule of these conditions.
 pub fn rule(alloc: Global, conditions: &[Parts]) -> Result<SeccompRule, Fail> {
     let mut made = Vec::new(alloc);
     for parts in conditions {
@@ -75,7 +84,7 @@ pub fn rule(alloc: Global, conditions: &[Parts]) -> Result<SeccompRule, Fail> {
     Ok(SeccompRule::new(made)?)
 }
 
-// A rule of these conditions, each as many times as it says.
+/// A rule of these conditions, each as many times as it says.
 pub fn long_rule(alloc: Global, conditions: &[(usize, Parts)]) -> Result<SeccompRule, Fail> {
     let mut made = Vec::new(alloc);
     for (count, parts) in conditions {
@@ -87,7 +96,7 @@ pub fn long_rule(alloc: Global, conditions: &[(usize, Parts)]) -> Result<Seccomp
     Ok(SeccompRule::new(made)?)
 }
 
-// The x86_64 filter of one chain, which traps what the chain does not match.
+/// The x86_64 filter of one chain, which traps what the chain does not match.
 pub fn one_chain(
     alloc: Global,
     number: i64,
@@ -99,14 +108,14 @@ pub fn one_chain(
     Ok(SeccompFilter::new(chains, trap, allow, TargetArch::x86_64)?)
 }
 
-// The x86_64 filter of one rule on call 7, which traps what the rule does not match.
+/// The x86_64 filter of one rule on call 7, which traps what the rule does not match.
 pub fn one_rule(alloc: Global, rule: SeccompRule) -> Result<SeccompFilter, Fail> {
     one_chain(alloc, 7, vec![in alloc; rule]?)
 }
 
-// Asserts that the filter compiles to a program of `program_len` instructions that passes the
-// checker, and that the program and `decide` answer each call by the word, the program in so many
-// steps.
+/// Asserts that the filter compiles to a program of `program_len` instructions that passes the
+/// checker, and that the program and `decide` answer each call by the word, the program in so many
+/// steps.
 pub fn assert_answers(
     rt: &impl Abort,
     alloc: Global,

@@ -10,14 +10,14 @@ use std::alloc::{AllocError, Global};
 use std::collections::BTreeMap;
 use std::test::Fail;
 
-// An entry without arguments.
+/// An entry without arguments.
 pub const READS: &str = "{\"syscall\":\"read\"}";
 
-// An entry with one condition.
+/// An entry with one condition.
 pub const COMPARES: &str =
     "{\"syscall\":\"read\",\"args\":[{\"index\":0,\"type\":\"dword\",\"op\":\"eq\",\"val\":5}]}";
 
-// Seven calls without arguments and two with, refused by error number 1000.
+/// Seven calls without arguments and two with, refused by error number 1000.
 pub const MAIN_THREAD: &str =
     r#"{"main_thread":{"mismatch_action":{"errno":1000},"match_action":"allow","filter":[
     {"syscall":"rt_sigprocmask"},{"syscall":"sigaltstack"},{"syscall":"munmap"},{"syscall":"exit"},
@@ -28,7 +28,7 @@ pub const MAIN_THREAD: &str =
     {"syscall":"ioctl","args":[{"index":2,"type":"qword","op":"eq","val":4294967336}]},
     {"syscall":"madvise","args":[{"index":0,"type":"dword","op":"eq","val":0},{"index":1,"type":"dword","op":"eq","val":0}]}]}}"#;
 
-// Two calls, one with two rules and one with none, as the Rust crate's README writes them.
+/// Two calls, one with two rules and one with none, as the Rust crate's README writes them.
 pub const README: &str =
     r#"{"main_thread":{"mismatch_action":"kill_process","match_action":"allow","filter":[
     {"syscall":"accept4"},
@@ -37,7 +37,7 @@ pub const README: &str =
         {"index":2,"type":"dword","op":"eq","val":1,"comment":"FD_CLOEXEC"}]},
     {"syscall":"fcntl","args":[{"index":1,"type":"dword","op":"eq","val":1,"comment":"F_GETFD"}]}]}}"#;
 
-// The entry so many times, with commas between.
+/// The entry so many times, with commas between.
 pub fn repeated(alloc: Global, entry: &str, count: usize) -> Result<String, AllocError> {
     let mut entries = String::from_str(alloc, entry)?;
     for _ in 1..count {
@@ -47,26 +47,26 @@ pub fn repeated(alloc: Global, entry: &str, count: usize) -> Result<String, Allo
     Ok(entries)
 }
 
-// A filter of these entries, which traps what they do not match.
+/// A filter of these entries, which traps what they do not match.
 pub fn filter_text(alloc: Global, entries: &str) -> Result<String, Fail> {
     Ok(format!(in alloc;
         "{{\"mismatch_action\":\"trap\",\"match_action\":\"allow\",\"filter\":[{entries}]}}"
     )?)
 }
 
-// That filter under the name `a`.
+/// That filter under the name `a`.
 pub fn policy(alloc: Global, entries: &str) -> Result<String, Fail> {
     let filter = filter_text(alloc, entries)?;
     Ok(format!(in alloc; "{{\"a\":{filter}}}")?)
 }
 
-// The x86_64 program under a name of the text.
+/// The x86_64 program under a name of the text.
 pub fn compiled(alloc: Global, text: &str, name: &str) -> Result<BpfProgram, Fail> {
     let mut programs = compile_from_json(alloc, text.as_bytes(), TargetArch::x86_64)?;
     Ok(programs.remove(name).ok_or("a program under the name")?)
 }
 
-// The filter under a name of the text.
+/// The filter under a name of the text.
 pub fn one_filter(
     alloc: Global,
     arch: TargetArch,
@@ -77,10 +77,10 @@ pub fn one_filter(
     Ok(filters.remove(name).ok_or("a filter under the name")?)
 }
 
-// The chains of some call numbers: each the conditions of its rules.
+/// The chains of some call numbers: each the conditions of its rules.
 pub type Chains<'a> = &'a [(i64, &'a [&'a [Parts]])];
 
-// The filter of these chains on an architecture.
+/// The filter of these chains on an architecture.
 pub fn filter_for(
     alloc: Global,
     arch: TargetArch,
@@ -99,7 +99,7 @@ pub fn filter_for(
     Ok(SeccompFilter::new(rules, mismatch_action, match_action, arch)?)
 }
 
-// The same on x86_64.
+/// The same on x86_64.
 pub fn filter(
     alloc: Global,
     chains: Chains,

@@ -2,17 +2,17 @@
 
 use std::alloc::{AllocError, Global};
 
-// A policy of no entries, which compiles to 4 instructions.
+/// A policy of no entries, which compiles to 4 instructions.
 pub const EMPTY: &str = r#"{"mismatch_action":"trap","match_action":"allow","filter":[]}"#;
 
-// The policy of one filter, `a`, of no entries, which logs each call.
+/// The policy of one filter, `a`, of no entries, which logs each call.
 pub const LOGS: &str = r#"{"a": {"match_action": "allow", "mismatch_action":"log", "filter": []}}"#;
 
-// The policy of one filter, `a`, that allows `read` where the low half of argument 0 is 5.
+/// The policy of one filter, `a`, that allows `read` where the low half of argument 0 is 5.
 pub const READS: &str =
     r#"{"a":{"mismatch_action":"trap","match_action":"allow","filter":[{"syscall":"read","args":[{"index":0,"type":"dword","op":"eq","val":5}]}]}}"#;
 
-// The policy of `examples/complex-policy.json`, without its comments.
+/// The policy of `examples/complex-policy.json`, without its comments.
 pub const COMPLEX: &str =
     r#"{"main_thread":{"mismatch_action":{"errno":1000},"match_action":"allow","filter":[
 {"syscall":"rt_sigprocmask"},{"syscall":"sigaltstack"},{"syscall":"munmap"},{"syscall":"exit"},
@@ -24,7 +24,7 @@ pub const COMPLEX: &str =
 {"syscall":"madvise","args":[{"index":0,"type":"dword","op":"eq","val":0},{"index":1,"type":"dword","op":"eq","val":0}]}
 ]}}"#;
 
-// The policy whose filters of these names, written as JSON texts are, have no entries.
+/// The policy whose filters of these names, written as JSON texts are, have no entries.
 pub fn of_names(alloc: Global, names: &[&str]) -> Result<String, AllocError> {
     let mut text = String::from_str(alloc, "{")?;
     for (number, name) in names.iter().enumerate() {
@@ -35,7 +35,7 @@ pub fn of_names(alloc: Global, names: &[&str]) -> Result<String, AllocError> {
     Ok(text)
 }
 
-// A record of x86_64 whose call number and first three arguments are given; all else is 0.
+/// A record of x86_64 whose call number and first three arguments are given; all else is 0.
 pub fn call(nr: u32, arguments: [u64; 3]) -> [u8; 64] {
     let mut record = [0; 64];
     record[..4].copy_from_slice(&nr.to_le_bytes());

@@ -3,7 +3,7 @@
 use std::io;
 use std::io::{ErrorKind, Read, Write};
 
-// Gives its bytes, at most so many a call, and then fails with an error of this kind.
+/// Gives its bytes, at most so many a call, and then fails with an error of this kind.
 #[derive(Drop)]
 pub struct FailingReader<'a> {
     pub bytes: &'a [u8],
@@ -24,7 +24,7 @@ impl Read for FailingReader<'_> {
     }
 }
 
-// Gives its bytes, at most so many a call, and then ends.
+/// Gives its bytes, at most so many a call, and then ends.
 #[derive(Drop)]
 pub struct SlowReader<'a> {
     pub bytes: &'a [u8],
@@ -41,7 +41,7 @@ impl Read for SlowReader<'_> {
     }
 }
 
-// Takes the bytes of so many calls, at most so many a call, and then fails with an error of this kind.
+/// Takes the bytes of so many calls, at most so many a call, and then fails with an error of this kind.
 #[derive(Drop)]
 pub struct FailingWriter {
     pub written: Vec<u8>,

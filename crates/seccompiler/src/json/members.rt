@@ -21,7 +21,7 @@ fn is_among(name: &str, names: &[&str]) -> bool
     false
 }
 
-// Whether each name of the object is one of these.
+/// Whether each name of the object is one of these.
 pub fn has_only_names(members: &Map<String, Value>, names: &[&str]) -> bool
     ensures { result ≡ only_names (map (λ n. n.now) names.now) (members_view members.now.entries) }
 {
@@ -33,7 +33,7 @@ pub fn has_only_names(members: &Map<String, Value>, names: &[&str]) -> bool
     true
 }
 
-// Whether the value is an object, and each of its names is one of these.
+/// Whether the value is an object, and each of its names is one of these.
 pub fn is_object_of(value: &Value, names: &[&str]) -> bool
     ensures { result ≡ has_only (map (λ n. n.now) names.now) (view value.now) }
 {
@@ -53,28 +53,28 @@ fn is_comment(comment: Option<&Value>) -> bool
     }
 }
 
-// Whether an object's comment is as it may be.
+/// Whether an object's comment is as it may be.
 pub fn is_commented(value: &Value) -> bool
     ensures { result ≡ is_comment (get (codes "comment") (view value.now)) }
 {
     is_comment(value.get("comment"))
 }
 
-// A number that serde_json holds as a whole one, if it fits a `u8`.
+/// A number that serde_json holds as a whole one, if it fits a `u8`.
 pub fn u8_of(value: &Value) -> Option<u8>
     ensures { result ≡ whole 255 (view value.now) }
 {
     u8::try_from(value.as_u64()?).ok()
 }
 
-// A number that serde_json holds as a whole one, if it fits a `u32`.
+/// A number that serde_json holds as a whole one, if it fits a `u32`.
 pub fn u32_of(value: &Value) -> Option<u32>
     ensures { result ≡ whole (2 ^ 32 - 1) (view value.now) }
 {
     u32::try_from(value.as_u64()?).ok()
 }
 
-// A number that serde_json holds as a whole one. It always fits a `u64`.
+/// A number that serde_json holds as a whole one. It always fits a `u64`.
 pub fn u64_of(value: &Value) -> Option<u64>
     ensures { result ≡ whole (2 ^ 64 - 1) (view value.now) }
 {

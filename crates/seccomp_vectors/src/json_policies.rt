@@ -8,10 +8,7 @@ use seccompiler::backend::SeccompCmpOp::{Ge, Gt, Le, Lt, MaskedEq, Ne};
 use seccompiler::backend::{BackendError, SeccompAction, TargetArch};
 use seccompiler::condition::SeccompCondition;
 use seccompiler::filter::SeccompFilter;
-use seccompiler::json::{
-    JsonCompiler, JsonCondition, JsonConditions, JsonFilter, JsonFrontendError, JsonRule,
-    JsonRules, JsonSyscallName,
-};
+use seccompiler::json::{JsonCompiler, JsonCondition, JsonFilter, JsonFrontendError, JsonRule};
 use std::alloc::{AllocError, Global};
 use std::test::Fail;
 
@@ -45,12 +42,12 @@ fn json_condition(parts: Parts) -> JsonCondition {
     }
 }
 
-fn json_conditions(alloc: Global, conditions: &[Parts]) -> Result<JsonConditions, AllocError> {
+fn json_conditions(alloc: Global, conditions: &[Parts]) -> Result<Vec<JsonCondition>, AllocError> {
     let mut made = Vec::new(alloc);
     for parts in conditions {
         made.push(json_condition(*parts))?;
     }
-    Ok(JsonConditions::new(made))
+    Ok(made)
 }
 
 fn json_rule(alloc: Global, entry: &Entry) -> Result<JsonRule, AllocError> {
@@ -60,7 +57,7 @@ fn json_rule(alloc: Global, entry: &Entry) -> Result<JsonRule, AllocError> {
         None => None,
     };
     Ok(JsonRule {
-        syscall: JsonSyscallName::new(String::from_str(alloc, name)?),
+        syscall: String::from_str(alloc, name)?,
         conditions,
     })
 }
@@ -78,7 +75,7 @@ fn json_filter(
     Ok(JsonFilter {
         mismatch_action,
         match_action,
-        rules: JsonRules::new(rules),
+        rules,
     })
 }
 

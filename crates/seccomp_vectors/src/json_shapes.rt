@@ -2,8 +2,7 @@
 
 use seccompiler::backend::{SeccompAction, SeccompCmpArgLen, SeccompCmpOp};
 use seccompiler::json::{
-    JsonCondition, JsonConditions, JsonFilter, JsonFilterMap, JsonFrontendError, JsonRule,
-    JsonRules, JsonSyscallName, read_filters,
+    JsonCondition, JsonFilter, JsonFilterMap, JsonFrontendError, JsonRule, read_filters,
 };
 use serde_json::Value;
 use std::alloc::{AllocError, Global};
@@ -74,15 +73,15 @@ fn under_a(
     let filter = JsonFilter {
         mismatch_action,
         match_action,
-        rules: JsonRules::new(rules),
+        rules,
     };
     drop(filters.insert(String::from_str(alloc, "a")?, filter)?);
     Ok(Reading::Filters(JsonFilterMap(filters)))
 }
 
 // The filter of one entry for `read`.
-fn reads(alloc: Global, conditions: Option<JsonConditions>) -> Result<Reading, AllocError> {
-    let syscall = JsonSyscallName::new(String::from_str(alloc, "read")?);
+fn reads(alloc: Global, conditions: Option<Vec<JsonCondition>>) -> Result<Reading, AllocError> {
+    let syscall = String::from_str(alloc, "read")?;
     let rules = vec![in alloc;
         JsonRule {
             syscall,
@@ -105,7 +104,7 @@ fn reads_if(
         operator,
         value,
     };
-    let conditions = JsonConditions::new(vec![in alloc; condition]?);
+    let conditions = vec![in alloc; condition]?;
     reads(alloc, Some(conditions))
 }
 
@@ -208,7 +207,7 @@ fn entries_without_conditions(rt: HostRuntime) -> Result<(), Fail> {
     ] {
         assert_eq!(rt; read_entry(alloc, entry)?, reads(alloc, None)?, "{entry}");
     }
-    let none = Some(JsonConditions::new(vec![in alloc]?));
+    let none = Some(vec![in alloc]?);
     let entry = r#"{"syscall":"read","args":[]}"#;
     assert_eq!(rt; read_entry(alloc, entry)?, reads(alloc, none)?, "{entry}");
     Ok(())

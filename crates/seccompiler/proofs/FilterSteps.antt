@@ -11,7 +11,7 @@ use Rattle.serde_json.proofs.Views.{Entry}
 use Rattle.seccompiler.specs.JsonFault.{Fault}
 use Rattle.seccompiler.specs.JsonFilters.{Named, named}
 use Rattle.seccompiler.specs.JsonReading.{then_filter}
-use Rattle.seccompiler.specs.declared.json.types.JsonFilter.{JsonFilter}
+use Rattle.seccompiler.specs.JsonTypes.{JsonFilter}
 
 -- What the rest gives, with these filters in front.
 abbrev pub with_front : List Named → Result (List Named) Fault → Result (List Named) Fault

@@ -9,7 +9,7 @@ use Rattle.std.proofs.lemmas.List.Elements.{All-nil, All-cons, All-head, All-tai
 use Rattle.std.proofs.lemmas.List.Folds.{Any-from_list_any, list_any-from_Any}
 use Rattle.std.proofs.lemmas.Map.Views.{All-keys-insert_entry}
 use Rattle.seccompiler.specs.declared.backend.TargetArch.{TargetArch}
-use Rattle.seccompiler.specs.declared.json.types.JsonRule.{JsonRule}
+use Rattle.seccompiler.specs.JsonTypes.{JsonRule}
 use Rattle.seccompiler.specs.Policy.{Rule, Chain}
 use Rattle.seccompiler.specs.SyscallTable.{IsTableNumber, number_of, table_of}
 use Rattle.seccompiler.specs.JsonFault.{Fault}

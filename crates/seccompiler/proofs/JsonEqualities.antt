@@ -8,8 +8,7 @@ use Rattle.seccompiler.specs.contracts.backend.SeccompActionPartialEq.TheImpl as
 use Rattle.seccompiler.specs.contracts.json.types.JsonConditionPartialEq.TheImpl as condition
 use Rattle.seccompiler.specs.declared.backend.SeccompAction.{SeccompAction}
 use Rattle.seccompiler.specs.declared.json.types.JsonCondition.{JsonCondition}
-use Rattle.seccompiler.specs.declared.json.types.JsonRule.{JsonRule}
-use Rattle.seccompiler.specs.declared.json.types.JsonFilter.{JsonFilter}
+use Rattle.seccompiler.specs.JsonTypes.{JsonRule, JsonFilter}
 use Rattle.seccompiler.specs.declared.json.types.JsonFilterMap.{JsonFilterMap}
 use Rattle.seccompiler.specs.JsonEquality.{conditions_eq, rule_eq, rules_eq, filter_eq, filter_map_eq}
 use Rattle.seccompiler.specs.JsonFilters.{named, filters_of}

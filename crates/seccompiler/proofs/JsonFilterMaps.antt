@@ -16,7 +16,7 @@ use Rattle.seccompiler.specs.JsonFilters.{Named, named, filters_of, AreFilters, 
 use Rattle.seccompiler.specs.JsonReading.{filter_in, then_filter, filters_under, filters_in}
 use Rattle.seccompiler.specs.JsonShape.{IsObject, IsFilter}
 use Rattle.seccompiler.specs.declared.json.error.JsonFrontendError.{JsonFrontendError}
-use Rattle.seccompiler.specs.declared.json.types.JsonFilter.{JsonFilter}
+use Rattle.seccompiler.specs.JsonTypes.{JsonFilter}
 use Rattle.seccompiler.specs.declared.json.types.JsonFilterMap.{JsonFilterMap}
 use Rattle.seccompiler.proofs.JsonNames.{found, lacks}
 use Rattle.seccompiler.proofs.JsonFilterShapes.{filter-tells, filter-from}

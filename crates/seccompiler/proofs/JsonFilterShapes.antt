@@ -4,8 +4,7 @@ use Rattle.serde_json.specs.Data.{Data, null, boolean, number, string, array, ob
 use Rattle.serde_json.specs.Find.{get, as_str, as_array}
 use Rattle.seccompiler.specs.declared.backend.SeccompAction.{SeccompAction}
 use Rattle.seccompiler.specs.declared.json.types.JsonCondition.{JsonCondition}
-use Rattle.seccompiler.specs.declared.json.types.JsonRule.{JsonRule}
-use Rattle.seccompiler.specs.declared.json.types.JsonFilter.{JsonFilter}
+use Rattle.seccompiler.specs.JsonTypes.{JsonRule, JsonFilter}
 use Rattle.seccompiler.specs.JsonReading.{◌>>=◌, has_only, whole, is_comment, arg_len_in, operator_in, action_in, condition_names, condition_in, conditions_in, args_in, entry_names, entry_in, entries_in, one_of, filter_names, filter_in}
 use Rattle.seccompiler.specs.JsonShape.{IsWhole, IsOperator, IsArgLen, IsCommented, IsCondition, OneByOne, IsArgs, IsEntry, IsUnderOne, IsFilter}
 use Rattle.seccompiler.proofs.OptionSteps.{bind_some, map_some, guarded_some, both_true}

@@ -11,7 +11,7 @@ use Rattle.seccompiler.specs.declared.backend.TargetArch.{TargetArch}
 use Rattle.seccompiler.specs.declared.backend.BackendError.TheVariants.{IdenticalActions}
 use Rattle.seccompiler.specs.declared.json.error.JsonFrontendError.{JsonFrontendError}
 use Rattle.seccompiler.specs.declared.json.error.JsonFrontendError.TheVariants as e
-use Rattle.seccompiler.specs.declared.json.types.JsonFilter.{JsonFilter}
+use Rattle.seccompiler.specs.JsonTypes.{JsonFilter}
 use Rattle.seccompiler.specs.Policy.{Chain, Filter}
 use Rattle.seccompiler.specs.Refusal.{numbers_of}
 use Rattle.seccompiler.specs.SyscallTable.{IsTableNumber}

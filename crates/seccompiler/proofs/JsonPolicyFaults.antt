@@ -18,7 +18,7 @@ use Rattle.seccompiler.specs.Policy.{Filter}
 use Rattle.seccompiler.specs.declared.backend.TargetArch.{TargetArch}
 use Rattle.seccompiler.specs.declared.json.error.JsonFrontendError.{JsonFrontendError}
 use Rattle.seccompiler.specs.declared.json.error.JsonFrontendError.TheVariants as e
-use Rattle.seccompiler.specs.declared.json.types.JsonFilter.{JsonFilter}
+use Rattle.seccompiler.specs.JsonTypes.{JsonFilter}
 use Rattle.seccompiler.specs.declared.json.types.JsonFilterMap.{JsonFilterMap}
 use Rattle.seccompiler.proofs.JsonPolicies.{policy_given, fault_given}
 use Rattle.seccompiler.proofs.JsonPolicySteps.{value_of-ok, value_of-read, each_policy, no_policy, stops_at, Succeeds}

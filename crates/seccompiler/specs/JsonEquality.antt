@@ -12,8 +12,7 @@ use Rattle.seccompiler.specs.contracts.backend.SeccompActionPartialEq.TheImpl.La
 use Rattle.seccompiler.specs.contracts.json.types.JsonConditionPartialEq.TheImpl as condition
 use Rattle.seccompiler.specs.contracts.json.types.JsonConditionPartialEq.TheImpl.Laws as condition_laws
 use Rattle.seccompiler.specs.declared.json.types.JsonCondition.{JsonCondition}
-use Rattle.seccompiler.specs.declared.json.types.JsonRule.{JsonRule}
-use Rattle.seccompiler.specs.declared.json.types.JsonFilter.{JsonFilter}
+use Rattle.seccompiler.specs.JsonTypes.{JsonRule, JsonFilter}
 use Rattle.seccompiler.specs.declared.json.types.JsonFilterMap.{JsonFilterMap}
 
 -- Whether two names have the same bytes.

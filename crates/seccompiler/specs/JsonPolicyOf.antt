@@ -11,8 +11,7 @@ use Rattle.seccompiler.specs.declared.backend.BackendError.TheVariants as of_bac
 use Rattle.seccompiler.specs.declared.json.error.JsonFrontendError.{JsonFrontendError}
 use Rattle.seccompiler.specs.declared.json.error.JsonFrontendError.TheVariants.{Backend, SerdeJson, SyscallName, Read, RepeatedKey, NotAnObject, Shape, OutOfMemory}
 use Rattle.seccompiler.specs.declared.json.types.JsonCondition.{JsonCondition}
-use Rattle.seccompiler.specs.declared.json.types.JsonRule.{JsonRule}
-use Rattle.seccompiler.specs.declared.json.types.JsonFilter.{JsonFilter}
+use Rattle.seccompiler.specs.JsonTypes.{JsonRule, JsonFilter}
 use Rattle.seccompiler.specs.Condition.{Condition}
 use Rattle.seccompiler.specs.Policy.{Rule, Chain, Filter}
 use Rattle.seccompiler.specs.Refusal.{numbers_of}

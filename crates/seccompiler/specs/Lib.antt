@@ -17,6 +17,7 @@ pub mod Pieces
 pub mod ChainCode
 pub mod Compiled
 pub mod Refusal
+pub mod JsonTypes
 pub mod JsonPolicyOf
 pub mod JsonPolicy
 pub mod JsonPolicies

@@ -9,7 +9,7 @@ ghost use Rattle.seccompiler.specs.JsonFault.{Gives};
 ghost use Rattle.seccompiler.specs.JsonFilters.{filters_of, AreFilters, IsRefusal};
 ghost use Rattle.seccompiler.specs.JsonReading.{filter_in, filters_in, filters_under};
 ghost use Rattle.seccompiler.specs.JsonShape.{IsFilter};
-ghost use Rattle.seccompiler.specs.declared.json.types.JsonFilter.{JsonFilter};
+ghost use Rattle.seccompiler.specs.JsonTypes.{JsonFilter};
 
 use crate::json::error::JsonFrontendError;
 use crate::json::read::filter_of;

@@ -1,6 +1,6 @@
 // From JSON filters to filters.
 
-ghost use Rattle.std.specs.Prelude.{◌≡◌, [], OnOk};
+ghost use Rattle.std.specs.Prelude.{◌≡◌, [], OnOk, option_map};
 ghost use Rattle.std.specs.Option.{option_to_list};
 ghost use Rattle.seccompiler.specs.Policy.{chains_of};
 ghost use Rattle.seccompiler.specs.JsonFault.{Gives};
@@ -11,7 +11,6 @@ use crate::backend::TargetArch;
 use crate::condition::SeccompCondition;
 use crate::filter::SeccompFilter;
 use crate::json::error::JsonFrontendError;
-use crate::json::parts::JsonConditions;
 use crate::json::types::{JsonCondition, JsonFilter, JsonRule};
 use crate::rule::SeccompRule;
 use crate::syscall_table::SyscallTable;
@@ -91,9 +90,9 @@ fn add_rule(
 // The rule of an entry's conditions, if it has any.
 fn own_rule(
     alloc: Global,
-    conditions: &Option<JsonConditions>,
+    conditions: &Option<Vec<JsonCondition>>,
 ) -> Result<Option<SeccompRule>, JsonFrontendError>
-    ensures { Gives option_to_list result (build_rules conditions.now) }
+    ensures { Gives option_to_list result (build_rules (option_map (λ all. all.items) conditions.now)) }
 {
     match conditions {
         Some(conditions) => Ok(Some(rule_of(alloc, conditions.as_slice())?)),

@@ -6,7 +6,6 @@ ghost use Rattle.seccompiler.specs.JsonReading.{plain_action, action_in, arg_len
 
 use crate::backend::{SeccompAction, SeccompCmpArgLen, SeccompCmpOp};
 use crate::json::members::{has_only_names, is_commented, is_object_of, u8_of, u32_of, u64_of};
-use crate::json::parts::{JsonConditions, JsonRules, JsonSyscallName};
 use crate::json::types::{JsonCondition, JsonFilter, JsonRule};
 use serde_json::Value;
 use std::alloc::{AllocError, Global};
@@ -100,8 +99,11 @@ fn condition_of(value: &Value) -> Option<JsonCondition>
     })
 }
 
-fn conditions_of(alloc: Global, items: &Vec<Value>) -> Result<Option<JsonConditions>, AllocError>
-    ensures { IfOk result (λ found. found ≡ conditions_in (items_view items.now.items)) }
+fn conditions_of(
+    alloc: Global,
+    items: &Vec<Value>,
+) -> Result<Option<Vec<JsonCondition>>, AllocError>
+    ensures { IfOk result (λ found. option_map (λ all. all.items) found ≡ conditions_in (items_view items.now.items)) }
 {
     let mut found = Vec::new(alloc);
     for item in items {
@@ -110,15 +112,15 @@ fn conditions_of(alloc: Global, items: &Vec<Value>) -> Result<Option<JsonConditi
             None => return Ok(None),
         }
     }
-    Ok(Some(JsonConditions::new(found)))
+    Ok(Some(found))
 }
 
 // What stands under `args`: no conditions where it is absent or null.
 fn args_of(
     alloc: Global,
     args: Option<&Value>,
-) -> Result<Option<Option<JsonConditions>>, AllocError>
-    ensures { IfOk result (λ found. found ≡ args_in (option_map (λ v. view v.now) args.entry)) }
+) -> Result<Option<Option<Vec<JsonCondition>>>, AllocError>
+    ensures { IfOk result (λ found. option_map (option_map (λ all. all.items)) found ≡ args_in (option_map (λ v. view v.now) args.entry)) }
 {
     match args {
         None | Some(Value::Null) => Ok(Some(None)),
@@ -143,15 +145,15 @@ fn entry_of(alloc: Global, value: &Value) -> Result<Option<JsonRule>, AllocError
     let Some(conditions) = args_of(alloc, value.get("args"))? else {
         return Ok(None);
     };
-    let syscall = JsonSyscallName::new(String::from_str(alloc, syscall.as_str())?);
+    let syscall = String::from_str(alloc, syscall.as_str())?;
     Ok(Some(JsonRule {
         syscall,
         conditions,
     }))
 }
 
-fn entries_of(alloc: Global, items: &Vec<Value>) -> Result<Option<JsonRules>, AllocError>
-    ensures { IfOk result (λ found. found ≡ entries_in (items_view items.now.items)) }
+fn entries_of(alloc: Global, items: &Vec<Value>) -> Result<Option<Vec<JsonRule>>, AllocError>
+    ensures { IfOk result (λ found. option_map (λ all. all.items) found ≡ entries_in (items_view items.now.items)) }
 {
     let mut found = Vec::new(alloc);
     for item in items {
@@ -160,7 +162,7 @@ fn entries_of(alloc: Global, items: &Vec<Value>) -> Result<Option<JsonRules>, Al
             None => return Ok(None),
         }
     }
-    Ok(Some(JsonRules::new(found)))
+    Ok(Some(found))
 }
 
 // The action under the one of two names that is there. Both together are a fault.

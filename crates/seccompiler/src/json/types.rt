@@ -1,8 +1,8 @@
 // A JSON text of filters, as types. docs/JSON.md has the format of the text.
 
 use crate::backend::{SeccompAction, SeccompCmpArgLen, SeccompCmpOp};
-use crate::json::parts::{JsonConditions, JsonRules, JsonSyscallName};
 use std::collections::BTreeMap;
+use std::marker::Model;
 
 /// One condition on an argument of a system call.
 ///
@@ -23,13 +23,23 @@ pub struct JsonCondition {
 /// One entry of a filter: a system call, and conditions on its arguments.
 ///
 /// Two entries are equal if their parts are. No conditions at all (`None`) differ from an empty list
-/// of them, which is refused later on.
+/// of them, which is refused later on. A contract sees the name as its bytes and the conditions as
+/// a list.
 #[derive(Debug, Drop)]
 pub struct JsonRule {
     /// The call's name: `syscall` in the text. It may be no call's.
-    pub syscall: JsonSyscallName,
+    pub syscall: String,
     /// The conditions: `args` in the text, `None` where the text has none, or null.
-    pub conditions: Option<JsonConditions>,
+    pub conditions: Option<Vec<JsonCondition>>,
+}
+
+impl Model for JsonRule {
+    ghost use Rattle.std.specs.Prelude.{option_map, string_bytes};
+    ghost use Rattle.seccompiler.specs.JsonTypes.{JsonRule};
+
+    ghost Value = { JsonRule };
+
+    ghost view = { λ entry. record { syscall = string_bytes entry.syscall; conditions = option_map (λ all. all.items) entry.conditions } };
 }
 
 impl PartialEq for JsonRule {
@@ -50,7 +60,8 @@ impl PartialEq for JsonRule {
 
 /// One filter: what it answers, and which calls match it.
 ///
-/// Two filters are equal if their actions are, and their entries one by one.
+/// Two filters are equal if their actions are, and their entries one by one. A contract sees the
+/// entries as a list.
 #[derive(Debug, Drop)]
 pub struct JsonFilter {
     /// What the filter answers where no entry matches: `mismatch_action` or `default_action`.
@@ -58,7 +69,15 @@ pub struct JsonFilter {
     /// What the filter answers where an entry matches: `match_action` or `filter_action`.
     pub match_action: SeccompAction,
     /// The entries, in the text's order: `filter` in the text.
-    pub rules: JsonRules,
+    pub rules: Vec<JsonRule>,
+}
+
+impl Model for JsonFilter {
+    ghost use Rattle.seccompiler.specs.JsonTypes.{JsonFilter};
+
+    ghost Value = { JsonFilter };
+
+    ghost view = { λ f. record { mismatch_action = f.mismatch_action; match_action = f.match_action; rules = f.rules.items } };
 }
 
 impl PartialEq for JsonFilter {

@@ -22,8 +22,8 @@ pub record IsCompiled (f : Filter) (p : List sock_filter) : Type 0 where
   pub checked : IsChecked p
   pub decides : (r : List ℕ) → IsRecord r → EndsAtDecision f p r
 
--- A record of the filter's architecture whose call number has no chain is passed in exactly the passing steps, at the
--- mismatch word.
+-- Where the filter has chains, a record of its architecture whose call number has none is passed in exactly the passing
+-- steps, at the mismatch word.
 pub record Passes (f : Filter) (p : List sock_filter) : Type 0 where
   pub passes : f.chains ≢ [] → (r : List ℕ) → IsRecord r → word_at r 4 ≡ audit_word f.target_arch
       → chain_under f.chains (word_at r 0) ≡ None → Ends p r (passing_steps f) (word_of f.mismatch_action)

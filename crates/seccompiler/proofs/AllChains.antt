@@ -17,7 +17,7 @@ use Rattle.seccompiler.specs.Layout.{chain_length, chains_length, chain_steps}
 use Rattle.seccompiler.specs.ChainCode.{Returns, IsChainCode, Dispatches, chain_matches, chain_differs, no_chain, IsChainsCode}
 use Rattle.seccompiler.proofs.Runs.{goes_shift, goes_on, goes_front, stands_second}
 use Rattle.seccompiler.proofs.Closed.{ranges_join, ranges_from}
-use Rattle.seccompiler.proofs.RulesCode.{returns_front, returns_behind, returns_after, block_join}
+use Rattle.seccompiler.proofs.Blocks.{returns_front, returns_behind, returns_after, block_join}
 
 abbrev pub Entry : Type 0
 Entry = ℤ × Chain

@@ -5,6 +5,7 @@ pub mod Parts
 pub mod Runs
 pub mod Closed
 pub mod Steps
+pub mod Blocks
 pub mod CheckedLemmas
 pub mod Determinism
 pub mod Comparisons

@@ -1,18 +1,18 @@
 -- What the code of one chain does: a test of the call number, the rules, and a return.
-use Rattle.std.proofs.Common.{◌≡◌, ◌≢◌, ℕ, zero, suc, ◌+◌, ◌<◌, ◌^◌, List, [], ◌∷◌, ◌++◌, length, Some, refl, sym, ap, ◌∙◌, subst, arith, length-append, ◌⊎◌, inl, inr, ⊎_elim}
+use Rattle.std.proofs.Common.{◌≡◌, ◌≢◌, ℕ, ◌+◌, ◌<◌, ◌^◌, List, [], ◌∷◌, ◌++◌, length, Some, refl, sym, ap, ◌∙◌, subst, arith, length-append, inl, inr, ⊎_elim}
 use Rattle.std.specs.Prelude.{slice_get, sum_by}
 use Rattle.seccompiler.specs.declared.bpf.sock_filter.{sock_filter}
 use Rattle.seccompiler.specs.Code.{give, jump, jump_equal}
 use Rattle.seccompiler.specs.Machine.{Step, Goes, stays, then_step, is_equal, is_not_equal}
-use Rattle.seccompiler.specs.Checked.{IsInside, inside_jump, inside_equal, IsInRange}
+use Rattle.seccompiler.specs.Checked.{inside_jump, inside_equal}
 use Rattle.seccompiler.specs.Policy.{Rule, Chain}
 use Rattle.seccompiler.specs.Layout.{rule_steps}
 use Rattle.seccompiler.specs.Pieces.{Leads}
-use Rattle.seccompiler.specs.ChainCode.{IsBlock, IsRulesCode, IsChainCode}
+use Rattle.seccompiler.specs.ChainCode.{IsRulesCode, IsChainCode}
 use Rattle.seccompiler.proofs.Runs.{goes_shift, goes_on, goes_front, stands_second}
 use Rattle.seccompiler.proofs.Closed.{ranges_join, ranges_from, jump_in_range}
 use Rattle.seccompiler.proofs.Steps.{on_jump}
-use Rattle.seccompiler.proofs.RulesCode.{returns_front, returns_second, returns_after, returns_here, leads_front, block_join, block_give, give_in_range}
+use Rattle.seccompiler.proofs.Blocks.{returns_front, returns_second, returns_after, returns_here, leads_front, block_join, block_give, give_in_range, block_one, test_in_range}
 
 -- the test of the call number goes on with this number, and skips one instruction with another
 on_number : (p : List sock_filter) (r : List ℕ) (n : ℕ) → slice_get p 0 ≡ Some (jump_equal n 0 1) → n < 2 ^ 32 → Step p r 0 n 1 n
@@ -20,17 +20,6 @@ on_number p r n here small = record { instruction = jump_equal n 0 1; here = her
 
 on_others : (p : List sock_filter) (r : List ℕ) (n a : ℕ) → slice_get p 0 ≡ Some (jump_equal n 0 1) → a < 2 ^ 32 → a ≢ n → Step p r 0 a 2 a
 on_others p r n a here small differs = record { instruction = jump_equal n 0 1; here = here; before = small; after = small; does = is_not_equal refl differs refl refl }
-
--- a block of one instruction
-pub block_one : (i : sock_filter) (m : ℕ) → IsInside i 0 m → IsBlock (i ∷ []) m
-block_one x m h = record { each = go }
-  where
-    go : (k : ℕ) (i : sock_filter) → slice_get (x ∷ []) k ≡ Some i → (IsInside i k m) ⊎ (i.code ≡ 0x06)
-    go zero i e = let same : x ≡ i = cc in inl (subst (λ y. IsInside y 0 m) same h)
-    go (suc k) i e = cc
-
-pub test_in_range : (n jt jf : ℕ) → n < 2 ^ 32 → jt < 2 ^ 8 → jf < 2 ^ 8 → IsInRange (jump_equal n jt jf)
-test_in_range n jt jf small t f = record { code = omega arith; jt = t; jf = f; k = small }
 
 module _ (n mismatch matched : ℕ) (fits : n < 2 ^ 32) (fits_mismatch : mismatch < 2 ^ 32) (fits_matched : matched < 2 ^ 32) where
   -- a chain without rules

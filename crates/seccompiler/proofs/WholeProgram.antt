@@ -19,8 +19,7 @@ use Rattle.seccompiler.proofs.Runs.{goes_far, goes_on, goes_shift, goes_front, s
 use Rattle.seccompiler.proofs.Closed.{ranges_join, ranges_from}
 use Rattle.seccompiler.proofs.Words.{word_fits}
 use Rattle.seccompiler.proofs.Steps.{on_load, on_equal}
-use Rattle.seccompiler.proofs.RulesCode.{returns_front, returns_second, returns_after, returns_here, block_join, block_give, give_in_range}
-use Rattle.seccompiler.proofs.OneChain.{block_one, test_in_range}
+use Rattle.seccompiler.proofs.Blocks.{returns_front, returns_second, returns_after, returns_here, block_join, block_give, block_one, give_in_range, test_in_range}
 
 -- a run from the start that returns ends
 ends_of : (p : List sock_filter) (r : List ℕ) (w : ℕ) (h : Returns p r 0 0 w) → Ends p r (h.count + 1) w

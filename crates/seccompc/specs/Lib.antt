@@ -6,3 +6,4 @@ pub mod Answers
 pub mod Probe
 pub mod Listing
 pub mod Policies
+pub mod Statuses

@@ -1,6 +1,7 @@
 // Compiles seccomp filters, and shows what their programs do with the records of system calls.
 #![tactic(auto)]
 
+mod arguments;
 mod error;
 mod lines;
 mod list;
@@ -13,55 +14,58 @@ mod tests;
 mod trace;
 mod words;
 
-ghost use Rattle.std.specs.Prelude.{◌≡◌, OnOk, OnErr};
+ghost use Rattle.std.specs.Prelude.{◌≡◌, ◌≤◌, IfSome, IfNone, OnOk, OnErr};
 ghost use Rattle.std.specs.Process.{exit_status};
+ghost use Rattle.seccompc.specs.Statuses.{IsFaultless};
 
 use crate::error::ToolError;
 use crate::words::{Command, read_words};
 use std::io::ErrorKind;
 use std::process::ExitCode;
-use std::rt::{Env, Files};
-use std::{env, fs, io};
+use std::rt::Files;
+use std::{fs, io};
 
 fn main(rt: HostRuntime) -> ExitCode {
-    let words = match words_behind_the_name(&rt) {
-        Ok(words) => words,
+    match arguments::behind_the_name(&rt) {
+        Ok(words) => carry_out(&rt, read_words(&words)),
         Err(error) if error.kind() == ErrorKind::OutOfMemory => {
-            return answered(&rt, Err(ToolError::OutOfMemory));
+            answered(&rt, Err(ToolError::OutOfMemory))
         }
         // A word that is no text is no command's.
-        Err(_) => return misused(&rt),
-    };
-    match read_words(&words) {
-        Some(command) => carry_out(&rt, command),
-        None => misused(&rt),
+        Err(_) => carry_out(&rt, None),
     }
 }
 
-// The words behind the program's name.
-fn words_behind_the_name(rt: &(impl Env + AllocGlobal)) -> io::Result<Vec<String>> {
-    Ok(env::args(rt)?.skip(1).collect(rt.alloc())?)
-}
-
-// Carries out a command, from standard input to standard output.
+// Carries out a command, from standard input to standard output; where there is none, says how the
+// program is called.
 fn carry_out(
     rt: &(impl Files + Input + Print + Eprint + AllocGlobal),
-    command: Command<'_>,
-) -> ExitCode {
+    command: Option<Command<'_>>,
+) -> ExitCode
+    ensures no_command { IfNone command.entry (exit_status result ≡ 2) }
+    ensures carried_out { IfSome command.entry (λ asked. exit_status result ≤ 1) }
+
+    // Status 0 comes only where the command's own words have no fault.
+    ensures faultless { IfSome command.entry (λ asked. exit_status result ≡ 0 → IsFaultless asked) }
+{
     let alloc = rt.alloc();
     let mut out = io::writer(rt);
     match command {
-        Command::Probe {
-            arch,
-            nr,
-            index,
-            value,
-        } => answered(
+        Some(
+            Command::Probe {
+                arch,
+                nr,
+                index,
+                value,
+            },
+        ) => answered(
             rt,
             probe::probe(alloc, arch, nr, index, value, rt.reader(), &mut out),
         ),
-        Command::List { arch } => answered(rt, list::list(alloc, arch, rt.reader(), &mut out)),
-        Command::Run { arch, file, name } => match fs::open(rt, file) {
+        Some(Command::List { arch }) => {
+            answered(rt, list::list(alloc, arch, rt.reader(), &mut out))
+        }
+        Some(Command::Run { arch, file, name }) => match fs::open(rt, file) {
             Ok(policy) => answered(
                 rt,
                 run::run_policy(alloc, arch, policy, name, rt.reader(), &mut out),
@@ -71,6 +75,7 @@ fn carry_out(
             }
             Err(_) => unopened(rt),
         },
+        None => misused(rt),
     }
 }
 

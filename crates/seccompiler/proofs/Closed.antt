@@ -57,7 +57,7 @@ pub ranges_join : (a b : List sock_filter) → AreInRange a → AreInRange b →
 ranges_join a b ra rb = record { each = λ k i e. ⊎_elim (λ h. ra.each k i h) (λ h. rb.each h.0 i h.2) (get_split a b k i e) }
 
 -- the ranges of a list, instruction by instruction
-abbrev pub EachInRange : List sock_filter → Type 0
+abbrev EachInRange : List sock_filter → Type 0
 EachInRange [] = Unit {0}
 EachInRange (i ∷ is) = IsInRange i × EachInRange is
 

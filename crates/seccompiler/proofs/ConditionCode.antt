@@ -48,7 +48,7 @@ module _ (low v d : ℕ) (aligned : low % 4 ≡ 0) (within : low ≤ 56) where
   inside_code Qword (MaskedEq m) = (inside_load refl (omega arith) (omega arith), (inside_mask refl, (inside_equal refl (omega arith) (omega arith), (inside_load refl aligned (omega arith), (inside_mask refl, (inside_equal refl (omega arith) (omega arith), tt))))))
 
 -- the code of a condition, whose fields are in range
-pub condition_code-meets : (c : Condition) (d : ℕ) → c.arg_index ≤ 5 → AreInRange (condition_code c d) → IsConditionCode c d (condition_code c d)
+condition_code-meets : (c : Condition) (d : ℕ) → c.arg_index ≤ 5 → AreInRange (condition_code c d) → IsConditionCode c d (condition_code c d)
 condition_code-meets c d is_argument ranges =
     let low = 16 + 8 * c.arg_index in
     record {

@@ -79,7 +79,7 @@ begun_cut group (c ∷ q) some late =
     by false e anew on = subst (λ l. IsCut l (groups_from (group ++ c ∷ []) q)) (append_assoc group (c ∷ []) q) (on (grind (arith, nat_tests)))
 
 -- The groups of a rule's conditions are a cut of them.
-pub groups_of-cut : (q : List Condition) → IsCut q (groups_of q)
+groups_of-cut : (q : List Condition) → IsCut q (groups_of q)
 groups_of-cut [] = record {
   joined = refl;
   some = All-nil _;
@@ -117,7 +117,7 @@ not_empty q group groups none cut =
     omega (arith, ap length none.joined, ap length cut.joined, length-append group (join groups), All-head (λ g. 1 ≤ length g) group groups cut.some)
 
 -- Two cuts of the same conditions are equal.
-pub cuts_same : (q : List Condition) (groups others : List (List Condition)) → IsCut q groups → IsCut q others → groups ≡ others
+cuts_same : (q : List Condition) (groups others : List (List Condition)) → IsCut q groups → IsCut q others → groups ≡ others
 cuts_same q [] [] cut another = refl
 cuts_same q [] (other ∷ others) cut another = absurd (not_empty q other others cut another)
 cuts_same q (group ∷ groups) [] cut another = absurd (not_empty q group groups another cut)

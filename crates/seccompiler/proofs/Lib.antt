@@ -22,7 +22,6 @@ pub mod CappedLengths
 pub mod CallNumbers
 pub mod Chains
 pub mod Searches
-pub mod Equality
 pub mod FilterEquality
 pub mod Reordering
 pub mod TableNames

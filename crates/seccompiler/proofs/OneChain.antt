@@ -23,7 +23,7 @@ on_others p r n a here small differs = record { instruction = jump_equal n 0 1; 
 
 module _ (n mismatch matched : ℕ) (fits : n < 2 ^ 32) (fits_mismatch : mismatch < 2 ^ 32) (fits_matched : matched < 2 ^ 32) where
   -- a chain without rules
-  pub empty_chain : IsChainCode n [] mismatch matched (jump_equal n 0 1 ∷ jump 1 ∷ jump 2 ∷ give matched ∷ give mismatch ∷ [])
+  empty_chain : IsChainCode n [] mismatch matched (jump_equal n 0 1 ∷ jump 1 ∷ jump 2 ∷ give matched ∷ give mismatch ∷ [])
   empty_chain =
       let p = jump_equal n 0 1 ∷ jump 1 ∷ jump 2 ∷ give matched ∷ give mismatch ∷ [] in
       record {
@@ -38,7 +38,7 @@ module _ (n mismatch matched : ℕ) (fits : n < 2 ^ 32) (fits_mismatch : mismatc
       }
 
   -- a chain with rules
-  pub full_chain : (q : Rule) (chain : Chain) (rules : List sock_filter) → IsRulesCode (q ∷ chain) matched rules → IsChainCode n (q ∷ chain) mismatch matched (jump_equal n 0 1 ∷ (rules ++ give mismatch ∷ []))
+  full_chain : (q : Rule) (chain : Chain) (rules : List sock_filter) → IsRulesCode (q ∷ chain) matched rules → IsChainCode n (q ∷ chain) mismatch matched (jump_equal n 0 1 ∷ (rules ++ give mismatch ∷ []))
   unfolding leads_front
   full_chain q chain rules h =
       let head = jump_equal n 0 1 ∷ [] in

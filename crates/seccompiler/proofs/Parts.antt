@@ -44,27 +44,27 @@ framed {X} (y ∷ xs) ys x z long =
     let long_whole : length whole ≡ length one = length-set (put_mid 1 (last - 1) one ys) last z ∙ same_len_mid 1 (last - 1) one ys (count ∙ sym (length-part 1 last one (omega arith) (omega arith))) in
     sym (take_all (last + 1) whole (omega arith)) ∙ take-written 1 last one ys z (omega arith) (omega arith) count
 
--- a list of four elements that were written one by one
-pub four-written : {X : Type 0} (xs : List X) (a b c d : X) → length xs ≡ 4 → set (set (set (set xs 0 a) 1 b) 2 c) 3 d ≡ a ∷ b ∷ c ∷ d ∷ []
-four-written [] a b c d long = absurd (omega arith)
-four-written (x ∷ []) a b c d long = absurd (omega arith)
-four-written (x ∷ y ∷ []) a b c d long = absurd (omega arith)
-four-written (x ∷ y ∷ z ∷ []) a b c d long = absurd (omega arith)
-four-written (x ∷ y ∷ z ∷ w ∷ []) a b c d long = refl
-four-written (x ∷ y ∷ z ∷ w ∷ v ∷ xs) a b c d long = absurd (omega arith)
+-- a list of four elements of which three were written together, and then the last
+pub four-written : {X : Type 0} (front xs : List X) (a b c d : X) → front ≡ a ∷ b ∷ c ∷ [] → length xs ≡ 4 → set (front ++ drop 3 xs) 3 d ≡ a ∷ b ∷ c ∷ d ∷ []
+four-written front [] a b c d is long = absurd (omega arith)
+four-written front (x ∷ []) a b c d is long = absurd (omega arith)
+four-written front (x ∷ y ∷ []) a b c d is long = absurd (omega arith)
+four-written front (x ∷ y ∷ z ∷ []) a b c d is long = absurd (omega arith)
+four-written front (x ∷ y ∷ z ∷ w ∷ []) a b c d is long = rw is refl
+four-written front (x ∷ y ∷ z ∷ w ∷ v ∷ xs) a b c d is long = absurd (omega arith)
 
--- a list whose first four elements, whose last, and what lies between them were written
-pub headed : {X : Type 0} (xs ys : List X) (a b c d z : X) → length ys + 5 ≡ length xs
-    → let first = set (set (set (set xs 0 a) 1 b) 2 c) 3 d in set (put_mid 4 (length first - 1 - 4) first ys) (length first - 1) z ≡ a ∷ b ∷ c ∷ d ∷ (ys ++ z ∷ [])
-headed [] ys a b c d z long = absurd (omega arith)
-headed (x ∷ []) ys a b c d z long = absurd (omega arith)
-headed (x ∷ y ∷ []) ys a b c d z long = absurd (omega arith)
-headed (x ∷ y ∷ v ∷ []) ys a b c d z long = absurd (omega arith)
-headed (x ∷ y ∷ v ∷ w ∷ xs) ys a b c d z long =
+-- a list of which the first three elements were written together, then the fourth, what lies between it and the last, and the last
+pub headed : {X : Type 0} (front xs ys : List X) (a b c d z : X) → front ≡ a ∷ b ∷ c ∷ [] → length ys + 5 ≡ length xs
+    → let first = set (front ++ drop 3 xs) 3 d in set (put_mid 4 (length first - 1 - 4) first ys) (length first - 1) z ≡ a ∷ b ∷ c ∷ d ∷ (ys ++ z ∷ [])
+headed front [] ys a b c d z is long = absurd (omega arith)
+headed front (x ∷ []) ys a b c d z is long = absurd (omega arith)
+headed front (x ∷ y ∷ []) ys a b c d z is long = absurd (omega arith)
+headed front (x ∷ y ∷ v ∷ []) ys a b c d z is long = absurd (omega arith)
+headed front (x ∷ y ∷ v ∷ w ∷ xs) ys a b c d z is long =
     let first = a ∷ b ∷ c ∷ d ∷ xs in
     let last = length first - 1 in
     let e : last + 1 ≡ length first = omega arith in
     let whole = set (put_mid 4 (last - 4) first ys) last z in
     let count : length ys ≡ last - 4 = omega arith in
     let long_whole : length whole ≡ length first = length-set (put_mid 4 (last - 4) first ys) last z ∙ same_len_mid 4 (last - 4) first ys (count ∙ sym (length-part 4 last first (omega arith) (omega arith))) in
-    sym (take_all (last + 1) whole (omega arith)) ∙ take-written 4 last first ys z (omega arith) (omega arith) count
+    rw is (sym (take_all (last + 1) whole (omega arith)) ∙ take-written 4 last first ys z (omega arith) (omega arith) count)

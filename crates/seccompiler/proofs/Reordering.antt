@@ -1,5 +1,5 @@
 -- What a decision does not depend on: the order of rules and conditions, the instruction pointer, and high halves that
--- are not compared; and what the length of a program depends on.
+-- are not compared.
 use Rattle.std.proofs.Common.{◌≡◌, ◌↔◌, IsTrue, ℕ, ℤ, zero, suc, pos, ◌+◌, ◌*◌, ◌%◌, ◌^◌, ◌<◌, ◌≤◌, List, [], ◌∷◌, length, get_or, Option, Some, Bool, true, false, cond, refl, sym, ap, ◌∙◌, subst, arith, inl, inr}
 use Rattle.std.specs.Prelude.{slice_index, Any}
 use Rattle.std.specs.List.{AllZip}
@@ -17,7 +17,6 @@ use Rattle.seccompiler.specs.Record.{number_at, word_at, argument_at}
 use Rattle.seccompiler.specs.Action.{word_of, audit_word}
 use Rattle.seccompiler.specs.Condition.{Condition, part_of, Compares, Holds}
 use Rattle.seccompiler.specs.Policy.{Rule, Chain, Filter, chain_under, RuleHolds, ChainMatches, Matches, IsDecision, other_architecture, policy_matches, policy_differs}
-use Rattle.seccompiler.specs.Layout.{counted_length, counted_length_of, passing_steps, chains_steps}
 use Rattle.seccompiler.specs.Reorder.{IsReorderedRule, IsReorderedChain, IsReorderedEntry, IsReordered, IsSameCall}
 use Rattle.seccompiler.specs.LowHalf.{low_operator, IsSameLowHalf, HasSameLowArgument}
 
@@ -167,18 +166,6 @@ same_decision f g r s w order same (policy_differs here differs is) =
     (λ matches. differs (reordered_matches_back f g r s order same matches))
     (is ∙ ap word_of order.mismatch_action)
 
--- The decision is one word.
-pub one_decision : (f : Filter) (r : List ℕ) (v w : ℕ) → IsDecision f r v → IsDecision f r w → v ≡ w
-one_decision f r v w (other_architecture differs is) (other_architecture differs' is') = is ∙ sym is'
-one_decision f r v w (other_architecture differs is) (policy_matches here matches is') = absurd (differs here)
-one_decision f r v w (other_architecture differs is) (policy_differs here differs' is') = absurd (differs here)
-one_decision f r v w (policy_matches here matches is) (other_architecture differs is') = absurd (differs here)
-one_decision f r v w (policy_matches here matches is) (policy_matches here' matches' is') = is ∙ sym is'
-one_decision f r v w (policy_matches here matches is) (policy_differs here' differs is') = absurd (differs matches)
-one_decision f r v w (policy_differs here differs is) (other_architecture differs' is') = absurd (differs' here)
-one_decision f r v w (policy_differs here differs is) (policy_matches here' matches is') = absurd (differs matches)
-one_decision f r v w (policy_differs here differs is) (policy_differs here' differs' is') = is ∙ sym is'
-
 -- A comparison of low halves reads the low 32 bits of the mask alone.
 reads_low_mask : (o : SeccompCmpOp) (x v : ℕ) → Compares o (part_of Dword) x v ↔ Compares (low_operator o) (part_of Qword) x v
 reads_low_mask (MaskedEq m) x v = (λ h. h, λ h. h)
@@ -190,7 +177,7 @@ same_comparison o p x y v w operator argument value compares =
     (reads_low_mask p y w).1 (rw (← operator, ← argument, ← value) ((reads_low_mask o x v).0 compares))
 
 -- A condition on the low half of an argument depends on the low 32 bits of argument, value and mask alone.
-pub low_half_decides : (c d : Condition) (r s : List ℕ) → IsSameLowHalf c d → HasSameLowArgument c.arg_index r s → Holds c r → Holds d s
+low_half_decides : (c d : Condition) (r s : List ℕ) → IsSameLowHalf c d → HasSameLowArgument c.arg_index r s → Holds c r → Holds d s
 low_half_decides c d r s same argument holds =
     let low_holds = subst (λ l. Compares c.operator (part_of l) (part_of l (argument_at r c.arg_index)) (part_of l c.value)) same.first_length holds in
     let low_argument = argument ∙ ap (λ i. argument_at s i % 2 ^ 32) same.index in
@@ -199,12 +186,8 @@ low_half_decides c d r s same argument holds =
     (sym same.second_length)
     (same_comparison c.operator d.operator _ _ _ _ same.operator low_argument same.value low_holds)
 
--- The length of a program and its steps past the chains come from the chains alone.
-pub length_by_map : (f g : Filter) → f.chains ≡ g.chains → (counted_length f ≡ counted_length g) × (passing_steps f ≡ passing_steps g)
-length_by_map f g same = (ap counted_length_of same, ap (λ chains. 4 + chains_steps chains) same)
-
 -- Both ways: what decides a condition by low halves decides it alike.
-pub low_half_same : (c d : Condition) (r s : List ℕ) → IsSameLowHalf c d → HasSameLowArgument c.arg_index r s → Holds c r ↔ Holds d s
+low_half_same : (c d : Condition) (r s : List ℕ) → IsSameLowHalf c d → HasSameLowArgument c.arg_index r s → Holds c r ↔ Holds d s
 low_half_same c d r s same argument =
     let back : IsSameLowHalf d c = record { first_length = same.second_length; second_length = same.first_length; index = sym same.index; operator = sym same.operator; value = sym same.value } in
     (low_half_decides c d r s same argument, low_half_decides d c s r back (sym (subst (λ i. HasSameLowArgument i r s) same.index argument)))

@@ -35,16 +35,8 @@ pub record Built (q : List Condition) (code : List sock_filter) (o : ℕ) : Type
 pub built_empty : Built [] [] 1
 built_empty = record { k = 0; body = body_empty; cutting = none refl refl refl }
 
--- a further condition stands near enough
-pub offset_small : (o : ℕ) → 1 ≤ o → o ≤ 254 → (1 ≤ offset_behind o) × (offset_behind o ≤ 248)
-offset_small o low high =
-    ⊎_elim
-    (λ near. let e = (relay_none o near).1 in (omega arith, omega arith))
-    (λ far. let e = (relay_one o far).1 in (omega arith, omega arith))
-    (cases_lt o 249)
-
 -- one condition more
-pub built_more : (q : List Condition) (code own : List sock_filter) (o : ℕ) (c : Condition) → IsConditionCode c (offset_behind o) own → Built q code o → Built (q ++ c ∷ []) (own ++ (relay_front o ++ code)) (offset_behind o + size_of c)
+built_more : (q : List Condition) (code own : List sock_filter) (o : ℕ) (c : Condition) → IsConditionCode c (offset_behind o) own → Built q code o → Built (q ++ c ∷ []) (own ++ (relay_front o ++ code)) (offset_behind o + size_of c)
 built_more q code own o c one h =
     ⊎_elim
     (λ near.

@@ -22,15 +22,6 @@ get_before [] b k i e = cc
 get_before (x ∷ a) b zero i e = e
 get_before (x ∷ a) b (suc k) i e = get_before a b k i e
 
-pub stands_front : (p : List sock_filter) (base : ℕ) (a b : List sock_filter) → Stands p base (a ++ b) → Stands p base a
-stands_front p base a b s = record { at = λ k i e. s.at k i (get_before a b k i e) }
-
-pub stands_back : (p : List sock_filter) (base : ℕ) (a b : List sock_filter) → Stands p base (a ++ b) → Stands p (base + length a) b
-stands_back p base a b s = record { at = λ k i e. let z : base + length a + k ≡ base + (length a + k) = omega arith in rw z (s.at (length a + k) i (get_behind a b k i e)) }
-
-pub stands_within : (front piece back : List sock_filter) → Stands (front ++ (piece ++ back)) (length front) piece
-stands_within front piece back = record { at = λ k i e. get_behind front (piece ++ back) k i (get_before piece back k i e) }
-
 -- an instruction does the same further on
 does_shift : (i : sock_filter) (r : List ℕ) (base place a place' a' : ℕ) → Does i r place a place' a' → Does i r (base + place) a (base + place') a'
 does_shift i r base place a place' a' (loads c h e f) = loads c h (omega arith) f
@@ -55,7 +46,7 @@ does_later i r place a place' a' (is_not_greater c t e f) = omega arith
 does_later i r place a place' a' (is_at_least c t e f) = omega arith
 does_later i r place a place' a' (is_less c t e f) = omega arith
 
-pub step_shift : (p piece : List sock_filter) (r : List ℕ) (base : ℕ) {place a place' a' : ℕ} → Stands p base piece → Step piece r place a place' a' → Step p r (base + place) a (base + place') a'
+step_shift : (p piece : List sock_filter) (r : List ℕ) (base : ℕ) {place a place' a' : ℕ} → Stands p base piece → Step piece r place a place' a' → Step p r (base + place) a (base + place') a'
 step_shift p piece r base {place} {a} {place'} {a'} s h = record {
   instruction = h.instruction;
   here = s.at place h.instruction h.here;
@@ -82,7 +73,7 @@ goes_far p r {place} {a} (then_step {n = n} {place' = place'} {a' = a'} {place''
     let step = does_later h.instruction r place' a' place'' a'' h.does in
     omega arith
 
-pub stands_first : (a b : List sock_filter) → Stands (a ++ b) 0 a
+stands_first : (a b : List sock_filter) → Stands (a ++ b) 0 a
 stands_first a b = record { at = λ k i e. let z : 0 + k ≡ k = omega arith in rw z (get_before a b k i e) }
 
 pub stands_second : (a b : List sock_filter) → Stands (a ++ b) (length a) b
@@ -95,7 +86,7 @@ pub leads_from : (p : List sock_filter) (r : List ℕ) (x x' a y : ℕ) → x �
 leads_from p r x x' a y e h = subst (λ n. Leads p r n a y) e h
 
 -- what the first piece does
-pub leads_first : (a b : List sock_filter) (r : List ℕ) (x s y : ℕ) → Leads a r x s y → Leads (a ++ b) r x s y
+leads_first : (a b : List sock_filter) (r : List ℕ) (x s y : ℕ) → Leads a r x s y → Leads (a ++ b) r x s y
 leads_first a b r x s y h =
     let zx : 0 + x ≡ x = omega arith in
     let zy : 0 + y ≡ y = omega arith in
@@ -110,7 +101,7 @@ pub stays_small : (p : List sock_filter) (r : List ℕ) {x a n y b : ℕ} → a 
 stays_small p r h stays = h
 stays_small p r h (then_step g s) = s.after
 
-pub leads_on : (p : List sock_filter) (r : List ℕ) (x a y z : ℕ) → a < 2 ^ 32 → Leads p r x a y → ((b : ℕ) → b < 2 ^ 32 → Leads p r y b z) → Leads p r x a z
+leads_on : (p : List sock_filter) (r : List ℕ) (x a y z : ℕ) → a < 2 ^ 32 → Leads p r x a y → ((b : ℕ) → b < 2 ^ 32 → Leads p r y b z) → Leads p r x a z
 leads_on p r x a y z small g f =
     let h = f g.accumulator (stays_small p r small g.goes) in
     record { count = g.count + h.count; accumulator = h.accumulator; goes = goes_on p r g.goes h.goes }

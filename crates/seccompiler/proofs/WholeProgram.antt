@@ -6,8 +6,10 @@ use Rattle.std.proofs.lemmas.Bool.{cases_eq}
 use Rattle.seccompiler.specs.declared.bpf.sock_filter.{sock_filter}
 use Rattle.seccompiler.specs.declared.backend.SeccompAction.{SeccompAction}
 use Rattle.seccompiler.specs.declared.backend.SeccompAction.TheVariants.{Allow, Errno, KillThread, KillProcess, Log, Trace, Trap}
+use Rattle.seccompiler.specs.declared.backend.TargetArch.{TargetArch}
+use Rattle.seccompiler.specs.declared.backend.TargetArch.TheVariants.{x86_64, aarch64, riscv64}
 use Rattle.seccompiler.specs.Record.{IsRecord, word_at}
-use Rattle.seccompiler.specs.Code.{load, give, jump_equal}
+use Rattle.seccompiler.specs.Code.{load, give, jump_equal, guard_code}
 use Rattle.seccompiler.specs.Machine.{Goes, stays, then_step, Ends}
 use Rattle.seccompiler.specs.Checked.{IsFine, fine_load, fine_mask, fine_jump, fine_equal, fine_greater, fine_at_least, fine_return, IsInside, inside_load, inside_mask, inside_jump, inside_equal, inside_greater, inside_at_least, IsChecked, AreInRange, IsInRange}
 use Rattle.seccompiler.specs.Action.{word_of, audit_word}
@@ -77,7 +79,7 @@ module _ (f : Filter) (fits_mismatch : word_of f.mismatch_action < 2 ^ 32) (fits
 
   -- the three instructions that answer another architecture
   abbrev guard : List sock_filter
-  guard = load 4 ∷ jump_equal arch_word 1 0 ∷ give 0x80000000 ∷ []
+  guard = guard_code arch_word
 
   load_in_range : (k : ℕ) → k ≤ 60 → IsInRange (load k)
   load_in_range k h = record { code = omega arith; jt = omega arith; jf = omega arith; k = omega arith }
@@ -171,7 +173,7 @@ module _ (f : Filter) (fits_mismatch : word_of f.mismatch_action < 2 ^ 32) (fits
       (block_join front one (length front) 0 (length front) (block_join head chains 4 (length chains) (length front) head_block h.block (omega arith) (omega arith)) (block_give mismatch_word 0) (omega arith) (omega arith))
       (omega arith)
 
-  pub full_program : (chains : List sock_filter) → 0 < length f.chains → counted_length f < 4096 → IsChainsCode f.chains mismatch_word match_word chains → IsCompiled f (whole chains)
+  full_program : (chains : List sock_filter) → 0 < length f.chains → counted_length f < 4096 → IsChainsCode f.chains mismatch_word match_word chains → IsCompiled f (whole chains)
   full_program chains some short h =
       let counted = counted_some f.chains some in
       let len : length (whole chains) ≡ 4 + (length chains + 1) = omega (arith, length-append chains (give mismatch_word ∷ [])) in
@@ -207,10 +209,10 @@ module _ (f : Filter) (fits_mismatch : word_of f.mismatch_action < 2 ^ 32) (fits
         value = refl;
       }
 
-  pub full_passes : (chains : List sock_filter) → IsChainsCode f.chains mismatch_word match_word chains → Passes f (whole chains)
+  full_passes : (chains : List sock_filter) → IsChainsCode f.chains mismatch_word match_word chains → Passes f (whole chains)
   full_passes chains h = record { passes = λ some r rec same none. passed chains r rec same none (h.dispatches r rec (word_at r 0) (word_fits r 0 rec)) }
 
-  pub empty_passes : (p : List sock_filter) → f.chains ≡ [] → Passes f p
+  empty_passes : (p : List sock_filter) → f.chains ≡ [] → Passes f p
   empty_passes p none = record { passes = λ some r rec same there. absurd (some none) }
 
 -- the word of an action has 32 bits
@@ -222,6 +224,12 @@ action_word_fits KillProcess = omega arith
 action_word_fits Log = omega arith
 action_word_fits (Trace x) = omega arith
 action_word_fits Trap = omega arith
+
+-- so has the word of an architecture
+pub audit_word_fits : (arch : TargetArch) → audit_word arch < 2 ^ 32
+audit_word_fits x86_64 = omega arith
+audit_word_fits aarch64 = omega arith
+audit_word_fits riscv64 = omega arith
 
 -- What is known of a filter whose program is written: its words, and its chains as the map holds them.
 pub record Written (f : Filter) (entries : List (ℤ × Vec Rule Global)) (mismatch matched arch : ℕ) : Type 0 where

@@ -1,5 +1,5 @@
 -- The instructions of classic BPF that a filter is made of, by name.
-use Rattle.std.specs.Prelude.{ℕ}
+use Rattle.std.specs.Prelude.{ℕ, List, [], ◌∷◌}
 use Rattle.seccompiler.specs.declared.bpf.sock_filter.{sock_filter}
 
 -- Load the word at byte k of the record.
@@ -29,3 +29,7 @@ jump_at_least k jt jf = record { code = 0x35; jt = jt; jf = jf; k = k }
 -- End, and return the word k.
 abbrev pub give : ℕ → sock_filter
 give k = record { code = 0x06; jt = 0; jf = 0; k = k }
+
+-- The guard in front of a program: it kills the process where the record's architecture word is another (seccomp(2)).
+abbrev pub guard_code : ℕ → List sock_filter
+guard_code arch_word = load 4 ∷ jump_equal arch_word 1 0 ∷ give 0x80000000 ∷ []

@@ -36,3 +36,4 @@ pub mod Place
 pub mod TextPieces
 pub mod TextWalk
 pub mod Equality
+pub mod EqualityLaws

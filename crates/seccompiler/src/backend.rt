@@ -4,8 +4,9 @@ use crate::bpf::{
     AUDIT_ARCH_AARCH64, AUDIT_ARCH_RISCV64, AUDIT_ARCH_X86_64, SECCOMP_DATA_ARCH_OFFSET,
     jump_if_equal, load_word, return_word, sock_filter,
 };
+use crate::equality::EqualByParts;
 use std::alloc::{AllocError, AllocFailed, Global};
-use std::fmt;
+use std::{error, fmt};
 
 // The words that a program returns, as `linux/seccomp.h` has them.
 const SECCOMP_RET_KILL_PROCESS: u32 = 0x8000_0000;
@@ -35,6 +36,16 @@ pub enum TargetArch {
     aarch64,
     /// Little-endian riscv64.
     riscv64,
+}
+
+impl EqualByParts for TargetArch {
+    ghost use Rattle.std.specs.Prelude.{◌≡◌};
+    ghost use Rattle.std.specs.Cmp.Rules.{comparing};
+    ghost use Rattle.std.proofs.Common.{rules};
+
+    ghost has_same_parts = { λ x y. x ≡ y };
+
+    ghost decides = { Prim.search (comparing, rules) };
 }
 
 impl TargetArch {
@@ -134,6 +145,16 @@ pub enum SeccompCmpOp {
     Ne,
 }
 
+impl EqualByParts for SeccompCmpOp {
+    ghost use Rattle.std.specs.Prelude.{◌≡◌};
+    ghost use Rattle.std.specs.Cmp.Rules.{comparing};
+    ghost use Rattle.std.proofs.Common.{rules};
+
+    ghost has_same_parts = { λ x y. x ≡ y };
+
+    ghost decides = { Prim.search (comparing, rules) };
+}
+
 /// How much of an argument, of the value and of a mask is compared.
 #[derive(Clone, Copy, Debug, PartialEq, Eq)]
 pub enum SeccompCmpArgLen {
@@ -141,6 +162,16 @@ pub enum SeccompCmpArgLen {
     Dword,
     /// All 8 bytes.
     Qword,
+}
+
+impl EqualByParts for SeccompCmpArgLen {
+    ghost use Rattle.std.specs.Prelude.{◌≡◌};
+    ghost use Rattle.std.specs.Cmp.Rules.{comparing};
+    ghost use Rattle.std.proofs.Common.{rules};
+
+    ghost has_same_parts = { λ x y. x ≡ y };
+
+    ghost decides = { Prim.search (comparing, rules) };
 }
 
 /// What a filter answers for a system call, as `seccomp(2)` names it.
@@ -163,6 +194,16 @@ pub enum SeccompAction {
     Trace(u32),
     /// Sends `SIGSYS` to the calling process.
     Trap,
+}
+
+impl EqualByParts for SeccompAction {
+    ghost use Rattle.std.specs.Prelude.{◌≡◌};
+    ghost use Rattle.std.specs.Cmp.Rules.{comparing};
+    ghost use Rattle.std.proofs.Common.{rules};
+
+    ghost has_same_parts = { λ x y. x ≡ y };
+
+    ghost decides = { Prim.search (comparing, rules) };
 }
 
 /// The word that a program returns for the action.
@@ -204,6 +245,15 @@ pub enum BackendError {
     OutOfMemory,
 }
 
+impl EqualByParts for BackendError {
+    ghost use Rattle.seccompiler.specs.Equality.{IsSameRefusal};
+    ghost use Rattle.seccompiler.specs.EqualityLaws.{refusals_decide};
+
+    ghost has_same_parts = { IsSameRefusal };
+
+    ghost decides = { refusals_decide };
+}
+
 /// The error's text.
 impl fmt::Display for BackendError {
     ghost use Rattle.std.specs.Prelude.{Some};
@@ -235,6 +285,8 @@ impl fmt::Display for BackendError {
     }
 }
 
+impl error::Error for BackendError {}
+
 impl From<AllocError> for BackendError {
     ghost use Rattle.std.specs.Prelude.{◌≡◌};
     ghost use Rattle.seccompiler.specs.declared.backend.BackendError.TheVariants.{OutOfMemory};
@@ -257,10 +309,10 @@ impl<T: Drop> From<AllocFailed<T>> for BackendError {
     }
 }
 
-ghost use Rattle.std.specs.Prelude.{◌≡◌, [], ◌∷◌, IfOk, IsOkUnless};
+ghost use Rattle.std.specs.Prelude.{◌≡◌, IfOk, IsOkUnless};
 ghost use Rattle.seccompiler.specs.declared.backend.BackendError.TheVariants.{OutOfMemory};
 ghost use Rattle.seccompiler.specs.Action.{audit_word};
-ghost use Rattle.seccompiler.specs.Code.{load, jump_equal, give};
+ghost use Rattle.seccompiler.specs.Code.{guard_code};
 
 /// The three instructions that kill the process on a call of another architecture: load the
 /// architecture word, skip the return where it is `arch`'s, return `SECCOMP_RET_KILL_PROCESS`.
@@ -272,12 +324,19 @@ pub fn build_arch_validation_sequence(
     alloc: Global,
     arch: TargetArch,
 ) -> Result<Vec<sock_filter>, BackendError>
-    ensures code { IfOk result (λ code. code.items ≡ load 4 ∷ jump_equal (audit_word arch) 1 0 ∷ give 0x80000000 ∷ []) }
+    ensures code { IfOk result (λ code. code.items ≡ guard_code (audit_word arch)) }
     ensures memory { IsOkUnless result OutOfMemory }
 {
-    Ok(vec![in alloc;
+    Ok(arch_guard(arch).to_vec(alloc)?)
+}
+
+// The three instructions that begin each program.
+pub(crate) fn arch_guard(arch: TargetArch) -> [sock_filter; 3]
+    ensures { result ≡ guard_code (audit_word arch) }
+{
+    [
         load_word(u32::from(SECCOMP_DATA_ARCH_OFFSET)),
         jump_if_equal(arch.get_audit_value(), 1, 0),
         return_word(SECCOMP_RET_KILL_PROCESS),
-    ]?)
+    ]
 }

@@ -4,11 +4,18 @@ ghost use Rattle.std.specs.Prelude.{◌≡◌};
 ghost use Rattle.seccompiler.specs.Code.{load, mask, jump, jump_equal, jump_greater, jump_at_least, give};
 ghost use Rattle.seccompiler.specs.Checked.{IsInRange};
 
+use crate::equality::EqualByParts;
+
 /// One instruction of classic BPF.
 ///
 /// Which fields an instruction reads depends on its `code`; the others are ignored.
+///
+/// Its layout is that of `struct sock_filter` of `linux/filter.h`: 8 bytes, aligned to 4, with
+/// `code` at byte 0, `jt` at 2, `jf` at 3 and `k` at 4. So a program can be handed to a kernel, or
+/// to C, as it stands.
 #[allow(non_camel_case_types)]
 #[derive(Clone, Copy, Debug, PartialEq, Eq)]
+#[repr(C)]
 pub struct sock_filter {
     /// The operation.
     pub code: u16,
@@ -19,6 +26,20 @@ pub struct sock_filter {
     /// The operand: a byte offset, a mask, a distance, a number to compare with, or a word to return.
     pub k: u32,
 }
+
+impl EqualByParts for sock_filter {
+    ghost use Rattle.std.specs.Prelude.{◌≡◌};
+    ghost use Rattle.std.specs.Cmp.Rules.{comparing};
+    ghost use Rattle.std.proofs.Common.{rules};
+
+    ghost has_same_parts = { λ x y. x ≡ y };
+
+    ghost decides = { Prim.search (comparing, rules) };
+}
+
+const _: () = prove!(size_of::<sock_filter>() == 8);
+
+const _: () = prove!(align_of::<sock_filter>() == 4);
 
 /// A program: a sequence of BPF instructions.
 pub type BpfProgram = Vec<sock_filter>;

@@ -5,6 +5,7 @@ use crate::bpf::{
     ARG_NUMBER_MAX, SECCOMP_DATA_ARG_SIZE, SECCOMP_DATA_ARGS_OFFSET, and_mask, jump_if_at_least,
     jump_if_equal, jump_if_greater, load_word, return_word, sock_filter,
 };
+use crate::equality::EqualByParts;
 use crate::record::argument_at;
 use std::alloc::Global;
 use std::marker::Model;
@@ -29,6 +30,16 @@ impl Model for SeccompCondition {
     ghost invariant = { λ c. (c.arg_index ≤ 5) × (c.value < 2 ^ 64) };
 
     ghost inverse = { λ c. record { arg_index = c.arg_index; arg_len = c.arg_len; operator = c.operator; value = c.value } };
+}
+
+impl EqualByParts for SeccompCondition {
+    ghost use Rattle.std.specs.Prelude.{◌≡◌};
+    ghost use Rattle.std.specs.Cmp.Rules.{comparing};
+    ghost use Rattle.std.proofs.Common.{rules};
+
+    ghost has_same_parts = { λ x y. x ≡ y };
+
+    ghost decides = { Prim.search (comparing, rules) };
 }
 
 impl SeccompCondition {

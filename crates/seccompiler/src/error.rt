@@ -50,6 +50,8 @@ impl fmt::Display for Error {
     }
 }
 
+impl std::error::Error for Error {}
+
 /// The backend's want of memory is the crate's; any other refusal stays the backend's.
 impl From<BackendError> for Error {
     ghost use Rattle.std.specs.Prelude.{◌≡◌};

@@ -1,11 +1,12 @@
 // A policy on system calls, and its program.
 
-use crate::backend::{BackendError, SeccompAction, TargetArch};
+use crate::backend::{BackendError, SeccompAction, TargetArch, arch_guard};
 use crate::bpf::{
-    BPF_MAX_LEN, BpfProgram, SECCOMP_DATA_ARCH_OFFSET, SECCOMP_DATA_NR_OFFSET, jump_if_equal,
-    load_word, return_word, sock_filter,
+    BPF_MAX_LEN, BpfProgram, SECCOMP_DATA_ARCH_OFFSET, SECCOMP_DATA_NR_OFFSET, load_word,
+    return_word, sock_filter,
 };
 use crate::chain::{chain_len, chain_matches, clone_chain, unfit_number, write_chains};
+use crate::equality::EqualByParts;
 use crate::record::word_at;
 use crate::rule::SeccompRule;
 use std::alloc::Global;
@@ -37,6 +38,8 @@ impl Model for SeccompFilter {
 
 impl SeccompFilter {
     ghost use Rattle.std.specs.Prelude.{◌≡◌, ◌≢◌, ◌<◌, ◌↔◌, ℕ, List, length, min, IfOk, IfErr, IsOk, IsTrue, OnOk, IsOkUnless};
+    ghost use Rattle.std.specs.List.Sorted.{IsStrictlySortedBy};
+    ghost use Rattle.std.specs.Ordering.{int_cmp};
     ghost use Rattle.seccompiler.specs.declared.backend.BackendError.TheVariants.{IdenticalActions, OutOfMemory};
     ghost use Rattle.seccompiler.specs.Policy.{Filter, chains_of, Matches, IsDecision};
     ghost use Rattle.seccompiler.specs.Reorder.{IsReordered, IsSameCall};
@@ -126,9 +129,10 @@ impl SeccompFilter {
     /// matches, else the word of the mismatch action.
     ///
     /// It depends on neither the order of rules in a chain nor that of conditions in a rule, nor on
-    /// the record's instruction pointer.
+    /// the record's instruction pointer. The policy names no other word for the call.
     pub fn decide(&self, call: &[u8; 64]) -> u32
         ensures decision { IsDecision self.now call.now result }
+        ensures only { (w : ℕ) → IsDecision self.now call.now w → w ≡ result }
         ensures order { (g : Filter) (s : List ℕ) → IsReordered self.now g → IsSameCall call.now s → IsDecision g s result }
     {
         let arch = word_at(call, SECCOMP_DATA_ARCH_OFFSET as usize);
@@ -154,8 +158,11 @@ impl SeccompFilter {
     }
 
     /// How many instructions the filter's program takes, or `usize::MAX` if that is less.
+    ///
+    /// As for every map, the call numbers ascend, each once; so there is one chain under each.
     pub fn program_len(&self) -> usize
-        ensures { result ≡ min (counted_length self.now) usize.MAX }
+        ensures length { result ≡ min (counted_length self.now) usize.MAX }
+        ensures ordered { IsStrictlySortedBy int_cmp (numbers_of self.now.chains) }
     {
         if self.rules.is_empty() {
             return 4;
@@ -176,9 +183,7 @@ impl SeccompFilter {
         ensures passes { Passes self.now program.new }
     {
         let mismatch = u32::from(self.mismatch_action);
-        program[0] = load_word(u32::from(SECCOMP_DATA_ARCH_OFFSET));
-        program[1] = jump_if_equal(self.target_arch.get_audit_value(), 1, 0);
-        program[2] = return_word(SeccompAction::KillProcess.into());
+        program[..3].copy_from_slice(&arch_guard(self.target_arch));
         if self.rules.is_empty() {
             program[3] = return_word(mismatch);
             return;
@@ -197,22 +202,15 @@ impl SeccompFilter {
 
 /// Filters are equal where their chains, their actions and their architectures are.
 impl PartialEq for SeccompFilter {
-    ghost use Rattle.std.specs.Prelude.{◌≡◌, ◌↔◌, IsTrue};
-    ghost use Rattle.std.specs.Cmp.{int_eq_equiv, partial_equiv_from_equiv, and_per, on_per};
-    ghost use Rattle.std.specs.Cmp.Lexicographic.{lists_per};
+    ghost use Rattle.std.specs.Cmp.{decided, partial_equiv_from_equiv};
     ghost use Rattle.seccompiler.specs.Equality.{are_filters_equal};
-    ghost use Rattle.seccompiler.specs.contracts.rule.SeccompRulePartialEq.TheImpl.Laws as rule_laws;
-    ghost use Rattle.seccompiler.specs.contracts.backend.SeccompActionPartialEq.TheImpl.Laws as action_laws;
-    ghost use Rattle.seccompiler.specs.contracts.backend.TargetArchPartialEq.TheImpl.Laws as arch_laws;
+    ghost use Rattle.seccompiler.specs.EqualityLaws.{filters_decide};
 
     ghost eq = { are_filters_equal };
 
-    ghost laws = { and_per (on_per (λ f. f.chains) (lists_per (and_per (on_per (λ e. e.0) (partial_equiv_from_equiv int_eq_equiv)) (on_per (λ e. e.1) (lists_per rule_laws.laws-law))))) (and_per (on_per (λ f. f.mismatch_action) action_laws.laws-law) (and_per (on_per (λ f. f.match_action) action_laws.laws-law) (on_per (λ f. f.target_arch) arch_laws.laws-law))) };
+    ghost laws = { partial_equiv_from_equiv (decided are_filters_equal filters_decide) };
 
-    fn eq(&self, other: &SeccompFilter) -> bool
-        ensures value { result ≡ are_filters_equal self.now other.now }
-        ensures same { IsTrue result ↔ (self.now ≡ other.now) }
-    {
+    fn eq(&self, other: &SeccompFilter) -> bool {
         self.rules == other.rules
             && self.mismatch_action == other.mismatch_action
             && self.match_action == other.match_action
@@ -221,11 +219,18 @@ impl PartialEq for SeccompFilter {
 }
 
 impl Eq for SeccompFilter {
-    ghost use Rattle.std.specs.Cmp.{int_eq_equiv, and_equiv, on_equiv};
-    ghost use Rattle.std.specs.Cmp.Lexicographic.{lists_equiv};
-    ghost use Rattle.seccompiler.specs.contracts.rule.SeccompRuleEq.TheImpl.Laws as rule_laws;
-    ghost use Rattle.seccompiler.specs.contracts.backend.SeccompActionEq.TheImpl.Laws as action_laws;
-    ghost use Rattle.seccompiler.specs.contracts.backend.TargetArchEq.TheImpl.Laws as arch_laws;
+    ghost use Rattle.std.specs.Cmp.{decided};
+    ghost use Rattle.seccompiler.specs.Equality.{are_filters_equal};
+    ghost use Rattle.seccompiler.specs.EqualityLaws.{filters_decide};
 
-    ghost laws = { and_equiv (on_equiv (λ f. f.chains) (lists_equiv (and_equiv (on_equiv (λ e. e.0) int_eq_equiv) (on_equiv (λ e. e.1) (lists_equiv rule_laws.laws-law))))) (and_equiv (on_equiv (λ f. f.mismatch_action) action_laws.laws-law) (and_equiv (on_equiv (λ f. f.match_action) action_laws.laws-law) (on_equiv (λ f. f.target_arch) arch_laws.laws-law))) };
+    ghost laws = { decided are_filters_equal filters_decide };
+}
+
+impl EqualByParts for SeccompFilter {
+    ghost use Rattle.std.specs.Prelude.{◌≡◌};
+    ghost use Rattle.seccompiler.specs.EqualityLaws.{filters_decide};
+
+    ghost has_same_parts = { λ x y. x ≡ y };
+
+    ghost decides = { filters_decide };
 }

@@ -6,6 +6,7 @@ pub mod bpf;
 pub(crate) mod chain;
 pub mod compile;
 pub mod condition;
+pub mod equality;
 pub mod error;
 pub mod filter;
 pub mod install;
@@ -19,8 +20,13 @@ pub use backend::{BackendError, SeccompAction, SeccompCmpArgLen, SeccompCmpOp, T
 pub use bpf::{BpfProgram, BpfProgramRef, sock_filter};
 pub use compile::{BpfMap, compile_from_json};
 pub use condition::SeccompCondition;
+pub use equality::EqualByParts;
 pub use error::{Error, Result};
 pub use filter::SeccompFilter;
 pub use install::{Kernel, apply_filter, apply_filter_all_threads};
+pub use json::{
+    JsonCompiler, JsonCondition, JsonFilter, JsonFilterMap, JsonFrontendError, JsonRule,
+};
 pub use machine::Outcome;
 pub use rule::SeccompRule;
+pub use syscall_table::SyscallTable;

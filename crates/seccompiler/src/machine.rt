@@ -8,6 +8,7 @@ use crate::bpf::{
     BPF_MAX_LEN, BpfProgramRef, JUMP, JUMP_AT_LEAST, JUMP_EQUAL, JUMP_GREATER, LOAD, MASK, RETURN,
     sock_filter,
 };
+use crate::equality::EqualByParts;
 use crate::record::{LAST_WORD_OFFSET, word_at};
 
 /// How a run of a program ends.
@@ -17,6 +18,16 @@ pub struct Outcome {
     pub word: u32,
     /// How many instructions are executed, the return included.
     pub steps: usize,
+}
+
+impl EqualByParts for Outcome {
+    ghost use Rattle.std.specs.Prelude.{◌≡◌};
+    ghost use Rattle.std.specs.Cmp.Rules.{comparing};
+    ghost use Rattle.std.proofs.Common.{rules};
+
+    ghost has_same_parts = { λ x y. x ≡ y };
+
+    ghost decides = { Prim.search (comparing, rules) };
 }
 
 /// Tells whether a program may be run.

@@ -3,6 +3,7 @@
 use crate::backend::BackendError;
 use crate::bpf::{BpfProgram, CONDITION_MAX_LEN, jump_over, return_word, sock_filter};
 use crate::condition::SeccompCondition;
+use crate::equality::EqualByParts;
 use std::alloc::Global;
 use std::marker::Model;
 
@@ -137,19 +138,15 @@ impl SeccompRule {
 
 /// Rules are equal where their conditions are, in their order.
 impl PartialEq for SeccompRule {
-    ghost use Rattle.std.specs.Prelude.{◌≡◌, ◌↔◌, IsTrue};
-    ghost use Rattle.std.specs.Cmp.Lexicographic.{pointwise, lists_per};
-    ghost use Rattle.seccompiler.specs.contracts.condition.SeccompConditionPartialEq.TheImpl as condition_equality;
+    ghost use Rattle.std.specs.Cmp.Lexicographic.{lists_per};
+    ghost use Rattle.seccompiler.specs.Equality.{are_rules_equal};
     ghost use Rattle.seccompiler.specs.contracts.condition.SeccompConditionPartialEq.TheImpl.Laws as condition_laws;
 
-    ghost eq = { λ x y. pointwise (condition_equality.ghosts).eq x y };
+    ghost eq = { are_rules_equal };
 
     ghost laws = { lists_per condition_laws.laws-law };
 
-    fn eq(&self, other: &SeccompRule) -> bool
-        ensures value { result ≡ pointwise (condition_equality.ghosts).eq self.now other.now }
-        ensures same { IsTrue result ↔ (self.now ≡ other.now) }
-    {
+    fn eq(&self, other: &SeccompRule) -> bool {
         self.conditions.as_slice() == other.conditions.as_slice()
     }
 }
@@ -159,6 +156,15 @@ impl Eq for SeccompRule {
     ghost use Rattle.seccompiler.specs.contracts.condition.SeccompConditionEq.TheImpl.Laws as condition_laws;
 
     ghost laws = { lists_equiv condition_laws.laws-law };
+}
+
+impl EqualByParts for SeccompRule {
+    ghost use Rattle.std.specs.Prelude.{◌≡◌};
+    ghost use Rattle.seccompiler.specs.EqualityLaws.{rules_decide};
+
+    ghost has_same_parts = { λ x y. x ≡ y };
+
+    ghost decides = { rules_decide };
 }
 
 ghost use Rattle.std.specs.Prelude.{◌≡◌, ◌≤◌, ◌+◌, ◌++◌, length, drop};

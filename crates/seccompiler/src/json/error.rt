@@ -2,7 +2,7 @@
 
 use crate::backend::{BackendError, TargetArch};
 use std::alloc::{AllocError, AllocFailed};
-use std::{fmt, io};
+use std::{error, fmt, io};
 
 /// Why the JSON front end refuses.
 ///
@@ -50,6 +50,8 @@ impl fmt::Display for JsonFrontendError {
         }
     }
 }
+
+impl error::Error for JsonFrontendError {}
 
 impl From<AllocError> for JsonFrontendError {
     ghost use Rattle.std.specs.Prelude.{◌≡◌};

@@ -4,12 +4,17 @@ use Rattle.std.proofs.lemmas.Map.Iter.{iter_end}
 use Rattle.std.specs.Map.Iter.{deref}
 use Rattle.std.specs.Map.{values_of}
 use Rattle.seccompiler.specs.Policy.{Filter}
+use Rattle.seccompiler.proofs.Chains.{numbers_ascend, no_numbers_ascend}
 use Rattle.seccompiler.proofs.CappedLengths.{capped_chain_more, capped_filter, empty_filter}
 use Rattle.seccompiler.proofs.filter.SeccompFilter.program_len.Goals as goal
 
 pub returns-then-is_empty : goal.returns-then-is_empty
 returns-then-is_empty c =
-    empty_filter (2 ^ 64 - 1) c.args.self.now c.self.inside.rules.entries (lit≤ tt) (ap (λ (f : Filter). f.chains) c.self.view_is) (c.if-is_empty.ensures.0 refl)
+    let f = c.args.self.now in
+    let entries = c.self.inside.rules.entries in
+    let chains = ap (λ (g : Filter). g.chains) c.self.view_is in
+    let none = c.if-is_empty.ensures.0 refl in
+    record { length = empty_filter (2 ^ 64 - 1) f entries (lit≤ tt) chains none; ordered = no_numbers_ascend f entries chains none }
 
 pub loop-chain-preserved : goal.loop-chain-preserved
 loop-chain-preserved c =
@@ -17,7 +22,11 @@ loop-chain-preserved c =
 
 pub returns : goal.returns
 returns c =
+    let f = c.args.self.now in
     let entries = c.self.inside.rules.entries in
+    let chains = ap (λ (g : Filter). g.chains) c.self.view_is in
     let whole = iter_end deref (values_of entries) c.loop-chain.yielded _ _ _ _ (c.into_iter-chain-iterator.ensures.into_iter_gives ∙ c.values-chain-items.ensures.rest) c.loop-chain.yielded_by c.in-None.is c.next.ensures.steps in
-    capped_filter (2 ^ 64 - 1) c.args.self.now entries c.loop-chain.yielded c.loop-chain.length
-    (ap (λ (f : Filter). f.chains) c.self.view_is) (λ none. false≢true (c.if-is_empty.ensures.1 none)) whole.0 c.loop-chain.invariant
+    record {
+      length = capped_filter (2 ^ 64 - 1) f entries c.loop-chain.yielded c.loop-chain.length chains (λ none. false≢true (c.if-is_empty.ensures.1 none)) whole.0 c.loop-chain.invariant;
+      ordered = numbers_ascend f entries chains c.values-chain-items.ensures.ordered;
+    }

@@ -26,7 +26,7 @@ returns-then-length-ge-BPF_MAX_LEN-clause-refused c =
     record {
       numbers = call_numbers _ c.args.self.now c.self.inside.rules.entries c.self.view_is refl (c.in_default.ensures.fit.0 refl);
       large = omega arith;
-      length = c.program_len-length.ensures;
+      length = c.program_len-length.ensures.length;
     }
 
 pub returns-in_err-program-clause-refused : goal.returns-in_err-program-clause-refused

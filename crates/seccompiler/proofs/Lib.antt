@@ -26,7 +26,6 @@ pub mod FilterEquality
 pub mod Reordering
 pub mod TableNames
 pub mod TableFacts
-pub mod JsonEqualities
 pub mod TextCuts
 pub mod FilterSteps
 pub mod OptionSteps

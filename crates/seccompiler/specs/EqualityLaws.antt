@@ -15,7 +15,7 @@ use Rattle.seccompiler.specs.Policy.{Rule, Chain, Filter}
 use Rattle.seccompiler.specs.Equality.{are_rules_equal, are_entries_equal, are_filters_equal, IsSameRefusal, same, same_name}
 
 -- A test that tells a fact tells each fact that is as good.
-through : {P Q : Type 0} (b : Bool) → (P → Q) → (Q → P) → Decides b P → Decides b Q
+pub through : {P Q : Type 0} (b : Bool) → (P → Q) → (Q → P) → Decides b P → Decides b Q
 through b there back h = (λ t. there (h.0 t), λ q. h.1 (back q))
 
 pub rules_decide : (x y : Rule) → Decides (are_rules_equal x y) (x ≡ y)

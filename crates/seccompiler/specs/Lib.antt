@@ -26,6 +26,7 @@ pub mod JsonPrograms
 pub mod Reorder
 pub mod LowHalf
 pub mod JsonEquality
+pub mod JsonEqualityLaws
 pub mod JsonFault
 pub mod JsonFilters
 pub mod JsonReading

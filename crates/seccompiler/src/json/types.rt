@@ -1,6 +1,7 @@
 // A JSON text of filters, as types. docs/JSON.md has the format of the text.
 
 use crate::backend::{SeccompAction, SeccompCmpArgLen, SeccompCmpOp};
+use crate::equality::EqualByParts;
 use std::collections::BTreeMap;
 use std::marker::Model;
 
@@ -18,6 +19,16 @@ pub struct JsonCondition {
     pub operator: SeccompCmpOp,
     /// What the argument is compared with: `val` in the text.
     pub value: u64,
+}
+
+impl EqualByParts for JsonCondition {
+    ghost use Rattle.std.specs.Prelude.{◌≡◌};
+    ghost use Rattle.std.specs.Cmp.Rules.{comparing};
+    ghost use Rattle.std.proofs.Common.{rules};
+
+    ghost has_same_parts = { λ x y. x ≡ y };
+
+    ghost decides = { Prim.search (comparing, rules) };
 }
 
 /// One entry of a filter: a system call, and conditions on its arguments.
@@ -43,19 +54,25 @@ impl Model for JsonRule {
 }
 
 impl PartialEq for JsonRule {
-    ghost use Rattle.std.specs.Prelude.{◌≡◌, ◌↔◌, IsTrue};
-    ghost use Rattle.seccompiler.specs.JsonEquality.{rule_eq, rule_eq_law};
+    ghost use Rattle.seccompiler.specs.JsonEquality.{rule_eq};
+    ghost use Rattle.seccompiler.specs.JsonEqualityLaws.{rule_eq_law};
 
     ghost eq = { rule_eq };
 
     ghost laws = { rule_eq_law };
 
-    fn eq(&self, other: &JsonRule) -> bool
-        ensures value { result ≡ rule_eq self.now other.now }
-        ensures same { IsTrue result ↔ (self.now ≡ other.now) }
-    {
+    fn eq(&self, other: &JsonRule) -> bool {
         self.syscall == other.syscall && self.conditions == other.conditions
     }
+}
+
+impl EqualByParts for JsonRule {
+    ghost use Rattle.std.specs.Prelude.{◌≡◌};
+    ghost use Rattle.seccompiler.specs.JsonEqualityLaws.{rule_decides};
+
+    ghost has_same_parts = { λ x y. x ≡ y };
+
+    ghost decides = { rule_decides };
 }
 
 /// One filter: what it answers, and which calls match it.
@@ -81,21 +98,27 @@ impl Model for JsonFilter {
 }
 
 impl PartialEq for JsonFilter {
-    ghost use Rattle.std.specs.Prelude.{◌≡◌, ◌↔◌, IsTrue};
-    ghost use Rattle.seccompiler.specs.JsonEquality.{filter_eq, filter_eq_law};
+    ghost use Rattle.seccompiler.specs.JsonEquality.{filter_eq};
+    ghost use Rattle.seccompiler.specs.JsonEqualityLaws.{filter_eq_law};
 
     ghost eq = { filter_eq };
 
     ghost laws = { filter_eq_law };
 
-    fn eq(&self, other: &JsonFilter) -> bool
-        ensures value { result ≡ filter_eq self.now other.now }
-        ensures same { IsTrue result ↔ (self.now ≡ other.now) }
-    {
+    fn eq(&self, other: &JsonFilter) -> bool {
         self.mismatch_action == other.mismatch_action
             && self.match_action == other.match_action
             && self.rules == other.rules
     }
+}
+
+impl EqualByParts for JsonFilter {
+    ghost use Rattle.std.specs.Prelude.{◌≡◌};
+    ghost use Rattle.seccompiler.specs.JsonEqualityLaws.{filter_decides};
+
+    ghost has_same_parts = { λ x y. x ≡ y };
+
+    ghost decides = { filter_decides };
 }
 
 /// The filters of a text under their names, in byte order of the names.
@@ -105,18 +128,24 @@ impl PartialEq for JsonFilter {
 pub struct JsonFilterMap(pub BTreeMap<String, JsonFilter>);
 
 impl PartialEq for JsonFilterMap {
-    ghost use Rattle.std.specs.Prelude.{◌≡◌, ◌↔◌, IsTrue};
-    ghost use Rattle.seccompiler.specs.JsonEquality.{filter_map_eq, filter_map_eq_law};
-    ghost use Rattle.seccompiler.specs.JsonFilters.{filters_of};
+    ghost use Rattle.seccompiler.specs.JsonEquality.{filter_map_eq};
+    ghost use Rattle.seccompiler.specs.JsonEqualityLaws.{filter_map_eq_law};
 
     ghost eq = { filter_map_eq };
 
     ghost laws = { filter_map_eq_law };
 
-    fn eq(&self, other: &JsonFilterMap) -> bool
-        ensures value { result ≡ filter_map_eq self.now other.now }
-        ensures same { IsTrue result ↔ (filters_of self.now ≡ filters_of other.now) }
-    {
+    fn eq(&self, other: &JsonFilterMap) -> bool {
         self.0 == other.0
     }
+}
+
+impl EqualByParts for JsonFilterMap {
+    ghost use Rattle.std.specs.Prelude.{◌≡◌};
+    ghost use Rattle.seccompiler.specs.JsonEqualityLaws.{filter_map_decides};
+    ghost use Rattle.seccompiler.specs.JsonFilters.{filters_of};
+
+    ghost has_same_parts = { λ m n. filters_of m ≡ filters_of n };
+
+    ghost decides = { filter_map_decides };
 }

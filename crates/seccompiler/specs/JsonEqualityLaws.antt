@@ -1,16 +1,18 @@
--- The tests of equality of JSON filters decide equality.
-use Rattle.std.proofs.Common.{◌≡◌, Bool, ◌&&◌, List, [], ◌∷◌, Option, Some, None, String, Global, map, refl, sym, ap, ◌∙◌, rules, Decides, string_eq, string_bytes}
+-- Each test of equality of JSON filters tells whether two values have the same parts, so it is symmetric and transitive.
+use Rattle.std.specs.Prelude.{◌≡◌, Bool, ◌&&◌, List, [], ◌∷◌, Option, Some, None, String, map, string_eq, string_bytes, refl, Decides}
 use Rattle.std.specs.Option.{option_eq}
-use Rattle.std.specs.Cmp.Lexicographic.{pointwise, pointwise_decides, bytes_decides}
+use Rattle.std.specs.Cmp.{IsPartialEquivalence, partial_equiv_from_equiv, decided, and_per, on_per}
+use Rattle.std.specs.Cmp.Lexicographic.{pointwise, pointwise_decides, bytes_decides, lists_per, nat_list_eq_equiv}
+use Rattle.std.specs.declared.alloc.Global.{Global}
+use Rattle.std.proofs.Common.{sym, ap}
 use Rattle.std.proofs.lemmas.Bool.{true≢false}
 use Rattle.std.proofs.lemmas.Bool.Decides.{Decides-and}
-use Rattle.seccompiler.specs.contracts.backend.SeccompActionPartialEq.TheImpl as action
-use Rattle.seccompiler.specs.contracts.json.types.JsonConditionPartialEq.TheImpl as condition
-use Rattle.seccompiler.specs.declared.backend.SeccompAction.{SeccompAction}
-use Rattle.seccompiler.specs.declared.json.types.JsonCondition.{JsonCondition}
+use Rattle.seccompiler.specs.contracts.backend.SeccompActionEqualByParts.TheImpl.Laws as action
+use Rattle.seccompiler.specs.contracts.json.types.JsonConditionEqualByParts.TheImpl.Laws as condition
 use Rattle.seccompiler.specs.JsonTypes.{JsonRule, JsonFilter}
 use Rattle.seccompiler.specs.declared.json.types.JsonFilterMap.{JsonFilterMap}
-use Rattle.seccompiler.specs.JsonEquality.{conditions_eq, rule_eq, rules_eq, filter_eq, filter_map_eq}
+use Rattle.seccompiler.specs.EqualityLaws.{through}
+use Rattle.seccompiler.specs.JsonEquality.{rule_eq, filter_eq, filter_map_eq}
 use Rattle.seccompiler.specs.JsonFilters.{named, filters_of}
 
 -- of two `Option`s
@@ -20,29 +22,19 @@ option_decides h None (Some y) = (λ t. absurd (true≢false (sym t)), λ e. cc)
 option_decides h (Some x) None = (λ t. absurd (true≢false (sym t)), λ e. cc)
 option_decides h (Some x) (Some y) = (λ t. ap Some ((h x y).0 t), λ e. (h x y).1 cc)
 
-condition_decides : (x y : JsonCondition) → Decides (condition.ghosts.eq x y) (x ≡ y)
-condition_decides x y = search rules
-
-pub conditions_decide : (xs ys : List JsonCondition) → Decides (conditions_eq xs ys) (xs ≡ ys)
-conditions_decide = pointwise_decides condition_decides
-
--- a fact on the parts as one on the whole
-through : {P Q : Type 0} (b : Bool) → (P → Q) → (Q → P) → Decides b P → Decides b Q
-through b there back h = (λ t. there (h.0 t), λ q. h.1 (back q))
-
 pub rule_decides : (x y : JsonRule) → Decides (rule_eq x y) (x ≡ y)
 rule_decides x y = through (rule_eq x y) (λ e. λ i. record { syscall = e.0 i; conditions = e.1 i }) (λ e. (ap (λ r. r.syscall) e, ap (λ r. r.conditions) e))
-    (Decides-and _ _ (bytes_decides x.syscall y.syscall) (option_decides conditions_decide x.conditions y.conditions))
+    (Decides-and _ _ (bytes_decides x.syscall y.syscall) (option_decides (pointwise_decides condition.decides-law) x.conditions y.conditions))
 
-pub rules_decide : (xs ys : List JsonRule) → Decides (rules_eq xs ys) (xs ≡ ys)
-rules_decide = pointwise_decides rule_decides
-
-action_decides : (x y : SeccompAction) → Decides (action.ghosts.eq x y) (x ≡ y)
-action_decides x y = search rules
+pub rule_eq_law : IsPartialEquivalence rule_eq
+rule_eq_law = partial_equiv_from_equiv (decided rule_eq rule_decides)
 
 pub filter_decides : (x y : JsonFilter) → Decides (filter_eq x y) (x ≡ y)
 filter_decides x y = through (filter_eq x y) (λ e. λ i. record { mismatch_action = e.0 i; match_action = e.1.0 i; rules = e.1.1 i }) (λ e. (ap (λ r. r.mismatch_action) e, (ap (λ r. r.match_action) e, ap (λ r. r.rules) e)))
-    (Decides-and _ _ (action_decides _ _) (Decides-and _ _ (action_decides _ _) (rules_decide _ _)))
+    (Decides-and _ _ (action.decides-law _ _) (Decides-and _ _ (action.decides-law _ _) (pointwise_decides rule_decides _ _)))
+
+pub filter_eq_law : IsPartialEquivalence filter_eq
+filter_eq_law = partial_equiv_from_equiv (decided filter_eq filter_decides)
 
 entry_decides : (p q : String Global × JsonFilter) → Decides (string_eq p.0 q.0 && filter_eq p.1 q.1) (named p ≡ named q)
 entry_decides p q = through _ (λ e. λ i. (e.0 i, e.1 i)) (λ e. (ap (λ n. n.0) e, ap (λ n. n.1) e))
@@ -57,6 +49,5 @@ entries_decide (p ∷ ps) (q ∷ qs) = through _ (λ e. λ i. e.0 i ∷ e.1 i) (
 pub filter_map_decides : (m n : JsonFilterMap) → Decides (filter_map_eq m n) (filters_of m ≡ filters_of n)
 filter_map_decides m n = entries_decide m.0.entries n.0.entries
 
--- an answer that is the test's decides what the test decides
-pub answer_decides : {P : Type 0} (r b : Bool) → r ≡ b → Decides b P → Decides r P
-answer_decides r b e h = (λ t. h.0 (sym e ∙ t), λ p. e ∙ h.1 p)
+pub filter_map_eq_law : IsPartialEquivalence filter_map_eq
+filter_map_eq_law = on_per (λ (m : JsonFilterMap). m.0.entries) (lists_per (and_per (on_per (λ (p : String Global × JsonFilter). p.0) (on_per string_bytes (partial_equiv_from_equiv nat_list_eq_equiv))) (on_per (λ (p : String Global × JsonFilter). p.1) filter_eq_law)))

@@ -40,4 +40,6 @@ mod relays;
 #[cfg(test)]
 mod rules;
 #[cfg(test)]
+mod surface;
+#[cfg(test)]
 mod texts;

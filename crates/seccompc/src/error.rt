@@ -46,6 +46,8 @@ impl fmt::Display for ToolError {
     }
 }
 
+impl std::error::Error for ToolError {}
+
 /// The library's want of memory is the program's.
 impl From<seccompiler::Error> for ToolError {
     ghost use Rattle.std.specs.Prelude.{◌≡◌};

@@ -111,6 +111,8 @@ impl SeccompCondition {
     /// The code of the condition: run from its first instruction it leaves at its end where the
     /// condition holds, and `offset` instructions further where it does not.
     ///
+    /// The offset is from 1 to 248, so that each jump over it fits 8 bits.
+    ///
     /// # Errors
     ///
     /// `OutOfMemory` where memory is refused.
@@ -126,8 +128,9 @@ impl SeccompCondition {
         Ok(code)
     }
 
-    /// How many instructions the condition takes.
-    pub(crate) fn code_len(&self) -> usize
+    /// How many instructions the condition takes, from 2 to
+    /// [`CONDITION_MAX_LEN`](crate::bpf::CONDITION_MAX_LEN).
+    pub fn code_len(&self) -> usize
         ensures { result ≡ size_of self.now }
     {
         match (self.arg_len, self.operator) {
@@ -139,8 +142,12 @@ impl SeccompCondition {
         }
     }
 
-    /// Fills the part with the condition's code.
-    pub(crate) fn write(&self, part: &mut [sock_filter], offset: u8)
+    /// Fills the part with the condition's code: the code that [`to_bpf`](Self::to_bpf) gives.
+    ///
+    /// The part is a caller's own, of [`code_len`](Self::code_len) instructions, and the offset is
+    /// from 1 to 248; whatever stood in the part is written over, and nothing outside it. Takes no
+    /// memory.
+    pub fn write(&self, part: &mut [sock_filter], offset: u8)
         requires room { length part.old ≡ size_of self.now }
         requires some { 1 ≤ offset }
         requires few { offset ≤ 248 }

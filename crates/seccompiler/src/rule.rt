@@ -101,8 +101,14 @@ impl SeccompRule {
     }
 
     /// How many instructions the rule's code takes, or `usize::MAX` if that is less.
-    pub(crate) fn code_len(&self) -> usize
-        ensures { result ≡ min (rule_length self.now) usize.MAX }
+    ///
+    /// They are the two jumps in front, those of the conditions, and three for each relay: the
+    /// conditions, in order, fall into groups that close as soon as they take 248 instructions or
+    /// more, and a relay stands between each two. Takes no memory.
+    pub fn code_len(&self) -> usize
+        ensures length { result ≡ min (rule_length self.now) usize.MAX }
+        ensures groups { IsOnlyCut self.now (groups_of self.now) }
+        ensures few_relays { 248 * relays self.now ≤ total_size self.now }
     {
         let mut length: usize = 2;
         let mut offset: u8 = 1;
@@ -118,8 +124,23 @@ impl SeccompRule {
         length
     }
 
-    /// Fills the part with the rule's code, from its end to its front.
-    pub(crate) fn write(&self, part: &mut [sock_filter])
+    /// Fills the part with the rule's code, without the return behind it: the code that
+    /// [`to_bpf`](Self::to_bpf) gives.
+    ///
+    /// The part is a caller's own, of [`code_len`](Self::code_len) instructions; whatever stood in
+    /// it is written over, and nothing outside it. Takes no memory.
+    ///
+    /// ```
+    /// // The rules of a chain, each with a return behind it, in one buffer.
+    /// let mut start = 0;
+    /// for rule in &rules {
+    ///     let end = start + rule.code_len();
+    ///     rule.write(&mut buffer[start..end]);
+    ///     buffer[end] = bpf_stmt(BPF_RET | BPF_K, word);
+    ///     start = end + 1;
+    /// }
+    /// ```
+    pub fn write(&self, part: &mut [sock_filter])
         requires room { length part.old ≡ rule_length self.now }
         ensures code { IsRuleCode self.now part.new }
     {

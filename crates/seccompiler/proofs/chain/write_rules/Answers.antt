@@ -29,19 +29,19 @@ loop-rule-init c = record { code = rules_empty c.args.matched; within = omega ar
 pub overflow_add-end : goal.overflow_add-end
 overflow_add-end c =
     let l = c.loop-rule in
-    let r = room c.args.chain.now l.rule-index l.start c.code_len.result c.args.matched l.part c.args.part.now c.rule-item.result c.loop-rule-test.true c.rule-item.is l.invariant.code l.invariant.within l.auto.part c.requires.room c.requires.short c.code_len.ensures in
+    let r = room c.args.chain.now l.rule-index l.start c.code_len.result c.args.matched l.part c.args.part.now c.rule-item.result c.loop-rule-test.true c.rule-item.is l.invariant.code l.invariant.within l.auto.part c.requires.room c.requires.short c.code_len.ensures.length in
     omega (arith, r.within, r.short)
 
 pub write-requires : goal.write-requires
 write-requires c =
     let l = c.loop-rule in
-    let r = room c.args.chain.now l.rule-index l.start c.code_len.result c.args.matched l.part c.args.part.now c.rule-item.result c.loop-rule-test.true c.rule-item.is l.invariant.code l.invariant.within l.auto.part c.requires.room c.requires.short c.code_len.ensures in
+    let r = room c.args.chain.now l.rule-index l.start c.code_len.result c.args.matched l.part c.args.part.now c.rule-item.result c.loop-rule-test.true c.rule-item.is l.invariant.code l.invariant.within l.auto.part c.requires.room c.requires.short c.code_len.ensures.length in
     record { room = length-part l.start (l.start + c.code_len.result) l.part (omega arith) (omega (arith, r.within)) ∙ omega (arith, r.exact) }
 
 pub loop-rule-preserved : goal.loop-rule-preserved
 loop-rule-preserved c =
     let l = c.loop-rule in
-    let r = room c.args.chain.now l.rule-index l.start c.code_len.result c.args.matched l.part c.args.part.now c.rule-item.result c.loop-rule-test.true c.rule-item.is l.invariant.code l.invariant.within l.auto.part c.requires.room c.requires.short c.code_len.ensures in
+    let r = room c.args.chain.now l.rule-index l.start c.code_len.result c.args.matched l.part c.args.part.now c.rule-item.result c.loop-rule-test.true c.rule-item.is l.invariant.code l.invariant.within l.auto.part c.requires.room c.requires.short c.code_len.ensures.length in
     let long : length c.write.new.part ≡ l.start + c.code_len.result - l.start = omega (arith, c.write.ensures.code.long, r.exact) in
     let written = take-written l.start (l.start + c.code_len.result) l.part c.write.new.part c.return_word.result (omega arith) (omega (arith, r.within)) long in
     let last = ap (λ x. take l.start l.part ++ (c.write.new.part ++ x ∷ [])) c.return_word.ensures.instruction in

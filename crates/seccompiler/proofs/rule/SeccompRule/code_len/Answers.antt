@@ -1,6 +1,7 @@
 use Rattle.std.proofs.Common.{◌≡◌, ◌≤◌, ◌^◌, ◌-◌, ◌∙◌, ap, length, min, arith}
 use Rattle.seccompiler.specs.Condition.{size_of}
 use Rattle.seccompiler.specs.Layout.{rule_length}
+use Rattle.seccompiler.proofs.GroupCuts.{groups_of-only, relays_small}
 use Rattle.seccompiler.proofs.RuleLoops.{counted_empty, counted_more, counted_relay, counted_at, counted_rule}
 use Rattle.seccompiler.proofs.rule.SeccompRule.code_len.Goals as goal
 use Rattle.seccompiler.proofs.rule.SeccompRule.code_len.Goals.{then-offset-ge-RELAY_OFFSET, else-offset-ge-RELAY_OFFSET}
@@ -23,5 +24,9 @@ pub returns : goal.returns
 returns c =
     let same = c.deref-condition-items.ensures.value ∙ c.self.view_is in
     let some : 1 ≤ length c.deref-condition-items.result.now = omega (arith, ap length c.deref-condition-items.ensures.value, c.self.invariant) in
-    counted_rule c.deref-condition-items.result.now c.loop-condition.condition-index c.loop-condition.length c.loop-condition.offset some c.loop-condition-test.false c.loop-condition.invariant
-    ∙ ap (λ q. min (rule_length q) (2 ^ 64 - 1)) same
+    record {
+      length = counted_rule c.deref-condition-items.result.now c.loop-condition.condition-index c.loop-condition.length c.loop-condition.offset some c.loop-condition-test.false c.loop-condition.invariant
+          ∙ ap (λ q. min (rule_length q) (2 ^ 64 - 1)) same;
+      groups = groups_of-only c.args.self.now;
+      few_relays = relays_small c.args.self.now;
+    }

@@ -106,3 +106,20 @@ pub fn assert_faults(rt: &impl Abort, alloc: Global, cases: &[(&str, Fault)]) {
         assert_fault(rt, alloc, text, *fault);
     }
 }
+
+/// Asserts that `compile` accepts what the first reader gives, and `compile_from_json` what the
+/// second does.
+pub fn assert_accepted_from<R: Read + Drop>(rt: &impl Abort, alloc: Global, first: R, second: R) {
+    let filters = JsonCompiler::new(TargetArch::x86_64).compile(alloc, first);
+    assert!(rt; filters.is_ok(), "compile refuses the text");
+    let programs = compile_from_json(alloc, second, TargetArch::x86_64);
+    assert!(rt; programs.is_ok(), "compile_from_json refuses the text");
+}
+
+/// Asserts that both calls answer the text by this fault, or accept it where there is none.
+pub fn assert_answer(rt: &impl Abort, alloc: Global, text: &str, fault: Option<Fault>) {
+    match fault {
+        Some(fault) => assert_fault(rt, alloc, text, fault),
+        None => assert_accepted_from(rt, alloc, text.as_bytes(), text.as_bytes()),
+    }
+}

@@ -2,7 +2,7 @@
 
 use crate::faults::{Fault, is_frontend_fault, is_library_fault};
 use crate::json_samples::{COMPARES, MAIN_THREAD, READS, policy};
-use crate::scarce::{Answer, Call, assert_refusals};
+use crate::scarce::{Answer, Call, assert_refusals, judged};
 use seccompiler::backend::TargetArch;
 use seccompiler::bpf::BpfProgram;
 use seccompiler::filter::SeccompFilter;

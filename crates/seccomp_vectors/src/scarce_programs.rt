@@ -2,7 +2,7 @@
 
 use crate::builders::{Parts, condition, long_rule, one_rule, rule};
 use crate::policies::{empty_policy, three_calls, two_calls};
-use crate::scarce::{Answer, Call, assert_refusals};
+use crate::scarce::{Answer, Call, assert_refusals, judged};
 use seccompiler::backend::SeccompCmpArgLen::{Dword, Qword};
 use seccompiler::backend::SeccompCmpOp::{Eq, MaskedEq};
 use seccompiler::backend::{BackendError, TargetArch, build_arch_validation_sequence};

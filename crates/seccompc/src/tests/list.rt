@@ -152,7 +152,11 @@ fn assert_written(rt: &impl Abort, alloc: Global, calls: usize, at_once: usize, 
         Err(_) => false,
     };
     assert!(rt; is_right, "{calls} calls of {at_once} bytes are {answer:?}");
-    assert!(rt; out.written.as_slice() == want, "they write {:?}", out.written);
+    assert!(rt;
+        out.written.as_slice() == want,
+        "they write {:?}",
+        out.written
+    );
 }
 
 #[test]

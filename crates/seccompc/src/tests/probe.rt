@@ -51,7 +51,11 @@ const EXAMPLE_LINES: &str = "7fff0000 10\n80000000 8\n80000000 10\n80000000 6\n8
 #[test]
 fn the_program_of_a_probe_has_14_instructions(rt: HostRuntime) -> Result<(), Fail> {
     let program = program_of(rt.alloc(), "x86_64", 72, 1, 4294967298)?;
-    assert!(rt; program.len() == 14, "the program has {} instructions", program.len());
+    assert!(rt;
+        program.len() == 14,
+        "the program has {} instructions",
+        program.len()
+    );
     Ok(())
 }
 

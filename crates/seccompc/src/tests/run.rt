@@ -27,13 +27,7 @@ const LINES: [(u32, [u64; 3], &str); 11] = [
 ];
 
 // Asserts the line of a call under the policy, read as many bytes at once as given.
-fn assert_line(
-    rt: &impl Abort,
-    alloc: Global,
-    at_once: usize,
-    record: &[u8; 64],
-    line: &str,
-) {
+fn assert_line(rt: &impl Abort, alloc: Global, at_once: usize, record: &[u8; 64], line: &str) {
     let policy = SlowReader {
         bytes: COMPLEX.as_bytes(),
         at_once,
@@ -42,7 +36,10 @@ fn assert_line(
     let records = record.as_slice();
     let answer = run_policy(alloc, "x86_64", policy, "main_thread", records, &mut out);
     assert!(rt; answer.is_ok(), "a call is {answer:?} and not {line}");
-    assert!(rt; out.as_slice() == line.as_bytes(), "a call has the line {out:?} and not {line}");
+    assert!(rt;
+        out.as_slice() == line.as_bytes(),
+        "a call has the line {out:?} and not {line}"
+    );
 }
 
 #[test]

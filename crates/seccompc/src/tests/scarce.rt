@@ -40,7 +40,14 @@ fn run_engine(alloc: Global, engine: Engine, out: &mut Room) -> Result<(), ToolE
         Engine::Run => {
             let other = call(102, [0, 0, 0]);
             let records = other.as_slice();
-            run_policy(alloc, "x86_64", COMPLEX.as_bytes(), "main_thread", records, out)
+            run_policy(
+                alloc,
+                "x86_64",
+                COMPLEX.as_bytes(),
+                "main_thread",
+                records,
+                out,
+            )
         }
     }
 }
@@ -83,11 +90,20 @@ fn refusals(alloc: Global, engine: Engine) -> Result<(usize, Answer), AllocError
 // is not refused. Asserts that each refusal is want of memory with nothing written, that there is one,
 // and that the engine answers as ever where it is not refused.
 fn assert_refusals(rt: &impl Abort, alloc: Global, engine: Engine) -> Result<(), Fail> {
-    assert!(rt; answer_of(alloc, engine) == Answer::Ample, "{engine:?} with ample memory");
+    assert!(rt;
+        answer_of(alloc, engine) == Answer::Ample,
+        "{engine:?} with ample memory"
+    );
     let (refused, last) = refusals(alloc, engine)?;
     assert!(rt; refused > 0, "{engine:?} is never refused");
-    assert!(rt; last == Answer::Ample, "{engine:?} is {last:?} behind {refused} refusals");
-    assert!(rt; answer_of(alloc, engine) == Answer::Ample, "{engine:?} with ample memory again");
+    assert!(rt;
+        last == Answer::Ample,
+        "{engine:?} is {last:?} behind {refused} refusals"
+    );
+    assert!(rt;
+        answer_of(alloc, engine) == Answer::Ample,
+        "{engine:?} with ample memory again"
+    );
     Ok(())
 }
 
@@ -115,6 +131,9 @@ fn read_words_takes_no_memory(rt: HostRuntime) -> Result<(), Fail> {
     let hoard = Hoard::take(rt.alloc())?;
     let command = read_words(&words);
     drop(hoard);
-    assert!(rt; command == Some(Command::List { arch: "x86_64" }), "{words:?} without memory");
+    assert!(rt;
+        command == Some(Command::List { arch: "x86_64" }),
+        "{words:?} without memory"
+    );
     Ok(())
 }

@@ -27,21 +27,22 @@ fn answer_of_error(error: &JsonFrontendError, wanted: Option<Fault>, is_unchange
     )
 }
 
-#[derive(Clone, Copy)]
-struct ReadFilters<'a> {
-    value: &'a Value,
-    copy: &'a Value,
-    wanted: Result<&'a JsonFilterMap, Fault>,
+#[derive(Drop)]
+struct ReadFilters {
+    value: Value,
+    copy: Value,
+    wanted: Result<JsonFilterMap, Fault>,
 }
 
-impl Call for ReadFilters<'_> {
+impl Call for ReadFilters {
     fn call(&self, alloc: Global) -> Answer {
-        let read = read_filters(alloc, self.value);
-        let is_unchanged = *self.value == *self.copy;
-        match (&read, self.wanted) {
+        let read = read_filters(alloc, &self.value);
+        let is_unchanged = self.value == self.copy;
+        match (&read, &self.wanted) {
             (Ok(filters), Ok(wanted)) => judged(*filters == *wanted, false, is_unchanged),
             (Ok(_), Err(_)) => Answer::Other,
-            (Err(error), wanted) => answer_of_error(error, wanted.err(), is_unchanged),
+            (Err(error), Ok(_)) => answer_of_error(error, None, is_unchanged),
+            (Err(error), Err(fault)) => answer_of_error(error, Some(*fault), is_unchanged),
         }
     }
 }
@@ -53,9 +54,9 @@ fn values_of_a_policy(rt: HostRuntime) -> Result<(), Fail> {
     let copy = Value::from_str(alloc, MAIN_THREAD)?;
     let filters = read_filters(alloc, &value)?;
     let call = ReadFilters {
-        value: &value,
-        copy: &copy,
-        wanted: Ok(&filters),
+        value,
+        copy,
+        wanted: Ok(filters),
     };
     assert_refusals(&rt, alloc, "the filters of a value", &call)
 }
@@ -66,28 +67,29 @@ fn values_of_no_filter(rt: HostRuntime) -> Result<(), Fail> {
     let value = Value::from_str(rt.alloc(), text)?;
     let copy = Value::from_str(rt.alloc(), text)?;
     let call = ReadFilters {
-        value: &value,
-        copy: &copy,
+        value,
+        copy,
         wanted: Err(Fault::Shape("a name")),
     };
     assert_refusals(&rt, rt.alloc(), "a value of no filter", &call)
 }
 
-#[derive(Clone, Copy)]
-struct MakeFilter<'a> {
-    filter: &'a JsonFilter,
-    copy: &'a JsonFilter,
-    wanted: Result<&'a SeccompFilter, Fault>,
+#[derive(Drop)]
+struct MakeFilter {
+    filter: JsonFilter,
+    copy: JsonFilter,
+    wanted: Result<SeccompFilter, Fault>,
 }
 
-impl Call for MakeFilter<'_> {
+impl Call for MakeFilter {
     fn call(&self, alloc: Global) -> Answer {
-        let made = JsonCompiler::new(TargetArch::x86_64).make_seccomp_filter(alloc, self.filter);
-        let is_unchanged = *self.filter == *self.copy;
-        match (&made, self.wanted) {
+        let made = JsonCompiler::new(TargetArch::x86_64).make_seccomp_filter(alloc, &self.filter);
+        let is_unchanged = self.filter == self.copy;
+        match (&made, &self.wanted) {
             (Ok(filter), Ok(wanted)) => judged(*filter == *wanted, false, is_unchanged),
             (Ok(_), Err(_)) => Answer::Other,
-            (Err(error), wanted) => answer_of_error(error, wanted.err(), is_unchanged),
+            (Err(error), Ok(_)) => answer_of_error(error, None, is_unchanged),
+            (Err(error), Err(fault)) => answer_of_error(error, Some(*fault), is_unchanged),
         }
     }
 }
@@ -106,9 +108,9 @@ fn filters_of_entries(rt: HostRuntime) -> Result<(), Fail> {
     let copy = json_filter(alloc, MAIN_THREAD, "main_thread")?;
     let made = JsonCompiler::new(TargetArch::x86_64).make_seccomp_filter(alloc, &filter)?;
     let call = MakeFilter {
-        filter: &filter,
-        copy: &copy,
-        wanted: Ok(&made),
+        filter,
+        copy,
+        wanted: Ok(made),
     };
     assert_refusals(&rt, alloc, "the filter of twelve entries", &call)
 }
@@ -123,8 +125,8 @@ fn assert_faulty_filter(
     let filter = json_filter(alloc, text, "a")?;
     let copy = json_filter(alloc, text, "a")?;
     let call = MakeFilter {
-        filter: &filter,
-        copy: &copy,
+        filter,
+        copy,
         wanted: Err(fault),
     };
     assert_refusals(rt, alloc, "a filter with a fault", &call)
@@ -147,38 +149,39 @@ fn entries_with_no_condition(rt: HostRuntime) -> Result<(), Fail> {
     assert_faulty_filter(&rt, alloc, text.as_str(), Fault::EmptyRule)
 }
 
-#[derive(Clone, Copy)]
+#[derive(Drop)]
 struct Compile<'a> {
     text: &'a str,
-    wanted: Result<&'a HashMap<String, SeccompFilter>, Fault>,
+    wanted: Result<HashMap<String, SeccompFilter>, Fault>,
 }
 
 impl Call for Compile<'_> {
     fn call(&self, alloc: Global) -> Answer {
         let made = JsonCompiler::new(TargetArch::x86_64).compile(alloc, self.text.as_bytes());
-        match (&made, self.wanted) {
+        match (&made, &self.wanted) {
             (Ok(found), Ok(wanted)) => { judged(*found == *wanted, false, true) }
             (Ok(_), Err(_)) => Answer::Other,
-            (Err(error), wanted) => answer_of_error(error, wanted.err(), true),
+            (Err(error), Ok(_)) => answer_of_error(error, None, true),
+            (Err(error), Err(fault)) => answer_of_error(error, Some(*fault), true),
         }
     }
 }
 
-#[derive(Clone, Copy)]
+#[derive(Drop)]
 struct CompileFromJson<'a> {
     text: &'a str,
-    wanted: Result<&'a HashMap<String, BpfProgram>, Fault>,
+    wanted: Result<HashMap<String, BpfProgram>, Fault>,
 }
 
 impl Call for CompileFromJson<'_> {
     fn call(&self, alloc: Global) -> Answer {
         let made = compile_from_json(alloc, self.text.as_bytes(), TargetArch::x86_64);
-        match (&made, self.wanted) {
+        match (&made, &self.wanted) {
             (Ok(found), Ok(wanted)) => { judged(*found == *wanted, false, true) }
             (Ok(_), Err(_)) => Answer::Other,
             (Err(error), Ok(_)) => { judged(false, matches!(error, Error::OutOfMemory), true) }
             (Err(error), Err(fault)) => judged(
-                is_library_fault(error, fault),
+                is_library_fault(error, *fault),
                 matches!(error, Error::OutOfMemory),
                 true,
             ),
@@ -191,7 +194,7 @@ fn assert_text(rt: &impl Abort, alloc: Global, text: &str) -> Result<(), Fail> {
     let filters = JsonCompiler::new(TargetArch::x86_64).compile(alloc, text.as_bytes())?;
     let call = Compile {
         text,
-        wanted: Ok(&filters),
+        wanted: Ok(filters),
     };
     assert_refusals(rt, alloc, text, &call)
 }
@@ -201,7 +204,7 @@ fn assert_programs(rt: &impl Abort, alloc: Global, text: &str) -> Result<(), Fai
     let programs = compile_from_json(alloc, text.as_bytes(), TargetArch::x86_64)?;
     let call = CompileFromJson {
         text,
-        wanted: Ok(&programs),
+        wanted: Ok(programs),
     };
     assert_refusals(rt, alloc, text, &call)
 }

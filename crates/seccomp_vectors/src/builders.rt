@@ -1,6 +1,7 @@
 // Records, conditions, rules and filters as tables write them, and what a filter's program answers.
 
 use seccompiler::backend::{SeccompAction, SeccompCmpArgLen, SeccompCmpOp, TargetArch};
+use seccompiler::bpf::sock_filter;
 use seccompiler::condition::SeccompCondition;
 use seccompiler::filter::SeccompFilter;
 use seccompiler::machine::{Outcome, check, run};
@@ -111,6 +112,30 @@ pub fn one_chain(
 /// The x86_64 filter of one rule on call 7, which traps what the rule does not match.
 pub fn one_rule(alloc: Global, rule: SeccompRule) -> Result<SeccompFilter, Fail> {
     one_chain(alloc, 7, vec![in alloc; rule]?)
+}
+
+/// Asserts that the filter's program passes the checker, and that it and `decide` answer the call by
+/// the word.
+pub fn assert_word(
+    rt: &impl Abort,
+    name: &str,
+    filter: &SeccompFilter,
+    program: &[sock_filter],
+    call: &SeccompData,
+    word: u32,
+) {
+    let record = call.record();
+    assert!(rt; check(program), "the program of {name} is refused");
+    assert_eq!(rt;
+        run(program, &record).word,
+        word,
+        "the program of {name} on {call:?}"
+    );
+    assert_eq!(rt;
+        filter.decide(&record),
+        word,
+        "the decision of {name} on {call:?}"
+    );
 }
 
 /// Asserts that the filter compiles to a program of `program_len` instructions that passes the

@@ -1,61 +1,14 @@
 // Which fault of a JSON text is told, and that it is the first.
 
+use crate::faults::{Fault, assert_fault, assert_faults, compile_from_json_tells, compile_tells};
 use crate::json_samples::{COMPARES, filter_text, policy, repeated};
-use seccompiler::backend::{BackendError, TargetArch};
-use seccompiler::json::{JsonCompiler, JsonFrontendError};
-use seccompiler::{Error, compile_from_json};
-use std::alloc::{AllocError, Global};
+use seccompiler::backend::TargetArch;
+use seccompiler::json::JsonCompiler;
+use std::alloc::Global;
 use std::io;
 use std::io::{ErrorKind, Read};
+use std::process::Abort;
 use std::test::Fail;
-
-// What a call answers, as far as answers can be compared.
-#[derive(Debug, PartialEq, Drop)]
-enum Answer {
-    Accepted,
-    TooLarge(usize),
-    Backend(BackendError),
-    SerdeJson,
-    SyscallName(String, TargetArch),
-    Read,
-    RepeatedKey,
-    NotAnObject,
-    Shape(String),
-    OutOfMemory,
-    Other,
-}
-
-fn frontend(error: JsonFrontendError) -> Answer {
-    match error {
-        JsonFrontendError::Backend(error) => Answer::Backend(error),
-        JsonFrontendError::SerdeJson(_) => Answer::SerdeJson,
-        JsonFrontendError::SyscallName(name, arch) => Answer::SyscallName(name, arch),
-        JsonFrontendError::Read(_) => Answer::Read,
-        JsonFrontendError::RepeatedKey => Answer::RepeatedKey,
-        JsonFrontendError::NotAnObject => Answer::NotAnObject,
-        JsonFrontendError::Shape(name) => Answer::Shape(name),
-        JsonFrontendError::OutOfMemory => Answer::OutOfMemory,
-    }
-}
-
-// What `compile` answers of a reader, on x86_64.
-fn filters<R: Read + Drop>(alloc: Global, reader: R) -> Answer {
-    match JsonCompiler::new(TargetArch::x86_64).compile(alloc, reader) {
-        Ok(_) => Answer::Accepted,
-        Err(error) => frontend(error),
-    }
-}
-
-// What `compile_from_json` answers of a reader, on x86_64.
-fn programs<R: Read + Drop>(alloc: Global, reader: R) -> Answer {
-    match compile_from_json(alloc, reader, TargetArch::x86_64) {
-        Ok(_) => Answer::Accepted,
-        Err(Error::Backend(BackendError::FilterTooLarge(length))) => Answer::TooLarge(length),
-        Err(Error::JsonFrontend(error)) => frontend(error),
-        Err(Error::OutOfMemory) => Answer::OutOfMemory,
-        Err(_) => Answer::Other,
-    }
-}
 
 // Gives one byte and then fails with an error of this kind.
 #[derive(Drop)]
@@ -77,183 +30,177 @@ impl Read for FailingReader {
     }
 }
 
-fn shape(alloc: Global) -> Result<Answer, AllocError> {
-    Ok(Answer::Shape(String::from_str(alloc, "a")?))
-}
-
-fn no_call(alloc: Global) -> Result<Answer, AllocError> {
-    let name = String::from_str(alloc, "nosyscall")?;
-    Ok(Answer::SyscallName(name, TargetArch::x86_64))
+fn failing(kind: ErrorKind) -> FailingReader {
+    FailingReader {
+        is_at_start: true,
+        kind,
+    }
 }
 
 #[test]
-fn readers_that_fail(rt: HostRuntime) -> Result<(), Fail> {
+fn readers_that_fail(rt: HostRuntime) {
     let alloc = rt.alloc();
-    for (kind, answer) in [
-        (ErrorKind::BrokenPipe, Answer::Read),
-        (ErrorKind::OutOfMemory, Answer::OutOfMemory),
+    for (kind, fault) in [
+        (ErrorKind::BrokenPipe, Fault::Read),
+        (ErrorKind::OutOfMemory, Fault::OutOfMemory),
     ] {
-        let is_at_start = true;
-        assert_eq!(rt;
-            filters(alloc, FailingReader { is_at_start, kind }),
-            answer,
-            "compile, {kind:?}"
-        );
-        assert_eq!(rt;
-            programs(alloc, FailingReader { is_at_start, kind }),
-            answer,
-            "compile_from_json, {kind:?}"
-        );
+        let told = compile_tells(alloc, failing(kind), fault);
+        assert!(rt; told, "compile does not tell {fault:?}");
+        let told = compile_from_json_tells(alloc, failing(kind), fault);
+        assert!(rt; told, "compile_from_json does not tell {fault:?}");
     }
+}
+
+// The text of two filters, the second named first.
+fn two_filters(
+    alloc: Global,
+    (first, of_first): (&str, &str),
+    (second, of_second): (&str, &str),
+) -> Result<String, Fail> {
+    Ok(format!(in alloc; r#"{{"{second}":{of_second},"{first}":{of_first}}}"#)?)
+}
+
+const EMPTY: &str = r#"{"mismatch_action":"trap","match_action":"allow","filter":[]}"#;
+
+#[test]
+fn names_that_are_repeated(rt: HostRuntime) -> Result<(), Fail> {
+    let alloc = rt.alloc();
+    for (first, second) in &[("thread_1", "thread_1"), ("a", r"\u0061")] {
+        let text = two_filters(alloc, (first, EMPTY), (second, EMPTY))?;
+        assert_fault(&rt, alloc, text.as_str(), Fault::RepeatedKey);
+    }
+    let twice =
+        r#"{"syscall":"read","args":[{"index":0,"index":0,"type":"dword","op":"eq","val":1}]}"#;
+    let text = policy(alloc, twice)?;
+    assert_fault(&rt, alloc, text.as_str(), Fault::RepeatedKey);
     Ok(())
 }
 
-#[test]
-fn keys_that_are_repeated(rt: HostRuntime) -> Result<(), Fail> {
-    let alloc = rt.alloc();
-    let empty = filter_text(alloc, "")?;
-    let again = format!(in alloc; "{{\"thread_1\":{empty},\"thread_1\":{empty}}}")?;
-    let escaped = format!(in alloc; "{{\"a\":{empty},\"\\u0061\":{empty}}}")?;
-    let twice = policy(
-        alloc,
-        r#"{"syscall":"read","args":[{"index":0,"index":0,"type":"dword","op":"eq","val":1}]}"#,
-    )?;
-    for text in [again, escaped, twice] {
-        assert_eq!(rt;
-            filters(alloc, text.as_bytes()),
-            Answer::RepeatedKey,
-            "compile of {text}"
-        );
-        assert_eq!(rt;
-            programs(alloc, text.as_bytes()),
-            Answer::RepeatedKey,
-            "compile_from_json of {text}"
-        );
-    }
-    Ok(())
-}
+const TEXTS: [(&str, Fault); 10] = [
+    ("", Fault::SerdeJson),
+    ("hjkln", Fault::SerdeJson),
+    ("{1}", Fault::SerdeJson),
+    ("[]", Fault::NotAnObject),
+    (r#"{"a":{}}"#, Fault::Shape("a")),
+    (
+        r#"{"a":{"match_action":"allow","mismatch_action":"errno","filter":[]}}"#,
+        Fault::Shape("a"),
+    ),
+    (
+        r#"{"a":{"match_action":"allow","filter_action":"allow","mismatch_action":"log","filter":[]}}"#,
+        Fault::Shape("a"),
+    ),
+    (
+        r#"{"a": {"match_action": "allow", "mismatch_action":"log"}}"#,
+        Fault::Shape("a"),
+    ),
+    (
+        r#"{"a": {"match_action": "allow", "mismatch_action":"log", "filters": []}}"#,
+        Fault::Shape("a"),
+    ),
+    (
+        r#"{"a": {"match_action": "allow", "mismatch_action":"logs", "filter": []}}"#,
+        Fault::Shape("a"),
+    ),
+];
 
 #[test]
-fn faults_of_texts(rt: HostRuntime) -> Result<(), Fail> {
-    let alloc = rt.alloc();
-    for (text, answer) in [
-        ("", Answer::SerdeJson),
-        ("hjkln", Answer::SerdeJson),
-        ("{1}", Answer::SerdeJson),
-        ("[]", Answer::NotAnObject),
-        ("{\"a\":{}}", shape(alloc)?),
-        (
-            r#"{"a":{"match_action":"allow","mismatch_action":"errno","filter":[]}}"#,
-            shape(alloc)?,
-        ),
-        (
-            r#"{"a":{"match_action":"allow","filter_action":"allow","mismatch_action":"log","filter":[]}}"#,
-            shape(alloc)?,
-        ),
-        (
-            r#"{"a": {"match_action": "allow", "mismatch_action":"log"}}"#,
-            shape(alloc)?,
-        ),
-        (
-            r#"{"a": {"match_action": "allow", "mismatch_action":"log", "filters": []}}"#,
-            shape(alloc)?,
-        ),
-        (
-            r#"{"a": {"match_action": "allow", "mismatch_action":"logs", "filter": []}}"#,
-            shape(alloc)?,
-        ),
-    ] {
-        assert_eq!(rt;
-            filters(alloc, text.as_bytes()),
-            answer,
-            "compile of {text}"
-        );
-        assert_eq!(rt;
-            programs(alloc, text.as_bytes()),
-            answer,
-            "compile_from_json of {text}"
-        );
-    }
+fn faults_of_texts(rt: HostRuntime) {
+    assert_faults(&rt, rt.alloc(), &TEXTS);
+}
+
+const CONDITIONS: [(&str, Fault); 7] = [
+    ("", Fault::EmptyRule),
+    (
+        r#"{"index":6,"type":"dword","op":"eq","val":5}"#,
+        Fault::InvalidArgumentNumber,
+    ),
+    (
+        r#"{"index":256,"type":"dword","op":"eq","val":5}"#,
+        Fault::Shape("a"),
+    ),
+    (
+        r#"{"index":0,"type":"dword","op":"eq","val":18446744073709551616}"#,
+        Fault::Shape("a"),
+    ),
+    (
+        r#"{"index":0,"type":"dword","op":"eq","val":-1846}"#,
+        Fault::Shape("a"),
+    ),
+    (
+        r#"{"index":0,"type":"dword","op":"eq","val":1846.4}"#,
+        Fault::Shape("a"),
+    ),
+    (
+        r#"{"index":0,"type":"dword","op":"eq","val":5,"comment":15}"#,
+        Fault::Shape("a"),
+    ),
+];
+
+// Asserts that both calls refuse the policy of one entry for `read` with these conditions.
+fn assert_fault_of_conditions(
+    rt: &impl Abort,
+    alloc: Global,
+    conditions: &str,
+    fault: Fault,
+) -> Result<(), Fail> {
+    let entry = format!(in alloc; r#"{{"syscall":"read","args":[{conditions}]}}"#)?;
+    let text = policy(alloc, entry.as_str())?;
+    assert_fault(rt, alloc, text.as_str(), fault);
     Ok(())
 }
 
 #[test]
 fn faults_of_conditions(rt: HostRuntime) -> Result<(), Fail> {
-    let alloc = rt.alloc();
-    for (args, answer) in [
-        ("", Answer::Backend(BackendError::EmptyRule)),
-        (
-            r#"{"index":6,"type":"dword","op":"eq","val":5}"#,
-            Answer::Backend(BackendError::InvalidArgumentNumber),
-        ),
-        (
-            r#"{"index":256,"type":"dword","op":"eq","val":5}"#,
-            shape(alloc)?,
-        ),
-        (
-            r#"{"index":0,"type":"dword","op":"eq","val":18446744073709551616}"#,
-            shape(alloc)?,
-        ),
-        (
-            r#"{"index":0,"type":"dword","op":"eq","val":-1846}"#,
-            shape(alloc)?,
-        ),
-        (
-            r#"{"index":0,"type":"dword","op":"eq","val":1846.4}"#,
-            shape(alloc)?,
-        ),
-        (
-            r#"{"index":0,"type":"dword","op":"eq","val":5,"comment":15}"#,
-            shape(alloc)?,
-        ),
-    ] {
-        let entry = format!(in alloc; "{{\"syscall\":\"read\",\"args\":[{args}]}}")?;
-        let text = policy(alloc, entry.as_str())?;
-        assert_eq!(rt;
-            filters(alloc, text.as_bytes()),
-            answer,
-            "compile of {args}"
-        );
-        assert_eq!(rt;
-            programs(alloc, text.as_bytes()),
-            answer,
-            "compile_from_json of {args}"
-        );
+    for (conditions, fault) in &CONDITIONS {
+        assert_fault_of_conditions(&rt, rt.alloc(), conditions, *fault)?;
     }
     Ok(())
 }
 
+const UNKNOWN: &str =
+    r#"{"mismatch_action":"trap","match_action":"allow","filter":[{"syscall":"nosyscall"}]}"#;
+
+const IDENTICAL: &str = r#"{"mismatch_action":"allow","match_action":"allow","filter":[]}"#;
+
+// The filter of so many equal entries of one condition.
+fn large(alloc: Global, count: usize) -> Result<String, Fail> {
+    let entries = repeated(alloc, COMPARES, count)?;
+    filter_text(alloc, entries.as_str())
+}
+
 #[test]
-fn faults_of_the_least_name(rt: HostRuntime) -> Result<(), Fail> {
+fn the_least_name_is_told_first(rt: HostRuntime) -> Result<(), Fail> {
     let alloc = rt.alloc();
-    let unknown = filter_text(alloc, "{\"syscall\":\"nosyscall\"}")?;
-    let identical = "{\"mismatch_action\":\"allow\",\"match_action\":\"allow\",\"filter\":[]}";
-    let large = filter_text(alloc, repeated(alloc, COMPARES, 819)?.as_str())?;
-    let smaller = filter_text(alloc, repeated(alloc, COMPARES, 818)?.as_str())?;
-    let identical_first = format!(in alloc; "{{\"b\":{unknown},\"a\":{identical}}}")?;
-    let unknown_behind_large = format!(in alloc; "{{\"a\":{large},\"b\":{unknown}}}")?;
-    let both_large = format!(in alloc; "{{\"b\":{smaller},\"a\":{large}}}")?;
-    let identical = Answer::Backend(BackendError::IdenticalActions);
-    assert_eq!(rt;
-        filters(alloc, identical_first.as_bytes()),
-        identical,
-        "compile"
-    );
-    assert_eq!(rt;
-        programs(alloc, identical_first.as_bytes()),
-        identical,
-        "compile_from_json"
-    );
-    for (text, of_filters, of_programs) in [
-        (unknown_behind_large, no_call(alloc)?, no_call(alloc)?),
-        (both_large, Answer::Accepted, Answer::TooLarge(4102)),
-    ] {
-        assert_eq!(rt; filters(alloc, text.as_bytes()), of_filters, "compile");
-        assert_eq!(rt;
-            programs(alloc, text.as_bytes()),
-            of_programs,
-            "compile_from_json"
-        );
-    }
+    let text = two_filters(alloc, ("a", IDENTICAL), ("b", UNKNOWN))?;
+    assert_fault(&rt, alloc, text.as_str(), Fault::IdenticalActions);
+    Ok(())
+}
+
+#[test]
+fn an_unknown_call_is_told_before_a_filter_too_large(rt: HostRuntime) -> Result<(), Fail> {
+    let alloc = rt.alloc();
+    let too_large = large(alloc, 819)?;
+    let text = two_filters(alloc, ("a", too_large.as_str()), ("b", UNKNOWN))?;
+    let fault = Fault::SyscallName("nosyscall", TargetArch::x86_64);
+    assert_fault(&rt, alloc, text.as_str(), fault);
+    Ok(())
+}
+
+// The text whose filter `b` has 818 entries, and `a` 819.
+fn two_too_large(alloc: Global) -> Result<String, Fail> {
+    let least = large(alloc, 819)?;
+    let other = large(alloc, 818)?;
+    two_filters(alloc, ("a", least.as_str()), ("b", other.as_str()))
+}
+
+#[test]
+fn the_least_filter_too_large_is_told(rt: HostRuntime) -> Result<(), Fail> {
+    let alloc = rt.alloc();
+    let text = two_too_large(alloc)?;
+    let filters = JsonCompiler::new(TargetArch::x86_64).compile(alloc, text.as_bytes());
+    assert!(rt; filters.is_ok(), "compile refuses filters for their size");
+    let told = compile_from_json_tells(alloc, text.as_bytes(), Fault::FilterTooLarge(4102));
+    assert!(rt; told, "compile_from_json does not tell 4102 instructions");
     Ok(())
 }

@@ -12,6 +12,8 @@ use seccompiler::backend::SeccompCmpOp::{Eq, Ge, Gt, Le, Lt, MaskedEq, Ne};
 use seccompiler::backend::TargetArch;
 use seccompiler::compile_from_json;
 use seccompiler::machine::{Outcome, check, run};
+use std::alloc::Global;
+use std::process::Abort;
 use std::test::Fail;
 
 #[test]
@@ -22,31 +24,34 @@ fn no_filters(rt: HostRuntime) -> Result<(), Fail> {
     Ok(())
 }
 
+// An entry whose condition has colons in its comment.
+const COMMENTED: &str =
+    r#"{"syscall":"read","args":[{"index":0,"type":"dword","op":"eq","val":1,"comment":"a:\"b:"}]}"#;
+
+// Asserts that the policy of these entries gives one program, of this length.
+fn assert_length(rt: &impl Abort, alloc: Global, entries: &str, length: usize) -> Result<(), Fail> {
+    let text = policy(alloc, entries)?;
+    let programs = compile_from_json(alloc, text.as_bytes(), TargetArch::x86_64)?;
+    let found = programs.get("a").map(|program| program.len());
+    assert!(rt;
+        found == Some(length),
+        "a program of {length} has the length {found:?}"
+    );
+    assert!(rt;
+        programs.len() == 1,
+        "beside a program of {length} stand others"
+    );
+    Ok(())
+}
+
 #[test]
 fn programs_have_these_lengths(rt: HostRuntime) -> Result<(), Fail> {
     let alloc = rt.alloc();
-    let commented =
-        "{\"syscall\":\"read\",\"args\":[{\"index\":0,\"type\":\"dword\",\"op\":\"eq\",\"val\":1,\"comment\":\"a:\\\"b:\"}]}";
     let both = format!(in alloc; "{READS},{COMPARES}")?;
-    for (name, text, length) in [
-        (
-            "a call with and without arguments",
-            policy(alloc, both.as_str())?,
-            12,
-        ),
-        ("a comment with colons", policy(alloc, commented)?, 12),
-        (
-            "817 rules of one call",
-            policy(alloc, repeated(alloc, COMPARES, 817)?.as_str())?,
-            4092,
-        ),
-    ] {
-        let programs = compile_from_json(alloc, text.as_bytes(), TargetArch::x86_64)?;
-        let program = programs.get("a").ok_or("a program under the name")?;
-        assert_eq!(rt; program.len(), length, "the length of {name}");
-        assert_eq!(rt; programs.len(), 1, "the programs of {name}");
-    }
-    Ok(())
+    assert_length(&rt, alloc, both.as_str(), 12)?;
+    assert_length(&rt, alloc, COMMENTED, 12)?;
+    let many = repeated(alloc, COMPARES, 817)?;
+    assert_length(&rt, alloc, many.as_str(), 4092)
 }
 
 #[test]

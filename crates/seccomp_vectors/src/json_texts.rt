@@ -7,11 +7,12 @@ use std::alloc::Global;
 use std::io;
 use std::test::Fail;
 
-const POLICY: &str =
+/// A policy with each name of the format once.
+pub const POLICY: &str =
     r#"{"a":{"mismatch_action":"trap","match_action":"allow","filter":[{"syscall":"read","args":[{"index":0,"type":"dword","op":"eq","val":5}]}]}}"#;
 
-// The ten names of `POLICY`, each with its value.
-const PARTS: [&str; 10] = [
+/// The ten names of `POLICY`, each with its value.
+pub const PARTS: [&str; 10] = [
     r#""a":{"mismatch_action":"trap","match_action":"allow","filter":[{"syscall":"read","args":[{"index":0,"type":"dword","op":"eq","val":5}]}]}"#,
     r#""mismatch_action":"trap""#,
     r#""match_action":"allow""#,
@@ -24,7 +25,8 @@ const PARTS: [&str; 10] = [
     r#""val":5"#,
 ];
 
-const FILTER: &str = r#"{"mismatch_action":"trap","match_action":"allow","filter":[]}"#;
+/// A filter of no entries.
+pub const FILTER: &str = r#"{"mismatch_action":"trap","match_action":"allow","filter":[]}"#;
 
 // Whether a text that serde_json reads repeats a name.
 fn repeats(alloc: Global, text: &str) -> Result<bool, Fail> {

@@ -10,7 +10,13 @@ mod builders;
 #[cfg(test)]
 mod conditions;
 #[cfg(test)]
+mod faults;
+#[cfg(test)]
 mod filters;
+#[cfg(test)]
+mod hostile_readers;
+#[cfg(test)]
+mod hostile_texts;
 #[cfg(test)]
 mod instructions;
 #[cfg(test)]
@@ -32,6 +38,8 @@ mod limits;
 #[cfg(test)]
 mod machine;
 #[cfg(test)]
+mod no_memory;
+#[cfg(test)]
 mod policies;
 #[cfg(test)]
 mod programs;
@@ -39,6 +47,14 @@ mod programs;
 mod relays;
 #[cfg(test)]
 mod rules;
+#[cfg(test)]
+mod scarce;
+#[cfg(test)]
+mod scarce_policies;
+#[cfg(test)]
+mod scarce_programs;
+#[cfg(test)]
+mod scripted;
 #[cfg(test)]
 mod surface;
 #[cfg(test)]

@@ -55,7 +55,7 @@ pub fn probe<R: Read + Drop, W: Write>(
 }
 
 // The filter's program.
-fn program_of(
+pub(crate) fn program_of(
     alloc: Global,
     arch: &str,
     nr: i64,

@@ -1,10 +1,12 @@
 // Tests of the engines, the words and the statuses, with scripted readers and writers.
 
 mod arguments;
+mod hoard;
 mod list;
 mod policies;
 mod probe;
 mod run;
+mod scarce;
 mod scripted;
 mod statuses;
 mod words;

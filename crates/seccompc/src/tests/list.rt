@@ -6,16 +6,19 @@ use crate::error::ToolError;
 use crate::list::list;
 use seccompiler::Error;
 use seccompiler::json::JsonFrontendError;
+use std::alloc::Global;
 use std::io::ErrorKind;
+use std::process::Abort;
 use std::test::Fail;
+
+// The listing of `LOGS`.
+const LOGS_LISTED: &str =
+    "filter 4 a\n0020 00 00 00000004\n0015 01 00 c000003e\n0006 00 00 80000000\n0006 00 00 7ffc0000\n";
 
 #[test]
 fn list_writes_the_name_and_the_instructions(rt: HostRuntime) -> Result<(), Fail> {
     for (policy, want) in [
-        (
-            LOGS,
-            "filter 4 a\n0020 00 00 00000004\n0015 01 00 c000003e\n0006 00 00 80000000\n0006 00 00 7ffc0000\n",
-        ),
+        (LOGS, LOGS_LISTED),
         (
             READS,
             "filter 12 a\n0020 00 00 00000004\n0015 01 00 c000003e\n0006 00 00 80000000\n0020 00 00 00000000\n0015 00 01 00000000\n0005 00 00 00000001\n0005 00 00 00000004\n0020 00 00 00000010\n0015 00 01 00000005\n0006 00 00 7fff0000\n0006 00 00 00030000\n0006 00 00 00030000\n",
@@ -133,22 +136,37 @@ fn list_answers_a_fault_of_the_policy(rt: HostRuntime) {
     assert!(rt; out.is_empty(), "an array writes {out:?}");
 }
 
-#[test]
-fn list_answers_a_fault_of_the_writer(rt: HostRuntime) {
+// Asserts what `list` answers and writes where the writer fails behind so many calls.
+fn assert_written(rt: &impl Abort, alloc: Global, calls: usize, at_once: usize, want: &[u8]) {
     let mut out = FailingWriter {
-        written: Vec::new(rt.alloc()),
-        calls: 1,
-        at_once: 3,
+        written: Vec::new(alloc),
+        calls,
+        at_once,
         kind: ErrorKind::OutOfMemory,
     };
-    let answer = list(rt.alloc(), "x86_64", LOGS.as_bytes(), &mut out);
+    let answer = list(alloc, "x86_64", LOGS.as_bytes(), &mut out);
+    let is_whole = want.len() == LOGS_LISTED.len();
+    let is_right = match answer {
+        Ok(()) => is_whole,
+        Err(ToolError::Write(_)) => !is_whole,
+        Err(_) => false,
+    };
+    assert!(rt; is_right, "{calls} calls of {at_once} bytes are {answer:?}");
     assert!(rt;
-        matches!(answer, Err(ToolError::Write(_))),
-        "a fault of the writer is {answer:?}"
+        out.written.as_slice() == want,
+        "they write {:?}",
+        out.written
     );
-    assert_eq!(rt;
-        out.written.as_slice(),
-        b"fil".as_slice(),
-        "what was written before"
-    );
+}
+
+#[test]
+fn list_answers_a_fault_of_the_writer_at_each_call(rt: HostRuntime) {
+    let listed = LOGS_LISTED.as_bytes();
+    let length = listed.len();
+    for calls in 0..=length {
+        assert_written(&rt, rt.alloc(), calls, 1, &listed[..calls]);
+    }
+    assert_written(&rt, rt.alloc(), 0, length, b"");
+    assert_written(&rt, rt.alloc(), 1, 3, b"fil");
+    assert_written(&rt, rt.alloc(), 1, length, listed);
 }

@@ -2,7 +2,7 @@
 
 use super::scripted::{FailingReader, FailingWriter, SlowReader};
 use crate::error::ToolError;
-use crate::probe::probe;
+use crate::probe::{probe, program_of};
 use seccompiler::BackendError;
 use std::alloc::{AllocError, Global};
 use std::io;
@@ -47,6 +47,17 @@ fn examples(alloc: Global) -> Result<Vec<u8>, AllocError> {
 }
 
 const EXAMPLE_LINES: &str = "7fff0000 10\n80000000 8\n80000000 10\n80000000 6\n80000000 3\n";
+
+#[test]
+fn the_program_of_a_probe_has_14_instructions(rt: HostRuntime) -> Result<(), Fail> {
+    let program = program_of(rt.alloc(), "x86_64", 72, 1, 4294967298)?;
+    assert!(rt;
+        program.len() == 14,
+        "the program has {} instructions",
+        program.len()
+    );
+    Ok(())
+}
 
 #[test]
 fn probe_writes_a_line_for_each_record(rt: HostRuntime) -> Result<(), Fail> {
@@ -94,7 +105,7 @@ fn probe_of_no_records_writes_nothing(rt: HostRuntime) -> Result<(), Fail> {
 #[test]
 fn probe_reports_a_rest_behind_the_lines(rt: HostRuntime) -> Result<(), Fail> {
     let record = call(72, 4294967298);
-    for rest in [1, 2, 62, 63] {
+    for rest in 1..64 {
         let mut bytes = Vec::new(rt.alloc());
         bytes.extend_from_slice(&record)?;
         bytes.extend_from_slice(&record[..rest])?;

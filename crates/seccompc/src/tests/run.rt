@@ -1,46 +1,54 @@
 // Runs of a policy's filter: the lines, and the faults in their order.
 
 use super::policies::{COMPLEX, LOGS, call};
-use super::scripted::FailingReader;
+use super::scripted::{FailingReader, SlowReader};
 use crate::error::ToolError;
 use crate::run::run_policy;
 use seccompiler::Error;
 use seccompiler::json::JsonFrontendError;
+use std::alloc::Global;
 use std::io::ErrorKind;
+use std::process::Abort;
 use std::test::Fail;
 
+// Calls under the policy, each by its number and its first three arguments, and their lines.
+const LINES: [(u32, [u64; 3], &str); 11] = [
+    (16, [0, 0, 12], "7fff0000 16\n"),
+    (16, [1, 0, 15], "7fff0000 26\n"),
+    (16, [0, 0, 39], "7fff0000 21\n"),
+    (16, [0, 0, 4294967336], "7fff0000 27\n"),
+    (28, [0, 0, 0], "7fff0000 21\n"),
+    (39, [0, 0, 0], "7fff0000 19\n"),
+    (16, [0, 0, 13], "000503e8 25\n"),
+    (16, [0, 0, 20], "000503e8 27\n"),
+    (16, [0, 0, 4294967337], "000503e8 27\n"),
+    (28, [0, 1, 0], "000503e8 19\n"),
+    (102, [0, 0, 0], "000503e8 25\n"),
+];
+
+// Asserts the line of a call under the policy, read as many bytes at once as given.
+fn assert_line(rt: &impl Abort, alloc: Global, at_once: usize, record: &[u8; 64], line: &str) {
+    let policy = SlowReader {
+        bytes: COMPLEX.as_bytes(),
+        at_once,
+    };
+    let mut out = Vec::new(alloc);
+    let records = record.as_slice();
+    let answer = run_policy(alloc, "x86_64", policy, "main_thread", records, &mut out);
+    assert!(rt; answer.is_ok(), "a call is {answer:?} and not {line}");
+    assert!(rt;
+        out.as_slice() == line.as_bytes(),
+        "a call has the line {out:?} and not {line}"
+    );
+}
+
 #[test]
-fn run_policy_traces_the_filter(rt: HostRuntime) -> Result<(), Fail> {
-    for (nr, arguments, want) in [
-        (16, [0, 0, 12], "7fff0000"),
-        (16, [1, 0, 15], "7fff0000"),
-        (16, [0, 0, 39], "7fff0000"),
-        (16, [0, 0, 4294967336], "7fff0000"),
-        (28, [0, 0, 0], "7fff0000"),
-        (39, [0, 0, 0], "7fff0000"),
-        (16, [0, 0, 13], "000503e8"),
-        (16, [0, 0, 20], "000503e8"),
-        (16, [0, 0, 4294967337], "000503e8"),
-        (28, [0, 1, 0], "000503e8"),
-        (102, [0, 0, 0], "000503e8 25\n"),
-    ] {
-        let mut out = Vec::new(rt.alloc());
-        let record = call(nr, arguments);
-        let answer = run_policy(
-            rt.alloc(),
-            "x86_64",
-            COMPLEX.as_bytes(),
-            "main_thread",
-            record.as_slice(),
-            &mut out,
-        );
-        assert!(rt; answer.is_ok(), "call {nr} {arguments:?} is {answer:?}");
-        assert!(rt;
-            out.as_slice().starts_with(want.as_bytes()),
-            "call {nr} {arguments:?} has the line {out:?}"
-        );
+fn run_policy_traces_the_filter(rt: HostRuntime) {
+    for (nr, arguments, line) in &LINES {
+        let record = call(*nr, *arguments);
+        assert_line(&rt, rt.alloc(), 4096, &record, line);
+        assert_line(&rt, rt.alloc(), 1, &record, line);
     }
-    Ok(())
 }
 
 // Filters without entries under three names, of which `b` has another mismatch action.

@@ -65,3 +65,41 @@ impl Write for FailingWriter {
         Ok(())
     }
 }
+
+/// A writer of 512 bytes, which takes no memory.
+#[derive(Drop)]
+pub struct Room {
+    bytes: [u8; 512],
+    length: usize,
+}
+
+impl Room {
+    /// With nothing written.
+    pub fn new() -> Self {
+        Room {
+            bytes: [0; 512],
+            length: 0,
+        }
+    }
+
+    /// Whether these bytes were written, and no others.
+    pub fn has(&self, bytes: &[u8]) -> bool {
+        self.bytes.get(..self.length) == Some(bytes)
+    }
+}
+
+impl Write for Room {
+    fn write(&mut self, buf: &[u8]) -> io::Result<usize> {
+        let Some(left) = self.bytes.get_mut(self.length..) else {
+            return Ok(0);
+        };
+        let count = buf.len().min(left.len());
+        left[..count].copy_from_slice(&buf[..count]);
+        self.length = self.length.saturating_add(count);
+        Ok(count)
+    }
+
+    fn flush(&mut self) -> io::Result<()> {
+        Ok(())
+    }
+}

@@ -1,0 +1,141 @@
+// Memory that is refused: all address space taken, and given back block by block.
+
+use std::alloc::{AllocError, Global};
+use std::process::Abort;
+use std::test::Fail;
+
+// Room to keep large and small blocks.
+const LARGE_ROOM: usize = 100_000;
+
+const SMALL_ROOM: usize = 400_000;
+
+// Memory for the small blocks, taken while the large ones are.
+const RESERVE: usize = 4 << 20;
+
+/// All memory that the process may still have, in blocks that nothing is written to.
+///
+/// The last few megabytes are blocks of 16 to 1024 bytes, which can be given back one by one. It rests
+/// on a kernel that lends address space without backing it, as Linux does by default.
+#[derive(Drop)]
+pub struct Hoard {
+    large: Vec<Vec<u8>>,
+    small: Vec<Vec<u8>>,
+}
+
+// Takes blocks of this size until one is refused or there is no room for more.
+fn fill(held: &mut Vec<Vec<u8>>, alloc: Global, size: usize) {
+    for _ in 0..LARGE_ROOM {
+        let Ok(block) = Vec::with_capacity(alloc, size) else {
+            return;
+        };
+        if held.push(block).is_err() {
+            return;
+        }
+    }
+}
+
+// Takes a block of this size, if it is given one.
+fn take_one(held: &mut Vec<Vec<u8>>, alloc: Global, size: usize) -> Result<(), AllocError> {
+    match Vec::with_capacity(alloc, size) {
+        Ok(block) => Ok(held.push(block)?),
+        Err(_) => Ok(()),
+    }
+}
+
+// Takes blocks of 16 to 1024 bytes in turn.
+fn take_small(held: &mut Vec<Vec<u8>>, alloc: Global) -> Result<(), AllocError> {
+    for _ in 0..200 {
+        for class in 1..65 {
+            take_one(held, alloc, class * 16)?;
+        }
+    }
+    Ok(())
+}
+
+impl Hoard {
+    /// Takes all memory.
+    pub fn take(alloc: Global) -> Result<Self, AllocError> {
+        let mut small = Vec::with_capacity(alloc, SMALL_ROOM)?;
+        let mut large = Vec::with_capacity(alloc, LARGE_ROOM)?;
+        let reserve: Vec<u8> = Vec::with_capacity(alloc, RESERVE)?;
+        let mut size: usize = 1 << 46;
+        for _ in 0..42 {
+            fill(&mut large, alloc, size);
+            size /= 2;
+        }
+        drop(reserve);
+        take_small(&mut small, alloc)?;
+        fill(&mut small, alloc, 16);
+        Ok(Hoard { large, small })
+    }
+
+    /// Gives back the last of the small blocks that are left.
+    pub fn give_back(&mut self) {
+        drop(self.small.pop());
+    }
+}
+
+/// What a call answers, beside what it answers with ample memory.
+#[derive(Clone, Copy, Debug, PartialEq, Eq)]
+pub enum Answer {
+    /// The same.
+    Ample,
+    /// Want of memory, in the outermost error type, and what was lent is unchanged.
+    Refused,
+    /// Anything else.
+    Other,
+}
+
+/// The answer, if what was lent is unchanged.
+pub fn judged(is_ample: bool, is_refused: bool, is_unchanged: bool) -> Answer {
+    match (is_unchanged, is_ample, is_refused) {
+        (true, true, false) => Answer::Ample,
+        (true, false, true) => Answer::Refused,
+        _ => Answer::Other,
+    }
+}
+
+/// A call with what it is lent, that can be made again and again.
+pub trait Call {
+    /// Makes the call.
+    fn call(&self, alloc: Global) -> Answer;
+}
+
+// How many calls were refused before one was not, and what that one answered.
+fn refusals<C: Call>(alloc: Global, call: &C) -> Result<(usize, Answer), AllocError> {
+    let mut hoard = Hoard::take(alloc)?;
+    for refused in 0..SMALL_ROOM {
+        let answer = call.call(alloc);
+        if answer != Answer::Refused {
+            return Ok((refused, answer));
+        }
+        hoard.give_back();
+    }
+    Ok((SMALL_ROOM, Answer::Refused))
+}
+
+/// Makes the call with no memory at all, and again each time that a block more is given back, until it
+/// is not refused. Asserts that each refusal is want of memory, that there is one, and that the call
+/// answers as ever where it is not refused, then and with ample memory.
+pub fn assert_refusals<C: Call>(
+    rt: &impl Abort,
+    alloc: Global,
+    name: &str,
+    call: &C,
+) -> Result<(), Fail> {
+    assert!(rt;
+        call.call(alloc) == Answer::Ample,
+        "{name} with ample memory"
+    );
+    let (refused, last) = refusals(alloc, call)?;
+    assert!(rt; refused > 0, "{name} is never refused");
+    assert!(rt;
+        last == Answer::Ample,
+        "{name} is {last:?} behind {refused} refusals"
+    );
+    assert!(rt;
+        call.call(alloc) == Answer::Ample,
+        "{name} with ample memory again"
+    );
+    Ok(())
+}

@@ -27,6 +27,7 @@ pub mod FilterEquality
 pub mod Reordering
 pub mod TableNames
 pub mod TableFacts
+pub mod Halving
 pub mod JsonEqualities
 pub mod TextCuts
 pub mod FilterSteps

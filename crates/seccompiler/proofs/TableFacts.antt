@@ -1,5 +1,5 @@
 -- What holds of each architecture's table, from tests that are computed over the whole of it.
-use Rattle.std.proofs.Common.{◌≡◌, ◌≢◌, ◌<◌, pos, ◌&&◌, List, [], ◌∷◌, Bool, true, false, Ordering, Less, Equal, Greater, nat_cmp, length, All, AllPairs, slice_index_or, refl, ap, ◌∙◌, arith}
+use Rattle.std.proofs.Common.{◌≡◌, ◌≢◌, ◌<◌, ◌≤◌, pos, ◌&&◌, List, [], ◌∷◌, Bool, true, false, Ordering, Less, Equal, Greater, nat_cmp, length, All, AllPairs, slice_index_or, refl, ap, ◌∙◌, arith}
 use Rattle.std.specs.Cmp.Lexicographic.{slice_cmp}
 use Rattle.std.specs.List.{list_all}
 use Rattle.std.specs.Ordering.{is_lt}
@@ -9,7 +9,7 @@ use Rattle.std.proofs.lemmas.Float.{T_from_true}
 use Rattle.std.proofs.lemmas.List.Elements.{All-nil, All-cons, All-weaker}
 use Rattle.std.proofs.lemmas.List.Kept.{AllPairs-cons}
 use Rattle.std.proofs.lemmas.List.Sums.{AllPass-from_list_all}
-use Rattle.seccompiler.specs.SyscallTable.{Pair, IsTableNumber, IsCallTable, StandsBefore, table_of}
+use Rattle.seccompiler.specs.SyscallTable.{Pair, greatest_number, IsTableNumber, IsCallTable, StandsBefore, table_of}
 use Rattle.seccompiler.specs.declared.backend.TargetArch.{TargetArch}
 use Rattle.seccompiler.specs.declared.backend.TargetArch.TheVariants.{x86_64, aarch64, riscv64}
 
@@ -54,10 +54,10 @@ differs first second before same =
 
 -- whether a pair's number is one that a system call has
 abbrev is_in_range : Pair → Bool
-is_in_range pair = le_z (pos 0) pair.1 && le_z pair.1 (pos 462)
+is_in_range pair = le_z (pos 0) pair.1 && le_z pair.1 greatest_number
 
 in_range : (pair : Pair) → is_in_range pair ≡ true → IsTableNumber pair.1
-in_range pair passed = let parts = both (le_z (pos 0) pair.1) (le_z pair.1 (pos 462)) passed in (le_z_yes (T_from_true _ parts.0), le_z_yes (T_from_true _ parts.1))
+in_range pair passed = let parts = both (le_z (pos 0) pair.1) (le_z pair.1 greatest_number) passed in (le_z_yes (T_from_true _ parts.0), le_z_yes (T_from_true _ parts.1))
 
 -- the test, computed
 passes_range : (arch : TargetArch) → list_all is_in_range (table_of arch) ≡ true
@@ -79,10 +79,17 @@ is_short x86_64 = omega arith
 is_short aarch64 = omega arith
 is_short riscv64 = omega arith
 
+is_long : (arch : TargetArch) → 255 ≤ length (table_of arch)
+unfolding table_of
+is_long x86_64 = omega arith
+is_long aarch64 = omega arith
+is_long riscv64 = omega arith
+
 pub is_call_table : (arch : TargetArch) → IsCallTable (table_of arch)
 is_call_table arch =
     let order = ascending (table_of arch) (passes_order arch) in
     record {
+      long = is_long arch;
       short = is_short arch;
       ascending = order;
       distinct = λ i j d i<j j<n. differs (slice_index_or (table_of arch) i d) (slice_index_or (table_of arch) j d) (order i j d i<j j<n);

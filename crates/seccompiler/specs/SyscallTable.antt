@@ -1,5 +1,5 @@
 -- Tables of system calls: the number that a name has on an architecture.
-use Rattle.std.specs.Prelude.{◌≡◌, ◌≢◌, ℕ, ℤ, pos, ◌≤ℤ◌, List, [], ◌∷◌, ◌++◌, if◌then◌else◌, Option, Some, None, All, AllPairs, map, length, ◌<◌}
+use Rattle.std.specs.Prelude.{◌≡◌, ◌≢◌, ℕ, ℤ, pos, ◌≤ℤ◌, List, [], ◌∷◌, ◌++◌, if◌then◌else◌, Option, Some, None, All, AllPairs, map, length, ◌<◌, ◌≤◌}
 use Rattle.std.specs.Borrow.{Bor}
 use Rattle.std.specs.Cmp.Lexicographic.{slice_cmp}
 use Rattle.std.specs.Ordering.{nat_cmp}
@@ -41,12 +41,17 @@ pub record IsFirstNumber (table : List Pair) (name : List ℕ) (number : ℤ) : 
   pub whole : table ≡ front ++ (name, number) ∷ back
   pub first : All (λ pair. pair.0 ≢ name) front
 
--- A number that the tables may give a system call: those of the Linux kernel 6.12 have none above 462.
-abbrev pub IsTableNumber : ℤ → Type 0
-IsTableNumber number = (pos 0 ≤ℤ number) × (number ≤ℤ pos 462)
+-- The greatest number of a system call in the tables, which are those of the Linux kernel 6.12.
+abbrev pub greatest_number : ℤ
+greatest_number = pos 462
 
--- What every table is: short, in byte order of names, with no name twice, and with no number out of range.
+-- A number that the tables may give a system call.
+abbrev pub IsTableNumber : ℤ → Type 0
+IsTableNumber number = (pos 0 ≤ℤ number) × (number ≤ℤ greatest_number)
+
+-- What every table is: of 255 to 511 names, in byte order of names, with no name twice, and with no number out of range.
 pub record IsCallTable (table : List Pair) : Type 0 where
+  pub long : 255 ≤ length table
   pub short : length table < 512
   pub ascending : AllPairs StandsBefore table
   pub distinct : AllPairs (λ first second. first.0 ≢ second.0) table

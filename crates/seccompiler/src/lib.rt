@@ -24,3 +24,4 @@ pub use filter::SeccompFilter;
 pub use install::{Kernel, apply_filter, apply_filter_all_threads};
 pub use machine::Outcome;
 pub use rule::SeccompRule;
+pub use syscall_table::{Lookup, SyscallTable};

@@ -4,7 +4,7 @@ ghost use Rattle.std.specs.Prelude.{◌≡◌, ◌≢◌, ◌≤◌, All, IfSome
 ghost use Rattle.seccompiler.specs.SyscallTable.{IsTableNumber, IsCallTable, IsFirstNumber, number_of, pairs_of, table_of};
 
 use crate::backend::TargetArch;
-use seccomp_tables::{AARCH64, RISCV64, X86_64};
+use seccomp_tables::{aarch64_calls, riscv64_calls, x86_64_calls};
 use std::cmp::Ordering;
 use std::marker::Model;
 
@@ -102,8 +102,8 @@ fn pairs_for(arch: TargetArch) -> &'static [(&'static str, i64)]
     ensures { pairs_of result.now ≡ table_of arch }
 {
     match arch {
-        TargetArch::x86_64 => &X86_64,
-        TargetArch::aarch64 => &AARCH64,
-        TargetArch::riscv64 => &RISCV64,
+        TargetArch::x86_64 => x86_64_calls(),
+        TargetArch::aarch64 => aarch64_calls(),
+        TargetArch::riscv64 => riscv64_calls(),
     }
 }

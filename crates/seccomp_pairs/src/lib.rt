@@ -4,6 +4,8 @@
 #[cfg(test)]
 mod aarch64;
 #[cfg(test)]
+mod lookups;
+#[cfg(test)]
 mod pairs;
 #[cfg(test)]
 mod riscv64;

@@ -13,8 +13,14 @@ const AARCH64_COUNT: usize = seccomp_tables::AARCH64.len();
 
 const RISCV64_COUNT: usize = seccomp_tables::RISCV64.len();
 
+pub(crate) const ARCHITECTURES: [TargetArch; 3] = [
+    TargetArch::x86_64,
+    TargetArch::aarch64,
+    TargetArch::riscv64,
+];
+
 // The pairs of the Rust crate's file, in its order.
-fn file_of(arch: TargetArch) -> &'static [(&'static str, i64)] {
+pub(crate) fn file_of(arch: TargetArch) -> &'static [(&'static str, i64)] {
     match arch {
         TargetArch::x86_64 => &X86_64,
         TargetArch::aarch64 => &AARCH64,
@@ -23,22 +29,8 @@ fn file_of(arch: TargetArch) -> &'static [(&'static str, i64)] {
 }
 
 #[test]
-fn each_pair_of_the_files_is_found(rt: HostRuntime) {
-    for arch in [TargetArch::x86_64, TargetArch::aarch64, TargetArch::riscv64] {
-        let names = SyscallTable::new(arch);
-        for (name, number) in file_of(arch) {
-            assert_eq!(rt;
-                names.get_syscall_nr(name),
-                Some(*number),
-                "the number of {name} on {arch}"
-            );
-        }
-    }
-}
-
-#[test]
 fn no_name_stands_twice(rt: HostRuntime) {
-    for arch in [TargetArch::x86_64, TargetArch::aarch64, TargetArch::riscv64] {
+    for arch in ARCHITECTURES {
         let file = file_of(arch);
         for (name, _) in file {
             let times = file.iter().filter(|pair| pair.0 == *name).count();

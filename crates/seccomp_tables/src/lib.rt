@@ -1,6 +1,9 @@
-// The names and numbers of Linux system calls, for each architecture: data alone, which
-// tools/generate_tables writes.
+// The names and numbers of Linux system calls, for each architecture, which tools/generate_tables
+// writes, and what holds of each table.
 #![tactic(auto)]
+
+ghost use Rattle.std.specs.Prelude.{◌≡◌};
+ghost use Rattle.seccomp_tables.specs.Tables.{IsCallTable, pairs_of, x86_64_pairs, aarch64_pairs, riscv64_pairs};
 
 mod aarch64;
 mod riscv64;
@@ -9,3 +12,39 @@ mod x86_64;
 pub use aarch64::AARCH64;
 pub use riscv64::RISCV64;
 pub use x86_64::X86_64;
+
+/// The name and the number of each system call of x86_64.
+///
+/// There are 255 to 511 pairs, in byte order of names, no name stands twice, and the numbers lie
+/// within 0 to 462.
+#[tactic(auto, using(crate::proofs::TableFacts::x86_64_table))]
+pub fn x86_64_calls() -> &'static [(&'static str, i64)]
+    ensures pairs { pairs_of result.now ≡ x86_64_pairs }
+    ensures table { IsCallTable x86_64_pairs }
+{
+    &X86_64
+}
+
+/// The name and the number of each system call of aarch64.
+///
+/// There are 255 to 511 pairs, in byte order of names, no name stands twice, and the numbers lie
+/// within 0 to 462.
+#[tactic(auto, using(crate::proofs::TableFacts::aarch64_table))]
+pub fn aarch64_calls() -> &'static [(&'static str, i64)]
+    ensures pairs { pairs_of result.now ≡ aarch64_pairs }
+    ensures table { IsCallTable aarch64_pairs }
+{
+    &AARCH64
+}
+
+/// The name and the number of each system call of riscv64.
+///
+/// There are 255 to 511 pairs, in byte order of names, no name stands twice, and the numbers lie
+/// within 0 to 462.
+#[tactic(auto, using(crate::proofs::TableFacts::riscv64_table))]
+pub fn riscv64_calls() -> &'static [(&'static str, i64)]
+    ensures pairs { pairs_of result.now ≡ riscv64_pairs }
+    ensures table { IsCallTable riscv64_pairs }
+{
+    &RISCV64
+}

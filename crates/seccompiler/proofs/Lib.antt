@@ -26,6 +26,7 @@ pub mod FilterEquality
 pub mod Reordering
 pub mod TableNames
 pub mod TableFacts
+pub mod Halving
 pub mod TextCuts
 pub mod FilterSteps
 pub mod OptionSteps

@@ -1,33 +1,16 @@
 -- Tables of system calls: the number that a name has on an architecture.
-use Rattle.std.specs.Prelude.{◌≡◌, ◌≢◌, ℕ, ℤ, pos, ◌≤ℤ◌, List, [], ◌∷◌, ◌++◌, if◌then◌else◌, Option, Some, None, All, AllPairs, map, length, ◌<◌}
-use Rattle.std.specs.Borrow.{Bor}
-use Rattle.std.specs.Cmp.Lexicographic.{slice_cmp}
-use Rattle.std.specs.Ordering.{nat_cmp}
-use Rattle.std.specs.declared.cmp.Ordering.TheVariants.{Less}
+use Rattle.std.specs.Prelude.{◌≡◌, ◌≢◌, ℕ, ℤ, List, [], ◌∷◌, ◌++◌, if◌then◌else◌, Option, Some, None, All}
 use Rattle.std.specs.Str.{bytes_eq}
-use Rattle.seccomp_tables.specs.declared.x86_64.TheConstants.{X86_64}
-use Rattle.seccomp_tables.specs.declared.aarch64.TheConstants.{AARCH64}
-use Rattle.seccomp_tables.specs.declared.riscv64.TheConstants.{RISCV64}
+pub use Rattle.seccomp_tables.specs.Tables.{Pair, pairs_of, StandsBefore, IsTableNumber, IsCallTable}
+use Rattle.seccomp_tables.specs.Tables.{x86_64_pairs, aarch64_pairs, riscv64_pairs}
 use Rattle.seccompiler.specs.declared.backend.TargetArch.{TargetArch}
 use Rattle.seccompiler.specs.declared.backend.TargetArch.TheVariants.{x86_64, aarch64, riscv64}
 
--- A system call's name, as bytes, and its number.
-abbrev pub Pair : Type 0
-Pair = List ℕ × ℤ
-
--- The pairs of an array of the program.
-abbrev pub pairs_of : List (Bor (List ℕ) × ℤ) → List Pair
-pairs_of pairs = map (λ pair. (pair.0.now, pair.1)) pairs
-
 -- The table of an architecture: the pairs that the Rust crate seccompiler has for it, in byte order of names.
-unfoldable pub table_of : TargetArch → List Pair
-table_of x86_64 = map (λ pair. (pair.0.now, pair.1)) X86_64
-table_of aarch64 = map (λ pair. (pair.0.now, pair.1)) AARCH64
-table_of riscv64 = map (λ pair. (pair.0.now, pair.1)) RISCV64
-
--- The first pair's name comes before the second's in byte order.
-abbrev pub StandsBefore : Pair → Pair → Type 0
-StandsBefore first second = slice_cmp nat_cmp first.0 second.0 ≡ Less
+abbrev pub table_of : TargetArch → List Pair
+table_of x86_64 = x86_64_pairs
+table_of aarch64 = aarch64_pairs
+table_of riscv64 = riscv64_pairs
 
 -- The number of the first pair with this name, if there is one.
 abbrev pub number_of : List Pair → List ℕ → Option ℤ
@@ -40,14 +23,3 @@ pub record IsFirstNumber (table : List Pair) (name : List ℕ) (number : ℤ) : 
   pub back : List Pair
   pub whole : table ≡ front ++ (name, number) ∷ back
   pub first : All (λ pair. pair.0 ≢ name) front
-
--- A number that the tables may give a system call: those of the Linux kernel 6.12 have none above 462.
-abbrev pub IsTableNumber : ℤ → Type 0
-IsTableNumber number = (pos 0 ≤ℤ number) × (number ≤ℤ pos 462)
-
--- What every table is: short, in byte order of names, with no name twice, and with no number out of range.
-pub record IsCallTable (table : List Pair) : Type 0 where
-  pub short : length table < 512
-  pub ascending : AllPairs StandsBefore table
-  pub distinct : AllPairs (λ first second. first.0 ≢ second.0) table
-  pub in_range : All (λ pair. IsTableNumber pair.1) table

@@ -29,4 +29,4 @@ pub use json::{
 };
 pub use machine::Outcome;
 pub use rule::SeccompRule;
-pub use syscall_table::SyscallTable;
+pub use syscall_table::{Lookup, SyscallTable};

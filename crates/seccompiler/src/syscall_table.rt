@@ -1,11 +1,32 @@
 // From the names of system calls to their numbers.
 
-ghost use Rattle.std.specs.Prelude.{◌≡◌, ◌≢◌, All, IfSome, IfNone};
+ghost use Rattle.std.specs.Prelude.{◌≡◌, ◌≢◌, ◌≤◌, All, IfSome, IfNone};
 ghost use Rattle.seccompiler.specs.SyscallTable.{IsTableNumber, IsCallTable, IsFirstNumber, number_of, pairs_of, table_of};
 
 use crate::backend::TargetArch;
-use seccomp_tables::{AARCH64, RISCV64, X86_64};
+use crate::equality::EqualByParts;
+use seccomp_tables::{aarch64_calls, riscv64_calls, x86_64_calls};
+use std::cmp::Ordering;
 use std::marker::Model;
+
+/// What a look-up by name found, and how many comparisons it took.
+#[derive(Clone, Copy, Debug, PartialEq, Eq)]
+pub struct Lookup {
+    /// The number of the system call with exactly this name, if the table has it.
+    pub number: Option<i64>,
+    /// How many of the table's names were compared with the asked one.
+    pub compared: usize,
+}
+
+impl EqualByParts for Lookup {
+    ghost use Rattle.std.specs.Prelude.{◌≡◌};
+    ghost use Rattle.std.specs.Cmp.Rules.{comparing};
+    ghost use Rattle.std.proofs.Common.{rules};
+
+    ghost has_same_parts = { λ x y. x ≡ y };
+
+    ghost decides = { Prim.search (comparing, rules) };
+}
 
 /// The system calls of one architecture, by name.
 ///
@@ -37,6 +58,42 @@ impl SyscallTable {
         SyscallTable { arch }
     }
 
+    /// Looks the system call with exactly this name up, case included, by halving the table.
+    ///
+    /// `number` is `None` where the table has no such name, and otherwise lies within 0 to 462.
+    /// `compared` is 1 to 9; where the table has no such name, it is 8 or 9. It takes no memory.
+    /// `SyscallTable::new(TargetArch::aarch64).lookup("close").number` is `Some(57)`.
+    pub fn lookup(&self, name: &str) -> Lookup
+        ensures number { result.number ≡ number_of (table_of self.now) name.now }
+        ensures found { IfSome result.number (IsFirstNumber (table_of self.now) name.now) }
+        ensures not_found { IfNone result.number (All (λ pair. pair.0 ≢ name.now) (table_of self.now)) }
+        ensures in_range { IfSome result.number IsTableNumber }
+        ensures compared { (1 ≤ result.compared) × (result.compared ≤ 9) }
+        ensures missed { IfNone result.number (8 ≤ result.compared) }
+    {
+        let mut part = pairs_for(self.arch);
+        let mut compared = 0;
+        while !part.is_empty() {
+            let middle = part.len() / 2;
+            let pair = &part[middle];
+            compared += 1;
+            part = match name.cmp(pair.0) {
+                Ordering::Less => &part[..middle],
+                Ordering::Greater => &part[middle + 1..],
+                Ordering::Equal => {
+                    return Lookup {
+                        number: Some(pair.1),
+                        compared,
+                    };
+                }
+            };
+        }
+        Lookup {
+            number: None,
+            compared,
+        }
+    }
+
     /// Gives the number of the system call with exactly this name, case included.
     ///
     /// It is `None` where the table has no such name, and otherwise lies within 0 to 462. It takes
@@ -47,7 +104,7 @@ impl SyscallTable {
         ensures not_found { IfNone result (All (λ pair. pair.0 ≢ name.now) (table_of self.now)) }
         ensures in_range { IfSome result IsTableNumber }
     {
-        number_in(pairs_for(self.arch), name)
+        self.lookup(name).number
     }
 }
 
@@ -56,20 +113,8 @@ fn pairs_for(arch: TargetArch) -> &'static [(&'static str, i64)]
     ensures { pairs_of result.now ≡ table_of arch }
 {
     match arch {
-        TargetArch::x86_64 => &X86_64,
-        TargetArch::aarch64 => &AARCH64,
-        TargetArch::riscv64 => &RISCV64,
+        TargetArch::x86_64 => x86_64_calls(),
+        TargetArch::aarch64 => aarch64_calls(),
+        TargetArch::riscv64 => riscv64_calls(),
     }
-}
-
-// Walks the pairs up to the first with this name.
-fn number_in(pairs: &[(&str, i64)], name: &str) -> Option<i64>
-    ensures { result ≡ number_of (pairs_of pairs.now) name.now }
-{
-    for pair in pairs {
-        if pair.0 == name {
-            return Some(pair.1);
-        }
-    }
-    None
 }

@@ -40,7 +40,7 @@ pub mod JsonEntries
 pub mod NumberedChains
 pub mod JsonAdditions
 pub mod JsonPolicies
-pub mod TextMaps
-pub mod JsonPolicySteps
-pub mod JsonPolicyFaults
-pub mod PolicyPrograms
+pub mod ByName
+pub mod TextFilters
+pub mod TextPolicies
+pub mod TextPrograms

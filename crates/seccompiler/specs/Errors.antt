@@ -1,13 +1,15 @@
 -- The crate's error: how a refusal of one of its modules becomes one, its text, and where want of memory stands.
 use Rattle.std.specs.Prelude.{◌≢◌, ℕ, List, ◌++◌, Option, Some, option_map, codes}
 use Rattle.std.specs.Fmt.{signed_decimal}
+use Rattle.std.specs.IoError.{error_kind}
+use Rattle.std.specs.declared.io.ErrorKind.TheVariants as kind
+use Rattle.serde_json.specs.Errors.{IsMemory}
 use Rattle.seccompiler.specs.declared.backend.BackendError.{BackendError}
 use Rattle.seccompiler.specs.declared.backend.BackendError.TheVariants as backend
 use Rattle.seccompiler.specs.declared.error.Error.{Error}
 use Rattle.seccompiler.specs.declared.error.Error.TheVariants as whole
 use Rattle.seccompiler.specs.declared.json.error.JsonFrontendError.{JsonFrontendError}
 use Rattle.seccompiler.specs.declared.json.error.JsonFrontendError.TheVariants as frontend
-use Rattle.seccompiler.specs.JsonPolicies.{IsNoMemoryInside as IsNoMemoryInFrontend}
 use Rattle.seccompiler.specs.JsonTexts.{json_text}
 use Rattle.seccompiler.specs.Texts.{backend_text}
 
@@ -42,12 +44,15 @@ error_text (whole.ThreadSync thread) = Some (codes "Seccomp filter synchronizati
 error_text (whole.JsonFrontend e) = option_map (λ text. codes "Json Frontend error: " ++ text) (json_text e)
 error_text whole.OutOfMemory = Some (codes "Out of memory.")
 
--- Want of memory stands in the error itself, if it is at fault, and nowhere inside.
+-- Want of memory stands in the front end's error itself, if it is at fault, and nowhere inside.
+abbrev pub IsNoMemoryInFrontend : JsonFrontendError → Type 0
+IsNoMemoryInFrontend (frontend.Backend e) = e ≢ backend.OutOfMemory
+IsNoMemoryInFrontend (frontend.SerdeJson e) = ¬ IsMemory e
+IsNoMemoryInFrontend (frontend.Read e) = error_kind e ≢ kind.OutOfMemory
+IsNoMemoryInFrontend e = Unit {0}
+
+-- The same of the crate's error.
 abbrev pub IsNoMemoryInside : Error → Type 0
 IsNoMemoryInside (whole.Backend e) = e ≢ backend.OutOfMemory
-IsNoMemoryInside whole.EmptyFilter = Unit {0}
-IsNoMemoryInside (whole.Prctl number) = Unit {0}
-IsNoMemoryInside (whole.Seccomp number) = Unit {0}
-IsNoMemoryInside (whole.ThreadSync thread) = Unit {0}
 IsNoMemoryInside (whole.JsonFrontend e) = (e ≢ frontend.OutOfMemory) × IsNoMemoryInFrontend e
-IsNoMemoryInside whole.OutOfMemory = Unit {0}
+IsNoMemoryInside e = Unit {0}

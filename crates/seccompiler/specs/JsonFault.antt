@@ -1,7 +1,5 @@
 -- The faults of a JSON text, and what an error tells of them.
 use Rattle.std.specs.Prelude.{◌≡◌, ◌≢◌, ℕ, List, Result, Ok, Err, string_bytes}
-use Rattle.std.specs.IoError.{error_kind}
-use Rattle.std.specs.declared.io.ErrorKind.TheVariants as kind
 use Rattle.serde_json.specs.Errors.{IsMemory}
 use Rattle.seccompiler.specs.declared.backend.TargetArch.{TargetArch}
 use Rattle.seccompiler.specs.declared.backend.BackendError.{BackendError}
@@ -39,11 +37,6 @@ Fails of_json.RepeatedKey answer = answer ≡ Err repeated_key
 Fails of_json.NotAnObject answer = answer ≡ Err not_an_object
 Fails (of_json.Shape name) answer = answer ≡ Err (wrong_shape (string_bytes name))
 Fails of_json.OutOfMemory answer = Unit {0}
-
--- The same of a call that is given a reader: its failure tells of no fault, and is not for memory.
-abbrev pub FailsReading : {Y : Type 0} → JsonFrontendError → Result Y Fault → Type 0
-FailsReading (of_json.Read cause) answer = error_kind cause ≢ kind.OutOfMemory
-FailsReading e answer = Fails e answer
 
 -- A call gives, seen by `view`, what the answer is, or fails by its fault.
 abbrev pub Gives : {X Y : Type 0} → (X → Y) → Result X JsonFrontendError → Result Y Fault → Type 0

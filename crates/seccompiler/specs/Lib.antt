@@ -20,7 +20,8 @@ pub mod Refusal
 pub mod JsonTypes
 pub mod JsonPolicyOf
 pub mod JsonPolicy
-pub mod JsonPolicies
+pub mod ByName
+pub mod Reads
 pub mod JsonAnswers
 pub mod JsonPrograms
 pub mod Reorder

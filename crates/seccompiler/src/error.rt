@@ -2,6 +2,7 @@
 
 use crate::backend::BackendError;
 use crate::json::JsonFrontendError;
+use std::alloc::AllocError;
 use std::fmt;
 
 /// Why a call of this crate refuses.
@@ -79,5 +80,17 @@ impl From<JsonFrontendError> for Error {
             JsonFrontendError::OutOfMemory => Error::OutOfMemory,
             refusal => Error::JsonFrontend(refusal),
         }
+    }
+}
+
+/// A refused growth is want of memory.
+impl From<AllocError> for Error {
+    ghost use Rattle.std.specs.Prelude.{◌≡◌};
+    ghost use Rattle.seccompiler.specs.declared.error.Error.TheVariants.{OutOfMemory};
+
+    ghost from_gives = { λ _ error. error ≡ OutOfMemory };
+
+    fn from(_refused: AllocError) -> Error {
+        Error::OutOfMemory
     }
 }

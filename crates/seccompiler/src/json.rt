@@ -4,7 +4,6 @@
 //! docs/JSON.md has the format. [`repeats_key`] tells that a text repeats a name, and
 //! [`read_filters`] turns the value of a text into filters.
 
-mod compile;
 mod compiler;
 mod error;
 mod filters;
@@ -12,6 +11,7 @@ mod members;
 mod policy;
 mod read;
 mod repeats;
+mod texts;
 mod types;
 
 pub use compiler::JsonCompiler;

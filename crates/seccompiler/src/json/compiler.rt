@@ -1,6 +1,13 @@
 // From JSON filters to filters.
 
-ghost use Rattle.std.specs.Prelude.{◌≡◌, ◌↔◌, Ok, Err, All, IfOk, IfErr};
+ghost use Rattle.std.specs.Prelude.{◌≡◌, ◌↔◌, ℕ, List, Ok, Err, All, IfSome, IfOk, IfErr};
+ghost use Rattle.std.specs.HashMap.{get_by_text};
+ghost use Rattle.serde_json.specs.Data.{Data};
+ghost use Rattle.seccompiler.specs.ByName.{under, AreInOrder};
+ghost use Rattle.seccompiler.specs.Errors.{IsNoMemoryInFrontend};
+ghost use Rattle.seccompiler.specs.JsonAnswers.{IsValueOf, OfValue, ArePoliciesOf, TellsFrontendFault};
+ghost use Rattle.seccompiler.specs.JsonFilters.{AreFilters};
+ghost use Rattle.seccompiler.specs.Reads.{Reads};
 ghost use Rattle.seccompiler.specs.Policy.{Filter};
 ghost use Rattle.seccompiler.specs.Refusal.{numbers_of};
 ghost use Rattle.seccompiler.specs.SyscallTable.{IsTableNumber};
@@ -12,8 +19,11 @@ use crate::backend::TargetArch;
 use crate::filter::SeccompFilter;
 use crate::json::error::JsonFrontendError;
 use crate::json::policy::seccomp_filter;
-use crate::json::types::JsonFilter;
+use crate::json::texts::filters_from;
+use crate::json::types::{JsonFilter, JsonFilterMap};
 use std::alloc::Global;
+use std::collections::HashMap;
+use std::io::Read;
 use std::marker::Model;
 
 /// Makes filters of JSON policies, for one architecture.
@@ -70,5 +80,76 @@ impl JsonCompiler {
         ensures computed { Gives (λ f. f) result (policy_in self.now filter.now) }
     {
         seccomp_filter(alloc, self.arch, filter)
+    }
+
+    // The filters of JSON filters, in byte order of their names.
+    fn policies(
+        &self,
+        alloc: Global,
+        filters: JsonFilterMap,
+    ) -> Result<Vec<(String, SeccompFilter)>, JsonFrontendError>
+        // Of whichever value the JSON filters are.
+        ensures policies { IfOk result (λ found. (d : Data) → AreFilters d filters → ArePoliciesOf self.now (under found.items) d) }
+        ensures ordered { IfOk result (λ found. AreInOrder found.items) }
+        ensures numbers { IfOk result (λ found. All (λ e. All IsTableNumber (numbers_of e.1.chains)) found.items) }
+        ensures fault { IfErr result (λ e. (text : List ℕ) (d : Data) → IsValueOf text d → AreFilters d filters → TellsFrontendFault self.now text e) }
+        ensures memory { IfErr result IsNoMemoryInFrontend }
+    {
+        let mut found = Vec::new(alloc);
+        for (name, filter) in filters.0 {
+            let policy = self.make_seccomp_filter(alloc, &filter)?;
+            found.push((name, policy))?;
+        }
+        Ok(found)
+    }
+
+    // The filters of a reader's text, in byte order of their names.
+    pub(crate) fn policies_from<R: Read + Drop>(
+        &self,
+        alloc: Global,
+        reader: R,
+    ) -> Result<Vec<(String, SeccompFilter)>, JsonFrontendError>
+        ensures policies { IfOk result (λ found. Reads (R.remaining reader) (λ text. OfValue text (ArePoliciesOf self.now (under found.items)))) }
+        ensures ordered { IfOk result (λ found. AreInOrder found.items) }
+        ensures numbers { IfOk result (λ found. All (λ e. All IsTableNumber (numbers_of e.1.chains)) found.items) }
+        ensures fault { IfErr result (λ e. Reads (R.remaining reader) (λ text. TellsFrontendFault self.now text e)) }
+        ensures memory { IfErr result IsNoMemoryInFrontend }
+    {
+        let filters = filters_from(alloc, reader)?;
+        self.policies(alloc, filters)
+    }
+
+    /// Reads a text of JSON filters to its end, and makes each filter, as `make_seccomp_filter` does.
+    ///
+    /// The map has the text's names, each with its filter; the filters' call numbers are within 0 to
+    /// 462. The text is what the reader gives, which the contract names where the reader's type tells
+    /// its bytes, as a slice does. For a reader that doesn't tell them, as a file, it says that there
+    /// is a text of which all this holds.
+    ///
+    /// # Errors
+    ///
+    /// The first of these that is there:
+    ///
+    /// - `Read` where the reader fails;
+    /// - `SerdeJson` where the bytes are no JSON text;
+    /// - `RepeatedKey` where `repeats_key` finds that a name is repeated;
+    /// - `NotAnObject` where the text is no object;
+    /// - `Shape` with the least name, in byte order, whose value is no filter;
+    /// - what `make_seccomp_filter` refuses, of the least name with such a filter.
+    ///
+    /// `OutOfMemory` may come in place of each, where memory is refused or the reader fails for want
+    /// of it.
+    pub fn compile<R: Read + Drop>(
+        &self,
+        alloc: Global,
+        reader: R,
+    ) -> Result<HashMap<String, SeccompFilter>, JsonFrontendError>
+        ensures policies { IfOk result (λ m. Reads (R.remaining reader) (λ text. OfValue text (ArePoliciesOf self.now (get_by_text m)))) }
+        ensures numbers { IfOk result (λ m. (name : List ℕ) → IfSome (get_by_text m name) (λ f. All IsTableNumber (numbers_of f.chains))) }
+        ensures fault { IfErr result (λ e. Reads (R.remaining reader) (λ text. TellsFrontendFault self.now text e)) }
+        ensures memory { IfErr result IsNoMemoryInFrontend }
+    {
+        let policies = self.policies_from(alloc, reader)?;
+        Ok(policies.into_iter().collect(alloc)?)
     }
 }

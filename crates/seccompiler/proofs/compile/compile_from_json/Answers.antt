@@ -1,14 +1,20 @@
-use Rattle.std.proofs.lemmas.Result.{err_from_is_err_and}
-use Rattle.seccompiler.proofs.PolicyPrograms.{text_programs, text_backend_error, all_checked}
+use Rattle.std.proofs.Common.{ℕ, List, Option, Vec, Global, string_eq, rules, sym, subst}
+use Rattle.std.specs.HashMap.{get_by_text, IsFromIterResult}
+use Rattle.seccompiler.specs.JsonAnswers.{OfValue}
+use Rattle.seccompiler.specs.JsonPrograms.{AreProgramsOf}
+use Rattle.seccompiler.specs.Reads.{Reads}
+use Rattle.seccompiler.specs.declared.bpf.sock_filter.{sock_filter}
+use Rattle.seccompiler.proofs.ByName.{hashed}
+use Rattle.seccompiler.proofs.TextPrograms.{all_checked}
 use Rattle.seccompiler.proofs.compile.compile_from_json.Goals as goal
 
-pub returns-in_err-programs-clause-fault : goal.returns-in_err-programs-clause-fault
-returns-in_err-programs-clause-fault g c =
-    let p = err_from_is_err_and c.from_residual-in_err-programs.result c.from_residual-in_err-programs.ensures.1 in
-    rw (p.1, p.2) (text_backend_error _ _ c.new.ensures _ c.in_ok-policies.policies c.in_err-programs.field-0.0 c.in_err-programs.ensures.refused c.in_ok-policies.ensures.policies)
-
 pub returns-clause-programs : goal.returns-clause-programs
-returns-clause-programs g c = text_programs _ _ c.new.ensures _ c.in_ok-policies.policies c.in_ok-programs.field-0 c.in_ok-programs.ensures.programs c.in_ok-policies.ensures.policies
+returns-clause-programs g c =
+    let found = c.in_ok-programs.programs.items in
+    let m = c.in_ok-collect.field-0 in
+    let made : IsFromIterResult string_eq found m = search rules in
+    let same = hashed found m c.in_ok-programs.ensures.ordered made in
+    subst (λ (find : List ℕ → Option (Vec sock_filter Global)). Reads (g.R.Read.remaining c.args.reader) (λ text. OfValue text (AreProgramsOf c.args.arch find))) (λ i name. sym (same name) i) c.in_ok-programs.ensures.programs
 
 pub returns-clause-checked : goal.returns-clause-checked
-returns-clause-checked g c = all_checked _ _ c.in_ok-programs.ensures.programs
+returns-clause-checked g c = let read = returns-clause-programs g c in all_checked c.args.arch (get_by_text c.in_ok-collect.field-0) read.2.0 read.2.2

@@ -1,14 +1,11 @@
-use Rattle.std.proofs.Common.{◌≡◌, ◌++◌, List}
-use Rattle.std.specs.List.{AllByRecursion}
-use Rattle.seccompiler.specs.JsonPrograms.{IsProgramOf}
-use Rattle.seccompiler.specs.Refusal.{IsCompilable}
-use Rattle.seccompiler.proofs.JsonPolicySteps.{Made}
-use Rattle.seccompiler.proofs.TextMaps.{AgreesOn}
+use Rattle.std.proofs.Common.{◌≡◌, ◌++◌}
+use Rattle.std.specs.Vec.Iter.{into_iter_items}
+use Rattle.seccompiler.proofs.ByName.{AreMade}
+use Rattle.seccompiler.proofs.TextPrograms.{Compiles}
 use Rattle.seccompiler.proofs.compile.programs.Given as goal
 
 abbrev pub invariant-loop-name : goal.invariant-loop-name
-invariant-loop-name l = (done : List Made) × record {
-  all : l.fn.policies.entries ≡ done ++ l.name-iterator;
-  programs : AgreesOn IsProgramOf done l.found;
-  compilable : AllByRecursion (λ e. IsCompilable e.1) done;
+invariant-loop-name l = record {
+  all : l.fn.policies.items ≡ l.yielded ++ into_iter_items l.name-iterator;
+  made : AreMade Compiles l.yielded l.found.items;
 }

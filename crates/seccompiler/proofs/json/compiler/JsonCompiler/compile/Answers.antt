@@ -1,8 +1,27 @@
-use Rattle.seccompiler.proofs.JsonPolicyFaults.{hashed_policies, hashed_answer}
+use Rattle.std.proofs.Common.{◌≡◌, ℕ, List, IfSome, string_eq, rules, sym, subst}
+use Rattle.std.specs.Prelude.{All}
+use Rattle.std.specs.HashMap.{get_by_text, IsFromIterResult}
+use Rattle.seccompiler.specs.ByName.{under}
+use Rattle.seccompiler.specs.JsonAnswers.{OfValue, ArePoliciesOf}
+use Rattle.seccompiler.specs.Policy.{Filter}
+use Rattle.seccompiler.specs.Reads.{Reads}
+use Rattle.seccompiler.specs.Refusal.{numbers_of}
+use Rattle.seccompiler.specs.SyscallTable.{IsTableNumber}
+use Rattle.seccompiler.proofs.ByName.{hashed, all_under}
 use Rattle.seccompiler.proofs.json.compiler.JsonCompiler.compile.Goals as goal
 
 pub returns-clause-policies : goal.returns-clause-policies
-returns-clause-policies g c = hashed_policies _ _ c.in_ok-policies_from.field-0 c.in_ok-hashed.field-0 c.in_ok-hashed.ensures c.in_ok-policies_from.ensures.policies
+returns-clause-policies g c =
+    let found = c.in_ok-policies.policies.items in
+    let m = c.in_ok-collect.field-0 in
+    let made : IsFromIterResult string_eq found m = search rules in
+    let same = hashed found m c.in_ok-policies.ensures.ordered made in
+    subst (λ (find : List ℕ → _). Reads (g.R.Read.remaining c.args.reader) (λ text. OfValue text (ArePoliciesOf c.args.self.now find))) (λ i name. sym (same name) i) c.in_ok-policies.ensures.policies
 
-pub returns-clause-computed : goal.returns-clause-computed
-returns-clause-computed g c = hashed_answer _ _ c.in_ok-policies_from.field-0 c.in_ok-hashed.field-0 c.in_ok-hashed.ensures c.in_ok-policies_from.ensures.computed
+pub returns-clause-numbers : goal.returns-clause-numbers
+returns-clause-numbers g c = λ name.
+    let found = c.in_ok-policies.policies.items in
+    let m = c.in_ok-collect.field-0 in
+    let made : IsFromIterResult string_eq found m = search rules in
+    let same : get_by_text m name ≡ under found name = hashed found m c.in_ok-policies.ensures.ordered made name in
+    subst (λ o. IfSome o (λ (f : Filter). All IsTableNumber (numbers_of f.chains))) (sym same) (all_under (λ (f : Filter). All IsTableNumber (numbers_of f.chains)) found c.in_ok-policies.ensures.numbers name)

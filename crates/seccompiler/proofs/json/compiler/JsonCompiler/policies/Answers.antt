@@ -1,45 +1,58 @@
-use Rattle.std.proofs.Common.{◌≡◌, ◌∷◌, ◌++◌, [], Ok, string_bytes, string_cmp, map, sym, ap, ◌∙◌, subst, append_assoc}
+use Rattle.std.proofs.Common.{◌≡◌, ◌∷◌, ◌++◌, [], String, Global, sym, ap, refl, ◌∙◌, subst, append_assoc, append-nil}
 use Rattle.std.specs.Prelude.{All}
-use Rattle.std.specs.List.Sorted.{IsStrictlySortedBy}
-use Rattle.std.specs.Map.{keys_of}
-use Rattle.std.proofs.lemmas.List.{map-append}
-use Rattle.std.proofs.lemmas.List.Elements.{All-push}
+use Rattle.std.proofs.lemmas.List.Elements.{All-nil, All-push}
 use Rattle.std.proofs.lemmas.Result.{err_from_is_err_and}
-use Rattle.seccompiler.specs.JsonFilters.{named}
-use Rattle.seccompiler.specs.JsonPolicies.{named_policy, policies_in, then_policy}
-use Rattle.seccompiler.specs.JsonPolicy.{policy_in}
+use Rattle.seccompiler.specs.ByName.{ByName, AreInOrder}
+use Rattle.seccompiler.specs.JsonPolicyOf.{IsPolicyOf}
+use Rattle.seccompiler.specs.JsonTypes.{JsonFilter}
+use Rattle.seccompiler.specs.Policy.{Filter}
 use Rattle.seccompiler.specs.Refusal.{numbers_of}
 use Rattle.seccompiler.specs.SyscallTable.{IsTableNumber}
-use Rattle.seccompiler.proofs.JsonPolicySteps.{Found, Made, with_front, with_front-then_policy, policy_error}
-use Rattle.seccompiler.proofs.TextMaps.{insert_last}
+use Rattle.seccompiler.proofs.ByName.{AreMade, made_more, made_in_order}
+use Rattle.seccompiler.proofs.TextPolicies.{are_policies, refused_told}
 use Rattle.seccompiler.proofs.json.compiler.JsonCompiler.policies.Goals as goal
+
+abbrev HasTableNumbers : String Global × Filter → Type 0
+HasTableNumbers e = All IsTableNumber (numbers_of e.1.chains)
+
+pub loop-name-init : goal.loop-name-init
+loop-name-init c = record {
+  all = sym c.into_iter-name-iterator.ensures.into_iter_gives.0;
+  made = subst (AreMade (IsPolicyOf c.args.self.now) []) (sym c.new-found.ensures.items) tt;
+  numbers = subst (All HasTableNumbers) (sym c.new-found.ensures.items) (All-nil HasTableNumbers);
+}
 
 pub loop-name-preserved : goal.loop-name-preserved
 loop-name-preserved c =
     let l = c.loop-name in
-    let done = l.invariant.so_far.0 in
-    let e : Found = (c.in-Some.name.now, c.in-Some.filter.now) in
-    let left = c.next.new.self in
-    let arch = c.args.self.now in
-    let p = c.in_ok-policy.policy in
-    let entry : Made = (c.in_ok-name.name, p) in
-    let before = map named_policy l.found.entries in
-    let rest = policies_in arch (map named left) in
-    let all : c.args.filters.now.0.entries ≡ done ++ e ∷ left = l.invariant.so_far.1 ∙ ap (λ es. done ++ es) c.in-Some.ensures.steps in
-    let sorted : IsStrictlySortedBy string_cmp (keys_of (done ++ e ∷ left)) = subst (λ es. IsStrictlySortedBy string_cmp (keys_of es)) all c.iter-name-items.ensures.ordered in
-    let same : string_bytes c.in_ok-name.name ≡ string_bytes e.0 = c.in_ok-name.ensures.ok ∙ c.as_str.ensures.value in
-    let added : c.insert.new.self.entries ≡ l.found.entries ++ entry ∷ [] =
-    c.in_ok-insert.ensures.entries ∙ insert_last l.found.entries c.in_ok-name.name p done e left l.invariant.so_far.2 same sorted in
-    let entered : map named_policy c.insert.new.self.entries ≡ before ++ (string_bytes e.0, p) ∷ [] = ap (map named_policy) added ∙ (simp (map-append, same)) in
-    let gave : policy_in arch e.1 ≡ Ok p = c.in_ok-policy.ensures.computed in
+    let e : String Global × JsonFilter = (c.in-Some.name, c.in-Some.filter) in
+    let entry : String Global × Filter = (c.in-Some.name, c.in_ok-policy.policy) in
+    let of = c.in_ok-policy.ensures in
+    let added : c.push.new.self.items ≡ l.found.items ++ entry ∷ [] = c.in_ok-push.ensures.items in
     record {
-      so_far = (done ++ e ∷ [], all ∙ sym (append_assoc done (e ∷ []) left), ap (map (λ m. string_bytes m.0)) added ∙ simp (map-append, l.invariant.so_far.2, same));
-      rest = ap (λ ps. with_front ps rest) entered
-          ∙ sym (with_front-then_policy before (string_bytes e.0) p rest)
-          ∙ ap (λ r. with_front before (then_policy (string_bytes e.0) r rest)) (sym gave)
-          ∙ ap (λ es. with_front before (policies_in arch (map named es))) (sym c.in-Some.ensures.steps) ∙ l.invariant.rest;
-      numbers = subst (All (λ e. All IsTableNumber (numbers_of e.1.chains))) (sym added) (All-push (λ e. All IsTableNumber (numbers_of e.1.chains)) l.found.entries entry l.invariant.numbers c.in_ok-policy.ensures.numbers);
+      all = l.invariant.all ∙ ap (λ es. l.yielded ++ es) c.in-Some.ensures.steps ∙ sym (append_assoc l.yielded (e ∷ []) c.next.new.self);
+      made = subst (AreMade (IsPolicyOf c.args.self.now) (l.yielded ++ e ∷ [])) (sym added) (made_more (IsPolicyOf c.args.self.now) l.yielded l.found.items e entry l.invariant.made refl of.policy);
+      numbers = subst (All HasTableNumbers) (sym added) (All-push HasTableNumbers l.found.items entry l.invariant.numbers of.numbers);
     }
 
-pub returns-in_err-policy-clause-own_error : goal.returns-in_err-policy-clause-own_error
-returns-in_err-policy-clause-own_error c = let p = err_from_is_err_and c.from_residual.result c.from_residual.ensures.1 in rw (p.1, p.2) (policy_error _ _ _ c.in_err-policy.ensures.refusal)
+pub returns-in_err-policy-clause-fault : goal.returns-in_err-policy-clause-fault
+returns-in_err-policy-clause-fault c =
+    let p = err_from_is_err_and c.from_residual.result c.from_residual.ensures.1 in
+    let l = c.loop-name in
+    let e : String Global × JsonFilter = (c.in-Some.name, c.in-Some.filter) in
+    let left : ByName JsonFilter = c.next.new.self in
+    let all : c.args.filters.0.entries ≡ l.yielded ++ e ∷ left = l.invariant.all ∙ ap (λ es. l.yielded ++ es) c.in-Some.ensures.steps in
+    let order : AreInOrder (l.yielded ++ e ∷ left) = subst (λ es. AreInOrder es) all c.into_iter-name-iterator.ensures.into_iter_gives.5 in
+    rw (p.1, p.2) (λ text d is are. refused_told c.args.self.now d c.args.filters are l.yielded e left all order l.found.items l.invariant.made text is c.in_err-policy.field-0.0 c.in_err-policy.ensures.refusal)
+
+pub returns-clause-policies : goal.returns-clause-policies
+returns-clause-policies c = λ d are.
+    let l = c.loop-name in
+    let all : c.args.filters.0.entries ≡ l.yielded = l.invariant.all ∙ ap (λ es. l.yielded ++ es) c.in-None.ensures.steps.0 ∙ append-nil l.yielded in
+    are_policies c.args.self.now d c.args.filters are l.found.items (subst (λ es. AreMade (IsPolicyOf c.args.self.now) es l.found.items) (sym all) l.invariant.made)
+
+pub returns-clause-ordered : goal.returns-clause-ordered
+returns-clause-ordered c =
+    let l = c.loop-name in
+    let all : c.args.filters.0.entries ≡ l.yielded = l.invariant.all ∙ ap (λ es. l.yielded ++ es) c.in-None.ensures.steps.0 ∙ append-nil l.yielded in
+    made_in_order (IsPolicyOf c.args.self.now) l.yielded l.found.items l.invariant.made (subst (λ es. AreInOrder es) all c.into_iter-name-iterator.ensures.into_iter_gives.5)

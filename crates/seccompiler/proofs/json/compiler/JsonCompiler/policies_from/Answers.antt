@@ -1,0 +1,21 @@
+use Rattle.std.proofs.lemmas.Result.{IfOk-weaker, err_from_is_err_and}
+use Rattle.serde_json.specs.Data.{Data}
+use Rattle.seccompiler.specs.ByName.{under}
+use Rattle.seccompiler.specs.JsonAnswers.{OfValue, ArePoliciesOf}
+use Rattle.seccompiler.specs.JsonFilters.{AreFilters}
+use Rattle.seccompiler.specs.Reads.{Reads}
+use Rattle.seccompiler.proofs.json.compiler.JsonCompiler.policies_from.Goals as goal
+
+pub returns-in_err-filters-clause-fault : goal.returns-in_err-filters-clause-fault
+returns-in_err-filters-clause-fault g c =
+    let p = err_from_is_err_and c.from_residual.result c.from_residual.ensures.1 in
+    let read = c.in_err-filters.ensures.fault in
+    rw (p.1, p.2) (read.0, read.1, read.2 c.args.self.now)
+
+pub returns-clause-policies : goal.returns-clause-policies
+returns-clause-policies g c =
+    let arch = c.args.self.now in
+    let read = c.in_ok-filters.ensures.filters in
+    IfOk-weaker c.policies.result (λ found. (d : Data) → AreFilters d c.in_ok-filters.filters → ArePoliciesOf arch (under found.items) d)
+    (λ found. Reads (g.R.Read.remaining c.args.reader) (λ text. OfValue text (ArePoliciesOf arch (under found.items))))
+    (λ found h. (read.0, read.1, (read.2.0, read.2.1, h read.2.0 read.2.2))) c.policies.ensures.policies

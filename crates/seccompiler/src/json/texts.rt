@@ -1,0 +1,60 @@
+// From a reader to the filters of its text.
+
+ghost use Rattle.std.specs.Prelude.{IfOk, IfErr};
+ghost use Rattle.serde_json.specs.View.{view};
+ghost use Rattle.seccompiler.specs.Errors.{IsNoMemoryInFrontend};
+ghost use Rattle.seccompiler.specs.JsonAnswers.{IsReadAs, OfValue, TellsFrontendFault};
+ghost use Rattle.seccompiler.specs.JsonFilters.{AreFilters};
+ghost use Rattle.seccompiler.specs.Reads.{Reads};
+ghost use Rattle.seccompiler.specs.declared.backend.TargetArch.{TargetArch};
+
+use crate::json::error::JsonFrontendError;
+use crate::json::filters::read_filters;
+use crate::json::repeats::repeats_key;
+use crate::json::types::JsonFilterMap;
+use serde_json::Value;
+use std::alloc::Global;
+use std::io::{ErrorKind, Read};
+
+// The filters of a reader's text. Neither the text nor its value outlives the call.
+pub(crate) fn filters_from<R: Read + Drop>(
+    alloc: Global,
+    mut reader: R,
+) -> Result<JsonFilterMap, JsonFrontendError>
+    ensures filters { IfOk result (λ filters. Reads (R.remaining reader) (λ text. OfValue text (λ d. AreFilters d filters))) }
+    ensures fault { IfErr result (λ e. Reads (R.remaining reader) (λ text. (arch : TargetArch) → TellsFrontendFault arch text e)) }
+    ensures memory { IfErr result IsNoMemoryInFrontend }
+{
+    let mut text = Vec::new(alloc);
+    match reader.read_to_end(&mut text) {
+        Ok(_) => filters_of(alloc, text.as_slice()),
+        Err(error) if error.kind() == ErrorKind::OutOfMemory => Err(JsonFrontendError::OutOfMemory),
+        Err(error) => Err(JsonFrontendError::Read(error)),
+    }
+}
+
+// The filters of a text.
+fn filters_of(alloc: Global, text: &[u8]) -> Result<JsonFilterMap, JsonFrontendError>
+    ensures filters { IfOk result (λ filters. OfValue text.now (λ d. AreFilters d filters)) }
+    ensures fault { IfErr result (λ e. (arch : TargetArch) → TellsFrontendFault arch text.now e) }
+    ensures memory { IfErr result IsNoMemoryInFrontend }
+{
+    let value = value_of(alloc, text)?;
+    if repeats_key(text, &value) {
+        return Err(JsonFrontendError::RepeatedKey);
+    }
+    read_filters(alloc, &value)
+}
+
+// The value of a text.
+fn value_of(alloc: Global, text: &[u8]) -> Result<Value, JsonFrontendError>
+    ensures value { IfOk result (λ value. IsReadAs text.now (view value)) }
+    ensures fault { IfErr result (λ e. (arch : TargetArch) → TellsFrontendFault arch text.now e) }
+    ensures memory { IfErr result IsNoMemoryInFrontend }
+{
+    match Value::from_slice(alloc, text) {
+        Ok(value) => Ok(value),
+        Err(error) if error.is_memory() => Err(JsonFrontendError::OutOfMemory),
+        Err(error) => Err(JsonFrontendError::SerdeJson(error)),
+    }
+}

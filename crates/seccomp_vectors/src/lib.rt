@@ -40,6 +40,8 @@ mod machine;
 #[cfg(test)]
 mod no_memory;
 #[cfg(test)]
+mod parts;
+#[cfg(test)]
 mod policies;
 #[cfg(test)]
 mod programs;

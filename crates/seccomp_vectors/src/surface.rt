@@ -146,11 +146,8 @@ fn filters_by_the_root(rt: HostRuntime) -> Result<(), Fail> {
         "fcntl with 2"
     );
     let table = seccompiler::SyscallTable::new(seccompiler::TargetArch::x86_64);
-    assert_eq!(rt;
-        table.get_syscall_nr("fcntl"),
-        Some(72),
-        "the number of fcntl"
-    );
+    let found: seccompiler::Lookup = table.lookup("fcntl");
+    assert_eq!(rt; found.number, Some(72), "the number of fcntl");
     Ok(())
 }
 
@@ -172,12 +169,12 @@ fn json_by_the_root(rt: HostRuntime) -> Result<(), Fail> {
 
 #[test]
 fn texts_by_the_root(rt: HostRuntime) -> Result<(), Fail> {
-    let programs: seccompiler::BpfMap = seccompiler::compile_from_json(
-        rt.alloc(),
-        b"{}".as_slice(),
-        seccompiler::TargetArch::x86_64,
-    )?;
+    let (alloc, arch) = (rt.alloc(), seccompiler::TargetArch::x86_64);
+    let programs: seccompiler::BpfMap =
+        seccompiler::compile_from_json(alloc, b"{}".as_slice(), arch)?;
     assert_eq!(rt; programs.len(), 0, "the programs of no filters");
+    let programs = seccompiler::compile_from_json_in_order(alloc, b"{}".as_slice(), arch)?;
+    assert_eq!(rt; programs.len(), 0, "the programs of no filters, in order");
     Ok(())
 }
 

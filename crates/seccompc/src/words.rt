@@ -46,35 +46,59 @@ pub fn read_words(words: &[String]) -> Option<Command<'_>>
 {
     let (command, words) = words.split_first()?;
     match command.as_str() {
-        "probe" => match words {
-            [arch, nr, index, value] => read_probe(
-                arch.as_str(),
-                nr.as_str(),
-                index.as_str(),
-                value.as_str(),
-            ),
-            _ => None,
-        },
-        "list" => match words {
-            [arch] => Some(Command::List {
-                arch: arch.as_str(),
-            }),
-            _ => None,
-        },
-        "run" => match words {
-            [arch, file, name] => Some(Command::Run {
-                arch: arch.as_str(),
-                file: file.as_str(),
-                name: name.as_str(),
-            }),
-            _ => None,
-        },
+        "probe" => read_probe(words),
+        "list" => read_list(words),
+        "run" => read_run(words),
         _ => None,
     }
 }
 
 // The probe that the words behind `probe` ask for.
-fn read_probe<'a>(arch: &'a str, nr: &str, index: &str, value: &str) -> Option<Command<'a>>
+fn read_probe(words: &[String]) -> Option<Command<'_>>
+    ensures read { IfSome result (IsCommand (codes "probe" ∷ map string_bytes words.now)) }
+    ensures unread { IfNone result ((command : Command) → IsCommand (codes "probe" ∷ map string_bytes words.now) command → ⊥) }
+{
+    match words {
+        [arch, nr, index, value] => probe_of(
+            arch.as_str(),
+            nr.as_str(),
+            index.as_str(),
+            value.as_str(),
+        ),
+        _ => None,
+    }
+}
+
+// The listing that the words behind `list` ask for.
+fn read_list(words: &[String]) -> Option<Command<'_>>
+    ensures read { IfSome result (IsCommand (codes "list" ∷ map string_bytes words.now)) }
+    ensures unread { IfNone result ((command : Command) → IsCommand (codes "list" ∷ map string_bytes words.now) command → ⊥) }
+{
+    match words {
+        [arch] => Some(Command::List {
+            arch: arch.as_str(),
+        }),
+        _ => None,
+    }
+}
+
+// The run that the words behind `run` ask for.
+fn read_run(words: &[String]) -> Option<Command<'_>>
+    ensures read { IfSome result (IsCommand (codes "run" ∷ map string_bytes words.now)) }
+    ensures unread { IfNone result ((command : Command) → IsCommand (codes "run" ∷ map string_bytes words.now) command → ⊥) }
+{
+    match words {
+        [arch, file, name] => Some(Command::Run {
+            arch: arch.as_str(),
+            file: file.as_str(),
+            name: name.as_str(),
+        }),
+        _ => None,
+    }
+}
+
+// The probe of an architecture's name and three numbers' texts.
+fn probe_of<'a>(arch: &'a str, nr: &str, index: &str, value: &str) -> Option<Command<'a>>
     ensures read { IfSome result (IsCommand (codes "probe" ∷ arch.now ∷ nr.now ∷ index.now ∷ value.now ∷ [])) }
     ensures unread { IfNone result ((command : Command) → IsCommand (codes "probe" ∷ arch.now ∷ nr.now ∷ index.now ∷ value.now ∷ []) command → ⊥) }
 {

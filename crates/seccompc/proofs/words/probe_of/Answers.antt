@@ -4,7 +4,7 @@ use Rattle.std.proofs.lemmas.Int.{ints, to_z-of_z}
 use Rattle.seccompc.specs.declared.words.Command.{Command}
 use Rattle.seccompc.specs.declared.words.Command.TheVariants.{Probe, List as Listing, Run}
 use Rattle.seccompc.specs.Words.{IsNumberText, IsSignedText, IsSigned64, IsCommand}
-use Rattle.seccompc.proofs.words.read_probe.Goals as goal
+use Rattle.seccompc.proofs.words.probe_of.Goals as goal
 
 -- Words whose third is no number with a sign are no probe.
 no_call_number : (arch nr index value : List ℕ) → ((z : ℤ) → IsSigned64 z → IsSignedText nr z → ⊥)

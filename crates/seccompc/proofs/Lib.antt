@@ -7,3 +7,4 @@ pub mod Escapes
 pub mod Names
 pub mod Policies
 pub mod Listings
+pub mod Statuses

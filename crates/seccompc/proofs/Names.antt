@@ -16,9 +16,6 @@ use Rattle.seccompiler.specs.declared.bpf.sock_filter.{sock_filter}
 itself : (name : List ℕ) → bytes_eq name name ≡ true
 itself name = (bytes_eq-Decides name name).1 refl
 
-turned : (p q : List ℕ) → bytes_eq p q ≡ false → bytes_eq q p ≡ false
-turned p q h = false_from_ne_true (bytes_eq q p) (λ t. let same = sym h ∙ (bytes_eq-Decides p q).1 (sym ((bytes_eq-Decides q p).0 t)) in cc)
-
 not_below_itself : (name : List ℕ) → slice_cmp nat_cmp name name ≡ Less → ⊥
 not_below_itself name h = let same = sym h ∙ tied_itself nat_list_cmp_total name in cc
 
@@ -31,37 +28,6 @@ module _ {X : Type 0} where
   pub by_text : (q : List ℕ) (entries : List (String Global × X)) → lookup (is_at (text_cmp q)) entries ≡ lookup (is_text q) entries
   by_text q [] = refl
   by_text q (e ∷ entries) = rw (is_eq-slice_cmp q (string_bytes e.0), by_text q entries) refl
-
-  -- A name is none of those in front of it.
-  pub new_name : (front : List (String Global × X)) (e : String Global × X) (back : List (String Global × X)) → IsDistinct string_eq (keys_of (front ++ e ∷ back)) → lookup (is_text (string_bytes e.0)) front ≡ None
-  unfolding IsDistinct
-  new_name [] e back distinct = refl
-  new_name (x ∷ front) e back distinct =
-      let apart : string_eq x.0 e.0 ≡ false = differs front distinct.0 in
-      rw (turned (string_bytes x.0) (string_bytes e.0) apart) (new_name front e back distinct.1)
-    where
-      differs : (xs : List (String Global × X)) → AllByRecursion (λ y. string_eq x.0 y ≡ false) (keys_of (xs ++ e ∷ back)) → string_eq x.0 e.0 ≡ false
-      differs [] all = all.0
-      differs (y ∷ xs) all = differs xs all.1
-
-  -- What is found once an entry of a new name stands behind the others.
-  pub found_more : (front : List (String Global × X)) (e : String Global × X) (q : List ℕ) → lookup (is_text (string_bytes e.0)) front ≡ None
-      → lookup (is_text q) (front ++ e ∷ []) ≡ cond (bytes_eq (string_bytes e.0) q) (Some e.1) (lookup (is_text q) front)
-  found_more [] e q none = elim (cases_Bool (bytes_eq (string_bytes e.0) q)) [
-    | inl t ↦ rw (t, subst (λ r. bytes_eq r (string_bytes e.0) ≡ true) ((bytes_eq-Decides (string_bytes e.0) q).0 t) (itself (string_bytes e.0))) refl
-    | inr f ↦ rw (f, turned (string_bytes e.0) q f) refl
-  ]
-  found_more (x ∷ front) e q none = elim (cases_Bool (bytes_eq (string_bytes e.0) (string_bytes x.0))) [
-    | inl t ↦ let some : Some x.1 ≡ None = sym (rw t refl) ∙ none in cc
-    | inr f ↦
-        let behind : lookup (is_text (string_bytes e.0)) front ≡ None = rw f at none in
-        elim (cases_Bool (bytes_eq q (string_bytes x.0))) [
-          | inl t ↦
-              let same : q ≡ string_bytes x.0 = (bytes_eq-Decides q (string_bytes x.0)).0 t in
-              rw (t, subst (λ r. bytes_eq (string_bytes e.0) r ≡ false) (sym same) f) refl
-          | inr g ↦ rw g (found_more front e q behind)
-        ]
-  ]
 
   -- In order, the first name is below each that is found behind it.
   above_first : (first : String Global) (entries : List (String Global × X)) → AllByRecursion (λ y. string_cmp first y ≡ Less) (keys_of entries) → (q : List ℕ) (x : X) → lookup (is_text q) entries ≡ Some x → slice_cmp nat_cmp (string_bytes first) q ≡ Less

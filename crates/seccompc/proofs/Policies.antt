@@ -1,5 +1,5 @@
 -- What the programs of a policy mean for the answers of the engines.
-use Rattle.std.proofs.Common.{◌≡◌, ℕ, ◌<◌, ◌⊎◌, List, Option, Some, None, IfSome, IfErr, Result, Ok, Err, Vec, Global, Contains, string_bytes, string_cmp, nat_cmp, map, refl, sym, subst, ◌∙◌, ⊎_elim}
+use Rattle.std.proofs.Common.{◌≡◌, ℕ, ◌<◌, ◌⊎◌, List, Option, Some, None, IfErr, Result, Ok, Err, Vec, Global, Contains, string_bytes, string_cmp, nat_cmp, map, refl, sym, subst, ◌∙◌, ⊎_elim}
 use Rattle.std.specs.Prelude.{⊤}
 use Rattle.std.specs.Cmp.Lexicographic.{slice_cmp}
 use Rattle.std.proofs.lemmas.Simd.{map-map}
@@ -23,6 +23,7 @@ use Rattle.seccompiler.specs.JsonAnswers.{OfValue}
 use Rattle.seccompiler.specs.JsonPrograms.{AreProgramsOf, TellsFirstFault}
 use Rattle.seccompiler.specs.JsonShape.{Under, Lacks}
 use Rattle.seccompiler.specs.Policy.{Filter}
+use Rattle.seccompiler.specs.Reads.{Reads}
 use Rattle.seccompiler.specs.Texts.{IsInvalidArch}
 use Rattle.seccompc.specs.Answers.{WritesLines, AnswersRecords}
 use Rattle.seccompc.specs.Errors.{from_library, IsTraceError}
@@ -48,7 +49,7 @@ name_refused arch known backend.OutOfMemory none cause = tt
 
 -- What the library refuses of a policy is its first fault.
 pub policy_refused : (arch : List ℕ) (known : Option (List ℕ)) (target : TargetArch) (e : Error) → IsNameOf arch target → IsNoMemoryInside e
-    → IfSome known (λ text. TellsFirstFault target text e) → IsRefusedPolicy arch known (from_library e)
+    → Reads known (λ text. TellsFirstFault target text e) → IsRefusedPolicy arch known (from_library e)
 policy_refused arch known target (library.Backend e) named memory first = of_policy target named (λ same. cc) memory first
 policy_refused arch known target library.EmptyFilter named memory first = of_policy target named (λ same. cc) memory first
 policy_refused arch known target (library.Prctl number) named memory first = of_policy target named (λ same. cc) memory first
@@ -88,13 +89,16 @@ all_programs target find d programs = record {
 
 -- What is found under the names of a policy's text.
 abbrev pub FindsPrograms : List ℕ → Option (List ℕ) → Find → Type 0
-FindsPrograms arch known find = OfNamed arch (λ target. IfSome known (λ text. OfValue text (AreProgramsOf target find)))
+FindsPrograms arch known find = OfNamed arch (λ target. Reads known (λ text. OfValue text (AreProgramsOf target find)))
 
 -- Nothing is at fault where the programs are there, and what they show holds.
 pub faultless : (arch : List ℕ) (known : Option (List ℕ)) (find : Find) (P : TargetArch → Data → Type 0) → FindsPrograms arch known find
     → ((target : TargetArch) (d : Data) → AreProgramsOf target find d → P target d) → IsFaultless arch known P
-faultless arch None find P h shows = (h.0, h.1, tt)
-faultless arch (Some text) find P h shows = (h.0, h.1, (h.2.0, h.2.1, (all_programs h.0 find h.2.0 h.2.2, shows h.0 h.2.0 h.2.2)))
+faultless arch known find P h shows =
+    let target = h.0 in
+    let read = h.2 in
+    let value = read.2 in
+    (target, h.1, (read.0, read.1, (value.0, value.1, (all_programs target find value.0 value.2, shows target value.0 value.2))))
 
 -- The name is in no filter where nothing is found under it.
 pub no_filter : (arch : List ℕ) (known : Option (List ℕ)) (find : Find) (name : List ℕ) → FindsPrograms arch known find → find name ≡ None
@@ -124,14 +128,12 @@ trace_written bytes program rest old new target value has w = record {
 }
 
 all_written : (records : Option (List ℕ)) (program : List sock_filter) (old new : Option (List ℕ)) (target : TargetArch) (value : Data) → HasProgram target value program
-    → IfSome records (λ bytes. WritesLines (AreLines program) bytes 0 old new) → WritesAll records old new target value
-all_written None program old new target value has w = tt
-all_written (Some bytes) program old new target value has w = trace_written bytes program 0 old new target value has w
+    → Reads records (λ bytes. WritesLines (AreLines program) bytes 0 old new) → WritesAll records old new target value
+all_written records program old new target value has w = (w.0, w.1, trace_written w.0 program 0 old new target value has w.2)
 
 short_written : (records : Option (List ℕ)) (program : List sock_filter) (rest : ℕ) (old new : Option (List ℕ)) (target : TargetArch) (value : Data) → HasProgram target value program
-    → IfSome records (λ bytes. (0 < rest) × WritesLines (AreLines program) bytes rest old new) → WritesShort records rest old new target value
-short_written None program rest old new target value has w = tt
-short_written (Some bytes) program rest old new target value has w = (w.0, trace_written bytes program rest old new target value has w.1)
+    → Reads records (λ bytes. (0 < rest) × WritesLines (AreLines program) bytes rest old new) → WritesShort records rest old new target value
+short_written records program rest old new target value has w = (w.0, w.1, (w.2.0, trace_written w.0 program rest old new target value has w.2.1))
 
 -- What holds of the value of a program's name holds under the name.
 under_name : (arch : List ℕ) (known : Option (List ℕ)) (find : Find) (name : List ℕ) (program : Vec sock_filter Global) (P : TargetArch → Data → Type 0) → FindsPrograms arch known find
@@ -142,7 +144,7 @@ under_name arch known find name program P h found shows = faultless arch known f
 -- The answer of tracing the program that is found under the name.
 pub ran : (arch : List ℕ) (known : Option (List ℕ)) (find : Find) (name : List ℕ) (program : Vec sock_filter Global) (records : Option (List ℕ)) (r : Result ⊤ ToolError) (old new : Option (List ℕ))
     → FindsPrograms arch known find → find name ≡ Some program
-    → IfSome records (λ bytes. AnswersRecords (AreLines program.items) bytes r old new) → IfErr r IsTraceError → AnswersRun arch known name records r old new
+    → Reads records (λ bytes. AnswersRecords (AreLines program.items) bytes r old new) → IfErr r IsTraceError → AnswersRun arch known name records r old new
 ran arch known find name program records (Ok done) old new h found lines cause = under_name arch known find name program (WritesAll records old new) h found
     (λ target value has. all_written records program.items old new target value has lines)
 ran arch known find name program records (Err (tool.Library e)) old new h found lines cause = absurd cause

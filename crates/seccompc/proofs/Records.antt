@@ -1,13 +1,16 @@
 -- Bytes in chunks of 64 are records and a rest.
-use Rattle.std.proofs.Common.{◌≡◌, ℕ, zero, suc, ◌+◌, ◌*◌, ◌/◌, ◌≤◌, List, ◌++◌, length, take, drop, All, Option, Some, None, IfSome, refl, sym, subst, ap, ◌∙◌, append_assoc, take-append-drop, length-drop, length-take-le, arith}
+use Rattle.std.proofs.Common.{◌≡◌, ℕ, zero, suc, ◌+◌, ◌*◌, ◌/◌, ◌≤◌, List, [], ◌++◌, length, take, drop, All, Option, Some, None, Err, refl, sym, subst, ap, ◌∙◌, append_assoc, take-append-drop, length-drop, length-take-le, arith}
 use Rattle.std.specs.List.{concat}
 use Rattle.std.specs.Simd.{first_chunks}
 use Rattle.std.proofs.lemmas.List.{drop-drop}
 use Rattle.std.proofs.lemmas.List.Elements.{All-nil, All-cons}
 use Rattle.std.specs.Io.KnownBytes.{Appends}
 use Rattle.seccompiler.specs.declared.bpf.sock_filter.{sock_filter}
+use Rattle.seccompiler.specs.Reads.{Reads}
 use Rattle.seccompc.specs.Lines.{AreLines, IsCutIntoRecords}
-use Rattle.seccompc.specs.Answers.{WritesLines}
+use Rattle.seccompc.specs.Answers.{WritesLines, AnswersRecords}
+use Rattle.seccompc.specs.declared.error.ToolError.{ToolError}
+use Rattle.seccompc.specs.declared.error.ToolError.TheVariants as tool
 
 -- The chunks and what is left behind them are the bytes.
 chunks_joined : (k : ℕ) (bytes : List ℕ) → concat (first_chunks 64 k bytes) ++ drop (k * 64) bytes ≡ bytes
@@ -35,10 +38,10 @@ cut_by_chunks bytes = record {
   short = omega (arith, length-drop (length bytes / 64 * 64) bytes);
 }
 
--- What is known of all items is known of the bytes that a reader is known to have given.
-pub of_known : (P : List ℕ → Type 0) (known : Option (List ℕ)) (items : List ℕ) → IfSome known (λ bytes. items ≡ bytes) → P items → IfSome known P
-of_known P None items same p = tt
-of_known P (Some bytes) items same p = subst P same p
+-- What holds of all bytes holds of those that are read.
+pub reads_some : (known : Option (List ℕ)) (P : List ℕ → Type 0) → ((bytes : List ℕ) → P bytes) → Reads known P
+reads_some None P all = ([], tt, all [])
+reads_some (Some bytes) P all = (bytes, refl, all bytes)
 
 -- The lines of the chunks of all items, once they are sent.
 pub lines_sent : (program : List sock_filter) (items slice tail text sent : List ℕ) (records : List (List ℕ)) (rest : ℕ) (old new : Option (List ℕ))
@@ -53,3 +56,12 @@ lines_sent program items slice tail text sent records rest old new same chunks b
   traced = lines;
   appends = subst (Appends old new) is appends;
 }
+
+-- An error that tells of no rest of a record says nothing of the records.
+pub answers_none : (IsTextOf : List (List ℕ) → List ℕ → Type 0) (e : ToolError) → ((rest : ℕ) → e ≡ tool.ShortRecord rest → ⊥) → (bytes : List ℕ) (old new : Option (List ℕ)) → AnswersRecords IsTextOf bytes (Err e) old new
+answers_none IsTextOf (tool.Library e) none bytes old new = tt
+answers_none IsTextOf (tool.NoFilter name) none bytes old new = tt
+answers_none IsTextOf (tool.ShortRecord rest) none bytes old new = absurd (none rest refl)
+answers_none IsTextOf (tool.Read e) none bytes old new = tt
+answers_none IsTextOf (tool.Write e) none bytes old new = tt
+answers_none IsTextOf tool.OutOfMemory none bytes old new = tt

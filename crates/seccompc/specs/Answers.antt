@@ -2,7 +2,7 @@
 use Rattle.std.specs.Prelude.{◌≡◌, ℕ, ◌<◌, List, length, Option, Result, Ok, Err, ⊤}
 use Rattle.std.specs.Io.KnownBytes.{Appends}
 use Rattle.seccompc.specs.declared.error.ToolError.{ToolError}
-use Rattle.seccompc.specs.declared.error.ToolError.TheVariants.{Library, NoFilter, ShortRecord, Read, Write, OutOfMemory}
+use Rattle.seccompc.specs.declared.error.ToolError.TheVariants.{ShortRecord}
 use Rattle.seccompc.specs.Lines.{IsCutIntoRecords}
 
 -- What is written grew by the text of the whole records of these bytes, and so many bytes are left behind them.
@@ -19,9 +19,5 @@ pub record WritesLines (IsTextOf : List (List ℕ) → List ℕ → Type 0) (byt
 -- the number of bytes that are left, where some are.
 abbrev pub AnswersRecords : (List (List ℕ) → List ℕ → Type 0) → List ℕ → Result ⊤ ToolError → Option (List ℕ) → Option (List ℕ) → Type 0
 AnswersRecords IsTextOf bytes (Ok done) old new = WritesLines IsTextOf bytes 0 old new
-AnswersRecords IsTextOf bytes (Err (Library e)) old new = ⊤
-AnswersRecords IsTextOf bytes (Err (NoFilter name)) old new = ⊤
 AnswersRecords IsTextOf bytes (Err (ShortRecord rest)) old new = (0 < rest) × WritesLines IsTextOf bytes rest old new
-AnswersRecords IsTextOf bytes (Err (Read e)) old new = ⊤
-AnswersRecords IsTextOf bytes (Err (Write e)) old new = ⊤
-AnswersRecords IsTextOf bytes (Err OutOfMemory) old new = ⊤
+AnswersRecords IsTextOf bytes (Err e) old new = ⊤

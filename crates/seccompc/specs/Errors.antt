@@ -29,27 +29,20 @@ IsReadFault e = error_kind e ≢ kind.OutOfMemory
 
 -- An error of reading records.
 abbrev pub IsReadError : ToolError → Type 0
-IsReadError (Library e) = ⊥
-IsReadError (NoFilter name) = ⊥
-IsReadError (ShortRecord rest) = ⊥
 IsReadError (Read e) = IsReadFault e
-IsReadError (Write e) = ⊥
 IsReadError OutOfMemory = ⊤
+IsReadError e = ⊥
 
 -- An error of tracing records.
 abbrev pub IsTraceError : ToolError → Type 0
-IsTraceError (Library e) = ⊥
-IsTraceError (NoFilter name) = ⊥
-IsTraceError (ShortRecord rest) = ⊤
 IsTraceError (Read e) = IsReadFault e
+IsTraceError (ShortRecord rest) = ⊤
 IsTraceError (Write e) = ⊤
 IsTraceError OutOfMemory = ⊤
+IsTraceError e = ⊥
 
 -- What is written is as it was, where the error comes before the writing.
 abbrev pub KeepsOutput : {W : Type 0} → ToolError → W → W → Type 0
-KeepsOutput (Library e) old new = new ≡ old
-KeepsOutput (NoFilter name) old new = new ≡ old
 KeepsOutput (ShortRecord rest) old new = ⊤
-KeepsOutput (Read e) old new = new ≡ old
 KeepsOutput (Write e) old new = ⊤
-KeepsOutput OutOfMemory old new = new ≡ old
+KeepsOutput e old new = new ≡ old

@@ -1,5 +1,5 @@
 -- What the engines that are given a policy answer and write, and which fault they tell.
-use Rattle.std.specs.Prelude.{◌≡◌, ◌≢◌, ℕ, ◌<◌, List, Option, IfSome, Result, Ok, Err, String, string_bytes, ⊤}
+use Rattle.std.specs.Prelude.{◌≡◌, ◌≢◌, ℕ, ◌<◌, List, Option, Result, Ok, Err, String, string_bytes, ⊤}
 use Rattle.std.specs.Io.KnownBytes.{Appends}
 use Rattle.std.specs.declared.alloc.Global.{Global}
 use Rattle.serde_json.specs.Data.{Data}
@@ -13,6 +13,7 @@ use Rattle.seccompiler.specs.JsonAnswers.{HasPolicy, OfValue}
 use Rattle.seccompiler.specs.JsonPrograms.{TellsFirstFault}
 use Rattle.seccompiler.specs.JsonShape.{IsObject, Has, Under, Lacks}
 use Rattle.seccompiler.specs.Policy.{Filter}
+use Rattle.seccompiler.specs.Reads.{Reads}
 use Rattle.seccompc.specs.Answers.{WritesLines}
 use Rattle.seccompc.specs.Errors.{IsReadFault}
 use Rattle.seccompc.specs.Lines.{Traced}
@@ -25,32 +26,29 @@ use Rattle.seccompc.specs.declared.error.ToolError.TheVariants.{Library, NoFilte
 abbrev pub OfNamed : List ℕ → (TargetArch → Type 0) → Type 0
 OfNamed arch P = (target : TargetArch) × IsNameOf arch target × P target
 
--- The first of these that is so: the text names no architecture; the policy's text, where it is known, has a fault, and
--- this is its first. Want of memory is no fault.
+-- The first of these that is so: the text names no architecture; the policy's text has a fault, and this is its first.
+-- Want of memory is no fault.
 pub data IsPolicyFault (arch : List ℕ) (known : Option (List ℕ)) (e : Error) : Type 0 where
   no_architecture : (text : String Global) → ((target : TargetArch) → IsNameOf arch target → ⊥) → string_bytes text ≡ arch
       → e ≡ library.Backend (InvalidTargetArch text) → IsPolicyFault arch known e
   of_policy : (target : TargetArch) → IsNameOf arch target → e ≢ library.OutOfMemory → IsNoMemoryInside e
-      → IfSome known (λ text. TellsFirstFault target text e) → IsPolicyFault arch known e
+      → Reads known (λ text. TellsFirstFault target text e) → IsPolicyFault arch known e
 
 -- The error is the first fault, or want of memory.
 abbrev pub IsRefusedPolicy : List ℕ → Option (List ℕ) → ToolError → Type 0
 IsRefusedPolicy arch known (Library e) = IsPolicyFault arch known e
-IsRefusedPolicy arch known (NoFilter name) = ⊥
-IsRefusedPolicy arch known (ShortRecord rest) = ⊥
-IsRefusedPolicy arch known (Read e) = ⊥
-IsRefusedPolicy arch known (Write e) = ⊥
 IsRefusedPolicy arch known OutOfMemory = ⊤
+IsRefusedPolicy arch known e = ⊥
 
 -- The value is an object, and each value in it has a program.
 pub record HaveAllPrograms (target : TargetArch) (d : Data) : Type 0 where
   pub is_object : IsObject d
   pub each : (name : List ℕ) (value : Data) → Has d name value → (program : List sock_filter) × HasProgram target value program
 
--- Nothing is at fault: the text names an architecture, and the policy's text, where it is known, is of a value all of
--- whose filters have programs. P holds of both.
+-- Nothing is at fault: the text names an architecture, and the policy's text is of a value all of whose filters have
+-- programs. P holds of both.
 abbrev pub IsFaultless : List ℕ → Option (List ℕ) → (TargetArch → Data → Type 0) → Type 0
-IsFaultless arch known P = OfNamed arch (λ target. IfSome known (λ text. OfValue text (λ d. HaveAllPrograms target d × P target d)))
+IsFaultless arch known P = OfNamed arch (λ target. Reads known (λ text. OfValue text (λ d. HaveAllPrograms target d × P target d)))
 
 -- What is written grew by the listing of the value's filters.
 pub record WritesListing (old new : Option (List ℕ)) (target : TargetArch) (d : Data) : Type 0 where
@@ -63,11 +61,9 @@ pub record WritesListing (old new : Option (List ℕ)) (target : TargetArch) (d 
 abbrev pub AnswersList : List ℕ → Option (List ℕ) → Result ⊤ ToolError → Option (List ℕ) → Option (List ℕ) → Type 0
 AnswersList arch known (Ok done) old new = IsFaultless arch known (WritesListing old new)
 AnswersList arch known (Err (Library e)) old new = IsPolicyFault arch known e
-AnswersList arch known (Err (NoFilter name)) old new = ⊥
-AnswersList arch known (Err (ShortRecord rest)) old new = ⊥
-AnswersList arch known (Err (Read e)) old new = ⊥
 AnswersList arch known (Err (Write e)) old new = IsFaultless arch known (λ target d. ⊤)
 AnswersList arch known (Err OutOfMemory) old new = ⊤
+AnswersList arch known (Err e) old new = ⊥
 
 -- What is written grew by the lines of the whole records of these bytes, traced by the value's policy, and so many
 -- bytes are left behind them.
@@ -80,13 +76,13 @@ pub record WritesTrace (bytes : List ℕ) (rest : ℕ) (old new : Option (List �
 abbrev pub UnderName : List ℕ → (TargetArch → Data → Type 0) → TargetArch → Data → Type 0
 UnderName name P target d = Under d name (P target)
 
--- Where the records are known, their lines are written and none of their bytes is left.
+-- The lines of the records are written, and none of their bytes is left.
 abbrev pub WritesAll : Option (List ℕ) → Option (List ℕ) → Option (List ℕ) → TargetArch → Data → Type 0
-WritesAll records old new target value = IfSome records (λ bytes. WritesTrace bytes 0 old new target value)
+WritesAll records old new target value = Reads records (λ bytes. WritesTrace bytes 0 old new target value)
 
--- Where the records are known, the lines of the whole ones are written, and so many bytes, one at least, are left.
+-- The lines of the whole records are written, and so many bytes, one at least, are left.
 abbrev pub WritesShort : Option (List ℕ) → ℕ → Option (List ℕ) → Option (List ℕ) → TargetArch → Data → Type 0
-WritesShort records rest old new target value = IfSome records (λ bytes. (0 < rest) × WritesTrace bytes rest old new target value)
+WritesShort records rest old new target value = Reads records (λ bytes. (0 < rest) × WritesTrace bytes rest old new target value)
 
 -- The answer of a run of the filter of this name on records. The first fault is told: of the architecture's name and of
 -- the policy's text; then that no filter has the name; then that reading the records, or writing, fails; and then, with

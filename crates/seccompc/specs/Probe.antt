@@ -73,8 +73,5 @@ pub record IsCompiledFor (arch : List ℕ) (nr : ℤ) (index value : ℕ) (progr
 -- The error is the first fault, or want of memory.
 abbrev pub IsRefusedProbe : List ℕ → ℤ → ℕ → ToolError → Type 0
 IsRefusedProbe arch nr index (Library e) = IsFirstFault arch nr index e
-IsRefusedProbe arch nr index (NoFilter name) = ⊥
-IsRefusedProbe arch nr index (ShortRecord rest) = ⊥
-IsRefusedProbe arch nr index (Read e) = ⊥
-IsRefusedProbe arch nr index (Write e) = ⊥
 IsRefusedProbe arch nr index OutOfMemory = ⊤
+IsRefusedProbe arch nr index e = ⊥

@@ -5,7 +5,7 @@ ghost use Rattle.seccompc.specs.Errors.{KeepsOutput};
 ghost use Rattle.seccompc.specs.Policies.{AnswersList};
 
 use crate::error::ToolError;
-use crate::listing::{in_order, listing};
+use crate::listing::listing;
 use crate::policy::compiled;
 use std::alloc::Global;
 use std::io::{Read, Write};
@@ -34,7 +34,7 @@ pub fn list<R: Read + Drop, W: Write>(
     ensures answers { AnswersList arch.now (R.remaining policy) result (W.contents out.old) (W.contents out.new) }
     ensures unwritten { IfErr result (λ e. KeepsOutput e out.old out.new) }
 {
-    let programs = in_order(alloc, compiled(alloc, arch, policy)?)?;
+    let programs = compiled(alloc, arch, policy)?;
     let text = listing(alloc, &programs)?;
     match out.write_all(text.as_bytes()) {
         Ok(()) => Ok(()),

@@ -1,28 +1,13 @@
 // The listing of programs under their names.
 
-ghost use Rattle.std.specs.Prelude.{◌≡◌, ℕ, List, ◌++◌, map, IfOk, OnOk, string_bytes, string_cmp, encode_utf8};
+ghost use Rattle.std.specs.Prelude.{◌≡◌, ◌++◌, map, IfOk, OnOk, string_bytes, string_cmp, encode_utf8};
 ghost use Rattle.std.specs.List.{concat};
 ghost use Rattle.std.specs.BTreeMap as tree;
-ghost use Rattle.std.specs.HashMap as hash;
 ghost use Rattle.seccompc.specs.Listing.{is_escaped, escaped, header_of, instruction_line, instruction_lines, named_program, listing_of};
 
-use seccompiler::{BpfMap, BpfProgram, BpfProgramRef, sock_filter};
+use seccompiler::{BpfProgram, BpfProgramRef, sock_filter};
 use std::alloc::{AllocError, Global};
 use std::collections::BTreeMap;
-
-// The same programs, in byte order of their names.
-pub(crate) fn in_order(
-    alloc: Global,
-    unordered: BpfMap,
-) -> Result<BTreeMap<String, BpfProgram>, AllocError>
-    ensures { IfOk result (λ m. (name : List ℕ) → tree.get_by_text m name ≡ hash.get_by_text unordered name) }
-{
-    let mut found = BTreeMap::new(alloc);
-    for (name, program) in unordered {
-        drop(found.insert(name, program)?);
-    }
-    Ok(found)
-}
 
 // The listings of programs, one after the other.
 pub(crate) fn listing(

@@ -1,27 +1,30 @@
 // A policy's programs.
 
 ghost use Rattle.std.specs.Prelude.{ℕ, List, IfOk, IfErr, IfSome};
-ghost use Rattle.std.specs.HashMap.{get_by_text};
+ghost use Rattle.std.specs.BTreeMap.{get_by_text};
 ghost use Rattle.seccompiler.specs.Checked.{IsChecked};
 ghost use Rattle.seccompiler.specs.JsonAnswers.{OfValue};
 ghost use Rattle.seccompiler.specs.JsonPrograms.{AreProgramsOf};
+ghost use Rattle.seccompiler.specs.Reads.{Reads};
 ghost use Rattle.seccompc.specs.Policies.{OfNamed, IsRefusedPolicy};
 
 use crate::error::ToolError;
-use seccompiler::{BpfMap, TargetArch, compile_from_json};
+use seccompiler::{BpfProgram, TargetArch, compile_from_json_in_order};
 use std::alloc::Global;
+use std::collections::BTreeMap;
 use std::io::Read;
 
-// The programs of a policy on the architecture of this name, which is looked at first.
+// The programs of a policy on the architecture of this name, which is looked at first, in byte order of
+// the filters' names.
 pub(crate) fn compiled<P: Read + Drop>(
     alloc: Global,
     arch: &str,
     policy: P,
-) -> Result<BpfMap, ToolError>
-    ensures programs { IfOk result (λ programs. OfNamed arch.now (λ target. IfSome (P.remaining policy) (λ text. OfValue text (AreProgramsOf target (get_by_text programs))))) }
+) -> Result<BTreeMap<String, BpfProgram>, ToolError>
+    ensures programs { IfOk result (λ programs. OfNamed arch.now (λ target. Reads (P.remaining policy) (λ text. OfValue text (AreProgramsOf target (get_by_text programs))))) }
     ensures checked { IfOk result (λ programs. (name : List ℕ) → IfSome (get_by_text programs name) (λ program. IsChecked program.items)) }
     ensures refused { IfErr result (IsRefusedPolicy arch.now (P.remaining policy)) }
 {
     let target = TargetArch::from_text(alloc, arch)?;
-    Ok(compile_from_json(alloc, policy, target)?)
+    Ok(compile_from_json_in_order(alloc, policy, target)?)
 }

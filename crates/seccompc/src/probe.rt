@@ -1,6 +1,7 @@
 // The filter of one condition, and what its program does with records.
 
-ghost use Rattle.std.specs.Prelude.{◌≡◌, IfOk, IfErr, IfSome};
+ghost use Rattle.std.specs.Prelude.{◌≡◌, IfOk, IfErr};
+ghost use Rattle.seccompiler.specs.Reads.{Reads};
 ghost use Rattle.seccompiler.specs.declared.backend.TargetArch.{TargetArch};
 ghost use Rattle.seccompc.specs.Lines.{Traced};
 ghost use Rattle.seccompc.specs.Errors.{KeepsOutput};
@@ -46,8 +47,8 @@ pub fn probe<R: Read + Drop, W: Write>(
     // When each answer comes.
     ensures words { AnswersWords arch.now nr index result }
 
-    // What it answers and writes where the records are known.
-    ensures traced { IfSome (R.remaining records) (λ bytes. (target : TargetArch) → IsNameOf arch.now target → AnswersRecords (Traced (probe_filter target nr index value)) bytes result (W.contents out.old) (W.contents out.new)) }
+    // What it answers and writes.
+    ensures traced { Reads (R.remaining records) (λ bytes. (target : TargetArch) → IsNameOf arch.now target → AnswersRecords (Traced (probe_filter target nr index value)) bytes result (W.contents out.old) (W.contents out.new)) }
     ensures unwritten { IfErr result (λ e. KeepsOutput e out.old out.new) }
 {
     let program = program_of(alloc, arch, nr, index, value)?;

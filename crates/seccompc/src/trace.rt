@@ -2,6 +2,7 @@
 
 ghost use Rattle.std.specs.Prelude.{◌≡◌, IfOk, IfErr, IfSome};
 ghost use Rattle.seccompiler.specs.Checked.{IsChecked};
+ghost use Rattle.seccompiler.specs.Reads.{Reads};
 ghost use Rattle.seccompc.specs.Lines.{AreLines};
 ghost use Rattle.seccompc.specs.Errors.{IsReadError, IsTraceError, KeepsOutput};
 ghost use Rattle.seccompc.specs.Answers.{AnswersRecords};
@@ -22,7 +23,7 @@ pub(crate) fn trace<R: Read + Drop, W: Write>(
     out: &mut W,
 ) -> Result<(), ToolError>
     requires { IsChecked program.now }
-    ensures lines { IfSome (R.remaining records) (λ bytes. AnswersRecords (AreLines program.now) bytes result (W.contents out.old) (W.contents out.new)) }
+    ensures lines { Reads (R.remaining records) (λ bytes. AnswersRecords (AreLines program.now) bytes result (W.contents out.old) (W.contents out.new)) }
     ensures cause { IfErr result IsTraceError }
     ensures unwritten { IfErr result (λ e. KeepsOutput e out.old out.new) }
 {

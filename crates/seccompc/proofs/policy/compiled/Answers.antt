@@ -8,9 +8,9 @@ returns-in_err-target-clause-refused g c =
     let refused = name_refused c.args.arch.now (g.P.Read.remaining c.args.policy) c.in_err-target.field-0.0 c.in_err-target.ensures.named c.in_err-target.ensures.refused in
     rw (error.1, error.2) refused
 
-pub returns-in_err-compile_from_json-clause-refused : goal.returns-in_err-compile_from_json-clause-refused
-returns-in_err-compile_from_json-clause-refused g c =
-    let error = err_from_is_err_and c.from_residual-in_err-compile_from_json.result c.from_residual-in_err-compile_from_json.ensures.1 in
-    let fault = c.in_err-compile_from_json.ensures in
-    let refused = policy_refused c.args.arch.now (g.P.Read.remaining c.args.policy) c.in_ok-target.target c.in_err-compile_from_json.field-0.0 c.in_ok-target.ensures.read fault.memory fault.fault in
+pub returns-in_err-compile_from_json_in_order-clause-refused : goal.returns-in_err-compile_from_json_in_order-clause-refused
+returns-in_err-compile_from_json_in_order-clause-refused g c =
+    let error = err_from_is_err_and c.from_residual-in_err-compile_from_json_in_order.result c.from_residual-in_err-compile_from_json_in_order.ensures.1 in
+    let fault = c.in_err-compile_from_json_in_order.ensures in
+    let refused = policy_refused c.args.arch.now (g.P.Read.remaining c.args.policy) c.in_ok-target.target c.in_err-compile_from_json_in_order.field-0.0 c.in_ok-target.ensures.read fault.memory fault.fault in
     rw (error.1, error.2) refused

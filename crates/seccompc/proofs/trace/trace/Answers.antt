@@ -1,8 +1,16 @@
-use Rattle.std.proofs.Common.{◌<◌, length, refl, arith}
+use Rattle.std.proofs.Common.{◌<◌, length, refl, subst, arith}
+use Rattle.std.proofs.lemmas.Result.{err_from_is_err_and}
 use Rattle.seccompc.specs.Lines.{AreLines}
 use Rattle.seccompc.specs.Answers.{WritesLines}
-use Rattle.seccompc.proofs.Records.{of_known, lines_sent}
+use Rattle.seccompc.specs.Errors.{IsReadError}
+use Rattle.seccompc.proofs.Records.{lines_sent, reads_some, answers_none}
 use Rattle.seccompc.proofs.trace.trace.Goals as goal
+
+pub returns-in_err-bytes-clause-lines : goal.returns-in_err-bytes-clause-lines
+returns-in_err-bytes-clause-lines g c =
+    let error = err_from_is_err_and c.from_residual.result c.from_residual.ensures.1 in
+    let out = g.W.Write.contents c.args.out.now in
+    rw (error.1, error.2) (reads_some (g.R.Read.remaining c.args.records) _ (λ bytes. answers_none (AreLines c.args.program.now) c.in_err-bytes.field-0.0 (λ rest is. subst IsReadError is c.in_err-bytes.ensures.cause) bytes out out))
 
 pub returns-in-0-clause-lines : goal.returns-in-0-clause-lines
 returns-in-0-clause-lines g c =
@@ -13,7 +21,7 @@ returns-in-0-clause-lines g c =
     let new = contents c.write_all.new.self in
     let written = lines_sent program items c.as_slice.result.now c.as_chunks.result.1.now _ c.as_bytes.result.now c.as_chunks.result.0.now 0 old new
     c.as_slice.ensures.value c.as_chunks.ensures.front c.as_chunks.ensures.back c.in-0.is c.in_ok-text.ensures c.as_bytes.ensures.value c.in-Ok.ensures.bytes in
-    of_known (λ bytes. WritesLines (AreLines program) bytes 0 old new) (g.R.Read.remaining c.args.records) items c.in_ok-bytes.ensures.bytes written
+    (items, c.in_ok-bytes.ensures.bytes, written)
 
 pub returns-clause-lines : goal.returns-clause-lines
 returns-clause-lines g c =
@@ -26,4 +34,4 @@ returns-clause-lines g c =
     let written = lines_sent program items c.as_slice.result.now c.as_chunks.result.1.now _ c.as_bytes.result.now c.as_chunks.result.0.now rest old new
     c.as_slice.ensures.value c.as_chunks.ensures.front c.as_chunks.ensures.back refl c.in_ok-text.ensures c.as_bytes.ensures.value c.in-Ok.ensures.bytes in
     let some : 0 < rest = let d = c.in_default in omega arith in
-    of_known (λ bytes. (0 < rest) × WritesLines (AreLines program) bytes rest old new) (g.R.Read.remaining c.args.records) items c.in_ok-bytes.ensures.bytes (some, written)
+    (items, c.in_ok-bytes.ensures.bytes, (some, written))

@@ -170,8 +170,11 @@ fn json_by_the_root(rt: HostRuntime) -> Result<(), Fail> {
 #[test]
 fn texts_by_the_root(rt: HostRuntime) -> Result<(), Fail> {
     let (alloc, arch) = (rt.alloc(), seccompiler::TargetArch::x86_64);
-    let programs: seccompiler::BpfMap =
-        seccompiler::compile_from_json(alloc, b"{}".as_slice(), arch)?;
+    let programs: seccompiler::BpfMap = seccompiler::compile_from_json(
+        alloc,
+        b"{}".as_slice(),
+        arch,
+    )?;
     assert_eq!(rt; programs.len(), 0, "the programs of no filters");
     let programs = seccompiler::compile_from_json_in_order(alloc, b"{}".as_slice(), arch)?;
     assert_eq!(rt; programs.len(), 0, "the programs of no filters, in order");

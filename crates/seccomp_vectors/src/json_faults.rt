@@ -51,8 +51,8 @@ fn readers_that_fail(rt: HostRuntime) {
     }
 }
 
-// The text of two filters, the second named first.
-fn two_filters(
+/// The text of two filters, the second named first.
+pub fn two_filters(
     alloc: Global,
     (first, of_first): (&str, &str),
     (second, of_second): (&str, &str),
@@ -158,13 +158,14 @@ fn faults_of_conditions(rt: HostRuntime) -> Result<(), Fail> {
     Ok(())
 }
 
-const UNKNOWN: &str =
+/// A filter with an entry for a call that there is not.
+pub const UNKNOWN: &str =
     r#"{"mismatch_action":"trap","match_action":"allow","filter":[{"syscall":"nosyscall"}]}"#;
 
 const IDENTICAL: &str = r#"{"mismatch_action":"allow","match_action":"allow","filter":[]}"#;
 
-// The filter of so many equal entries of one condition.
-fn large(alloc: Global, count: usize) -> Result<String, Fail> {
+/// The filter of so many equal entries of one condition.
+pub fn large(alloc: Global, count: usize) -> Result<String, Fail> {
     let entries = repeated(alloc, COMPARES, count)?;
     filter_text(alloc, entries.as_str())
 }
@@ -187,8 +188,8 @@ fn an_unknown_call_is_told_before_a_filter_too_large(rt: HostRuntime) -> Result<
     Ok(())
 }
 
-// The text whose filter `b` has 818 entries, and `a` 819.
-fn two_too_large(alloc: Global) -> Result<String, Fail> {
+/// The text whose filter `b` has 818 entries, and `a` 819.
+pub fn two_too_large(alloc: Global) -> Result<String, Fail> {
     let least = large(alloc, 819)?;
     let other = large(alloc, 818)?;
     two_filters(alloc, ("a", least.as_str()), ("b", other.as_str()))

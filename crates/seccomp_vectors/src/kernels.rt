@@ -2,9 +2,9 @@
 
 use crate::instructions::give;
 use seccompiler::{
-    BpfProgram, BpfProgramRef, Error, Kernel, apply_filter, apply_filter_all_threads, sock_filter,
+    BpfProgramRef, Error, Kernel, apply_filter, apply_filter_all_threads, sock_filter,
 };
-use std::alloc::{AllocError, Global};
+use std::process::Abort;
 use std::test::Fail;
 
 // How many calls a kernel has room to record.
@@ -13,48 +13,44 @@ const ROOM: usize = 4;
 // The most instructions of a program that is installed.
 const LONGEST: usize = 65535;
 
-// A call that was made; the instructions of its program are recorded beside it.
+// A call that was made, with whether it is given the program that is to be installed.
 #[derive(Clone, Copy, Debug, PartialEq, Eq)]
 enum Call {
     SetNoNewPrivs,
-    SetModeFilter { flags: u64, length: usize },
+    SetModeFilter { flags: u64, has_program: bool },
 }
 
 #[derive(Drop)]
 struct ScriptedKernel<'a> {
     no_new_privs_answers: &'a [(i32, i32)],
     mode_filter_answers: &'a [(i64, i32)],
-    calls: Vec<Call>,
-    instructions: BpfProgram,
-    all_recorded: bool,
+    program: &'a [sock_filter],
+    calls: [Option<Call>; ROOM],
+    made: usize,
 }
 
 impl<'a> ScriptedKernel<'a> {
-    ghost use Rattle.std.specs.Prelude.{◌≤◌};
-
-    // With room to record calls, each with a program of at most so many instructions.
+    // Before any call; `program` is to be installed.
     fn new(
-        alloc: Global,
         no_new_privs_answers: &'a [(i32, i32)],
         mode_filter_answers: &'a [(i64, i32)],
-        longest: usize,
-    ) -> Result<Self, AllocError>
-        requires { longest ≤ LONGEST }
-    {
-        Ok(ScriptedKernel {
+        program: &'a [sock_filter],
+    ) -> Self {
+        ScriptedKernel {
             no_new_privs_answers,
             mode_filter_answers,
-            calls: Vec::with_capacity(alloc, ROOM)?,
-            instructions: Vec::with_capacity(alloc, ROOM * longest)?,
-            all_recorded: true,
-        })
+            program,
+            calls: [None; ROOM],
+            made: 0,
+        }
     }
 
-    // Takes no memory while there is room.
-    fn record(&mut self, call: Call, program: &[sock_filter]) {
-        let recorded = self.calls.push(call).is_ok()
-            && self.instructions.extend_from_slice(program).is_ok();
-        self.all_recorded &= recorded;
+    // Takes no memory; calls for which there is no room are counted all the same.
+    fn record(&mut self, call: Call) {
+        if let Some(place) = self.calls.get_mut(self.made) {
+            *place = Some(call);
+        }
+        self.made = self.made.saturating_add(1);
     }
 }
 
@@ -67,13 +63,13 @@ impl Kernel for ScriptedKernel<'_> {
     ghost mode_filter = { λ before flags program code number after. ⊤ };
 
     fn set_no_new_privs(&mut self) -> (i32, i32) {
-        self.record(Call::SetNoNewPrivs, &[]);
+        self.record(Call::SetNoNewPrivs);
         next_answer(&mut self.no_new_privs_answers).unwrap_or((0, 0))
     }
 
     fn set_mode_filter(&mut self, flags: u64, prog: BpfProgramRef<'_>) -> (i64, i32) {
-        let length = prog.len();
-        self.record(Call::SetModeFilter { flags, length }, prog);
+        let has_program = prog == self.program;
+        self.record(Call::SetModeFilter { flags, has_program });
         next_answer(&mut self.mode_filter_answers).unwrap_or((0, 0))
     }
 }
@@ -106,106 +102,89 @@ fn answer_of(installed: seccompiler::Result<()>) -> Answer {
     }
 }
 
-// What installing a program answers, and what it calls.
-#[derive(Debug, PartialEq, Drop)]
+// What installing a program answers, what it calls, and how often.
+#[derive(Clone, Copy, Debug, PartialEq, Eq)]
 struct Installation {
     answer: Answer,
-    calls: Vec<Call>,
-    instructions: BpfProgram,
-}
-
-// Installs the program, for all threads where the flags say so, in a kernel with these answers.
-fn install(
-    alloc: Global,
-    flags: u64,
-    program: &[sock_filter],
-    first: (i32, i32),
-    second: (i64, i32),
-) -> Result<Installation, Fail> {
-    if program.len() > LONGEST {
-        return Err("a program too long to be installed".into());
-    }
-    let first = [first];
-    let second = [second];
-    let mut kernel = ScriptedKernel::new(alloc, &first, &second, program.len())?;
-    let installed = match flags {
-        0 => apply_filter(&mut kernel, program),
-        _all_threads => apply_filter_all_threads(&mut kernel, program),
-    };
-    if !kernel.all_recorded {
-        return Err("no room to record a call".into());
-    }
-    Ok(Installation {
-        answer: answer_of(installed),
-        calls: kernel.calls,
-        instructions: kernel.instructions,
-    })
+    calls: [Option<Call>; ROOM],
+    made: usize,
 }
 
 // The installation with this answer: no call is made for an empty program, one where setting
 // no_new_privs fails, and else both, in order, with these flags and this program.
-fn expected(
-    alloc: Global,
-    flags: u64,
-    program: &[sock_filter],
-    answer: Answer,
-) -> Result<Installation, Fail> {
-    let mut calls = Vec::new(alloc);
-    let mut instructions = Vec::new(alloc);
-    if answer != Answer::EmptyFilter {
-        calls.push(Call::SetNoNewPrivs)?;
-        if !matches!(answer, Answer::Prctl(_)) {
-            let length = program.len();
-            calls.push(Call::SetModeFilter { flags, length })?;
-            instructions.extend_from_slice(program)?;
-        }
-    }
-    Ok(Installation {
+fn expected(flags: u64, answer: Answer) -> Installation {
+    let first = Some(Call::SetNoNewPrivs);
+    let has_program = true;
+    let second = Some(Call::SetModeFilter { flags, has_program });
+    let (calls, made) = match answer {
+        Answer::EmptyFilter => ([None; ROOM], 0),
+        Answer::Prctl(_) => ([first, None, None, None], 1),
+        _ => ([first, second, None, None], 2),
+    };
+    Installation {
         answer,
         calls,
-        instructions,
-    })
+        made,
+    }
 }
 
+// Asserts the answer and the calls where a kernel with these answers is to install the program, for all
+// threads where the flags say so.
+fn assert_installation(
+    rt: &impl Abort,
+    flags: u64,
+    program: &[sock_filter],
+    first: (i32, i32),
+    second: (i64, i32),
+    answer: Answer,
+) {
+    assert!(rt;
+        program.len() <= LONGEST,
+        "a program too long to be installed"
+    );
+    let (firsts, seconds) = ([first], [second]);
+    let mut kernel = ScriptedKernel::new(&firsts, &seconds, program);
+    let installed = match flags {
+        0 => apply_filter(&mut kernel, program),
+        _all_threads => apply_filter_all_threads(&mut kernel, program),
+    };
+    let found = Installation {
+        answer: answer_of(installed),
+        calls: kernel.calls,
+        made: kernel.made,
+    };
+    assert!(rt;
+        found == expected(flags, answer),
+        "answers {first:?} and {second:?}, with flags {flags}, are {found:?}"
+    );
+}
+
+// First and second answers of a kernel, and what installing answers.
+const ANSWERS: [((i32, i32), (i64, i32), Answer); 5] = [
+    ((-1, 1), (0, 0), Answer::Prctl(1)),
+    ((1, 0), (0, 0), Answer::Prctl(0)),
+    ((0, 0), (-1, 22), Answer::Seccomp(22)),
+    ((0, 0), (4711, 0), Answer::ThreadSync(4711)),
+    ((0, 0), (0, 0), Answer::Installed),
+];
+
 #[test]
-fn answers_to_calls(rt: HostRuntime) -> Result<(), Fail> {
-    let alloc = rt.alloc();
-    let program = &[give(0)][..];
-    for (case, first, second, answer) in [
-        ("no_new_privs fails", (-1, 1), (0, 0), Answer::Prctl(1)),
-        ("a positive first code", (1, 0), (0, 0), Answer::Prctl(0)),
-        ("the filter fails", (0, 0), (-1, 22), Answer::Seccomp(22)),
-        (
-            "a thread fails",
-            (0, 0),
-            (4711, 0),
-            Answer::ThreadSync(4711),
-        ),
-        ("no call fails", (0, 0), (0, 0), Answer::Installed),
-    ] {
+fn answers_to_calls(rt: HostRuntime) {
+    let program = [give(0)];
+    for (first, second, answer) in &ANSWERS {
         for flags in [0, 1] {
-            let found = install(alloc, flags, program, first, second)?;
-            let want = expected(alloc, flags, program, answer)?;
-            assert_eq!(rt; found, want, "{case}, with flags {flags}");
+            assert_installation(&rt, flags, &program, *first, *second, *answer);
         }
     }
-    Ok(())
 }
 
 #[test]
 fn shortest_and_longest_programs(rt: HostRuntime) -> Result<(), Fail> {
-    let alloc = rt.alloc();
-    for (length, answer) in [
-        (0, Answer::EmptyFilter),
-        (1, Answer::Installed),
-        (LONGEST, Answer::Installed),
-    ] {
-        let program = vec![in alloc; give(0); length]?;
-        for flags in [0, 1] {
-            let found = install(alloc, flags, program.as_slice(), (0, 0), (0, 0))?;
-            let want = expected(alloc, flags, program.as_slice(), answer)?;
-            assert_eq!(rt; found, want, "{length} instructions, with flags {flags}");
-        }
+    let longest = vec![in rt.alloc(); give(0); LONGEST]?;
+    for flags in [0, 1] {
+        assert_installation(&rt, flags, &[], (0, 0), (0, 0), Answer::EmptyFilter);
+        assert_installation(&rt, flags, &[give(0)], (0, 0), (0, 0), Answer::Installed);
+        assert_installation(&rt, flags, &longest, (0, 0), (0, 0), Answer::Installed);
     }
     Ok(())
 }
@@ -229,22 +208,14 @@ const SECOND_CODES: [(i64, Answer); 5] = [
 ];
 
 #[test]
-fn codes_up_to_the_ends_of_their_range(rt: HostRuntime) -> Result<(), Fail> {
-    let alloc = rt.alloc();
-    let program = &[give(0)][..];
-    for (first, fails) in FIRST_CODES {
-        for (second, answered) in SECOND_CODES {
-            let answer = if fails { Answer::Prctl(13) } else { answered };
+fn codes_up_to_the_ends_of_their_range(rt: HostRuntime) {
+    let program = [give(0)];
+    for (first, fails) in &FIRST_CODES {
+        for (second, answered) in &SECOND_CODES {
+            let answer = if *fails { Answer::Prctl(13) } else { *answered };
             for flags in [0, 1] {
-                let found = install(alloc, flags, program, (first, 13), (second, 13))?;
-                let want = expected(alloc, flags, program, answer)?;
-                assert_eq!(rt;
-                    found,
-                    want,
-                    "codes {first} and {second}, with flags {flags}"
-                );
+                assert_installation(&rt, flags, &program, (*first, 13), (*second, 13), answer);
             }
         }
     }
-    Ok(())
 }

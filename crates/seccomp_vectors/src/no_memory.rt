@@ -1,7 +1,7 @@
 // Calls that take no memory, made while none can be had.
 
 use crate::builders::{call, long_rule, one_chain, one_rule, rule};
-use crate::instructions::{give, load};
+use crate::instructions::{give, jump_equal, load};
 use crate::policies::two_calls;
 use crate::scarce::Hoard;
 use seccompiler::backend::SeccompAction::{Allow, Errno, Trap};
@@ -158,6 +158,31 @@ fn rules_and_decisions(rt: HostRuntime) -> Result<(), Fail> {
     ];
     drop(hoard);
     assert_seen(&rt, &seen);
+    Ok(())
+}
+
+#[test]
+fn code_in_parts(rt: HostRuntime) -> Result<(), Fail> {
+    let masked = SeccompCondition::new(2, Qword, MaskedEq(10), 14)?;
+    let rule = rule(rt.alloc(), &[(0, Dword, Eq, 1)])?;
+    let (mut of_condition, mut of_rule) = ([give(0); 6], [give(0); 4]);
+    let hoard = Hoard::take(rt.alloc())?;
+    let lengths = (masked.code_len(), rule.code_len());
+    if lengths == (6, 4) {
+        masked.write(&mut of_condition, 3);
+        rule.write(&mut of_rule);
+    }
+    drop(hoard);
+    let (first, last) = (load(36), jump_equal(1, 0, 1));
+    assert!(rt;
+        lengths == (6, 4),
+        "the lengths without memory are {lengths:?}"
+    );
+    assert!(rt;
+        of_condition[0] == first,
+        "a condition's code without memory"
+    );
+    assert!(rt; of_rule[3] == last, "a rule's code without memory");
     Ok(())
 }
 

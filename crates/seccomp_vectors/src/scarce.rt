@@ -69,9 +69,11 @@ impl Hoard {
         Ok(Hoard { large, small })
     }
 
-    /// Gives back the last of the small blocks that are left.
-    pub fn give_back(&mut self) {
-        drop(self.small.pop());
+    /// Gives back the last few of the small blocks that are left.
+    pub fn give_back(&mut self, blocks: usize) {
+        for _ in 0..blocks {
+            drop(self.small.pop());
+        }
     }
 }
 
@@ -101,33 +103,39 @@ pub trait Call {
     fn call(&self, alloc: Global) -> Answer;
 }
 
-// How many calls were refused before one was not, and what that one answered.
-fn refusals<C: Call>(alloc: Global, call: &C) -> Result<(usize, Answer), AllocError> {
+// How many calls were refused before one was not, where so many blocks are given back after each, and
+// what that one answered.
+fn refusals<C: Call>(
+    alloc: Global,
+    blocks: usize,
+    call: &C,
+) -> Result<(usize, Answer), AllocError> {
     let mut hoard = Hoard::take(alloc)?;
     for refused in 0..SMALL_ROOM {
         let answer = call.call(alloc);
         if answer != Answer::Refused {
             return Ok((refused, answer));
         }
-        hoard.give_back();
+        hoard.give_back(blocks);
     }
     Ok((SMALL_ROOM, Answer::Refused))
 }
 
-/// Makes the call with no memory at all, and again each time that a block more is given back, until it
-/// is not refused. Asserts that each refusal is want of memory, that there is one, and that the call
-/// answers as ever where it is not refused, then and with ample memory.
-pub fn assert_refusals<C: Call>(
+/// Makes the call with no memory at all, and again each time that so many blocks more are given back,
+/// until it is not refused. Asserts that each refusal is want of memory, that there is one, and that the
+/// call answers as ever where it is not refused, then and with ample memory.
+pub fn assert_refusals_by<C: Call>(
     rt: &impl Abort,
     alloc: Global,
     name: &str,
+    blocks: usize,
     call: &C,
 ) -> Result<(), Fail> {
     assert!(rt;
         call.call(alloc) == Answer::Ample,
         "{name} with ample memory"
     );
-    let (refused, last) = refusals(alloc, call)?;
+    let (refused, last) = refusals(alloc, blocks, call)?;
     assert!(rt; refused > 0, "{name} is never refused");
     assert!(rt;
         last == Answer::Ample,
@@ -138,4 +146,14 @@ pub fn assert_refusals<C: Call>(
         "{name} with ample memory again"
     );
     Ok(())
+}
+
+/// The same, block by block.
+pub fn assert_refusals<C: Call>(
+    rt: &impl Abort,
+    alloc: Global,
+    name: &str,
+    call: &C,
+) -> Result<(), Fail> {
+    assert_refusals_by(rt, alloc, name, 1, call)
 }

@@ -1,16 +1,17 @@
 // Policies written as JSON where memory is refused.
 
 use crate::faults::{Fault, is_frontend_fault, is_library_fault};
+use crate::json_faults::{UNKNOWN, large, two_filters, two_too_large};
 use crate::json_samples::{COMPARES, MAIN_THREAD, READS, policy};
-use crate::scarce::{Answer, Call, assert_refusals, judged};
+use crate::scarce::{Answer, Call, assert_refusals, assert_refusals_by, judged};
 use seccompiler::backend::TargetArch;
 use seccompiler::bpf::BpfProgram;
 use seccompiler::filter::SeccompFilter;
 use seccompiler::json::{JsonCompiler, JsonFilter, JsonFilterMap, JsonFrontendError, read_filters};
-use seccompiler::{Error, compile_from_json};
+use seccompiler::{Error, compile_from_json, compile_from_json_in_order};
 use serde_json::Value;
 use std::alloc::Global;
-use std::collections::HashMap;
+use std::collections::{BTreeMap, HashMap};
 use std::process::Abort;
 use std::test::Fail;
 
@@ -173,18 +174,41 @@ struct CompileFromJson<'a> {
     wanted: Result<HashMap<String, BpfProgram>, Fault>,
 }
 
+// What the library's error is where the fault is wanted.
+fn answer_of_library(error: &Error, wanted: Option<Fault>) -> Answer {
+    let is_ample = match wanted {
+        Some(fault) => is_library_fault(error, fault),
+        None => false,
+    };
+    judged(is_ample, matches!(error, Error::OutOfMemory), true)
+}
+
 impl Call for CompileFromJson<'_> {
     fn call(&self, alloc: Global) -> Answer {
         let made = compile_from_json(alloc, self.text.as_bytes(), TargetArch::x86_64);
         match (&made, &self.wanted) {
-            (Ok(found), Ok(wanted)) => { judged(*found == *wanted, false, true) }
+            (Ok(found), Ok(wanted)) => judged(*found == *wanted, false, true),
             (Ok(_), Err(_)) => Answer::Other,
-            (Err(error), Ok(_)) => { judged(false, matches!(error, Error::OutOfMemory), true) }
-            (Err(error), Err(fault)) => judged(
-                is_library_fault(error, *fault),
-                matches!(error, Error::OutOfMemory),
-                true,
-            ),
+            (Err(error), Ok(_)) => answer_of_library(error, None),
+            (Err(error), Err(fault)) => answer_of_library(error, Some(*fault)),
+        }
+    }
+}
+
+#[derive(Drop)]
+struct CompileInOrder<'a> {
+    text: &'a str,
+    wanted: Result<BTreeMap<String, BpfProgram>, Fault>,
+}
+
+impl Call for CompileInOrder<'_> {
+    fn call(&self, alloc: Global) -> Answer {
+        let made = compile_from_json_in_order(alloc, self.text.as_bytes(), TargetArch::x86_64);
+        match (&made, &self.wanted) {
+            (Ok(found), Ok(wanted)) => judged(*found == *wanted, false, true),
+            (Ok(_), Err(_)) => Answer::Other,
+            (Err(error), Ok(_)) => answer_of_library(error, None),
+            (Err(error), Err(fault)) => answer_of_library(error, Some(*fault)),
         }
     }
 }
@@ -209,23 +233,39 @@ fn assert_programs(rt: &impl Abort, alloc: Global, text: &str) -> Result<(), Fai
     assert_refusals(rt, alloc, text, &call)
 }
 
-// Asserts refusals of both calls where the text has a fault.
+// The same of `compile_from_json_in_order`.
+fn assert_programs_in_order(rt: &impl Abort, alloc: Global, text: &str) -> Result<(), Fail> {
+    let programs = compile_from_json_in_order(alloc, text.as_bytes(), TargetArch::x86_64)?;
+    let call = CompileInOrder {
+        text,
+        wanted: Ok(programs),
+    };
+    assert_refusals(rt, alloc, text, &call)
+}
+
+// Asserts refusals of all three where the text has a fault, so many blocks at a time.
 fn assert_faulty_text(
     rt: &impl Abort,
     alloc: Global,
     text: &str,
+    blocks: usize,
     fault: Fault,
 ) -> Result<(), Fail> {
     let call = Compile {
         text,
         wanted: Err(fault),
     };
-    assert_refusals(rt, alloc, text, &call)?;
+    assert_refusals_by(rt, alloc, text, blocks, &call)?;
     let call = CompileFromJson {
         text,
         wanted: Err(fault),
     };
-    assert_refusals(rt, alloc, text, &call)
+    assert_refusals_by(rt, alloc, text, blocks, &call)?;
+    let call = CompileInOrder {
+        text,
+        wanted: Err(fault),
+    };
+    assert_refusals_by(rt, alloc, text, blocks, &call)
 }
 
 #[test]
@@ -235,6 +275,11 @@ fn texts_of_filters(rt: HostRuntime) -> Result<(), Fail> {
     let both = format!(in alloc; "{READS},{COMPARES}")?;
     let text = policy(alloc, both.as_str())?;
     assert_text(&rt, alloc, text.as_str())
+}
+
+#[test]
+fn texts_of_programs_in_order(rt: HostRuntime) -> Result<(), Fail> {
+    assert_programs_in_order(&rt, rt.alloc(), MAIN_THREAD)
 }
 
 #[test]
@@ -275,7 +320,26 @@ const FAULTS: [(&str, Fault); 8] = [
 #[test]
 fn texts_with_a_fault(rt: HostRuntime) -> Result<(), Fail> {
     for (text, fault) in &FAULTS {
-        assert_faulty_text(&rt, rt.alloc(), text, *fault)?;
+        assert_faulty_text(&rt, rt.alloc(), text, 1, *fault)?;
     }
     Ok(())
+}
+
+#[test]
+fn a_large_filter_before_an_unknown_call(rt: HostRuntime) -> Result<(), Fail> {
+    let alloc = rt.alloc();
+    let too_large = large(alloc, 819)?;
+    let text = two_filters(alloc, ("a", too_large.as_str()), ("b", UNKNOWN))?;
+    let fault = Fault::SyscallName("nosyscall", TargetArch::x86_64);
+    assert_faulty_text(&rt, alloc, text.as_str(), 64, fault)
+}
+
+#[test]
+fn filters_too_large(rt: HostRuntime) -> Result<(), Fail> {
+    let text = two_too_large(rt.alloc())?;
+    let call = CompileFromJson {
+        text: text.as_str(),
+        wanted: Err(Fault::FilterTooLarge(4102)),
+    };
+    assert_refusals_by(&rt, rt.alloc(), "two filters too large", 64, &call)
 }

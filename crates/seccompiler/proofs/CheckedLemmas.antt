@@ -4,15 +4,15 @@ use Rattle.std.proofs.lemmas.Bool.{eqb-true, cases_lt}
 use Rattle.std.specs.Prelude.{slice_get}
 use Rattle.std.proofs.lemmas.Option.{get_or_from_slice_get, slice_get-get_or, slice_get_within}
 use Rattle.seccompiler.specs.declared.bpf.sock_filter.{sock_filter}
-use Rattle.seccompiler.specs.Checked.{IsFine, IsInRange, IsChecked}
+use Rattle.seccompiler.specs.Checked.{greatest_length, IsFine, IsInRange, IsChecked}
 
 -- A fact of every place below j and of place j is one of every place below j + 1.
 pub one_more : (P : ℕ → sock_filter → Type 0) (p : List sock_filter) (j : ℕ) (default : sock_filter) → ((place : ℕ) → place < j → (i : sock_filter) → slice_get p place ≡ Some i → P place i) → P j (get_or p j default) → (place : ℕ) → place < j + 1 → (i : sock_filter) → slice_get p place ≡ Some i → P place i
 one_more P p j default below here =
     below_more (λ place. (i : sock_filter) → slice_get p place ≡ Some i → P place i) j below (λ i found. subst (P j) (get_or_from_slice_get p j i default found) here)
 
--- A program of 1 to 4096 fine instructions is checked exactly if the last of them returns.
-pub checked_if : (p : List sock_filter) (j : ℕ) (default : sock_filter) → 0 < length p → length p ≤ 4096 → length p ≤ j → ((place : ℕ) → place < j → (i : sock_filter) → slice_get p place ≡ Some i → IsFine i place (length p) × IsInRange i) → (IsTrue (nat_eq (get_or p (length p - 1) default).code 6) → IsChecked p) × (IsChecked p → IsTrue (nat_eq (get_or p (length p - 1) default).code 6))
+-- A program of one fine instruction to the greatest length is checked exactly if the last of them returns.
+pub checked_if : (p : List sock_filter) (j : ℕ) (default : sock_filter) → 0 < length p → length p ≤ greatest_length → length p ≤ j → ((place : ℕ) → place < j → (i : sock_filter) → slice_get p place ≡ Some i → IsFine i place (length p) × IsInRange i) → (IsTrue (nat_eq (get_or p (length p - 1) default).code 6) → IsChecked p) × (IsChecked p → IsTrue (nat_eq (get_or p (length p - 1) default).code 6))
 checked_if p j default some few all_passed passed = (
   λ returns. record {
     some = omega arith;

@@ -11,7 +11,7 @@ use Rattle.seccompiler.specs.declared.backend.TargetArch.TheVariants.{x86_64, aa
 use Rattle.seccompiler.specs.Record.{IsRecord, word_at}
 use Rattle.seccompiler.specs.Code.{load, give, jump_equal, guard_code}
 use Rattle.seccompiler.specs.Machine.{Goes, stays, then_step, Ends}
-use Rattle.seccompiler.specs.Checked.{IsFine, fine_load, fine_mask, fine_jump, fine_equal, fine_greater, fine_at_least, fine_return, IsInside, inside_load, inside_mask, inside_jump, inside_equal, inside_greater, inside_at_least, IsChecked, AreInRange, IsInRange}
+use Rattle.seccompiler.specs.Checked.{greatest_length, IsFine, fine_load, fine_mask, fine_jump, fine_equal, fine_greater, fine_at_least, fine_return, IsInside, inside_load, inside_mask, inside_jump, inside_equal, inside_greater, inside_at_least, IsChecked, AreInRange, IsInRange}
 use Rattle.seccompiler.specs.Action.{word_of, audit_word}
 use Rattle.seccompiler.specs.Policy.{Rule, Chain, Filter, chains_of, chain_under, ChainMatches, IsDecision, other_architecture, policy_matches, policy_differs}
 use Rattle.seccompiler.specs.Layout.{chains_length, counted_length_of, counted_length, chains_steps, passing_steps}
@@ -49,7 +49,7 @@ fine_inside i place m n le (inside_greater c a b) = fine_greater c (omega arith)
 fine_inside i place m n le (inside_at_least c a b) = fine_at_least c (omega arith) (omega arith)
 
 -- a block whose jumps stay within it, with a return behind it, is a checked program
-checked_of : (front : List sock_filter) (w : ℕ) → AreInRange (front ++ give w ∷ []) → IsBlock (front ++ give w ∷ []) (length front) → length front < 4096 → IsChecked (front ++ give w ∷ [])
+checked_of : (front : List sock_filter) (w : ℕ) → AreInRange (front ++ give w ∷ []) → IsBlock (front ++ give w ∷ []) (length front) → length front + 1 ≤ greatest_length → IsChecked (front ++ give w ∷ [])
 checked_of front w ranges block short =
     let p = front ++ give w ∷ [] in
     let len : length p ≡ length front + 1 = length-append front (give w ∷ []) in
@@ -160,7 +160,7 @@ module _ (f : Filter) (fits_mismatch : word_of f.mismatch_action < 2 ^ 32) (fits
   counted_some [] some = absurd (omega arith)
   counted_some (e ∷ chains) some = refl
 
-  whole_checked : (chains : List sock_filter) → IsChainsCode f.chains mismatch_word match_word chains → length chains + 5 < 4096 → IsChecked (whole chains)
+  whole_checked : (chains : List sock_filter) → IsChainsCode f.chains mismatch_word match_word chains → length chains + 5 ≤ greatest_length → IsChecked (whole chains)
   whole_checked chains h short =
       let head = load 4 ∷ jump_equal arch_word 1 0 ∷ give 0x80000000 ∷ load 0 ∷ [] in
       let front = head ++ chains in
@@ -173,7 +173,7 @@ module _ (f : Filter) (fits_mismatch : word_of f.mismatch_action < 2 ^ 32) (fits
       (block_join front one (length front) 0 (length front) (block_join head chains 4 (length chains) (length front) head_block h.block (omega arith) (omega arith)) (block_give mismatch_word 0) (omega arith) (omega arith))
       (omega arith)
 
-  full_program : (chains : List sock_filter) → 0 < length f.chains → counted_length f < 4096 → IsChainsCode f.chains mismatch_word match_word chains → IsCompiled f (whole chains)
+  full_program : (chains : List sock_filter) → 0 < length f.chains → counted_length f ≤ greatest_length → IsChainsCode f.chains mismatch_word match_word chains → IsCompiled f (whole chains)
   full_program chains some short h =
       let counted = counted_some f.chains some in
       let len : length (whole chains) ≡ 4 + (length chains + 1) = omega (arith, length-append chains (give mismatch_word ∷ [])) in
@@ -256,7 +256,7 @@ counted_empty [] chains e none = ap counted_length_of (sym e)
 counted_empty (x ∷ entries) chains e none = absurd (omega arith)
 
 -- the program of a filter with chains, as it was written
-pub written_full : (f : Filter) (entries : List (ℤ × Vec Rule Global)) (mismatch matched arch : ℕ) (chains p : List sock_filter) → Written f entries mismatch matched arch → 0 < length entries → counted_length f < 4096 → IsChainsCode (chains_of entries) mismatch matched chains
+pub written_full : (f : Filter) (entries : List (ℤ × Vec Rule Global)) (mismatch matched arch : ℕ) (chains p : List sock_filter) → Written f entries mismatch matched arch → 0 < length entries → counted_length f ≤ greatest_length → IsChainsCode (chains_of entries) mismatch matched chains
     → p ≡ load 4 ∷ jump_equal arch 1 0 ∷ give 0x80000000 ∷ load 0 ∷ (chains ++ give mismatch ∷ []) → IsCompiled f p × Passes f p
 written_full f entries mismatch matched arch chains p w some short code e =
     let fits_mismatch = subst (λ n. n < 2 ^ 32) w.mismatch_is w.mismatch_fits in

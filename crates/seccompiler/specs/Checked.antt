@@ -1,5 +1,6 @@
 -- What a program must be before it is run, and what a piece of one must be to stand in a program.
 use Rattle.std.specs.Prelude.{◌≡◌, ℕ, ◌+◌, ◌-◌, ◌%◌, ◌^◌, ◌<◌, ◌≤◌, List, length, Some, slice_get}
+use Rattle.seccompiler.specs.declared.bpf.TheConstants.{BPF_MAX_LEN}
 use Rattle.seccompiler.specs.declared.bpf.sock_filter.{sock_filter}
 
 -- An instruction that may stand at this place of a program of n instructions: it is one of the seven, loads an
@@ -24,10 +25,14 @@ pub record IsInRange (i : sock_filter) : Type 0 where
 pub record AreInRange (piece : List sock_filter) : Type 0 where
   pub each : (place : ℕ) (i : sock_filter) → slice_get piece place ≡ Some i → IsInRange i
 
--- A program that may be run: 1 to 4096 instructions, each fine at its place, and the last one returns.
+-- How many instructions a program may have: as many as a kernel takes.
+abbrev pub greatest_length : ℕ
+greatest_length = BPF_MAX_LEN
+
+-- A program that may be run: one instruction to the greatest length, each fine at its place, and the last one returns.
 pub record IsChecked (p : List sock_filter) : Type 0 where
   pub some : 1 ≤ length p
-  pub few : length p ≤ 4096
+  pub few : length p ≤ greatest_length
   pub ranges : AreInRange p
   pub each : (place : ℕ) (i : sock_filter) → slice_get p place ≡ Some i → IsFine i place (length p)
   pub last : (i : sock_filter) → slice_get p (length p - 1) ≡ Some i → i.code ≡ 0x06

@@ -2,6 +2,7 @@
 use Rattle.std.specs.Prelude.{◌≡◌, ◌<◌, ◌≤◌, ℕ, ℤ, ◌≤ℤ◌, ◌-◌, ◌^◌, List, Contains, All, map, min}
 use Rattle.seccompiler.specs.declared.backend.BackendError.{BackendError}
 use Rattle.seccompiler.specs.declared.backend.BackendError.TheVariants.{EmptyRule, FilterTooLarge, IdenticalActions, InvalidArgumentNumber, InvalidTargetArch, InvalidSyscallNumber, OutOfMemory}
+use Rattle.seccompiler.specs.Checked.{greatest_length}
 use Rattle.seccompiler.specs.Policy.{Chain, Filter, IsCallNumber}
 use Rattle.seccompiler.specs.Layout.{counted_length}
 
@@ -19,15 +20,16 @@ pub record IsLeastUnfit (numbers : List ℤ) (n : ℤ) : Type 0 where
   pub unfit : IsCallNumber n → ⊥
   pub least : (m : ℤ) → Contains numbers m → (IsCallNumber m → ⊥) → n ≤ℤ m
 
--- A filter that may be compiled: all its numbers are call numbers, and its counted length is below 4096.
+-- A filter that may be compiled: all its numbers are call numbers, and its counted length is at most the greatest length.
 pub record IsCompilable (f : Filter) : Type 0 where
   pub numbers : AreCallNumbers (numbers_of f.chains)
-  pub short : counted_length f < 4096
+  pub short : counted_length f ≤ greatest_length
 
--- All its numbers are call numbers, but its counted length, which is n where a machine's number can hold it, is 4096 or more.
+-- All its numbers are call numbers, but its counted length, which is n where a machine's number can hold it, is more
+-- than the greatest length.
 pub record IsTooLarge (f : Filter) (n : ℕ) : Type 0 where
   pub numbers : AreCallNumbers (numbers_of f.chains)
-  pub large : 4096 ≤ counted_length f
+  pub large : greatest_length < counted_length f
   pub length : n ≡ min (counted_length f) (2 ^ 64 - 1)
 
 -- The refusal of a filter comes of its own cause alone: of the least number that is no call number; else of the

@@ -3,6 +3,7 @@
 ghost use Rattle.std.specs.Prelude.{◌≡◌, ◌≤◌, ◌<◌, ◌^◌, ◌-◌, ◌↔◌, ℤ, pos, min, map, length, All, IsTrue, IsNone, IfOk, IfSome, IsOkUnless};
 ghost use Rattle.std.specs.BTreeMap.{keys};
 ghost use Rattle.seccompiler.specs.declared.backend.BackendError.TheVariants.{OutOfMemory};
+ghost use Rattle.seccompiler.specs.Checked.{greatest_length};
 ghost use Rattle.seccompiler.specs.Policy.{chains_of, IsCallNumber, ChainMatches};
 ghost use Rattle.seccompiler.specs.Layout.{chain_length, chains_length};
 ghost use Rattle.seccompiler.specs.Refusal.{AreCallNumbers, IsLeastUnfit};
@@ -80,7 +81,7 @@ pub(crate) fn write_chains(
 )
     requires numbers { AreCallNumbers (keys rules.now) }
     requires room { length part.old ≡ chains_length (chains_of rules.now.entries) }
-    requires short { length part.old ≤ 4096 }
+    requires short { length part.old ≤ greatest_length }
     ensures code { IsChainsCode (chains_of rules.now.entries) mismatch matched part.new }
 {
     let mut start = 0;
@@ -114,7 +115,7 @@ fn write_chain(
     matched: u32,
 )
     requires room { length part.old ≡ chain_length chain.now }
-    requires short { length part.old ≤ 4096 }
+    requires short { length part.old ≤ greatest_length }
     ensures code { IsChainCode number chain.now mismatch matched part.new }
 {
     if chain.is_empty() {
@@ -136,7 +137,7 @@ fn write_chain(
 // Fills the part with the rules of a chain, each with its return.
 fn write_rules(part: &mut [sock_filter], chain: &[SeccompRule], matched: u32)
     requires room { length part.old ≡ rules_length chain.now }
-    requires short { length part.old ≤ 4096 }
+    requires short { length part.old ≤ greatest_length }
     ensures code { IsRulesCode chain.now matched part.new }
 {
     let mut start = 0;

@@ -39,7 +39,7 @@ pub type BpfMap = HashMap<String, BpfProgram>;
 ///
 /// - `JsonFrontend` with what `JsonCompiler::compile` refuses;
 /// - `Backend(FilterTooLarge(n))` for the least name, in byte order, whose filter's program would have
-///   4096 instructions or more. `n` is how many, or `usize::MAX` if that is less.
+///   more than 4096 instructions. `n` is how many, or `usize::MAX` if that is less.
 ///
 /// `OutOfMemory` may come in place of both, where memory is refused or the reader fails for want of
 /// it.

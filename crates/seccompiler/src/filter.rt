@@ -37,13 +37,14 @@ impl Model for SeccompFilter {
 }
 
 impl SeccompFilter {
-    ghost use Rattle.std.specs.Prelude.{◌≡◌, ◌≢◌, ◌<◌, ◌↔◌, ℕ, List, length, min, IfOk, IfErr, IsOk, IsTrue, OnOk, IsOkUnless};
+    ghost use Rattle.std.specs.Prelude.{◌≡◌, ◌≢◌, ◌≤◌, ◌↔◌, ℕ, List, length, min, IfOk, IfErr, IsOk, IsTrue, OnOk, IsOkUnless};
     ghost use Rattle.std.specs.List.Sorted.{IsStrictlySortedBy};
     ghost use Rattle.std.specs.Ordering.{int_cmp};
     ghost use Rattle.seccompiler.specs.declared.backend.BackendError.TheVariants.{IdenticalActions, OutOfMemory};
     ghost use Rattle.seccompiler.specs.Policy.{Filter, chains_of, Matches, IsDecision};
     ghost use Rattle.seccompiler.specs.Reorder.{IsReordered, IsSameCall};
     ghost use Rattle.seccompiler.specs.Layout.{counted_length};
+    ghost use Rattle.seccompiler.specs.Checked.{greatest_length};
     ghost use Rattle.seccompiler.specs.Compiled.{IsCompiled, Passes};
     ghost use Rattle.seccompiler.specs.Refusal.{numbers_of, AreCallNumbers, IsCompilable, IsRefusal};
 
@@ -83,8 +84,8 @@ impl SeccompFilter {
     /// # Errors
     ///
     /// `InvalidSyscallNumber` with the least key that lies outside 0 to 4294967295, where there is
-    /// one; else `FilterTooLarge` with `program_len` where that is 4096 or more; both take no
-    /// memory. `OutOfMemory` where memory for the program is refused.
+    /// one; else `FilterTooLarge` with `program_len` where that is more than 4096; both take
+    /// no memory. `OutOfMemory` where memory for the program is refused.
     pub fn to_bpf(&self, alloc: Global) -> Result<BpfProgram, BackendError>
         ensures compiled { IfOk result (λ program. IsCompiled self.now program.items) }
         ensures passes { IfOk result (λ program. Passes self.now program.items) }
@@ -95,7 +96,7 @@ impl SeccompFilter {
             return Err(BackendError::InvalidSyscallNumber(number));
         }
         let length = self.program_len();
-        if length >= BPF_MAX_LEN {
+        if length > BPF_MAX_LEN {
             return Err(BackendError::FilterTooLarge(length));
         }
         let mut program = vec![in alloc; return_word(0); length]?;
@@ -178,7 +179,7 @@ impl SeccompFilter {
     fn write(&self, program: &mut [sock_filter])
         requires numbers { AreCallNumbers (numbers_of self.now.chains) }
         requires room { length program.old ≡ counted_length self.now }
-        requires short { counted_length self.now < 4096 }
+        requires short { counted_length self.now ≤ greatest_length }
         ensures compiled { IsCompiled self.now program.new }
         ensures passes { Passes self.now program.new }
     {

@@ -2,6 +2,7 @@ use Rattle.std.proofs.Common.{◌≡◌, ℕ, ◌+◌, ◌-◌, ◌≤◌, ◌^�
 use Rattle.std.proofs.lemmas.Slice.{take-put_mid}
 use lib.Seq.{length-take-le}
 use borrow.Rule.Slice.PartMut.{same_len_mid}
+use Rattle.seccompiler.specs.Checked.{greatest_length}
 use Rattle.seccompiler.specs.declared.bpf.sock_filter.{sock_filter}
 use Rattle.seccompiler.specs.Policy.{Chain, chains_of}
 use Rattle.seccompiler.specs.Layout.{chain_length, chains_length}
@@ -14,9 +15,9 @@ use Rattle.seccompiler.proofs.chain.write_chains.Goals as goal
 record Room (start count : ℕ) (part : List sock_filter) (chain : Chain) : Type 0 where
   exact : count ≡ chain_length chain
   within : start + count ≤ length part
-  short : length part ≤ 4096
+  short : length part ≤ greatest_length
 
-room : (entries done rest t : List MapEntry) (e : MapEntry) (items : Chain) (start count mismatch matched : ℕ) (part whole : List sock_filter) → rest ≡ e ∷ t → done ++ rest ≡ entries → items ≡ e.1.items → IsChainsCode (chains_of done) mismatch matched (take start part) → start ≤ length part → length part ≡ length whole → length whole ≡ chains_length (chains_of entries) → length whole ≤ 4096 → count ≡ min (chain_length items) (2 ^ 64 - 1) → Room start count part items
+room : (entries done rest t : List MapEntry) (e : MapEntry) (items : Chain) (start count mismatch matched : ℕ) (part whole : List sock_filter) → rest ≡ e ∷ t → done ++ rest ≡ entries → items ≡ e.1.items → IsChainsCode (chains_of done) mismatch matched (take start part) → start ≤ length part → length part ≡ length whole → length whole ≡ chains_length (chains_of entries) → length whole ≤ greatest_length → count ≡ min (chain_length items) (2 ^ 64 - 1) → Room start count part items
 room entries done rest t e items start count mismatch matched part whole er ee ei code le same long short counted =
     let start_is : start ≡ chains_length (chains_of done) = sym (length-take-le start part le) ∙ code.long in
     let fits = chains_room entries done rest t e start er ee start_is in

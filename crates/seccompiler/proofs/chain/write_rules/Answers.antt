@@ -3,6 +3,7 @@ use Rattle.std.proofs.Math.ListN.{length-set}
 use Rattle.std.proofs.lemmas.List.{take_all}
 use lib.Seq.{length-take-le}
 use borrow.Rule.Slice.PartMut.{same_len_mid}
+use Rattle.seccompiler.specs.Checked.{greatest_length}
 use Rattle.seccompiler.specs.declared.bpf.sock_filter.{sock_filter}
 use Rattle.seccompiler.specs.Policy.{Rule, Chain}
 use Rattle.seccompiler.specs.Layout.{rule_length}
@@ -15,9 +16,9 @@ use Rattle.seccompiler.proofs.chain.write_rules.Goals as goal
 record Room (start count : ℕ) (part : List sock_filter) (q : Rule) : Type 0 where
   exact : count ≡ rule_length q
   within : start + count < length part
-  short : length part ≤ 4096
+  short : length part ≤ greatest_length
 
-room : (chain : Chain) (i start count w : ℕ) (part whole : List sock_filter) (q : Rule) → i < length chain → q ≡ get_or chain i q → IsRulesCode (take i chain) w (take start part) → start ≤ length part → length part ≡ length whole → length whole ≡ rules_length chain → length whole ≤ 4096 → count ≡ min (rule_length q) (2 ^ 64 - 1) → Room start count part q
+room : (chain : Chain) (i start count w : ℕ) (part whole : List sock_filter) (q : Rule) → i < length chain → q ≡ get_or chain i q → IsRulesCode (take i chain) w (take start part) → start ≤ length part → length part ≡ length whole → length whole ≡ rules_length chain → length whole ≤ greatest_length → count ≡ min (rule_length q) (2 ^ 64 - 1) → Room start count part q
 room chain i start count w part whole q within is code le same long short counted =
     let start_is : start ≡ rules_length (take i chain) = sym (length-take-le start part le) ∙ code.long in
     let fits = rules_room chain i start q within is start_is in

@@ -1,6 +1,6 @@
 use Rattle.std.proofs.Common.{refl, ◌<◌, ◌≤◌, length, arith}
 use Rattle.std.proofs.lemmas.Bool.Decides.{nat_tests}
-use Rattle.seccompiler.specs.Checked.{IsFine, IsInRange}
+use Rattle.seccompiler.specs.Checked.{greatest_length, IsFine, IsInRange}
 use Rattle.seccompiler.proofs.CheckedLemmas.{one_more, checked_if}
 use Rattle.seccompiler.proofs.machine.check.Goals as goal
 
@@ -11,5 +11,5 @@ loop-place-preserved c =
 pub returns : goal.returns
 returns c =
     let some : 0 < length c.args.prog.now = grind (arith, nat_tests) in
-    let few : length c.args.prog.now ≤ 4096 = omega arith in
+    let few : length c.args.prog.now ≤ greatest_length = omega arith in
     checked_if c.args.prog.now c.loop-place.place _ some few c.loop-place-test.false c.loop-place.invariant

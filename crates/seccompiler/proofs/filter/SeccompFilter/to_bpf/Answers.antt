@@ -21,8 +21,8 @@ returns-in-Some-clause-refused c =
     let same = to_z-of_z w64 c.in-Some.number (search (rules, ints)) in
     subst (λ n. IsLeastUnfit (numbers_of c.args.self.now.chains) n) (sym same) least
 
-pub returns-then-length-ge-BPF_MAX_LEN-clause-refused : goal.returns-then-length-ge-BPF_MAX_LEN-clause-refused
-returns-then-length-ge-BPF_MAX_LEN-clause-refused c =
+pub returns-then-length-gt-BPF_MAX_LEN-clause-refused : goal.returns-then-length-gt-BPF_MAX_LEN-clause-refused
+returns-then-length-gt-BPF_MAX_LEN-clause-refused c =
     record {
       numbers = call_numbers _ c.args.self.now c.self.inside.rules.entries c.self.view_is refl (c.in_default.ensures.fit.0 refl);
       large = omega arith;

@@ -16,4 +16,4 @@ returns-in_err-program-clause-traced g c =
     let e = c.in_err-program.field-0.0 in
     let traced = λ (target : TargetArch). Traced (probe_filter target c.args.nr c.args.index c.args.value) in
     rw (error.1, error.2) (reads_some (g.R.Read.remaining c.args.records) (λ bytes. (target : TargetArch) → IsNameOf c.args.arch.now target → AnswersRecords (traced target) bytes (Err e) out out) (λ bytes target named.
-        answers_none (traced target) e (λ rest is. subst (IsRefusedProbe c.args.arch.now c.args.nr c.args.index) is refused) bytes out out))
+    answers_none (traced target) e (λ rest is. subst (IsRefusedProbe c.args.arch.now c.args.nr c.args.index) is refused) bytes out out))

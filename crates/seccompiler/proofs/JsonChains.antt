@@ -1,36 +1,67 @@
--- The chains of a map, with what an entry adds.
-use Rattle.std.proofs.Common.{◌≡◌, ℤ, ◌++◌, List, [], ◌∷◌, Vec, Global, Option, Some, None, Ordering, Less, Equal, Greater, option_map, refl, sym, ap, ◌∙◌, unwrap_or}
-use Rattle.std.specs.Ordering.{int_cmp, match_ordering}
+-- The chains of a map, after one of them was written.
+use Rattle.std.proofs.Common.{◌≡◌, ℤ, ◌++◌, List, [], ◌∷◌, Vec, Global, Bool, true, false, ◌||◌, cond, Option, Some, None, option_map, refl, sym, ap, ◌∙◌, unwrap_or}
+use Rattle.std.specs.BTreeMap.{is_at}
+use Rattle.std.specs.List.{list_any}
 use Rattle.std.specs.Map.{lookup}
-use Rattle.std.specs.BTreeMap.{insert_entry, is_at}
+use Rattle.std.specs.Ordering.{int_cmp, int_eq}
+use Rattle.std.proofs.lemmas.Bool.Decides.{Decides-int_eq, same_from_decides, Decides-like}
+use Rattle.std.proofs.lemmas.List.Folds.{list_any-append}
 use Rattle.std.proofs.lemmas.Map.Made.{lookup-map_values}
 use Rattle.seccompiler.specs.Policy.{Rule, Chain, chains_of}
-use Rattle.seccompiler.specs.JsonPolicy.{with_rules}
+use Rattle.seccompiler.specs.JsonGathered.{added, chain_of}
+use Rattle.seccompiler.specs.JsonPolicyOf.{chain_at}
 
--- A chain put into a map is put so into the list of its chains.
-put_at : (o : Ordering) (e : ℤ × Vec Rule Global) (entries behind : List (ℤ × Vec Rule Global)) (number : ℤ) (chain : Vec Rule Global) (chains : List (ℤ × Chain)) → chains_of behind ≡ chains
-    → chains_of (match_ordering o ((number, chain) ∷ e ∷ entries) ((e.0, chain) ∷ entries) (e ∷ behind))
-    ≡ match_ordering o ((number, chain.items) ∷ chains_of (e ∷ entries)) ((e.0, chain.items) ∷ chains_of entries) ((e.0, e.1.items) ∷ chains)
-put_at Less e entries behind number chain chains same = refl
-put_at Equal e entries behind number chain chains same = refl
-put_at Greater e entries behind number chain chains same = ap (λ more. (e.0, e.1.items) ∷ more) same
+-- A test of two numbers is the same from both sides.
+pub turned : (x y : ℤ) → int_eq x y ≡ int_eq y x
+turned x y = same_from_decides (int_eq x y) (int_eq y x) (Decides-int_eq x y) (Decides-like (int_eq y x) sym sym (Decides-int_eq y x))
 
-chains_of_insert : (entries : List (ℤ × Vec Rule Global)) (number : ℤ) (chain : Vec Rule Global) → chains_of (insert_entry int_cmp entries number chain) ≡ insert_entry int_cmp (chains_of entries) number chain.items
-chains_of_insert [] number chain = refl
-chains_of_insert (e ∷ entries) number chain = put_at (int_cmp number e.0) e entries (insert_entry int_cmp entries number chain) number chain _ (chains_of_insert entries number chain)
+-- What a map holds under a number.
+abbrev pub held : List (ℤ × Vec Rule Global) → ℤ → Option (Vec Rule Global)
+held entries number = lookup (is_at (int_cmp number)) entries
+
+-- The chain under a number, of what the map holds there.
+pub chain_held : (entries : List (ℤ × Vec Rule Global)) (number : ℤ) → chain_at (chains_of entries) number ≡ option_map (λ v. v.items) (held entries number)
+chain_held entries number = lookup-map_values (λ (v : Vec Rule Global). v.items) (is_at (int_cmp number)) entries
 
 -- What a chain was, or the empty one.
-or_empty : (found : Option (Vec Rule Global)) (start : Vec Rule Global) → start.items ≡ [] → (unwrap_or found start).items ≡ unwrap_or (option_map (λ (v : Vec Rule Global). v.items) found) []
+or_empty : (found : Option (Vec Rule Global)) (start : Vec Rule Global) → start.items ≡ [] → (unwrap_or found start).items ≡ unwrap_or (option_map (λ v. v.items) found) []
 or_empty None start empty = empty
 or_empty (Some v) start empty = refl
 
--- A map with a number's chain made longer, or begun.
-pub chains_with_rules : (old new : List (ℤ × Vec Rule Global)) (number : ℤ) (before after start : Vec Rule Global) (rules : List Rule)
-    → new ≡ insert_entry int_cmp old number after → before ≡ unwrap_or (lookup (is_at (int_cmp number)) old) start → start.items ≡ [] → after.items ≡ before.items ++ rules
-    → chains_of new ≡ with_rules (chains_of old) number rules
-chains_with_rules old new number before after start rules written found empty longer =
-    let was : before.items ≡ unwrap_or (lookup (is_at (int_cmp number)) (chains_of old)) [] =
-    ap (λ (v : Vec Rule Global). v.items) found ∙ or_empty (lookup (is_at (int_cmp number)) old) start empty
-    ∙ ap (λ o. unwrap_or o []) (sym (lookup-map_values (λ (v : Vec Rule Global). v.items) (is_at (int_cmp number)) old)) in
-    ap chains_of written ∙ chains_of_insert old number after
-    ∙ ap (insert_entry int_cmp (chains_of old) number) (longer ∙ ap (λ front. front ++ rules) was)
+-- A rule was put at the end of a number's chain, which began empty.
+pub chain_with_rule : (old new : List (ℤ × Vec Rule Global)) (number : ℤ) (before after start : Vec Rule Global) (rule : Rule) (q : ℤ)
+    → held new q ≡ cond (int_eq number q) (Some after) (held old q) → before ≡ unwrap_or (held old number) start → start.items ≡ [] → after.items ≡ before.items ++ rule ∷ []
+    → chain_at (chains_of new) q ≡ added (cond (int_eq q number) (rule ∷ []) []) (chain_at (chains_of old) q)
+chain_with_rule old new number before after start rule q written found empty longer =
+    chain_held new q ∙ ap (option_map (λ v. v.items)) written ∙ by_case (int_eq number q) refl ∙ ap (λ b. added (cond b (rule ∷ []) []) (chain_at (chains_of old) q)) (turned number q)
+  where
+    by_case : (b : Bool) → int_eq number q ≡ b → option_map (λ v. v.items) (cond b (Some after) (held old q)) ≡ added (cond b (rule ∷ []) []) (chain_at (chains_of old) q)
+    by_case false is = sym (chain_held old q)
+    by_case true is =
+        let same : number ≡ q = (Decides-int_eq number q).0 is in
+        let was : before.items ≡ unwrap_or (chain_at (chains_of old) number) [] = ap (λ v. v.items) found ∙ or_empty (held old number) start empty ∙ ap (λ o. unwrap_or o []) (sym (chain_held old number)) in
+        ap Some (longer ∙ ap (λ front. front ++ rule ∷ []) was) ∙ ap (λ n. added (rule ∷ []) (chain_at (chains_of old) n)) same
+
+-- A number's chain was begun, if it had none.
+pub chain_begun : (old new : List (ℤ × Vec Rule Global)) (number : ℤ) (after start : Vec Rule Global) (q : ℤ)
+    → held new q ≡ cond (int_eq number q) (Some after) (held old q) → after ≡ unwrap_or (held old number) start → start.items ≡ []
+    → chain_at (chains_of new) q ≡ chain_of (int_eq q number) (chain_at (chains_of old) q)
+chain_begun old new number after start q written found empty =
+    chain_held new q ∙ ap (option_map (λ v. v.items)) written ∙ by_case (int_eq number q) refl ∙ ap (λ b. chain_of b (chain_at (chains_of old) q)) (turned number q)
+  where
+    by_case : (b : Bool) → int_eq number q ≡ b → option_map (λ v. v.items) (cond b (Some after) (held old q)) ≡ chain_of b (chain_at (chains_of old) q)
+    by_case false is = sym (chain_held old q)
+    by_case true is =
+        ap (λ (v : Vec Rule Global). Some v.items) found ∙ ap Some (or_empty (held old number) start empty ∙ ap (λ o. unwrap_or o []) (sym (chain_held old number)))
+        ∙ ap (λ n. chain_of true (chain_at (chains_of old) n)) ((Decides-int_eq number q).0 is)
+
+-- The numbers that have a chain without conditions, one by one.
+pub chain_of_more : (done : List ℤ) (number q : ℤ) (found : Option Chain)
+    → chain_of (int_eq q number) (chain_of (list_any (int_eq q) done) found) ≡ chain_of (list_any (int_eq q) (done ++ number ∷ [])) found
+chain_of_more done number q found = both (int_eq q number) (list_any (int_eq q) done) ∙ ap (λ b. chain_of b found) (sym (list_any-append (int_eq q) done (number ∷ [])))
+  where
+    both : (here before : Bool) → chain_of here (chain_of before found) ≡ chain_of (before || (here || false)) found
+    both true true = refl
+    both true false = refl
+    both false true = refl
+    both false false = refl

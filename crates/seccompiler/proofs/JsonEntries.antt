@@ -1,44 +1,107 @@
--- An entry of a JSON filter: nothing is wrong with it, or one fault is its first; and what comes of it.
-use Rattle.std.proofs.Common.{◌≡◌, ℤ, List, [], ◌∷◌, Ok, Err, Option, Some, None, refl, sym, ap, ◌∙◌, ◌⊎◌, inl, inr}
+-- The entries of a JSON filter: nothing is wrong with any, or one fault is the first.
+use Rattle.std.proofs.Common.{◌≡◌, ℕ, ◌+◌, ◌<◌, ℤ, length, get_or, take, drop, List, [], ◌∷◌, ◌++◌, Option, Some, None, All, refl, sym, ap, ◌∙◌, subst, ◌⊎◌, inl, inr, arith}
+use Rattle.std.proofs.lemmas.List.{take-append-drop, drop_more}
+use Rattle.std.proofs.lemmas.List.Elements.{All-nil, All-cons, All-head, All-tail, All-contains, Contains-append_right}
 use Rattle.seccompiler.specs.declared.backend.TargetArch.{TargetArch}
-use Rattle.seccompiler.specs.declared.backend.BackendError.TheVariants.{EmptyRule, InvalidArgumentNumber}
+use Rattle.seccompiler.specs.declared.json.error.JsonFrontendError.{JsonFrontendError}
+use Rattle.seccompiler.specs.declared.json.error.JsonFrontendError.TheVariants as e
 use Rattle.seccompiler.specs.declared.json.types.JsonCondition.{JsonCondition}
 use Rattle.seccompiler.specs.JsonTypes.{JsonRule}
-use Rattle.seccompiler.specs.Policy.{Chain}
 use Rattle.seccompiler.specs.SyscallTable.{number_of, table_of}
-use Rattle.seccompiler.specs.JsonFault.{Fault, unknown_call, refused}
-use Rattle.seccompiler.specs.JsonPolicyOf.{rules_of, IsFor, IsFine, IsFaultOf, unknown_name, index_above, empty_args}
-use Rattle.seccompiler.specs.JsonPolicy.{with_rules, with_entry}
-use Rattle.seccompiler.proofs.JsonRules.{within_or_above, some_refused, rules_built}
+use Rattle.seccompiler.specs.JsonFault.{Fault, unknown_call}
+use Rattle.seccompiler.specs.JsonPolicyOf.{IsFaultIn, IsFor, IsFine, IsFaultOf, unknown_name, wrong_args, IsFirstOf, Tells}
+use Rattle.seccompiler.proofs.JsonRules.{fine_or_fault_in, not_both_in, one_fault_in}
 
--- An entry with a known call and these conditions is fine or has its first fault there.
-with_conditions : (arch : TargetArch) (entry : JsonRule) (number : ℤ) (conditions : Option (List JsonCondition)) → IsFor arch number entry → entry.conditions ≡ conditions
-    → IsFine arch entry ⊎ ((fault : Fault) × IsFaultOf arch entry fault)
-with_conditions arch entry number None known is = inl (record { number = number; is_for = known; indices = rw is tt; some = λ e. let h = sym is ∙ e in cc })
-with_conditions arch entry number (Some []) known is = inr (refused EmptyRule, empty_args number known is refl)
-with_conditions arch entry number (Some (c ∷ cs)) known is = elim (within_or_above (c ∷ cs)) [
-  | inl within ↦ inl (record { number = number; is_for = known; indices = rw is within; some = λ e. let h = sym is ∙ e in cc })
-  | inr above ↦ inr (refused InvalidArgumentNumber, index_above number (c ∷ cs) known is above refl)
-]
+-- An error that tells a fault tells one of which more is known.
+pub tells_more : (P Q : Fault → Type 0) → ((fault : Fault) → P fault → Q fault) → (error : JsonFrontendError) → Tells P error → Tells Q error
+tells_more P Q more (e.Backend cause) told = (more _ told.0, told.1)
+tells_more P Q more (e.SerdeJson cause) told = told
+tells_more P Q more (e.SyscallName name arch) told = more _ told
+tells_more P Q more (e.Read cause) told = told
+tells_more P Q more e.RepeatedKey told = told
+tells_more P Q more e.NotAnObject told = told
+tells_more P Q more (e.Shape name) told = told
+tells_more P Q more e.OutOfMemory told = told
 
--- Nothing is wrong with an entry, or some fault is its first.
-pub fine_or_fault : (arch : TargetArch) (entry : JsonRule) → IsFine arch entry ⊎ ((fault : Fault) × IsFaultOf arch entry fault)
-fine_or_fault arch entry = looked_up (number_of (table_of arch) entry.syscall) refl
-  where
-    looked_up : (o : Option ℤ) → number_of (table_of arch) entry.syscall ≡ o → IsFine arch entry ⊎ ((fault : Fault) × IsFaultOf arch entry fault)
-    looked_up None is = inr (unknown_call entry.syscall arch, unknown_name is refl)
-    looked_up (Some number) is = with_conditions arch entry number entry.conditions is refl
+module _ (arch : TargetArch) where
+  -- An entry with a known call and these conditions is fine or has its first fault there.
+  with_conditions : (entry : JsonRule) (number : ℤ) (conditions : Option (List JsonCondition)) → IsFor arch number entry → entry.conditions ≡ conditions
+      → IsFine arch entry ⊎ ((fault : Fault) × IsFaultOf arch entry fault)
+  with_conditions entry number None known is = inl (record { number = number; is_for = known; conditions = rw is tt })
+  with_conditions entry number (Some conditions) known is = elim (fine_or_fault_in conditions) [
+    | inl fine ↦ inl (record { number = number; is_for = known; conditions = rw is fine })
+    | inr wrong ↦ inr (wrong.0, wrong_args number conditions known is wrong.1)
+  ]
 
--- What an entry with which nothing is wrong adds to the chains.
-pub fine_adds : (arch : TargetArch) (chains : List (ℤ × Chain)) (entry : JsonRule) (fine : IsFine arch entry) → with_entry arch chains entry ≡ Ok (with_rules chains fine.number (rules_of entry.conditions))
-fine_adds arch chains entry fine = rw (fine.is_for, rules_built entry.conditions fine.indices fine.some) refl
+  -- What is wrong with the conditions of a known call is wrong with the entry.
+  pub wrong_entry : (entry : JsonRule) (number : ℤ) (conditions : List JsonCondition) (error : JsonFrontendError) → IsFor arch number entry → entry.conditions ≡ Some conditions
+      → Tells (IsFaultIn conditions) error → Tells (IsFaultOf arch entry) error
+  wrong_entry entry number conditions error known are told = tells_more (IsFaultIn conditions) (IsFaultOf arch entry) (λ fault wrong. wrong_args number conditions known are wrong) error told
 
--- An entry's first fault is what comes of it.
-pub fault_refuses : (arch : TargetArch) (chains : List (ℤ × Chain)) (entry : JsonRule) (fault : Fault) → IsFaultOf arch entry fault → with_entry arch chains entry ≡ Err fault
-fault_refuses arch chains entry fault (unknown_name unknown is) = rw unknown (ap Err (sym is))
-fault_refuses arch chains entry fault (index_above number conditions known are above is) = rw (known, are, some_refused conditions above) (ap Err (sym is))
-fault_refuses arch chains entry fault (empty_args number known are is) = rw (known, are) (ap Err (sym is))
+  -- Nothing is wrong with an entry, or some fault is its first.
+  fine_or_fault : (entry : JsonRule) → IsFine arch entry ⊎ ((fault : Fault) × IsFaultOf arch entry fault)
+  fine_or_fault entry = looked_up (number_of (table_of arch) entry.syscall) refl
+    where
+      looked_up : (o : Option ℤ) → number_of (table_of arch) entry.syscall ≡ o → IsFine arch entry ⊎ ((fault : Fault) × IsFaultOf arch entry fault)
+      looked_up None is = inr (unknown_call entry.syscall arch, unknown_name is refl)
+      looked_up (Some number) is = with_conditions entry number entry.conditions is refl
 
--- Nothing is wrong with an entry that has no fault, and the other way round.
-pub not_both : (arch : TargetArch) (entry : JsonRule) (fault : Fault) → IsFine arch entry → IsFaultOf arch entry fault → ⊥
-not_both arch entry fault fine wrong = let e = sym (fine_adds arch [] entry fine) ∙ fault_refuses arch [] entry fault wrong in cc
+  -- An entry with which nothing is wrong has no fault.
+  not_both : (entry : JsonRule) (fault : Fault) → IsFine arch entry → IsFaultOf arch entry fault → ⊥
+  not_both entry fault fine (unknown_name unknown is) = let e = sym unknown ∙ fine.is_for in cc
+  not_both entry fault fine (wrong_args number conditions known are wrong) = not_both_in conditions fault (rw are at fine.conditions) wrong
+
+  -- An entry has one first fault.
+  one_fault : (entry : JsonRule) (a b : Fault) → IsFaultOf arch entry a → IsFaultOf arch entry b → a ≡ b
+  one_fault entry a b (unknown_name unknown is) (unknown_name other told) = is ∙ sym told
+  one_fault entry a b (unknown_name unknown is) (wrong_args number conditions known are wrong) = let e = sym unknown ∙ known in cc
+  one_fault entry a b (wrong_args number conditions known are wrong) (unknown_name unknown told) = let e = sym unknown ∙ known in cc
+  one_fault entry a b (wrong_args number conditions known are wrong) (wrong_args another others known_too are_others wrong_too) =
+      let same : conditions ≡ others = let e = sym are ∙ are_others in cc in
+      one_fault_in others a b (subst (λ cs. IsFaultIn cs a) same wrong) wrong_too
+
+  -- Nothing is wrong with any of the entries, or some fault is the first.
+  pub all_fine_or_fault : (entries : List JsonRule) → All (IsFine arch) entries ⊎ ((fault : Fault) × IsFirstOf arch entries fault)
+  all_fine_or_fault [] = inl (All-nil (IsFine arch))
+  all_fine_or_fault (entry ∷ entries) = elim (fine_or_fault entry) [
+    | inr wrong ↦ inr (wrong.0, record { front = []; entry = entry; back = entries; whole = refl; fine = All-nil (IsFine arch); wrong = wrong.1 })
+    | inl fine ↦ elim (all_fine_or_fault entries) [
+      | inl all ↦ inl (All-cons (IsFine arch) entry entries fine all)
+      | inr (fault, later) ↦ inr (fault, record { front = entry ∷ later.front; entry = later.entry; back = later.back; whole = ap (λ es. entry ∷ es) later.whole; fine = All-cons (IsFine arch) entry later.front fine later.fine; wrong = later.wrong })
+    ]
+  ]
+
+  -- What is wrong with an entry behind others with which nothing is wrong is the first fault of them all.
+  pub first_wrong : (entries : List JsonRule) (place : ℕ) (entry : JsonRule) (error : JsonFrontendError) → place < length entries → entry ≡ get_or entries place entry → All (IsFine arch) (take place entries)
+      → Tells (IsFaultOf arch entry) error → Tells (IsFirstOf arch entries) error
+  first_wrong entries place entry error within is fine told =
+      let whole : entries ≡ take place entries ++ entry ∷ drop (place + 1) entries =
+      sym (take-append-drop place entries) ∙ ap (λ rest. take place entries ++ rest) (drop_more entries place entry within ∙ ap (λ first. first ∷ drop (place + 1) entries) (sym is)) in
+      tells_more (IsFaultOf arch entry) (IsFirstOf arch entries) (λ fault wrong. record { front = take place entries; entry = entry; back = drop (place + 1) entries; whole = whole; fine = fine; wrong = wrong }) error told
+
+  -- Entries with which nothing is wrong have no fault.
+  pub none_wrong : (entries : List JsonRule) (fault : Fault) → All (IsFine arch) entries → IsFirstOf arch entries fault → ⊥
+  none_wrong entries fault fine first =
+      let all = subst (All (IsFine arch)) first.whole fine in
+      not_both first.entry fault (All-contains (IsFine arch) _ first.entry all (Contains-append_right first.front (first.entry ∷ first.back) first.entry (0, omega arith, refl))) first.wrong
+
+  -- Where entries are cut in two ways at a first fault, it is the same fault.
+  same_first : (front other_front : List JsonRule) (entry other : JsonRule) (back other_back : List JsonRule) (a b : Fault) → front ++ entry ∷ back ≡ other_front ++ other ∷ other_back
+      → All (IsFine arch) front → All (IsFine arch) other_front → IsFaultOf arch entry a → IsFaultOf arch other b → a ≡ b
+  same_first [] [] entry other back other_back a b same fine others wrong wrong_too =
+      let here : entry ≡ other = cc in
+      one_fault other a b (subst (λ (x : JsonRule). IsFaultOf arch x a) here wrong) wrong_too
+  same_first [] (y ∷ ys) entry other back other_back a b same fine others wrong wrong_too =
+      let here : entry ≡ y = cc in
+      absurd (not_both y a (All-head (IsFine arch) y ys others) (subst (λ (x : JsonRule). IsFaultOf arch x a) here wrong))
+  same_first (x ∷ xs) [] entry other back other_back a b same fine others wrong wrong_too =
+      let here : x ≡ other = cc in
+      absurd (not_both other b (subst (IsFine arch) here (All-head (IsFine arch) x xs fine)) wrong_too)
+  same_first (x ∷ xs) (y ∷ ys) entry other back other_back a b same fine others wrong wrong_too =
+      let rest : xs ++ entry ∷ back ≡ ys ++ other ∷ other_back = cc in
+      same_first xs ys entry other back other_back a b rest (All-tail (IsFine arch) x xs fine) (All-tail (IsFine arch) y ys others) wrong wrong_too
+
+  -- Entries have one first fault.
+  pub one_first : (entries : List JsonRule) (a b : Fault) → IsFirstOf arch entries a → IsFirstOf arch entries b → a ≡ b
+  one_first entries a b first second =
+      same_first first.front second.front first.entry second.entry first.back second.back a b (sym first.whole ∙ second.whole) first.fine second.fine first.wrong second.wrong

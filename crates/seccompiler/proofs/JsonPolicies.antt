@@ -1,176 +1,187 @@
--- The policy of a JSON filter, and its first fault: each is what the walk over the entries gives.
-use Rattle.std.proofs.Common.{◌≡◌, ◌≢◌, ◌↔◌, ℤ, List, [], Bool, true, false, cond, Result, Ok, Err, Some, None, All, Any, refl, sym, ap, ◌∙◌, subst, ◌⊎◌, inl, inr, rules, Decides}
-use Rattle.std.specs.Prelude.{IfOk, IfErr, string_bytes}
+-- A JSON filter has one policy or one first fault.
+use Rattle.std.proofs.Common.{◌≡◌, ◌≢◌, ℤ, List, [], ◌∷◌, ◌++◌, Bool, true, false, ◌||◌, ◌&&◌, cond, Option, Some, None, IsSome, All, Any, refl, sym, ap, ◌∙◌, subst, ◌⊎◌, inl, inr, rules, Decides}
+use Rattle.std.specs.BTreeMap.{BTreeMap}
 use Rattle.std.specs.List.{flat_map, list_any}
 use Rattle.std.specs.List.Sorted.{IsStrictlySortedBy}
-use Rattle.std.proofs.lemmas.Bool.{true≢false, false_from_ne_true}
-use Rattle.std.proofs.lemmas.List.Elements.{All-nil}
+use Rattle.std.specs.Option.{is_none, option_to_list}
+use Rattle.std.specs.Ordering.{int_cmp, int_eq}
+use Rattle.std.specs.Prelude.{Vec}
+use Rattle.std.specs.declared.alloc.Global.{Global}
+use Rattle.std.proofs.lemmas.Bool.{true≢false, false_from_ne_true, cases_Bool}
+use Rattle.std.proofs.lemmas.Bool.Decides.{Decides-int_eq}
+use Rattle.std.proofs.lemmas.Cmp.{int_eq_equiv}
+use Rattle.std.proofs.lemmas.List.Folds.{Any-from_list_any, list_any-from_Any}
+use Rattle.std.proofs.lemmas.Map.Made.{keys_of-map_values}
+use Rattle.std.proofs.lemmas.Map.Views.{All-keys_from_lookup}
 use Rattle.seccompiler.specs.contracts.backend.SeccompActionPartialEq.TheImpl as action
 use Rattle.seccompiler.specs.declared.backend.SeccompAction.{SeccompAction}
 use Rattle.seccompiler.specs.declared.backend.TargetArch.{TargetArch}
 use Rattle.seccompiler.specs.declared.backend.BackendError.TheVariants.{IdenticalActions}
-use Rattle.seccompiler.specs.declared.json.error.JsonFrontendError.{JsonFrontendError}
-use Rattle.seccompiler.specs.declared.json.error.JsonFrontendError.TheVariants as e
-use Rattle.seccompiler.specs.JsonTypes.{JsonFilter}
-use Rattle.seccompiler.specs.Policy.{Chain, Filter}
+use Rattle.seccompiler.specs.declared.json.policy.Gathered.{Gathered}
+use Rattle.seccompiler.specs.declared.json.types.JsonCondition.{JsonCondition}
+use Rattle.seccompiler.specs.JsonFault.{Fault, refused}
+use Rattle.seccompiler.specs.JsonGathered.{added, chain_of, rules_at, AreGathered, HasChains}
+use Rattle.seccompiler.specs.JsonPolicyOf.{rules_of, rules_for, chain_at, is_for, is_always, is_number, IsFor, IsFine, IsPolicyOf, IsFirstFault, in_entries, in_actions}
+use Rattle.seccompiler.specs.JsonTypes.{JsonRule, JsonFilter}
+use Rattle.seccompiler.specs.Policy.{Rule, Chain, Filter, chains_of}
 use Rattle.seccompiler.specs.Refusal.{numbers_of}
-use Rattle.seccompiler.specs.SyscallTable.{IsTableNumber}
-use Rattle.seccompiler.specs.JsonFault.{Fault, unreadable, repeated_key, not_an_object, wrong_shape, unknown_call, refused, Fails, Gives}
-use Rattle.seccompiler.specs.JsonPolicyOf.{rules_for, chain_at, IsFor, IsFine, unknown_name, index_above, empty_args, IsPolicyOf, IsFirstFault, in_entry, in_actions, IsRefusalOf}
-use Rattle.seccompiler.specs.JsonPolicy.{policy_in}
-use Rattle.seccompiler.proofs.JsonAdditions.{is_for, Comes, all_come, fault_comes, all_fine_or_fault, none_wrong, any_if, if_any, in_the_end}
-use Rattle.seccompiler.proofs.NumberedChains.{same_chains}
+use Rattle.seccompiler.specs.SyscallTable.{IsTableNumber, number_of, table_of}
+use Rattle.seccompiler.proofs.JsonEntries.{all_fine_or_fault, none_wrong, one_first}
+use Rattle.seccompiler.proofs.NumberedChains.{numbered, same_chains}
+use Rattle.seccompiler.proofs.TableFacts.{is_call_table}
+use Rattle.seccompiler.proofs.TableNames.{number_of-all}
 
 action_decides : (x y : SeccompAction) → Decides (action.ghosts.eq x y) (x ≡ y)
 action_decides x y = search rules
 
--- Actions that differ pass no test of equality.
-differing : (x y : SeccompAction) → x ≢ y → action.ghosts.eq x y ≡ false
-differing x y apart = false_from_ne_true (action.ghosts.eq x y) (λ t. apart ((action_decides x y).0 t))
+module _ (arch : TargetArch) where
+  -- Whether an entry is for a number.
+  for_decides : (number : ℤ) (o : Option ℤ) → Decides (is_number number o) (o ≡ Some number)
+  for_decides number None = (λ h. absurd (true≢false (sym h)), λ e. cc)
+  for_decides number (Some other) = (λ h. ap Some (sym ((Decides-int_eq number other).0 h)), λ e. (Decides-int_eq number other).1 (let same : other ≡ number = cc in sym same))
 
--- A fault that a filter may have, and not a text.
-abbrev IsOfFilter : Fault → Type 0
-IsOfFilter unreadable = ⊥
-IsOfFilter repeated_key = ⊥
-IsOfFilter not_an_object = ⊥
-IsOfFilter (wrong_shape name) = ⊥
-IsOfFilter (unknown_call name arch) = Unit {0}
-IsOfFilter (refused cause) = Unit {0}
+  any_if : (number : ℤ) (entries : List JsonRule) → list_any (is_for arch number) entries ≡ true → Any (IsFor arch number) entries
+  any_if number entries h =
+      let some = Any-from_list_any (is_for arch number) entries h in
+      (some.0, some.1, some.2, some.3, (for_decides number _).0 some.4)
 
-module _ (arch : TargetArch) (j : JsonFilter) where
-  -- The filter of some chains.
-  abbrev filter_of : List (ℤ × Chain) → Filter
-  filter_of chains = record { chains = chains; mismatch_action = j.mismatch_action; match_action = j.match_action; target_arch = arch }
+  if_any : (number : ℤ) (entries : List JsonRule) → Any (IsFor arch number) entries → list_any (is_for arch number) entries ≡ true
+  if_any number entries some = list_any-from_Any (is_for arch number) entries (some.0, some.1, some.2, some.3, (for_decides number _).1 some.4)
 
-  -- A number that some entry is for has its entries' rules, and any other number has no chain.
-  chain_for : (comes : Comes arch [] j.rules) (number : ℤ) → list_any (is_for arch number) j.rules ≡ true → chain_at comes.found number ≡ Some (flat_map (rules_for arch number) j.rules)
-  chain_for comes number some = comes.each number ∙ in_the_end arch number j.rules None
-      ∙ ap (λ b. cond b (Some (flat_map (rules_for arch number) j.rules)) None) some
+  -- The numbers of the entries' calls.
+  abbrev numbers_of_entries : List JsonRule → List ℤ
+  numbers_of_entries entries = flat_map (λ (entry : JsonRule). option_to_list (number_of (table_of arch) entry.syscall)) entries
 
-  no_chain_for : (comes : Comes arch [] j.rules) (number : ℤ) → list_any (is_for arch number) j.rules ≡ false → chain_at comes.found number ≡ None
-  no_chain_for comes number none = comes.each number ∙ in_the_end arch number j.rules None
-      ∙ ap (λ b. cond b (Some (flat_map (rules_for arch number) j.rules)) None) none
+  any_number : (number : ℤ) (entries : List JsonRule) → list_any (int_eq number) (numbers_of_entries entries) ≡ list_any (is_for arch number) entries
+  any_number number [] = refl
+  any_number number (entry ∷ entries) =
+      elim (number_of (table_of arch) entry.syscall) as (λ o. list_any (int_eq number) (option_to_list o ++ numbers_of_entries entries) ≡ (is_number number o || list_any (is_for arch number) entries)) [
+        | None ↦ any_number number entries
+        | Some other ↦ ap (λ b. int_eq number other || b) (any_number number entries)
+      ]
 
-  -- The chains that come of entries with which nothing is wrong make the policy.
-  made : (comes : Comes arch [] j.rules) → All (IsFine arch) j.rules → j.mismatch_action ≢ j.match_action → IsPolicyOf arch j (filter_of comes.found)
-  unfolding IsStrictlySortedBy
-  made comes fine apart = record {
-    mismatch_action = refl;
-    match_action = refl;
-    target_arch = refl;
-    different = apart;
-    entries = fine;
-    chain = λ number some. chain_for comes number (if_any arch number j.rules some);
-    no_other = λ number none. no_chain_for comes number (false_from_ne_true (list_any (is_for arch number) j.rules) (λ t. none (any_if arch number j.rules t)));
-    ascending = comes.ascends tt;
-  }
+  -- Whether there are rules.
+  abbrev some_rules : List Rule → Bool
+  some_rules [] = false
+  some_rules (rule ∷ rules) = true
 
-  -- The policy in what comes of the entries, or the last fault.
-  identical : (comes : Comes arch [] j.rules) → j.mismatch_action ≡ j.match_action → policy_in arch j ≡ Err (refused IdenticalActions)
-  unfolding policy_in
-  identical comes same = rw (comes.gives, (action_decides j.mismatch_action j.match_action).1 same) refl
-
-  different : (comes : Comes arch [] j.rules) → j.mismatch_action ≢ j.match_action → policy_in arch j ≡ Ok (filter_of comes.found)
-  unfolding policy_in
-  different comes apart = rw (comes.gives, differing j.mismatch_action j.match_action apart) refl
-
-  -- A first fault is what the walk gives.
-  pub first_fault_given : (fault : Fault) → IsFirstFault arch j fault → policy_in arch j ≡ Err fault
-  unfolding policy_in
-  first_fault_given fault (in_entry front back entry whole fine wrong) = rw (whole, fault_comes arch front entry back fault [] fine wrong) refl
-  first_fault_given fault (in_actions fine same is) = identical (all_come arch j.rules [] fine) same ∙ ap Err (sym is)
-
-  -- There is a policy or a first fault.
-  policy_or_fault : ((f : Filter) × IsPolicyOf arch j f × (policy_in arch j ≡ Ok f) × All IsTableNumber (numbers_of f.chains)) ⊎ ((fault : Fault) × IsFirstFault arch j fault × (policy_in arch j ≡ Err fault))
-  policy_or_fault = elim (all_fine_or_fault arch j.rules) [
-    | inr wrong ↦
-        let first : IsFirstFault arch j wrong.fault = in_entry wrong.front wrong.back wrong.entry wrong.whole wrong.fine wrong.wrong in
-        inr (wrong.fault, first, first_fault_given wrong.fault first)
-    | inl fine ↦ actions fine (all_come arch j.rules [] fine) (action.ghosts.eq j.mismatch_action j.match_action) refl
-  ]
+  -- An entry for a number has no conditions, or adds a rule.
+  for_either : (number : ℤ) (entries : List JsonRule) → list_any (is_for arch number) entries ≡ (list_any (is_always arch number) entries || some_rules (flat_map (rules_for arch number) entries))
+  for_either number [] = refl
+  for_either number (entry ∷ entries) = both (is_for arch number entry) entry.conditions (list_any (is_always arch number) entries) (flat_map (rules_for arch number) entries) (for_either number entries)
     where
-      actions : All (IsFine arch) j.rules → (comes : Comes arch [] j.rules) → (b : Bool) → action.ghosts.eq j.mismatch_action j.match_action ≡ b
-          → ((f : Filter) × IsPolicyOf arch j f × (policy_in arch j ≡ Ok f) × All IsTableNumber (numbers_of f.chains)) ⊎ ((fault : Fault) × IsFirstFault arch j fault × (policy_in arch j ≡ Err fault))
-      actions fine comes true is =
-          let same = (action_decides j.mismatch_action j.match_action).0 is in
-          inr (refused IdenticalActions, in_actions fine same refl, identical comes same)
-      actions fine comes false is =
-          let apart : j.mismatch_action ≢ j.match_action = λ same. true≢false (sym ((action_decides j.mismatch_action j.match_action).1 same) ∙ is) in
-          inl (filter_of comes.found, made comes fine apart, different comes apart, comes.in_range (All-nil IsTableNumber))
+      or_true : (b : Bool) → true ≡ (b || true)
+      or_true true = refl
+      or_true false = refl
 
-  -- There is one policy.
-  one_policy : (f g : Filter) → IsPolicyOf arch j f → IsPolicyOf arch j g → f ≡ g
-  one_policy f g first second =
-      let chains : f.chains ≡ g.chains = same_chains f.chains g.chains first.ascending second.ascending (λ q. same_at q (list_any (is_for arch q) j.rules) refl) in
-      let mismatches : f.mismatch_action ≡ g.mismatch_action = first.mismatch_action ∙ sym second.mismatch_action in
-      let matches : f.match_action ≡ g.match_action = first.match_action ∙ sym second.match_action in
-      let archs : f.target_arch ≡ g.target_arch = first.target_arch ∙ sym second.target_arch in
-      λ i. record { chains = chains i; mismatch_action = mismatches i; match_action = matches i; target_arch = archs i }
-    where
-      same_at : (q : ℤ) (b : Bool) → list_any (is_for arch q) j.rules ≡ b → chain_at f.chains q ≡ chain_at g.chains q
-      same_at q true is = let some = any_if arch q j.rules is in first.chain q some ∙ sym (second.chain q some)
-      same_at q false is =
-          let none : Any (IsFor arch q) j.rules → ⊥ = λ some. true≢false (sym (if_any arch q j.rules some) ∙ is) in
-          first.no_other q none ∙ sym (second.no_other q none)
+      both : (b : Bool) (conditions : Option (List JsonCondition)) (always : Bool) (rules : List Rule) → list_any (is_for arch number) entries ≡ (always || some_rules rules)
+          → (b || list_any (is_for arch number) entries) ≡ (((b && is_none conditions) || always) || some_rules (cond b (rules_of conditions) [] ++ rules))
+      both false conditions always rules rest = rest
+      both true None always rules rest = refl
+      both true (Some conditions) always rules rest = or_true always
 
-  -- What has a policy has no fault.
-  no_fault : (f : Filter) (fault : Fault) → IsPolicyOf arch j f → IsFirstFault arch j fault → ⊥
-  no_fault f fault is (in_entry front back entry whole fine wrong) = none_wrong arch front entry back fault (subst (All (IsFine arch)) whole is.entries) wrong
-  no_fault f fault is (in_actions fine same told) = is.different same
+  -- The number of an entry's call is one of the table.
+  in_range : (number : ℤ) (entry : JsonRule) → IsFor arch number entry → IsTableNumber number
+  in_range number entry is =
+      let facts = is_call_table arch in
+      let named = number_of-all IsTableNumber (table_of arch) entry.syscall facts.in_range in
+      rw is at named
 
-  -- The walk gives exactly the policy, or exactly the first fault.
-  pub policy_given : (f : Filter) → (policy_in arch j ≡ Ok f) ↔ IsPolicyOf arch j f
-  policy_given f = elim policy_or_fault [
-    | inl has ↦ (
-      λ h. let same : has.0 ≡ f = let e : Ok has.0 ≡ Ok f = sym has.2 ∙ h in cc in subst (IsPolicyOf arch j) same has.1,
-      λ is. has.2 ∙ ap Ok (one_policy has.0 f has.1 is),
-    )
-    | inr wrong ↦ (λ h. let e = sym wrong.2 ∙ h in cc, λ is. absurd (no_fault f wrong.0 is wrong.1))
-  ]
+  module _ (j : JsonFilter) where
+    -- The filter of some chains.
+    abbrev filter_of : List (ℤ × Chain) → Filter
+    filter_of chains = record { chains = chains; mismatch_action = j.mismatch_action; match_action = j.match_action; target_arch = arch }
 
-  pub fault_given : (fault : Fault) → (policy_in arch j ≡ Err fault) ↔ IsFirstFault arch j fault
-  fault_given fault = elim policy_or_fault [
-    | inl has ↦ (λ h. let e = sym has.2 ∙ h in cc, λ is. absurd (no_fault has.0 fault has.1 is))
-    | inr wrong ↦ (
-      λ h. let same : wrong.0 ≡ fault = let e : Err wrong.0 ≡ Err fault = sym wrong.2 ∙ h in cc in subst (IsFirstFault arch j) same wrong.1,
-      first_fault_given fault,
-    )
-  ]
+    -- What each number has in a policy.
+    abbrev chain_for : ℤ → Option Chain
+    chain_for number = cond (list_any (is_for arch number) j.rules) (Some (flat_map (rules_for arch number) j.rules)) None
 
-  -- The policy's numbers are those of a table.
-  numbers_given : (f : Filter) → policy_in arch j ≡ Ok f → All IsTableNumber (numbers_of f.chains)
-  numbers_given f h = elim policy_or_fault [
-    | inl has ↦ (let same : has.0 ≡ f = let e : Ok has.0 ≡ Ok f = sym has.2 ∙ h in cc in subst (λ (f : Filter). All IsTableNumber (numbers_of f.chains)) same has.3)
-    | inr wrong ↦ (let e = sym wrong.2 ∙ h in cc)
-  ]
+    -- What was gathered of the entries gives it.
+    gathered_chain : (number : ℤ) → chain_of (list_any (is_always arch number) j.rules) (added (flat_map (rules_for arch number) j.rules) None) ≡ chain_for number
+    gathered_chain number =
+        by_case (list_any (is_always arch number) j.rules) (flat_map (rules_for arch number) j.rules)
+        ∙ ap (λ b. cond b (Some (flat_map (rules_for arch number) j.rules)) None) (sym (for_either number j.rules))
+      where
+        by_case : (always : Bool) (rules : List Rule) → chain_of always (added rules None) ≡ cond (always || some_rules rules) (Some rules) None
+        by_case true [] = refl
+        by_case true (rule ∷ rules) = refl
+        by_case false [] = refl
+        by_case false (rule ∷ rules) = refl
 
-  -- What a call gives that gives this.
-  pub given_policy : (r : Result Filter JsonFrontendError) → Gives (λ f. f) r (policy_in arch j) → IfOk r (IsPolicyOf arch j)
-  given_policy (Ok f) gives = (policy_given f).0 gives
-  given_policy (Err error) gives = tt
+    -- Chains that have this under each number, in ascending order, make the policy.
+    made : (chains : List (ℤ × Chain)) → ((number : ℤ) → chain_at chains number ≡ chain_for number) → IsStrictlySortedBy int_cmp (numbers_of chains)
+        → All (IsFine arch) j.rules → j.mismatch_action ≢ j.match_action → IsPolicyOf arch j (filter_of chains)
+    made chains each ascending fine apart = record {
+      mismatch_action = refl;
+      match_action = refl;
+      target_arch = refl;
+      different = apart;
+      entries = fine;
+      chain = λ number some. each number ∙ ap (λ b. cond b (Some (flat_map (rules_for arch number) j.rules)) None) (if_any number j.rules some);
+      no_other = λ number none. each number ∙ ap (λ b. cond b (Some (flat_map (rules_for arch number) j.rules)) None) (false_from_ne_true (list_any (is_for arch number) j.rules) (λ t. none (any_if number j.rules t)));
+      ascending = ascending;
+    }
 
-  pub given_numbers : (r : Result Filter JsonFrontendError) → Gives (λ f. f) r (policy_in arch j) → IfOk r (λ f. All IsTableNumber (numbers_of f.chains))
-  given_numbers (Ok f) gives = numbers_given f gives
-  given_numbers (Err error) gives = tt
+    -- What was gathered of the entries makes the policy, where the actions differ.
+    pub policy_made : (entries : List JsonRule) (gathered : Gathered) (chains : BTreeMap ℤ (Vec Rule Global)) → entries ≡ j.rules → All (IsFine arch) entries → AreGathered arch entries gathered → HasChains gathered chains
+        → j.mismatch_action ≢ j.match_action → IsPolicyOf arch j (filter_of (chains_of chains.entries))
+    policy_made entries gathered chains these fine is has apart =
+        let all = subst (λ (es : List JsonRule). AreGathered arch es gathered) these is in
+        made (chains_of chains.entries)
+        (λ number. has.each number ∙ ap (λ b. chain_of b (rules_at gathered number)) (all.always number) ∙ ap (chain_of (list_any (is_always arch number) j.rules)) (all.rules number) ∙ gathered_chain number)
+        (subst (IsStrictlySortedBy int_cmp) (sym (keys_of-map_values (λ (v : Vec Rule Global). v.items) chains.entries)) (has.ordered all.ordered))
+        (subst (All (IsFine arch)) these fine) apart
 
-  -- No fault of a text is that of a filter.
-  of_filter : (fault : Fault) → IsFirstFault arch j fault → IsOfFilter fault
-  of_filter fault (in_entry front back entry whole fine (unknown_name unknown is)) = subst IsOfFilter (sym is) tt
-  of_filter fault (in_entry front back entry whole fine (index_above number conditions known are above is)) = subst IsOfFilter (sym is) tt
-  of_filter fault (in_entry front back entry whole fine (empty_args number known are is)) = subst IsOfFilter (sym is) tt
-  of_filter fault (in_actions fine same is) = subst IsOfFilter (sym is) tt
+    -- What each number has in a policy.
+    found_in : (f : Filter) → IsPolicyOf arch j f → (number : ℤ) → chain_at f.chains number ≡ chain_for number
+    found_in f is number = elim (cases_Bool (list_any (is_for arch number) j.rules)) [
+      | inl some ↦ rw some (is.chain number (any_if number j.rules some))
+      | inr none ↦ rw none (is.no_other number (λ some. true≢false (sym (if_any number j.rules some) ∙ none)))
+    ]
 
-  -- The error that tells what the walk gives tells the first fault.
-  told : (error : JsonFrontendError) → Fails error (policy_in arch j) → IsRefusalOf arch j error
-  told (e.Backend cause) fails = ((fault_given _).0 fails.0, fails.1)
-  told (e.SerdeJson cause) fails = of_filter unreadable ((fault_given unreadable).0 fails.0)
-  told (e.SyscallName name other) fails = (fault_given _).0 fails
-  told (e.Read cause) fails = fails
-  told e.RepeatedKey fails = of_filter repeated_key ((fault_given repeated_key).0 fails)
-  told e.NotAnObject fails = of_filter not_an_object ((fault_given not_an_object).0 fails)
-  told (e.Shape name) fails = of_filter (wrong_shape (string_bytes name)) ((fault_given _).0 fails)
-  told e.OutOfMemory fails = tt
+    -- There is one policy.
+    pub one_policy : (f g : Filter) → IsPolicyOf arch j f → IsPolicyOf arch j g → f ≡ g
+    one_policy f g first second =
+        let chains : f.chains ≡ g.chains = same_chains f.chains g.chains first.ascending second.ascending (λ q. found_in f first q ∙ sym (found_in g second q)) in
+        let mismatches : f.mismatch_action ≡ g.mismatch_action = first.mismatch_action ∙ sym second.mismatch_action in
+        let matches : f.match_action ≡ g.match_action = first.match_action ∙ sym second.match_action in
+        let archs : f.target_arch ≡ g.target_arch = first.target_arch ∙ sym second.target_arch in
+        λ i. record { chains = chains i; mismatch_action = mismatches i; match_action = matches i; target_arch = archs i }
 
-  pub given_refusal : (r : Result Filter JsonFrontendError) → Gives (λ f. f) r (policy_in arch j) → IfErr r (IsRefusalOf arch j)
-  given_refusal (Ok f) gives = tt
-  given_refusal (Err error) gives = told error gives
+    -- What has a policy has no fault.
+    pub not_both : (f : Filter) (fault : Fault) → IsPolicyOf arch j f → IsFirstFault arch j fault → ⊥
+    not_both f fault is (in_entries wrong) = none_wrong arch j.rules fault is.entries wrong
+    not_both f fault is (in_actions fine same told) = is.different same
+
+    -- There is one first fault.
+    pub one_fault : (a b : Fault) → IsFirstFault arch j a → IsFirstFault arch j b → a ≡ b
+    one_fault a b (in_entries wrong) (in_entries wrong_too) = one_first arch j.rules a b wrong wrong_too
+    one_fault a b (in_entries wrong) (in_actions fine same told) = absurd (none_wrong arch j.rules a fine wrong)
+    one_fault a b (in_actions fine same told) (in_entries wrong) = absurd (none_wrong arch j.rules b fine wrong)
+    one_fault a b (in_actions fine same told) (in_actions fine_too same_too told_too) = told ∙ sym told_too
+
+    -- There is a policy or a first fault.
+    pub policy_or_fault : ((f : Filter) × IsPolicyOf arch j f) ⊎ ((fault : Fault) × IsFirstFault arch j fault)
+    policy_or_fault = elim (all_fine_or_fault arch j.rules) [
+      | inr (fault, wrong) ↦ inr (fault, in_entries wrong)
+      | inl fine ↦ elim (cases_Bool (action.ghosts.eq j.mismatch_action j.match_action)) [
+        | inl is ↦ inr (refused IdenticalActions, in_actions fine ((action_decides j.mismatch_action j.match_action).0 is) refl)
+        | inr is ↦
+            let all = numbered (λ number. flat_map (rules_for arch number) j.rules) (numbers_of_entries j.rules) in
+            inl (
+              filter_of all.chains,
+              made all.chains
+                  (λ number. all.each number ∙ ap (λ b. cond b (Some (flat_map (rules_for arch number) j.rules)) None) (any_number number j.rules))
+                  all.ascending fine (λ same. true≢false (sym ((action_decides j.mismatch_action j.match_action).1 same) ∙ is)),
+            )
+      ]
+    ]
+
+    -- A policy's numbers are those of a table.
+    pub numbers_in_range : (f : Filter) → IsPolicyOf arch j f → All IsTableNumber (numbers_of f.chains)
+    numbers_in_range f is = All-keys_from_lookup int_eq_equiv IsTableNumber f.chains (λ number there.
+        by_case number (list_any (is_for arch number) j.rules) refl (subst IsSome (found_in f is number) there))
+      where
+        by_case : (number : ℤ) (b : Bool) → list_any (is_for arch number) j.rules ≡ b → IsSome (cond b (Some (flat_map (rules_for arch number) j.rules)) None) → IsTableNumber number
+        by_case number true some there = let any = any_if number j.rules some in in_range number any.1 any.4
+        by_case number false none there = absurd (true≢false (sym there))

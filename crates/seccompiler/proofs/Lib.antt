@@ -36,9 +36,9 @@ pub mod JsonFilterShapes
 pub mod JsonFilterMaps
 pub mod JsonRules
 pub mod JsonChains
+pub mod JsonGathered
 pub mod JsonEntries
 pub mod NumberedChains
-pub mod JsonAdditions
 pub mod JsonPolicies
 pub mod ByName
 pub mod TextFilters

@@ -1,9 +1,9 @@
--- Chains under their numbers, after one was put among them.
-use Rattle.std.proofs.Common.{◌≡◌, ℤ, List, [], ◌∷◌, Bool, true, false, cond, Option, Some, None, Ordering, Less, Equal, Greater, is_eq, refl, sym, ap, ◌∙◌}
-use Rattle.std.specs.List.{AllByRecursion}
+-- Chains under ascending numbers: there are some for any numbers, and what is found under each tells them.
+use Rattle.std.proofs.Common.{◌≡◌, ℤ, List, [], ◌∷◌, Bool, true, false, ◌||◌, cond, Option, Some, None, Ordering, Less, Equal, Greater, is_eq, refl, sym, ap, ◌∙◌}
+use Rattle.std.specs.List.{AllByRecursion, list_any}
 use Rattle.std.specs.List.Sorted.{IsStrictlySortedBy}
-use Rattle.std.specs.Ordering.{int_cmp, match_ordering, ordering_reverse}
 use Rattle.std.specs.Map.{keys_of}
+use Rattle.std.specs.Ordering.{int_cmp, int_eq, match_ordering, ordering_reverse}
 use Rattle.std.specs.BTreeMap.{insert_entry}
 use Rattle.std.proofs.lemmas.Bool.Decides.{Decides-int_eq}
 use Rattle.std.proofs.lemmas.Cmp.{int_cmp_total, tied_itself}
@@ -14,11 +14,8 @@ use Rattle.seccompiler.specs.Policy.{Chain}
 use Rattle.seccompiler.specs.JsonPolicyOf.{chain_at}
 
 -- A test of numbers tells whether they are equal.
-pub same_number : (q k : ℤ) → is_eq (int_cmp q k) ≡ true → q ≡ k
+same_number : (q k : ℤ) → is_eq (int_cmp q k) ≡ true → q ≡ k
 same_number q k h = (Decides-int_eq q k).0 h
-
-pub number_itself : (q k : ℤ) → q ≡ k → is_eq (int_cmp q k) ≡ true
-number_itself q k same = (Decides-int_eq q k).1 same
 
 -- The same look-up made twice at one number is made once.
 twice : {X : Type 0} (b : Bool) (v w : X) (rest : Option X) → cond b (Some v) rest ≡ cond b (Some v) (cond b (Some w) rest)
@@ -43,7 +40,7 @@ put_found Greater q k v e chains behind is later =
     (λ at_e at_k. let tied : int_cmp k e.0 ≡ Equal = ap (λ n. int_cmp n e.0) (sym (same_number q k at_k) ∙ same_number q e.0 at_e) ∙ tied_itself int_cmp_total e.0 in let h = sym is ∙ tied in cc))
 
 -- After a chain was put under a number, that number has it, and every other number has what it had.
-pub found_after : (chains : List (ℤ × Chain)) (q k : ℤ) (v : Chain) → chain_at (insert_entry int_cmp chains k v) q ≡ cond (is_eq (int_cmp q k)) (Some v) (chain_at chains q)
+found_after : (chains : List (ℤ × Chain)) (q k : ℤ) (v : Chain) → chain_at (insert_entry int_cmp chains k v) q ≡ cond (is_eq (int_cmp q k)) (Some v) (chain_at chains q)
 found_after [] q k v = refl
 found_after (e ∷ chains) q k v = put_found (int_cmp k e.0) q k v e chains (insert_entry int_cmp chains k v) refl (found_after chains q k v)
 
@@ -69,11 +66,33 @@ put_ascends Equal k v e chains behind is ascends above later = ascends
 put_ascends Greater k v e chains behind is ascends above later = (above (int_cmp_total.antisymm e.0 k ∙ ap ordering_reverse is), later)
 
 -- Numbers that ascend still do after a chain was put under one.
-pub ascends_after : (chains : List (ℤ × Chain)) (k : ℤ) (v : Chain) → IsStrictlySortedBy int_cmp (keys_of chains) → IsStrictlySortedBy int_cmp (keys_of (insert_entry int_cmp chains k v))
+ascends_after : (chains : List (ℤ × Chain)) (k : ℤ) (v : Chain) → IsStrictlySortedBy int_cmp (keys_of chains) → IsStrictlySortedBy int_cmp (keys_of (insert_entry int_cmp chains k v))
 unfolding IsStrictlySortedBy
 ascends_after [] k v ascends = (tt, tt)
 ascends_after (e ∷ chains) k v ascends =
     put_ascends (int_cmp k e.0) k v e chains (insert_entry int_cmp chains k v) refl ascends (still_above e.0 chains k v ascends.0) (ascends_after chains k v ascends.1)
+
+-- Chains in which each of some numbers, and no other, has the chain that is meant for it.
+pub record AreNumbered (chain_for : ℤ → Chain) (numbers : List ℤ) : Type 0 where
+  pub chains : List (ℤ × Chain)
+  pub each : (q : ℤ) → chain_at chains q ≡ cond (list_any (int_eq q) numbers) (Some (chain_for q)) None
+  pub ascending : IsStrictlySortedBy int_cmp (keys_of chains)
+
+pub numbered : (chain_for : ℤ → Chain) (numbers : List ℤ) → AreNumbered chain_for numbers
+unfolding IsStrictlySortedBy
+numbered chain_for [] = record { chains = []; each = λ q. refl; ascending = tt }
+numbered chain_for (k ∷ numbers) =
+    let rest = numbered chain_for numbers in
+    record {
+      chains = insert_entry int_cmp rest.chains k (chain_for k);
+      each = λ q. found_after rest.chains q k (chain_for k) ∙ ap (cond (int_eq q k) (Some (chain_for k))) (rest.each q) ∙ either q (int_eq q k) refl;
+      ascending = ascends_after rest.chains k (chain_for k) rest.ascending;
+    }
+  where
+    either : (q : ℤ) (b : Bool) → int_eq q k ≡ b
+        → cond b (Some (chain_for k)) (cond (list_any (int_eq q) numbers) (Some (chain_for q)) None) ≡ cond (b || list_any (int_eq q) numbers) (Some (chain_for q)) None
+    either q true is = ap (λ n. Some (chain_for n)) (sym ((Decides-int_eq q k).0 is))
+    either q false is = refl
 
 -- A number below all others has no chain.
 not_found : (q : ℤ) (chains : List (ℤ × Chain)) → AreAbove q (keys_of chains) → chain_at chains q ≡ None
@@ -82,7 +101,7 @@ not_found q (e ∷ chains) above = rw above.0 (not_found q chains above.1)
 
 -- The first number has its own chain.
 first_found : (q : ℤ) (e : ℤ × Chain) (chains : List (ℤ × Chain)) → q ≡ e.0 → chain_at (e ∷ chains) q ≡ Some e.1
-first_found q e chains same = ap (λ b. cond b (Some e.1) (chain_at chains q)) (number_itself q e.0 same)
+first_found q e chains same = ap (λ b. cond b (Some e.1) (chain_at chains q)) ((Decides-int_eq q e.0).1 same)
 
 -- Another number has what the rest has.
 later_found : (q : ℤ) (e : ℤ × Chain) (chains : List (ℤ × Chain)) → is_eq (int_cmp q e.0) ≡ false → chain_at (e ∷ chains) q ≡ chain_at chains q

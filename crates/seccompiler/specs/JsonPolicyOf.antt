@@ -1,15 +1,16 @@
 -- Which filter is the policy of a JSON filter, and which fault is the first of one that has none.
-use Rattle.std.specs.Prelude.{◌≡◌, ◌≢◌, ◌≤◌, ◌<◌, ℤ, Bool, false, List, [], ◌∷◌, ◌++◌, Option, Some, None, All, Any, IfSome, map, if◌then◌else◌, Result, Ok, Err, string_bytes}
+use Rattle.std.specs.Prelude.{◌≡◌, ◌≢◌, ◌≤◌, ◌<◌, ℤ, Bool, false, ◌&&◌, List, [], ◌∷◌, ◌++◌, Option, Some, None, All, Any, IfSome, map, if◌then◌else◌, Result, Ok, Err, string_bytes}
 use Rattle.std.specs.BTreeMap.{is_at}
 use Rattle.std.specs.List.{flat_map}
 use Rattle.std.specs.List.Sorted.{IsStrictlySortedBy}
 use Rattle.std.specs.Map.{lookup}
+use Rattle.std.specs.Option.{is_none}
 use Rattle.std.specs.Ordering.{int_cmp, int_eq}
 use Rattle.seccompiler.specs.declared.backend.TargetArch.{TargetArch}
 use Rattle.seccompiler.specs.declared.backend.BackendError.TheVariants.{EmptyRule, IdenticalActions, InvalidArgumentNumber}
 use Rattle.seccompiler.specs.declared.backend.BackendError.TheVariants as of_backend
 use Rattle.seccompiler.specs.declared.json.error.JsonFrontendError.{JsonFrontendError}
-use Rattle.seccompiler.specs.declared.json.error.JsonFrontendError.TheVariants.{Backend, SerdeJson, SyscallName, Read, RepeatedKey, NotAnObject, Shape, OutOfMemory}
+use Rattle.seccompiler.specs.declared.json.error.JsonFrontendError.TheVariants.{Backend, SyscallName, OutOfMemory}
 use Rattle.seccompiler.specs.declared.json.types.JsonCondition.{JsonCondition}
 use Rattle.seccompiler.specs.JsonTypes.{JsonRule, JsonFilter}
 use Rattle.seccompiler.specs.Condition.{Condition}
@@ -41,21 +42,32 @@ abbrev pub is_number : ℤ → Option ℤ → Bool
 is_number number None = false
 is_number number (Some other) = int_eq number other
 
+-- Whether the entry's call has this number.
+abbrev pub is_for : TargetArch → ℤ → JsonRule → Bool
+is_for arch number entry = is_number number (number_of (table_of arch) entry.syscall)
+
 -- The rules that an entry adds to the chain of a number: its own, if its call has this number.
 abbrev pub rules_for : TargetArch → ℤ → JsonRule → List Rule
-rules_for arch number entry = if is_number number (number_of (table_of arch) entry.syscall) then rules_of entry.conditions else []
+rules_for arch number entry = if is_for arch number entry then rules_of entry.conditions else []
+
+-- Whether the entry's call has this number and the entry has no list of conditions.
+abbrev pub is_always : TargetArch → ℤ → JsonRule → Bool
+is_always arch number entry = is_for arch number entry && is_none entry.conditions
 
 -- The chain under a number, if there is one.
 abbrev pub chain_at : List (ℤ × Chain) → ℤ → Option Chain
 chain_at chains number = lookup (is_at (int_cmp number)) chains
 
--- Nothing is wrong with an entry: its call has a number; and its list of conditions, if there is one, is not empty, and
--- has an index of at most 5 in each condition.
+-- Nothing is wrong with a list of conditions: each index is at most 5, and the list is not empty.
+pub record AreFine (conditions : List JsonCondition) : Type 0 where
+  pub indices : All (λ c. c.arg_index ≤ 5) conditions
+  pub some : conditions ≢ []
+
+-- Nothing is wrong with an entry: its call has a number; and nothing is wrong with its list of conditions, if there is one.
 pub record IsFine (arch : TargetArch) (entry : JsonRule) : Type 0 where
   pub number : ℤ
   pub is_for : IsFor arch number entry
-  pub indices : IfSome entry.conditions (λ conditions. All (λ c. c.arg_index ≤ 5) conditions)
-  pub some : entry.conditions ≢ Some []
+  pub conditions : IfSome entry.conditions AreFine
 
 -- The filter is the policy of a JSON filter on an architecture. It has the JSON filter's actions, which differ. Nothing is
 -- wrong with any entry. The numbers that have a chain are those of the entries' calls, and the chain of a number is the
@@ -70,29 +82,41 @@ pub record IsPolicyOf (arch : TargetArch) (j : JsonFilter) (f : Filter) : Type 0
   pub no_other : (number : ℤ) → (Any (IsFor arch number) j.rules → ⊥) → chain_at f.chains number ≡ None
   pub ascending : IsStrictlySortedBy int_cmp (numbers_of f.chains)
 
--- The first thing that is wrong with an entry: its call has no number on the architecture; else some condition has an
--- index above 5; else the list of its conditions is there, and empty.
+-- The first thing that is wrong with a list of conditions: an index is above 5; else the list is empty.
+pub data IsFaultIn (conditions : List JsonCondition) (fault : Fault) : Type 0 where
+  index_above : Any (λ c. 5 < c.arg_index) conditions → fault ≡ refused InvalidArgumentNumber → IsFaultIn conditions fault
+  empty_args : conditions ≡ [] → fault ≡ refused EmptyRule → IsFaultIn conditions fault
+
+-- The first thing that is wrong with an entry: its call has no number on the architecture; else what is wrong with the
+-- list of its conditions.
 pub data IsFaultOf (arch : TargetArch) (entry : JsonRule) (fault : Fault) : Type 0 where
   unknown_name : number_of (table_of arch) entry.syscall ≡ None → fault ≡ unknown_call entry.syscall arch → IsFaultOf arch entry fault
-  index_above : (number : ℤ) (conditions : List JsonCondition) → IsFor arch number entry → entry.conditions ≡ Some conditions
-      → Any (λ c. 5 < c.arg_index) conditions → fault ≡ refused InvalidArgumentNumber → IsFaultOf arch entry fault
-  empty_args : (number : ℤ) → IsFor arch number entry → entry.conditions ≡ Some [] → fault ≡ refused EmptyRule → IsFaultOf arch entry fault
+  wrong_args : (number : ℤ) (conditions : List JsonCondition) → IsFor arch number entry → entry.conditions ≡ Some conditions
+      → IsFaultIn conditions fault → IsFaultOf arch entry fault
 
--- The first fault of a JSON filter on an architecture: that of an entry, where nothing is wrong with those in front of
--- it; or, where nothing is wrong with any entry, that its two actions are equal.
+-- The first fault of some entries: that of an entry, where nothing is wrong with those in front of it.
+pub record IsFirstOf (arch : TargetArch) (entries : List JsonRule) (fault : Fault) : Type 0 where
+  pub front : List JsonRule
+  pub entry : JsonRule
+  pub back : List JsonRule
+  pub whole : entries ≡ front ++ entry ∷ back
+  pub fine : All (IsFine arch) front
+  pub wrong : IsFaultOf arch entry fault
+
+-- The first fault of a JSON filter on an architecture: that of its entries; or, where nothing is wrong with any entry,
+-- that its two actions are equal.
 pub data IsFirstFault (arch : TargetArch) (j : JsonFilter) (fault : Fault) : Type 0 where
-  in_entry : (front back : List JsonRule) (entry : JsonRule) → j.rules ≡ front ++ entry ∷ back → All (IsFine arch) front
-      → IsFaultOf arch entry fault → IsFirstFault arch j fault
+  in_entries : IsFirstOf arch j.rules fault → IsFirstFault arch j fault
   in_actions : All (IsFine arch) j.rules → j.mismatch_action ≡ j.match_action → fault ≡ refused IdenticalActions → IsFirstFault arch j fault
 
--- Why a JSON filter has no policy, as an error tells it: its first fault, in which no want of memory stands. Want of memory
--- may come in place of it, and no other error comes.
+-- An error tells a fault of which P holds, and no want of memory stands in it. Want of memory may come in place of the
+-- fault, and no other error comes.
+abbrev pub Tells : (Fault → Type 0) → JsonFrontendError → Type 0
+Tells P (Backend cause) = P (refused cause) × (cause ≢ of_backend.OutOfMemory)
+Tells P (SyscallName name arch) = P (unknown_call (string_bytes name) arch)
+Tells P OutOfMemory = Unit {0}
+Tells P _ = ⊥
+
+-- Why a JSON filter has no policy, as an error tells it: its first fault.
 abbrev pub IsRefusalOf : TargetArch → JsonFilter → JsonFrontendError → Type 0
-IsRefusalOf arch j (Backend cause) = IsFirstFault arch j (refused cause) × (cause ≢ of_backend.OutOfMemory)
-IsRefusalOf arch j (SerdeJson cause) = ⊥
-IsRefusalOf arch j (SyscallName name other) = IsFirstFault arch j (unknown_call (string_bytes name) other)
-IsRefusalOf arch j (Read cause) = ⊥
-IsRefusalOf arch j RepeatedKey = ⊥
-IsRefusalOf arch j NotAnObject = ⊥
-IsRefusalOf arch j (Shape name) = ⊥
-IsRefusalOf arch j OutOfMemory = Unit {0}
+IsRefusalOf arch j = Tells (IsFirstFault arch j)

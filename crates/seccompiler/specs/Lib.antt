@@ -19,7 +19,7 @@ pub mod Compiled
 pub mod Refusal
 pub mod JsonTypes
 pub mod JsonPolicyOf
-pub mod JsonPolicy
+pub mod JsonGathered
 pub mod ByName
 pub mod Reads
 pub mod JsonAnswers

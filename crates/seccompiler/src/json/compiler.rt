@@ -1,6 +1,6 @@
 // From JSON filters to filters.
 
-ghost use Rattle.std.specs.Prelude.{◌≡◌, ◌↔◌, ℕ, List, Ok, Err, All, IfSome, IfOk, IfErr};
+ghost use Rattle.std.specs.Prelude.{◌≡◌, ◌⊎◌, ℕ, List, All, IfSome, IfOk, IfErr};
 ghost use Rattle.std.specs.HashMap.{get_by_text};
 ghost use Rattle.serde_json.specs.Data.{Data};
 ghost use Rattle.seccompiler.specs.ByName.{under, AreInOrder};
@@ -11,8 +11,7 @@ ghost use Rattle.seccompiler.specs.Reads.{Reads};
 ghost use Rattle.seccompiler.specs.Policy.{Filter};
 ghost use Rattle.seccompiler.specs.Refusal.{numbers_of};
 ghost use Rattle.seccompiler.specs.SyscallTable.{IsTableNumber};
-ghost use Rattle.seccompiler.specs.JsonFault.{Fault, Gives};
-ghost use Rattle.seccompiler.specs.JsonPolicy.{policy_in};
+ghost use Rattle.seccompiler.specs.JsonFault.{Fault};
 ghost use Rattle.seccompiler.specs.JsonPolicyOf.{IsFirstFault, IsPolicyOf, IsRefusalOf};
 
 use crate::backend::TargetArch;
@@ -64,7 +63,6 @@ impl JsonCompiler {
     /// `Backend(EmptyRule)` where the list of conditions is there and empty; after all entries
     /// `Backend(IdenticalActions)` where the two actions are equal. `OutOfMemory`, where memory is
     /// refused, may come in place of any of these, and no other error in place of the first.
-    #[tactic(auto, using(crate::proofs::JsonPolicies::given_policy, crate::proofs::JsonPolicies::given_refusal, crate::proofs::JsonPolicies::given_numbers))]
     pub fn make_seccomp_filter(
         &self,
         alloc: Global,
@@ -74,10 +72,11 @@ impl JsonCompiler {
         ensures refusal { IfErr result (IsRefusalOf self.now filter.now) }
         ensures numbers { IfOk result (λ f. All IsTableNumber (numbers_of f.chains)) }
 
-        // The same as a function of the JSON filter, for the definitions that go by it.
-        ensures policy_read { (f : Filter) → (policy_in self.now filter.now ≡ Ok f) ↔ IsPolicyOf self.now filter.now f }
-        ensures fault_read { (fault : Fault) → (policy_in self.now filter.now ≡ Err fault) ↔ IsFirstFault self.now filter.now fault }
-        ensures computed { Gives (λ f. f) result (policy_in self.now filter.now) }
+        // Each JSON filter has one policy or one first fault, never both and never neither.
+        ensures only_policy { (f g : Filter) → IsPolicyOf self.now filter.now f → IsPolicyOf self.now filter.now g → f ≡ g }
+        ensures only_fault { (a b : Fault) → IsFirstFault self.now filter.now a → IsFirstFault self.now filter.now b → a ≡ b }
+        ensures not_both { (f : Filter) (fault : Fault) → IsPolicyOf self.now filter.now f → IsFirstFault self.now filter.now fault → ⊥ }
+        ensures one_of_both { ((f : Filter) × IsPolicyOf self.now filter.now f) ⊎ ((fault : Fault) × IsFirstFault self.now filter.now fault) }
     {
         seccomp_filter(alloc, self.arch, filter)
     }

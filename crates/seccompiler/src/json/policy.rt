@@ -1,11 +1,13 @@
 // From JSON filters to filters.
 
-ghost use Rattle.std.specs.Prelude.{◌≡◌, [], OnOk, option_map};
-ghost use Rattle.std.specs.Option.{option_to_list};
+ghost use Rattle.std.specs.Prelude.{◌≡◌, ℤ, [], ◌∷◌, Some, None, All, IfOk, IfErr, OnOk, map, if◌then◌else◌};
+ghost use Rattle.std.specs.BTreeMap.{IsOrdered};
+ghost use Rattle.std.specs.Ordering.{int_cmp, int_eq};
 ghost use Rattle.seccompiler.specs.Policy.{chains_of};
-ghost use Rattle.seccompiler.specs.JsonFault.{Gives};
-ghost use Rattle.seccompiler.specs.JsonPolicyOf.{IsConditionOf};
-ghost use Rattle.seccompiler.specs.JsonPolicy.{build_condition, build_number, build_rule, build_rules, policy_in, with_entries, with_entry, with_rules};
+ghost use Rattle.seccompiler.specs.SyscallTable.{number_of, table_of};
+ghost use Rattle.seccompiler.specs.JsonFault.{unknown_call};
+ghost use Rattle.seccompiler.specs.JsonGathered.{added, AreGathered, HasAdded, HasChains};
+ghost use Rattle.seccompiler.specs.JsonPolicyOf.{chain_at, condition_of, AreFine, IsConditionOf, IsFaultIn, IsFaultOf, IsFine, IsFirstOf, IsPolicyOf, IsRefusalOf, Tells};
 
 use crate::backend::TargetArch;
 use crate::condition::SeccompCondition;
@@ -15,7 +17,7 @@ use crate::json::types::{JsonCondition, JsonFilter, JsonRule};
 use crate::rule::SeccompRule;
 use crate::syscall_table::SyscallTable;
 use std::alloc::{AllocError, Global};
-use std::collections::BTreeMap;
+use std::collections::{BTreeMap, BTreeSet};
 
 /// The condition of the same four parts.
 ///
@@ -34,10 +36,18 @@ impl TryFrom<JsonCondition> for SeccompCondition {
     }
 }
 
+// What the entries of a filter stand for, before it is said which chain each number has.
+#[derive(Drop)]
+struct Gathered {
+    // Under the number of its call, the rule of each entry that has conditions, in order.
+    rules: BTreeMap<i64, Vec<SeccompRule>>,
+    // The numbers of the calls of the entries without conditions.
+    always: BTreeSet<i64>,
+}
+
 // The condition of a JSON condition.
 fn condition_of(condition: &JsonCondition) -> Result<SeccompCondition, JsonFrontendError>
-    ensures made { IsConditionOf condition.now result }
-    ensures computed { Gives (λ c. c) result (build_condition condition.now) }
+    ensures { IsConditionOf condition.now result }
 {
     Ok(SeccompCondition::new(
         condition.arg_index,
@@ -49,7 +59,9 @@ fn condition_of(condition: &JsonCondition) -> Result<SeccompCondition, JsonFront
 
 // The rule of the conditions, in their order.
 fn rule_of(alloc: Global, conditions: &[JsonCondition]) -> Result<SeccompRule, JsonFrontendError>
-    ensures { Gives (λ rule. rule) result (build_rule conditions.now) }
+    ensures made { IfOk result (λ rule. rule ≡ map condition_of conditions.now) }
+    ensures fine { OnOk result (AreFine conditions.now) }
+    ensures refused { IfErr result (Tells (IsFaultIn conditions.now)) }
 {
     let mut found = Vec::new(alloc);
     for condition in conditions {
@@ -60,7 +72,8 @@ fn rule_of(alloc: Global, conditions: &[JsonCondition]) -> Result<SeccompRule, J
 
 // The number of the call of this name.
 fn call_number(alloc: Global, arch: TargetArch, name: &str) -> Result<i64, JsonFrontendError>
-    ensures { Gives (λ number. number) result (build_number arch name.now) }
+    ensures found { IfOk result (λ number. number_of (table_of arch) name.now ≡ Some number) }
+    ensures unknown { IfErr result (Tells (λ fault. (number_of (table_of arch) name.now ≡ None) × (fault ≡ unknown_call name.now arch))) }
 {
     match SyscallTable::new(arch).get_syscall_nr(name) {
         Some(number) => Ok(number),
@@ -71,75 +84,90 @@ fn call_number(alloc: Global, arch: TargetArch, name: &str) -> Result<i64, JsonF
     }
 }
 
-// Puts the rule, if there is one, at the end of the number's chain, which begins empty.
+// Puts the rule at the end of the number's rules, of which there may be none yet.
 fn add_rule(
     alloc: Global,
-    chains: &mut BTreeMap<i64, Vec<SeccompRule>>,
+    rules: &mut BTreeMap<i64, Vec<SeccompRule>>,
     number: i64,
-    rule: Option<SeccompRule>,
+    rule: SeccompRule,
 ) -> Result<(), AllocError>
-    ensures { OnOk result (chains_of chains.new.entries ≡ with_rules (chains_of chains.old.entries) number (option_to_list rule)) }
+    ensures chains { OnOk result ((q : ℤ) → chain_at (chains_of rules.new.entries) q ≡ added (if int_eq q number then rule ∷ [] else []) (chain_at (chains_of rules.old.entries) q)) }
+    ensures ordered { OnOk result (IsOrdered int_cmp rules.new) }
 {
-    let chain = chains.entry(number)?.or_insert(Vec::new(alloc));
-    if let Some(rule) = rule {
-        chain.push(rule)?;
-    }
+    let chain = rules.entry(number)?.or_insert(Vec::new(alloc));
+    chain.push(rule)?;
     Ok(())
 }
 
-// The rule of an entry's conditions, if it has any.
-fn own_rule(
-    alloc: Global,
-    conditions: &Option<Vec<JsonCondition>>,
-) -> Result<Option<SeccompRule>, JsonFrontendError>
-    ensures { Gives option_to_list result (build_rules (option_map (λ all. all.items) conditions.now)) }
-{
-    match conditions {
-        Some(conditions) => Ok(Some(rule_of(alloc, conditions.as_slice())?)),
-        None => Ok(None),
-    }
-}
-
-// Adds what the entry stands for: a chain for its call's number, if there is none yet, and the entry's
-// rule at the end of that chain.
+// Adds what the entry stands for: its rule at the end of those of its call's number, or that number.
 fn add_entry(
     alloc: Global,
     arch: TargetArch,
-    chains: &mut BTreeMap<i64, Vec<SeccompRule>>,
+    gathered: &mut Gathered,
     entry: &JsonRule,
 ) -> Result<(), JsonFrontendError>
-    ensures { Gives (λ _. chains_of chains.new.entries) result (with_entry arch (chains_of chains.old.entries) entry.now) }
+    ensures fine { OnOk result (IsFine arch entry.now) }
+    ensures added { OnOk result (HasAdded arch entry.now gathered.old gathered.new) }
+    ensures refused { IfErr result (Tells (IsFaultOf arch entry.now)) }
 {
     let number = call_number(alloc, arch, entry.syscall.as_str())?;
-    let rule = own_rule(alloc, &entry.conditions)?;
-    add_rule(alloc, chains, number, rule)?;
+    match &entry.conditions {
+        Some(conditions) => {
+            let rule = rule_of(alloc, conditions.as_slice())?;
+            add_rule(alloc, &mut gathered.rules, number, rule)?;
+        }
+        None => {
+            gathered.always.insert(number)?;
+        }
+    }
     Ok(())
 }
 
-// The chains of the entries' calls.
-fn chains_of_entries(
+// What the entries stand for.
+fn gather(
     alloc: Global,
     arch: TargetArch,
     entries: &[JsonRule],
-) -> Result<BTreeMap<i64, Vec<SeccompRule>>, JsonFrontendError>
-    ensures { Gives (λ chains. chains_of chains.entries) result (with_entries arch [] entries.now) }
+) -> Result<Gathered, JsonFrontendError>
+    ensures fine { OnOk result (All (IsFine arch) entries.now) }
+    ensures gathered { IfOk result (AreGathered arch entries.now) }
+    ensures refused { IfErr result (Tells (IsFirstOf arch entries.now)) }
 {
-    let mut chains = BTreeMap::new(alloc);
+    let mut gathered = Gathered {
+        rules: BTreeMap::new(alloc),
+        always: BTreeSet::new(alloc),
+    };
     for entry in entries {
-        add_entry(alloc, arch, &mut chains, entry)?;
+        add_entry(alloc, arch, &mut gathered, entry)?;
     }
-    Ok(chains)
+    Ok(gathered)
+}
+
+// The chain of each number: the rules that were gathered under it, if there are any; and the empty
+// chain where there is only an entry without conditions.
+fn chains_of_numbers(
+    alloc: Global,
+    gathered: Gathered,
+) -> Result<BTreeMap<i64, Vec<SeccompRule>>, AllocError>
+    ensures { IfOk result (HasChains gathered) }
+{
+    let Gathered { mut rules, always } = gathered;
+    for number in &always {
+        rules.entry(*number)?.or_insert(Vec::new(alloc));
+    }
+    Ok(rules)
 }
 
 /// The filter of a JSON filter on an architecture.
-#[tactic(auto, unfolding(crate::specs::JsonPolicy::policy_in))]
 pub fn seccomp_filter(
     alloc: Global,
     arch: TargetArch,
     filter: &JsonFilter,
 ) -> Result<SeccompFilter, JsonFrontendError>
-    ensures { Gives (λ f. f) result (policy_in arch filter.now) }
+    ensures policy { IfOk result (IsPolicyOf arch filter.now) }
+    ensures refused { IfErr result (IsRefusalOf arch filter.now) }
 {
-    let chains = chains_of_entries(alloc, arch, filter.rules.as_slice())?;
+    let gathered = gather(alloc, arch, filter.rules.as_slice())?;
+    let chains = chains_of_numbers(alloc, gathered)?;
     Ok(SeccompFilter::new(chains, filter.mismatch_action, filter.match_action, arch)?)
 }

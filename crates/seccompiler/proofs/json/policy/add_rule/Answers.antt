@@ -1,26 +1,14 @@
-use Rattle.std.proofs.Common.{rules, ◌++◌, w64, ap, ◌∙◌, sym, unwrap_or, append-nil}
+use Rattle.std.proofs.Common.{rules, w64, ap, ◌∙◌, unwrap_or}
 use mir.Val.{SFits}
-use Rattle.std.specs.Option.{option_to_list}
 use Rattle.std.proofs.lemmas.Int.{to_z-of_z}
-use Rattle.seccompiler.proofs.JsonChains.{chains_with_rules}
+use Rattle.seccompiler.proofs.JsonChains.{chain_with_rule}
 use Rattle.seccompiler.proofs.json.policy.add_rule.Goals as goal
 
-pub returns-in_ok-push : goal.returns-in_ok-push
-returns-in_ok-push c =
+pub returns-clause-chains : goal.returns-clause-chains
+returns-clause-chains c = λ q.
     let fits : SFits w64 c.args.number = search rules in
-    let before = c.or_insert-chain.result.now in
-    let put = simp to_z-of_z at (c.in_ok-chains.ensures.update.1 c.push.new.self) in
-    let found = simp to_z-of_z at (c.or_insert-chain.ensures.value ∙ ap (λ o. unwrap_or o c.new.result) c.in_ok-chains.ensures.value) in
-    chains_with_rules c.args.chains.now.entries _ c.args.number before c.push.new.self c.new.result _
-    (search (rules, put)) found c.new.ensures.items
-    (c.in_ok-push.ensures.items ∙ ap (λ o. before.items ++ option_to_list o) (sym c.in-Some.is))
-
-pub returns-in_default : goal.returns-in_default
-returns-in_default c =
-    let fits : SFits w64 c.args.number = search rules in
-    let before = c.or_insert-chain.result.now in
-    let put = simp to_z-of_z at (c.in_ok-chains.ensures.update.1 before) in
-    let found = simp to_z-of_z at (c.or_insert-chain.ensures.value ∙ ap (λ o. unwrap_or o c.new.result) c.in_ok-chains.ensures.value) in
-    chains_with_rules c.args.chains.now.entries _ c.args.number before before c.new.result _
-    (search (rules, put)) found c.new.ensures.items
-    (sym (append-nil before.items) ∙ ap (λ o. before.items ++ option_to_list o) (sym c.in_default.is))
+    let written = simp to_z-of_z at (c.in_ok-rules.ensures.update.0 c.push.new.self) in
+    let here = written.0 q in
+    let found = simp to_z-of_z at (c.or_insert-chain.ensures.value ∙ ap (λ o. unwrap_or o c.new.result) c.in_ok-rules.ensures.value) in
+    chain_with_rule c.args.rules.now.entries _ c.args.number c.or_insert-chain.result.now c.push.new.self c.new.result c.args.rule q
+    (search (rules, here)) found c.new.ensures.items c.in_ok-push.ensures.items

@@ -1,8 +1,9 @@
-use Rattle.std.proofs.Common.{◌≡◌, drop}
-use Rattle.seccompiler.specs.JsonPolicy.{build_conditions}
-use Rattle.seccompiler.proofs.JsonRules.{behind}
+use Rattle.std.proofs.Common.{◌≡◌, ◌≤◌, All, map, take}
+use Rattle.seccompiler.specs.JsonPolicyOf.{condition_of}
 use Rattle.seccompiler.proofs.json.policy.rule_of.Given as goal
 
--- what the conditions so far and those that are left give is what all give
 abbrev pub invariant-loop-condition : goal.invariant-loop-condition
-invariant-loop-condition l = behind l.found.items (build_conditions (drop l.condition-index l.conditions)) ≡ build_conditions l.conditions
+invariant-loop-condition l = record {
+  made : l.found.items ≡ map condition_of (take l.condition-index l.conditions);
+  indices : All (λ c. c.arg_index ≤ 5) (take l.condition-index l.conditions);
+}

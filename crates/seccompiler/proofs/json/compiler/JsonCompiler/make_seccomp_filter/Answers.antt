@@ -1,8 +1,25 @@
-use Rattle.seccompiler.proofs.JsonPolicies.{policy_given, fault_given}
+use Rattle.std.proofs.Common.{All}
+use Rattle.std.proofs.lemmas.Result.{IfOk-weaker}
+use Rattle.seccompiler.specs.JsonPolicyOf.{IsPolicyOf}
+use Rattle.seccompiler.specs.Policy.{Filter}
+use Rattle.seccompiler.specs.Refusal.{numbers_of}
+use Rattle.seccompiler.specs.SyscallTable.{IsTableNumber}
+use Rattle.seccompiler.proofs.JsonPolicies.{one_policy, one_fault, not_both, policy_or_fault, numbers_in_range}
 use Rattle.seccompiler.proofs.json.compiler.JsonCompiler.make_seccomp_filter.Goals as goal
 
-pub returns-clause-policy_read : goal.returns-clause-policy_read
-returns-clause-policy_read c = λ f. policy_given c.args.self.now c.args.filter.now f
+pub returns-clause-only_policy : goal.returns-clause-only_policy
+returns-clause-only_policy c = one_policy c.args.self.now c.args.filter.now
 
-pub returns-clause-fault_read : goal.returns-clause-fault_read
-returns-clause-fault_read c = λ fault. fault_given c.args.self.now c.args.filter.now fault
+pub returns-clause-only_fault : goal.returns-clause-only_fault
+returns-clause-only_fault c = one_fault c.args.self.now c.args.filter.now
+
+pub returns-clause-not_both : goal.returns-clause-not_both
+returns-clause-not_both c = not_both c.args.self.now c.args.filter.now
+
+pub returns-clause-one_of_both : goal.returns-clause-one_of_both
+returns-clause-one_of_both c = policy_or_fault c.args.self.now c.args.filter.now
+
+pub returns-clause-numbers : goal.returns-clause-numbers
+returns-clause-numbers c =
+    IfOk-weaker c.seccomp_filter.result (IsPolicyOf c.self.inside.arch c.args.filter.now) (λ (f : Filter). All IsTableNumber (numbers_of f.chains))
+    (numbers_in_range c.self.inside.arch c.args.filter.now) c.seccomp_filter.ensures.policy

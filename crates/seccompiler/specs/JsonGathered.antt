@@ -1,0 +1,45 @@
+-- What is gathered of the entries of a JSON filter on the way to its policy: what the private steps promise each other.
+use Rattle.std.specs.Prelude.{◌≡◌, ℤ, Bool, true, false, ◌||◌, List, [], ◌∷◌, ◌++◌, Option, Some, None, Vec, unwrap_or}
+use Rattle.std.specs.BTreeMap.{BTreeMap, IsOrdered}
+use Rattle.std.specs.BTreeSet.{contains}
+use Rattle.std.specs.List.{flat_map, list_any}
+use Rattle.std.specs.Ordering.{int_cmp}
+use Rattle.std.specs.declared.alloc.Global.{Global}
+use Rattle.seccompiler.specs.declared.backend.TargetArch.{TargetArch}
+use Rattle.seccompiler.specs.declared.json.policy.Gathered.{Gathered}
+use Rattle.seccompiler.specs.JsonTypes.{JsonRule}
+use Rattle.seccompiler.specs.JsonPolicyOf.{chain_at, is_always, rules_for}
+use Rattle.seccompiler.specs.Policy.{Rule, Chain, chains_of}
+
+-- What a number has, with these rules at its end. It has nothing before its first rule.
+abbrev pub added : List Rule → Option Chain → Option Chain
+added [] found = found
+added (rule ∷ rules) found = Some (unwrap_or found [] ++ rule ∷ rules)
+
+-- The rules that were gathered under a number.
+abbrev pub rules_at : Gathered → ℤ → Option Chain
+rules_at gathered number = chain_at (chains_of gathered.rules.entries) number
+
+-- What was gathered has an entry more: its number has its rule at its end, or is one that matches always.
+pub record HasAdded (arch : TargetArch) (entry : JsonRule) (old new : Gathered) : Type 0 where
+  pub rules : (number : ℤ) → rules_at new number ≡ added (rules_for arch number entry) (rules_at old number)
+  pub always : (number : ℤ) → contains int_cmp new.always number ≡ (contains int_cmp old.always number || is_always arch number entry)
+  pub ordered : IsOrdered int_cmp old.rules → IsOrdered int_cmp new.rules
+
+-- This was gathered of these entries: under each number the rules of its entries, in order; and the numbers of the
+-- entries without conditions.
+pub record AreGathered (arch : TargetArch) (entries : List JsonRule) (gathered : Gathered) : Type 0 where
+  pub rules : (number : ℤ) → rules_at gathered number ≡ added (flat_map (rules_for arch number) entries) None
+  pub always : (number : ℤ) → contains int_cmp gathered.always number ≡ list_any (is_always arch number) entries
+  pub ordered : IsOrdered int_cmp gathered.rules
+
+-- The chain of a number: the rules that were gathered under it; and the empty chain where there are none, and some entry
+-- has the number and no conditions.
+abbrev pub chain_of : Bool → Option Chain → Option Chain
+chain_of true found = Some (unwrap_or found [])
+chain_of false found = found
+
+-- The chains are those of what was gathered.
+pub record HasChains (gathered : Gathered) (chains : BTreeMap ℤ (Vec Rule Global)) : Type 0 where
+  pub each : (number : ℤ) → chain_at (chains_of chains.entries) number ≡ chain_of (contains int_cmp gathered.always number) (rules_at gathered number)
+  pub ordered : IsOrdered int_cmp gathered.rules → IsOrdered int_cmp chains

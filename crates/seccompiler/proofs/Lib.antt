@@ -28,11 +28,9 @@ pub mod TableNames
 pub mod TableFacts
 pub mod Halving
 pub mod TextCuts
-pub mod FilterSteps
-pub mod OptionSteps
 pub mod JsonNames
-pub mod JsonShapes
-pub mod JsonFilterShapes
+pub mod JsonLists
+pub mod JsonUnique
 pub mod JsonFilterMaps
 pub mod JsonRules
 pub mod JsonChains

@@ -1,97 +1,114 @@
--- Each text has a cut into pieces, and the colons that the walk counts are its pieces that are one.
-use Rattle.std.proofs.Common.{◌≡◌, ℕ, ◌+◌, List, [], ◌∷◌, ◌++◌, refl, sym, ap, ◌∙◌, append_assoc, append-nil, count_by, cond, Bool, ◌⊎◌, inl, inr, subst}
-use Rattle.std.specs.List.{AllByRecursion, flat_map}
+-- Each text has a cut into pieces, and all its cuts have the same number of colons.
+use Rattle.std.proofs.Common.{◌≡◌, ◌≢◌, ℕ, ◌+◌, ◌==◌, List, [], ◌∷◌, ◌++◌, refl, sym, ap, ◌∙◌, append_assoc, append-nil, add-zero, count_by, cond, if◌then◌else◌, subst}
+use Rattle.std.specs.List.{AllByRecursion, flat_map, fold}
 use Rattle.std.proofs.lemmas.Bool.{ne_eqb}
-use Rattle.std.proofs.lemmas.Bool.Decides.{eqb_tells}
-use Rattle.std.proofs.lemmas.List.Recursion.{is_count_by}
-use Rattle.seccompiler.specs.JsonRepeats.{HasCut}
+use Rattle.std.proofs.lemmas.List.{flat_map_more}
+use Rattle.std.proofs.lemmas.List.Sums.{sum_by-append}
+use Rattle.std.proofs.lemmas.Grind.{flat_map-append}
+use Rattle.seccompiler.specs.JsonRepeats.{HasColons}
 use Rattle.seccompiler.specs.TextPieces.{StringItem, plain, escaped, IsStringItem, item_bytes, items_bytes, Piece, byte, quoted, IsPiece, piece_bytes, Ending, closed, unclosed, unclosed_backslash, IsEnding, ending_bytes, IsCut, is_colon}
-use Rattle.seccompiler.specs.TextWalk.{outside, inside, colons_from}
+use Rattle.seccompiler.specs.declared.json.repeats.Place.{Place}
+use Rattle.seccompiler.specs.declared.json.repeats.Place.TheVariants.{Outside, Inside, Escaped}
 
--- No colon in a string's items counts.
-past_items : (items : List StringItem) (rest : List ℕ) → AllByRecursion IsStringItem items → colons_from inside (items_bytes items ++ rest) ≡ colons_from inside rest
-past_items [] rest h = refl
-past_items (plain b ∷ items) rest (h, hs) = rw (ne_eqb b 34 h.0, ne_eqb b 92 h.1) (past_items items rest hs)
-past_items (escaped b ∷ items) rest (h, hs) = past_items items rest hs
+-- How a text ends that stops at a place, in or behind a string of these items.
+abbrev ending_at : Place → List StringItem → Ending
+ending_at Outside string = closed
+ending_at Inside string = unclosed string
+ending_at Escaped string = unclosed_backslash string
 
--- No colon in an ending counts.
-past_ending : (ending : Ending) → IsEnding ending → colons_from outside (ending_bytes ending) ≡ 0
-past_ending closed h = refl
-past_ending (unclosed items) h = rw (← append-nil (items_bytes items)) (past_items items [] h)
-past_ending (unclosed_backslash items) h = past_items items (92 ∷ []) h
+-- The text, up to this place, is cut into pieces of which so many are a colon.
+pub record IsWalked (text : List ℕ) (place : Place) (count : ℕ) : Type 0 where
+  pub pieces : List Piece
+  pub string : List StringItem
+  pub cut : IsCut text pieces (ending_at place string)
+  pub counted : count ≡ count_by is_colon pieces
 
--- `count_by` as a recursion over the list.
-abbrev tally : {X : Type 0} → (X → Bool) → List X → ℕ
-tally p [] = 0
-tally p (x ∷ xs) = cond (p x) (1 + tally p xs) (tally p xs)
+-- What holds of each in two lists holds of each in both.
+all_both : {X : Type 0} (P : X → Type 0) (xs ys : List X) → AllByRecursion P xs → AllByRecursion P ys → AllByRecursion P (xs ++ ys)
+all_both P [] ys h k = k
+all_both P (x ∷ xs) ys h k = (h.0, all_both P xs ys h.1 k)
 
-count_by-cons : {X : Type 0} (p : X → Bool) (x : X) (xs : List X) → count_by p (x ∷ xs) ≡ cond (p x) (1 + count_by p xs) (count_by p xs)
-count_by-cons p x xs = rw (← is_count_by (tally p) p refl (λ _ _. refl) (x ∷ xs), ← is_count_by (tally p) p refl (λ _ _. refl) xs) refl
+-- No text is cut into no pieces.
+pub begins : IsWalked [] Outside 0
+begins = record { pieces = []; string = []; cut = record { each = tt; last = tt; spelled = refl }; counted = refl }
 
-past_pieces : (pieces : List Piece) (ending : Ending) → AllByRecursion IsPiece pieces → IsEnding ending → colons_from outside (flat_map piece_bytes pieces ++ ending_bytes ending) ≡ count_by is_colon pieces
-past_pieces [] ending h last = past_ending ending last
-past_pieces (byte b ∷ pieces) ending (h, hs) last = rw (ne_eqb b 34 h, past_pieces pieces ending hs last) (sym (count_by-cons is_colon (byte b) pieces))
-past_pieces (quoted items ∷ pieces) ending (h, hs) last =
+module _ (text : List ℕ) (b n : ℕ) where
+  -- A byte more that ends some pieces, or none, and leaves the text at another place.
+  one_more : (place next : Place) (w : IsWalked text place n) (more : List Piece) (string : List StringItem) → AllByRecursion IsPiece more → IsEnding (ending_at next string)
+      → ending_bytes (ending_at place w.string) ++ b ∷ [] ≡ flat_map piece_bytes more ++ ending_bytes (ending_at next string) → IsWalked (text ++ b ∷ []) next (n + count_by is_colon more)
+  one_more place next w more string each last spelled = record {
+    pieces = w.pieces ++ more;
+    string = string;
+    cut = record {
+      each = all_both IsPiece w.pieces more w.cut.each each;
+      last = last;
+      spelled = rw (w.cut.spelled, flat_map-append, append_assoc, append_assoc) (ap (λ t. flat_map piece_bytes w.pieces ++ t) spelled);
+    };
+    counted = rw (sum_by-append (λ x. cond (is_colon x) 1 0) w.pieces more) (ap (λ k. k + count_by is_colon more) w.counted);
+  }
+
+  -- A byte outside strings that is no quote is a piece, and counts if it is a colon.
+  pub stands_alone : b ≢ 34 → IsWalked text Outside n → IsWalked (text ++ b ∷ []) Outside (n + count_by is_colon (byte b ∷ []))
+  stands_alone other w = one_more Outside Outside w (byte b ∷ []) [] (other, tt) tt refl
+
+  -- A byte that ends no piece: it is the quote that opens a string, or a byte in one.
+  pub goes_on : (place next : Place) (w : IsWalked text place n) (string : List StringItem) → IsEnding (ending_at next string) → ending_bytes (ending_at place w.string) ++ b ∷ [] ≡ ending_bytes (ending_at next string) → IsWalked (text ++ b ∷ []) next n
+  goes_on place next w string last spelled = subst (IsWalked (text ++ b ∷ []) next) (add-zero n) (one_more place next w [] string tt last spelled)
+
+module _ (text : List ℕ) (n : ℕ) where
+  -- A quote opens a string.
+  pub opens : IsWalked text Outside n → IsWalked (text ++ 34 ∷ []) Inside n
+  opens w = goes_on text 34 n Outside Inside w [] tt refl
+
+  -- A quote closes the string, which is a piece.
+  pub closes : IsWalked text Inside n → IsWalked (text ++ 34 ∷ []) Outside n
+  closes w = subst (IsWalked (text ++ 34 ∷ []) Outside) (add-zero n) (one_more text 34 n Inside Outside w (quoted w.string ∷ []) [] (w.cut.last, tt) tt (sym (append-nil _ ∙ append-nil _)))
+
+  -- A backslash in a string waits for the byte behind it.
+  pub waits : IsWalked text Inside n → IsWalked (text ++ 92 ∷ []) Escaped n
+  waits w = goes_on text 92 n Inside Escaped w w.string w.cut.last refl
+
+  -- Another byte is an item of the string.
+  pub is_plain : (b : ℕ) → b ≢ 34 → b ≢ 92 → IsWalked text Inside n → IsWalked (text ++ b ∷ []) Inside n
+  is_plain b no_quote no_backslash w = goes_on text b n Inside Inside w (w.string ++ plain b ∷ []) (all_both IsStringItem w.string (plain b ∷ []) w.cut.last ((no_quote, no_backslash), tt)) (flat_map_more item_bytes (34 ∷ []) w.string (plain b))
+
+  -- The byte behind a backslash is one item with it.
+  pub is_escaped : (b : ℕ) → IsWalked text Escaped n → IsWalked (text ++ b ∷ []) Inside n
+  is_escaped b w = goes_on text b n Escaped Inside w (w.string ++ escaped b ∷ []) (all_both IsStringItem w.string (escaped b ∷ []) w.cut.last (tt, tt)) (ap (λ t. 34 ∷ t) (append_assoc (items_bytes w.string) (92 ∷ []) (b ∷ [])) ∙ flat_map_more item_bytes (34 ∷ []) w.string (escaped b))
+
+-- So many colons, and those that stand outside strings: counted from outside, in a string, and from behind a backslash.
+abbrev mutual
+  from_outside : ℕ → List ℕ → ℕ
+  from_outside n [] = n
+  from_outside n (b ∷ bs) = if b == 34 then from_inside n bs else from_outside (n + cond (b == 58) 1 0) bs
+
+  from_inside : ℕ → List ℕ → ℕ
+  from_inside n [] = n
+  from_inside n (b ∷ bs) = if b == 34 then from_outside n bs else (if b == 92 then from_escaped n bs else from_inside n bs)
+
+  from_escaped : ℕ → List ℕ → ℕ
+  from_escaped n [] = n
+  from_escaped n (b ∷ bs) = from_inside n bs
+
+-- No colon in a string's items counts, nor one in an ending; each piece that is one does.
+past_items : (n : ℕ) (items : List StringItem) (rest : List ℕ) → AllByRecursion IsStringItem items → from_inside n (items_bytes items ++ rest) ≡ from_inside n rest
+past_items n [] rest h = refl
+past_items n (plain b ∷ items) rest h = rw (ne_eqb b 34 h.0.0, ne_eqb b 92 h.0.1) (past_items n items rest h.1)
+past_items n (escaped b ∷ items) rest h = past_items n items rest h.1
+
+past_ending : (n : ℕ) (ending : Ending) → IsEnding ending → from_outside n (ending_bytes ending) ≡ n
+past_ending n closed h = refl
+past_ending n (unclosed items) h = rw (← append-nil (items_bytes items)) (past_items n items [] h)
+past_ending n (unclosed_backslash items) h = past_items n items (92 ∷ []) h
+
+past_pieces : (n : ℕ) (pieces : List Piece) (ending : Ending) → AllByRecursion IsPiece pieces → IsEnding ending → from_outside n (flat_map piece_bytes pieces ++ ending_bytes ending) ≡ fold (λ k x. k + cond (is_colon x) 1 0) n pieces
+past_pieces n [] ending h last = past_ending n ending last
+past_pieces n (byte b ∷ pieces) ending h last = rw (ne_eqb b 34 h.0) (past_pieces (n + cond (b == 58) 1 0) pieces ending h.1 last)
+past_pieces n (quoted items ∷ pieces) ending h last =
     let rest = flat_map piece_bytes pieces ++ ending_bytes ending in
     let regrouped : ((items_bytes items ++ 34 ∷ []) ++ flat_map piece_bytes pieces) ++ ending_bytes ending ≡ items_bytes items ++ 34 ∷ rest = simp append_assoc in
-    ap (colons_from inside) regrouped ∙ past_items items (34 ∷ rest) h ∙ past_pieces pieces ending hs last ∙ sym (count_by-cons is_colon (quoted items) pieces)
+    rw (add-zero n) (ap (from_inside n) regrouped ∙ past_items n items (34 ∷ rest) h.0 ∙ past_pieces n pieces ending h.1 last)
 
--- The walk counts the pieces that are a colon, whatever the cut.
-pub count_of_cut : (text : List ℕ) (pieces : List Piece) (ending : Ending) → IsCut text pieces ending → colons_from outside text ≡ count_by is_colon pieces
-count_of_cut text pieces ending cut = ap (colons_from outside) cut.spelled ∙ past_pieces pieces ending cut.each cut.last
-
--- A piece in front of a text that has a cut.
-add_piece : (piece : Piece) (text : List ℕ) → IsPiece piece → HasCut text → HasCut (piece_bytes piece ++ text)
-add_piece piece text h (pieces, ending, cut) = (
-  piece ∷ pieces,
-  ending,
-  record {
-    each = (h, cut.each);
-    last = cut.last;
-    spelled = ap (λ t. piece_bytes piece ++ t) cut.spelled ∙ sym (append_assoc (piece_bytes piece) (flat_map piece_bytes pieces) (ending_bytes ending));
-  },
-)
-
--- The text goes on behind these items of a string: it ends, with a lone backslash or without, or the string is closed and a text with a cut follows.
-abbrev GoesOn : List StringItem → List ℕ → Type 0
-GoesOn items text = (text ≡ items_bytes items) ⊎ ((text ≡ items_bytes items ++ 92 ∷ []) ⊎ ((rest : List ℕ) × (text ≡ items_bytes items ++ 34 ∷ rest) × HasCut rest))
-
--- The text stands behind the quote that opens a string.
-abbrev InString : List ℕ → Type 0
-InString text = (items : List StringItem) × AllByRecursion IsStringItem items × GoesOn items text
-
-item_in_front : (i : StringItem) (items : List StringItem) (text : List ℕ) → GoesOn items text → GoesOn (i ∷ items) (item_bytes i ++ text)
-item_in_front i items text (inl e) = inl (ap (λ s. item_bytes i ++ s) e)
-item_in_front i items text (inr (inl e)) = inr (inl (ap (λ s. item_bytes i ++ s) e ∙ sym (append_assoc (item_bytes i) (items_bytes items) (92 ∷ []))))
-item_in_front i items text (inr (inr (rest, e, h))) = inr (inr (rest, ap (λ s. item_bytes i ++ s) e ∙ sym (append_assoc (item_bytes i) (items_bytes items) (34 ∷ rest)), h))
-
-add_item : (i : StringItem) (text : List ℕ) → IsStringItem i → InString text → InString (item_bytes i ++ text)
-add_item i text h (items, hs, rest) = (i ∷ items, (h, hs), item_in_front i items text rest)
-
--- A string in quotes is a piece, or the text's ending.
-open_string : (text : List ℕ) → InString text → HasCut (34 ∷ text)
-open_string text (items, h, inl e) = ([], unclosed items, record { each = tt; last = h; spelled = ap (λ s. 34 ∷ s) e })
-open_string text (items, h, inr (inl e)) = ([], unclosed_backslash items, record { each = tt; last = h; spelled = ap (λ s. 34 ∷ s) e })
-open_string text (items, h, inr (inr (rest, e, cut))) =
-    let spelled : 34 ∷ text ≡ piece_bytes (quoted items) ++ rest = ap (λ s. 34 ∷ s) (e ∙ sym (append_assoc (items_bytes items) (34 ∷ []) rest)) in
-    subst HasCut (sym spelled) (add_piece (quoted items) rest h cut)
-
--- Each text has a cut, and so has what stands in a string before it, behind a backslash too.
-cuts_of : (text : List ℕ) → HasCut text × InString text × InString (92 ∷ text)
-cuts_of [] = (([], closed, record { each = tt; last = tt; spelled = refl }), ([], tt, inl refl), ([], tt, inr (inl refl)))
-cuts_of (b ∷ text) =
-    let before = cuts_of text in
-    let by_byte = elim (eqb_tells b 34) as (λ _. HasCut (b ∷ text) × InString (b ∷ text)) [
-      | inl same ↦ subst (λ x. HasCut (x ∷ text) × InString (x ∷ text)) (sym same.1) (open_string text before.1, ([], tt, inr (inr (text, refl, before.0))))
-      | inr differs ↦ (
-        add_piece (byte b) text differs.1 before.0,
-        elim (eqb_tells b 92) as (λ _. InString (b ∷ text)) [
-          | inl same ↦ subst (λ x. InString (x ∷ text)) (sym same.1) before.2
-          | inr other ↦ add_item (plain b) text (differs.1, other.1) before.1
-        ],
-      )
-    ] in
-    (by_byte.0, by_byte.1, add_item (escaped b) text tt before.1)
-
-pub cut_of : (text : List ℕ) → HasCut text
-cut_of text = (cuts_of text).0
+-- All cuts of a text have the same number of colons.
+pub same_count : (text : List ℕ) (n m : ℕ) → HasColons text n → HasColons text m → n ≡ m
+same_count text n m (p, e, cut, first) (q, f, other, second) = first ∙ sym (past_pieces 0 p e cut.each cut.last) ∙ ap (from_outside 0) (sym cut.spelled ∙ other.spelled) ∙ past_pieces 0 q f other.each other.last ∙ sym second

@@ -19,7 +19,7 @@ pub record IsReadAs (text : List ℕ) (d : Data) : Type 0 where
   pub utf8 : IsUtf8 text
   pub value : read text ≡ Some d
 
--- The text is read as this value, and no object of it has a name twice.
+-- The text is read as this value, and has no more colons outside strings than the value has names.
 pub record IsValueOf (text : List ℕ) (d : Data) : Type 0 where
   pub is_read : IsReadAs text d
   pub no_repeat : Repeats text d → ⊥
@@ -58,7 +58,7 @@ pub record IsLeastRefused (arch : TargetArch) (fault : Fault) (d : Data) : Type 
   pub below : (other : List ℕ) (v : Data) → Has d other v → IsBelow other name → (policy : Filter) × HasPolicy arch v policy
 
 -- The error tells what is at fault in the text, and nothing that comes earlier in the order of faults is: the bytes
--- are no JSON; a name is repeated; the top is no object; a filter has a wrong shape; a filter is refused. The least
+-- are no JSON; they have more colons than names; the top is no object; a filter has a wrong shape; a filter is refused. The least
 -- name's fault comes first. A failed read tells nothing of the text, and want of memory may come in place of all.
 abbrev pub TellsFrontendFault : TargetArch → List ℕ → JsonFrontendError → Type 0
 TellsFrontendFault arch text (Backend cause) = OfValue text (IsLeastRefused arch (refused cause))

@@ -8,7 +8,7 @@ use Rattle.std.specs.declared.alloc.Global.{Global}
 use Rattle.serde_json.specs.Data.{Data}
 use Rattle.seccompiler.specs.JsonShape.{IsObject, Has, Lacks, IsFilter}
 use Rattle.seccompiler.specs.declared.json.error.JsonFrontendError.{JsonFrontendError}
-use Rattle.seccompiler.specs.declared.json.error.JsonFrontendError.TheVariants.{Backend, SerdeJson, SyscallName, Read, RepeatedKey, NotAnObject, Shape, OutOfMemory}
+use Rattle.seccompiler.specs.declared.json.error.JsonFrontendError.TheVariants.{NotAnObject, Shape, OutOfMemory}
 use Rattle.seccompiler.specs.JsonTypes.{JsonFilter}
 use Rattle.seccompiler.specs.declared.json.types.JsonFilterMap.{JsonFilterMap}
 
@@ -44,11 +44,7 @@ pub record IsLeastFault (d : Data) (name : List ℕ) : Type 0 where
 -- Why the value is refused: it is no object, or this is its least name whose value is no filter.
 -- Want of memory may come in place of both, and no other error comes.
 abbrev pub IsRefusal : Data → JsonFrontendError → Type 0
-IsRefusal d (Backend cause) = ⊥
-IsRefusal d (SerdeJson cause) = ⊥
-IsRefusal d (SyscallName name arch) = ⊥
-IsRefusal d (Read cause) = ⊥
-IsRefusal d RepeatedKey = ⊥
 IsRefusal d NotAnObject = IsObject d → ⊥
 IsRefusal d (Shape name) = IsLeastFault d (string_bytes name)
 IsRefusal d OutOfMemory = Unit {0}
+IsRefusal d _ = ⊥

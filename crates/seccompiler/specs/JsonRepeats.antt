@@ -1,8 +1,7 @@
--- When a text repeats a name of some object: it has more colons outside strings than the value has names.
-use Rattle.std.specs.Prelude.{ℕ, ◌+◌, ◌<◌, List, Bool, nat_lt, count_by}
+-- When a text has more colons outside strings than a value has names.
+use Rattle.std.specs.Prelude.{◌≡◌, ℕ, ◌+◌, ◌<◌, List, count_by}
 use Rattle.serde_json.specs.Data.{Data, null, boolean, number, string, array, object, Items, no_items, item, Members, no_members, member}
 use Rattle.seccompiler.specs.TextPieces.{Piece, Ending, IsCut, is_colon}
-use Rattle.seccompiler.specs.TextWalk.{outside, colons_from}
 
 -- How many names all objects in a value have, those inside others too.
 abbrev mutual
@@ -22,17 +21,12 @@ abbrev mutual
   names_in_members no_members = 0
   names_in_members (member name d members) = 1 + names_in d + names_in_members members
 
--- The text, cut into pieces, has more pieces that are a colon than the value has names.
+-- The text has a cut into pieces of which so many are a colon.
+abbrev pub HasColons : List ℕ → ℕ → Type 0
+HasColons text count = (pieces : List Piece) × (ending : Ending) × IsCut text pieces ending × (count ≡ count_by is_colon pieces)
+
+-- The text has more colons than the value has names.
 pub record Repeats (text : List ℕ) (value : Data) : Type 0 where
-  pub pieces : List Piece
-  pub ending : Ending
-  pub cut : IsCut text pieces ending
-  pub more : names_in value < count_by is_colon pieces
-
--- A text has a cut into pieces.
-abbrev pub HasCut : List ℕ → Type 0
-HasCut text = (pieces : List Piece) × (ending : Ending) × IsCut text pieces ending
-
--- The same test as one that computes, for the definitions that go by it.
-unfoldable pub repeats : List ℕ → Data → Bool
-repeats text value = nat_lt (names_in value) (colons_from outside text)
+  pub count : ℕ
+  pub colons : HasColons text count
+  pub more : names_in value < count

@@ -1,5 +1,5 @@
 -- Which JSON values are which parts of a filter. Nothing but the forms given here is one.
-use Rattle.std.specs.Prelude.{◌≡◌, ℕ, ◌-◌, ◌^◌, ◌≤◌, ◌⊎◌, List, [], ◌∷◌, Contains, Option, Some, None, codes}
+use Rattle.std.specs.Prelude.{◌≡◌, ℕ, ◌-◌, ◌^◌, ◌≤◌, List, [], ◌∷◌, Contains, Option, Some, None, codes}
 use Rattle.serde_json.specs.Data.{Data, null, number, string, array, object, unsigned, Items, no_items, item, Members}
 use Rattle.serde_json.specs.Find.{get}
 use Rattle.seccompiler.specs.declared.backend.SeccompAction.{SeccompAction}
@@ -67,9 +67,16 @@ abbrev pub IsArgLen : Data → SeccompCmpArgLen → Type 0
 IsArgLen d Dword = d ≡ string (codes "dword")
 IsArgLen d Qword = d ≡ string (codes "qword")
 
--- The object's comment is a text or null, if it has one.
+-- What stands under `comment`, if anything, is null or a text.
+abbrev pub IsComment : Option Data → Type 0
+IsComment None = Unit {0}
+IsComment (Some null) = Unit {0}
+IsComment (Some (string text)) = Unit {0}
+IsComment (Some _) = ⊥
+
+-- The object's comment is so.
 abbrev pub IsCommented : Data → Type 0
-IsCommented d = (value : Data) → Has d (codes "comment") value → (value ≡ null) ⊎ ((text : List ℕ) × (value ≡ string text))
+IsCommented d = IsComment (get (codes "comment") d)
 
 -- The value is this condition: an object of `index`, `type`, `op`, `val` and, if it likes, `comment`.
 pub record IsCondition (d : Data) (c : JsonCondition) : Type 0 where
@@ -83,34 +90,37 @@ pub record IsCondition (d : Data) (c : JsonCondition) : Type 0 where
 -- The items are these, one by one and in order, as P says.
 abbrev pub OneByOne : {X : Type 0} → (Data → X → Type 0) → Items → List X → Type 0
 OneByOne P no_items [] = Unit {0}
-OneByOne P no_items (x ∷ xs) = ⊥
-OneByOne P (item d items) [] = ⊥
 OneByOne P (item d items) (x ∷ xs) = P d x × OneByOne P items xs
+OneByOne P _ _ = ⊥
 
 -- The value is the list of these.
 abbrev pub IsListOf : {X : Type 0} → (Data → X → Type 0) → Data → List X → Type 0
-IsListOf P d xs = (items : Items) × (d ≡ array items) × OneByOne P items xs
+IsListOf P (array items) xs = OneByOne P items xs
+IsListOf P _ xs = ⊥
 
--- The entry's conditions: none where it has no `args`, or null; else those that `args` lists.
-abbrev pub IsArgs : Data → Option (List JsonCondition) → Type 0
-IsArgs d None = Lacks d (codes "args") ⊎ Has d (codes "args") null
-IsArgs d (Some conditions) = Under d (codes "args") (λ value. IsListOf IsCondition value conditions)
+-- What stands under `args`, if anything, is these conditions: none where it is nothing, or null; else those that it lists.
+abbrev pub IsArgs : Option Data → Option (List JsonCondition) → Type 0
+IsArgs None conditions = conditions ≡ None
+IsArgs (Some null) conditions = conditions ≡ None
+IsArgs (Some (array items)) (Some conditions) = OneByOne IsCondition items conditions
+IsArgs _ _ = ⊥
 
 -- The value is this entry: an object of `syscall` and, if it likes, `args` and `comment`.
 pub record IsEntry (d : Data) (r : JsonRule) : Type 0 where
   pub names : HasOnly d (codes "syscall" ∷ codes "args" ∷ codes "comment" ∷ [])
   pub comment : IsCommented d
   pub syscall : Under d (codes "syscall") (λ value. value ≡ string r.syscall)
-  pub conditions : IsArgs d r.conditions
+  pub conditions : IsArgs (get (codes "args") d) r.conditions
 
--- The object has exactly one of two names, and its value is this action.
-abbrev pub IsUnderOne : Data → List ℕ → List ℕ → SeccompAction → Type 0
-IsUnderOne d first second action =
-    (Under d first (λ value. IsAction value action) × Lacks d second) ⊎ (Lacks d first × Under d second (λ value. IsAction value action))
+-- Exactly one of two values is there, and it is this action.
+abbrev pub IsOneAction : Option Data → Option Data → SeccompAction → Type 0
+IsOneAction (Some value) None action = IsAction value action
+IsOneAction None (Some value) action = IsAction value action
+IsOneAction _ _ action = ⊥
 
 -- The value is this filter: an object of its two actions, each under one of two names, and its entries.
 pub record IsFilter (d : Data) (f : JsonFilter) : Type 0 where
   pub names : HasOnly d (codes "mismatch_action" ∷ codes "default_action" ∷ codes "match_action" ∷ codes "filter_action" ∷ codes "filter" ∷ [])
-  pub mismatch_action : IsUnderOne d (codes "mismatch_action") (codes "default_action") f.mismatch_action
-  pub match_action : IsUnderOne d (codes "match_action") (codes "filter_action") f.match_action
+  pub mismatch_action : IsOneAction (get (codes "mismatch_action") d) (get (codes "default_action") d) f.mismatch_action
+  pub match_action : IsOneAction (get (codes "match_action") d) (get (codes "filter_action") d) f.match_action
   pub rules : Under d (codes "filter") (λ value. IsListOf IsEntry value f.rules)

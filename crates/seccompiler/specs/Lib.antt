@@ -30,12 +30,9 @@ pub mod JsonEquality
 pub mod JsonEqualityLaws
 pub mod JsonFault
 pub mod JsonFilters
-pub mod JsonReading
 pub mod JsonRepeats
 pub mod JsonShape
 pub mod JsonTexts
-pub mod Place
 pub mod TextPieces
-pub mod TextWalk
 pub mod Equality
 pub mod EqualityLaws

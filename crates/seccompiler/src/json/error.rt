@@ -19,7 +19,8 @@ pub enum JsonFrontendError {
     SyscallName(String, TargetArch),
     /// The reader failed. No call gives it for want of memory.
     Read(io::Error),
-    /// Some object of the text has a name twice.
+    /// The text has more bytes `:` outside strings than the objects of its value have names, as one
+    /// that writes a name of an object twice.
     RepeatedKey,
     /// The text is no object, so it names no filters.
     NotAnObject,

@@ -1,13 +1,11 @@
 // The filters of a JSON value. docs/JSON.md has the format.
 
-ghost use Rattle.std.specs.Prelude.{◌≡◌, ◌↔◌, Some, IfOk, IfErr};
+ghost use Rattle.std.specs.Prelude.{◌≡◌, IfOk, IfErr};
 ghost use Rattle.std.specs.BTreeMap.{IsOrdered};
 ghost use Rattle.std.specs.String.{string_cmp};
 ghost use Rattle.serde_json.specs.Data.{Data, object};
 ghost use Rattle.serde_json.specs.View.{view, members_view};
-ghost use Rattle.seccompiler.specs.JsonFault.{Gives};
-ghost use Rattle.seccompiler.specs.JsonFilters.{filters_of, AreFilters, IsRefusal};
-ghost use Rattle.seccompiler.specs.JsonReading.{filter_in, filters_in, filters_under};
+ghost use Rattle.seccompiler.specs.JsonFilters.{AreFilters, IsRefusal};
 ghost use Rattle.seccompiler.specs.JsonShape.{IsFilter};
 ghost use Rattle.seccompiler.specs.JsonTypes.{JsonFilter};
 
@@ -43,10 +41,6 @@ pub fn read_filters(alloc: Global, value: &Value) -> Result<JsonFilterMap, JsonF
 
     // A value is at most one filter.
     ensures one_filter { (d : Data) (f g : JsonFilter) → IsFilter d f → IsFilter d g → f ≡ g }
-
-    // The same as functions of the value, for the definitions that go by them.
-    ensures filter_read { (d : Data) (f : JsonFilter) → (filter_in d ≡ Some f) ↔ IsFilter d f }
-    ensures computed { Gives filters_of result (filters_in (view value.now)) }
 {
     match value {
         Value::Object(members) => filters_under(alloc, members),
@@ -59,8 +53,8 @@ fn filters_under(
     alloc: Global,
     members: &Map<String, Value>,
 ) -> Result<JsonFilterMap, JsonFrontendError>
+    ensures filters { IfOk result (AreFilters (object (members_view members.now.entries))) }
     ensures refusal { IfErr result (IsRefusal (object (members_view members.now.entries))) }
-    ensures computed { Gives filters_of result (filters_under (members_view members.now.entries)) }
 {
     let mut found = BTreeMap::new(alloc);
     for (name, value) in members.iter() {

@@ -1,8 +1,17 @@
 // From JSON values to the parts of a filter. A value that is no such part gives `None`.
+//
+// Each reader has two clauses: what it gives is what the value is (`found`), and where it gives
+// nothing, the value is no such part (`none`).
 
-ghost use Rattle.std.specs.Prelude.{◌≡◌, option_map, option_and_then, IfOk};
+ghost use Rattle.std.specs.Prelude.{◌≡◌, List, Option, option_map, IfOk, IfSome, IfNone};
+ghost use Rattle.serde_json.specs.Data.{string, array};
 ghost use Rattle.serde_json.specs.View.{view, items_view};
-ghost use Rattle.seccompiler.specs.JsonReading.{plain_action, action_in, arg_len_in, plain_operator, operator_in, condition_in, conditions_in, args_in, entry_in, entries_in, one_of, filter_in};
+ghost use Rattle.seccompiler.specs.JsonShape.{IsAction, IsOperator, IsArgLen, IsCondition, OneByOne, IsListOf, IsArgs, IsEntry, IsOneAction, IsFilter};
+ghost use Rattle.seccompiler.specs.declared.backend.SeccompAction.{SeccompAction};
+ghost use Rattle.seccompiler.specs.declared.backend.SeccompCmpOp.{SeccompCmpOp};
+ghost use Rattle.seccompiler.specs.declared.backend.SeccompCmpArgLen.{SeccompCmpArgLen};
+ghost use Rattle.seccompiler.specs.declared.json.types.JsonCondition.{JsonCondition};
+ghost use Rattle.seccompiler.specs.JsonTypes.{JsonRule, JsonFilter};
 
 use crate::backend::{SeccompAction, SeccompCmpArgLen, SeccompCmpOp};
 use crate::json::members::{has_only_names, is_commented, is_object_of, u8_of, u32_of, u64_of};
@@ -11,7 +20,8 @@ use serde_json::Value;
 use std::alloc::{AllocError, Global};
 
 fn plain_action_of(text: &str) -> Option<SeccompAction>
-    ensures { result ≡ plain_action text.now }
+    ensures found { IfSome result (IsAction (string text.now)) }
+    ensures none { IfNone result ((a : SeccompAction) → IsAction (string text.now) a → ⊥) }
 {
     match text {
         "allow" => Some(SeccompAction::Allow),
@@ -24,7 +34,8 @@ fn plain_action_of(text: &str) -> Option<SeccompAction>
 }
 
 fn action_of(value: &Value) -> Option<SeccompAction>
-    ensures { result ≡ action_in (view value.now) }
+    ensures found { IfSome result (IsAction (view value.now)) }
+    ensures none { IfNone result ((a : SeccompAction) → IsAction (view value.now) a → ⊥) }
 {
     match value {
         Value::String(text) => plain_action_of(text),
@@ -42,7 +53,8 @@ fn action_of(value: &Value) -> Option<SeccompAction>
 }
 
 fn arg_len_of(value: &Value) -> Option<SeccompCmpArgLen>
-    ensures { result ≡ arg_len_in (view value.now) }
+    ensures found { IfSome result (IsArgLen (view value.now)) }
+    ensures none { IfNone result ((l : SeccompCmpArgLen) → IsArgLen (view value.now) l → ⊥) }
 {
     match value.as_str()? {
         "dword" => Some(SeccompCmpArgLen::Dword),
@@ -52,7 +64,8 @@ fn arg_len_of(value: &Value) -> Option<SeccompCmpArgLen>
 }
 
 fn plain_operator_of(text: &str) -> Option<SeccompCmpOp>
-    ensures { result ≡ plain_operator text.now }
+    ensures found { IfSome result (IsOperator (string text.now)) }
+    ensures none { IfNone result ((op : SeccompCmpOp) → IsOperator (string text.now) op → ⊥) }
 {
     match text {
         "eq" => Some(SeccompCmpOp::Eq),
@@ -66,7 +79,8 @@ fn plain_operator_of(text: &str) -> Option<SeccompCmpOp>
 }
 
 fn operator_of(value: &Value) -> Option<SeccompCmpOp>
-    ensures { result ≡ operator_in (view value.now) }
+    ensures found { IfSome result (IsOperator (view value.now)) }
+    ensures none { IfNone result ((op : SeccompCmpOp) → IsOperator (view value.now) op → ⊥) }
 {
     match value {
         Value::String(text) => plain_operator_of(text),
@@ -80,9 +94,9 @@ fn operator_of(value: &Value) -> Option<SeccompCmpOp>
     }
 }
 
-#[tactic(auto, unfolding(crate::specs::JsonReading::condition_in))]
 fn condition_of(value: &Value) -> Option<JsonCondition>
-    ensures { result ≡ condition_in (view value.now) }
+    ensures found { IfSome result (IsCondition (view value.now)) }
+    ensures none { IfNone result ((c : JsonCondition) → IsCondition (view value.now) c → ⊥) }
 {
     if !is_object_of(value, &["index", "type", "op", "val", "comment"]) || !is_commented(value) {
         return None;
@@ -103,7 +117,10 @@ fn conditions_of(
     alloc: Global,
     items: &Vec<Value>,
 ) -> Result<Option<Vec<JsonCondition>>, AllocError>
-    ensures { IfOk result (λ found. option_map (λ all. all.items) found ≡ conditions_in (items_view items.now.items)) }
+    ensures found { IfOk result
+        (λ o. IfSome o (λ all. OneByOne IsCondition (items_view items.now.items) all.items)) }
+    ensures none { IfOk result (λ o. IfNone o
+        ((all : List JsonCondition) → OneByOne IsCondition (items_view items.now.items) all → ⊥)) }
 {
     let mut found = Vec::new(alloc);
     for item in items {
@@ -120,7 +137,10 @@ fn args_of(
     alloc: Global,
     args: Option<&Value>,
 ) -> Result<Option<Option<Vec<JsonCondition>>>, AllocError>
-    ensures { IfOk result (λ found. option_map (option_map (λ all. all.items)) found ≡ args_in (option_map (λ v. view v.now) args.entry)) }
+    ensures found { IfOk result (λ o. IfSome o
+        (λ c. IsArgs (option_map (λ v. view v.now) args.entry) (option_map (λ v. v.items) c))) }
+    ensures none { IfOk result (λ o. IfNone o
+        ((c : Option (List JsonCondition)) → IsArgs (option_map (λ v. view v.now) args.entry) c → ⊥)) }
 {
     match args {
         None | Some(Value::Null) => Ok(Some(None)),
@@ -132,9 +152,10 @@ fn args_of(
     }
 }
 
-#[tactic(auto, unfolding(crate::specs::JsonReading::entry_in))]
 fn entry_of(alloc: Global, value: &Value) -> Result<Option<JsonRule>, AllocError>
-    ensures { IfOk result (λ found. found ≡ entry_in (view value.now)) }
+    ensures found { IfOk result (λ o. IfSome o (IsEntry (view value.now))) }
+    ensures none { IfOk result
+        (λ o. IfNone o ((r : JsonRule) → IsEntry (view value.now) r → ⊥)) }
 {
     if !is_object_of(value, &["syscall", "args", "comment"]) || !is_commented(value) {
         return Ok(None);
@@ -153,7 +174,10 @@ fn entry_of(alloc: Global, value: &Value) -> Result<Option<JsonRule>, AllocError
 }
 
 fn entries_of(alloc: Global, items: &Vec<Value>) -> Result<Option<Vec<JsonRule>>, AllocError>
-    ensures { IfOk result (λ found. option_map (λ all. all.items) found ≡ entries_in (items_view items.now.items)) }
+    ensures found { IfOk result
+        (λ o. IfSome o (λ all. OneByOne IsEntry (items_view items.now.items) all.items)) }
+    ensures none { IfOk result (λ o. IfNone o
+        ((all : List JsonRule) → OneByOne IsEntry (items_view items.now.items) all → ⊥)) }
 {
     let mut found = Vec::new(alloc);
     for item in items {
@@ -165,10 +189,25 @@ fn entries_of(alloc: Global, items: &Vec<Value>) -> Result<Option<Vec<JsonRule>>
     Ok(Some(found))
 }
 
+fn rules_of(alloc: Global, value: &Value) -> Result<Option<Vec<JsonRule>>, AllocError>
+    ensures found { IfOk result
+        (λ o. IfSome o (λ all. IsListOf IsEntry (view value.now) all.items)) }
+    ensures none { IfOk result
+        (λ o. IfNone o ((all : List JsonRule) → IsListOf IsEntry (view value.now) all → ⊥)) }
+{
+    match value {
+        Value::Array(items) => entries_of(alloc, items),
+        _ => Ok(None),
+    }
+}
+
 // The action under the one of two names that is there. Both together are a fault.
 fn one_action(first: Option<&Value>, second: Option<&Value>) -> Option<SeccompAction>
-    ensures { result ≡ option_and_then action_in (one_of (option_map (λ v. view v.now) first.entry)
+    ensures found { IfSome result (IsOneAction (option_map (λ v. view v.now) first.entry)
         (option_map (λ v. view v.now) second.entry)) }
+    ensures none { IfNone result ((a : SeccompAction) →
+        IsOneAction (option_map (λ v. view v.now) first.entry)
+        (option_map (λ v. view v.now) second.entry) a → ⊥) }
 {
     match (first, second) {
         (Some(value), None) | (None, Some(value)) => action_of(value),
@@ -176,9 +215,10 @@ fn one_action(first: Option<&Value>, second: Option<&Value>) -> Option<SeccompAc
     }
 }
 
-#[tactic(auto, unfolding(crate::specs::JsonReading::filter_in))]
 pub fn filter_of(alloc: Global, value: &Value) -> Result<Option<JsonFilter>, AllocError>
-    ensures { IfOk result (λ found. found ≡ filter_in (view value.now)) }
+    ensures found { IfOk result (λ o. IfSome o (IsFilter (view value.now))) }
+    ensures none { IfOk result
+        (λ o. IfNone o ((f : JsonFilter) → IsFilter (view value.now) f → ⊥)) }
 {
     let names = [
         "mismatch_action",
@@ -200,10 +240,10 @@ pub fn filter_of(alloc: Global, value: &Value) -> Result<Option<JsonFilter>, All
     else {
         return Ok(None);
     };
-    let Some(Value::Array(items)) = value.get("filter") else {
+    let Some(filter) = value.get("filter") else {
         return Ok(None);
     };
-    let Some(rules) = entries_of(alloc, items)? else {
+    let Some(rules) = rules_of(alloc, filter)? else {
         return Ok(None);
     };
     Ok(Some(JsonFilter {

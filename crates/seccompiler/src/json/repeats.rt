@@ -1,32 +1,30 @@
-// Whether a text repeats a name of some object.
+// Whether a text has more colons outside strings than its value has names.
 
-ghost use Rattle.std.specs.Prelude.{◌≡◌, ◌-◌, ◌<◌, ◌↔◌, IsTrue, List, count_by};
+ghost use Rattle.std.specs.Prelude.{◌≡◌, ℕ, ◌-◌, ◌<◌, ◌↔◌, IsTrue};
 ghost use Rattle.serde_json.specs.View.{view, items_view, members_view};
-ghost use Rattle.seccompiler.specs.JsonRepeats.{Repeats, HasCut, repeats, names_in, names_in_items, names_in_members};
-ghost use Rattle.seccompiler.specs.Place.{place_of};
-ghost use Rattle.seccompiler.specs.TextPieces.{Piece, Ending, IsCut, is_colon};
-ghost use Rattle.seccompiler.specs.TextWalk.{outside, place_after, counts, colons_from};
+ghost use Rattle.seccompiler.specs.JsonRepeats.{Repeats, HasColons, names_in, names_in_items, names_in_members};
 
 use serde_json::Value;
 use serde_json::value::Map;
 
 /// Whether a text has more bytes `:` outside strings than the objects of a value have names.
 ///
-/// Where the value is what serde_json reads of the text, this tells that some object of the text has
-/// a name twice: such a name stands once in the value, and each name of the text has one such byte.
-/// The text is read as bytes outside strings and strings in quotes, in which a backslash takes the
-/// next byte with it. It may be any bytes, and the value any value.
+/// The text is taken as bytes outside strings and strings in quotes, in which a backslash takes the
+/// next byte with it. It may be any bytes, and the value any value. All names count, those of objects
+/// inside others too.
+///
+/// It is meant for a text and the value that serde_json reads of it: JSON has one such byte for each
+/// name that it writes, and the value has a name once however often the text writes it. That is the
+/// reason for the count and no promise: what is promised is the count.
 ///
 /// It takes no memory.
-#[tactic(auto, unfolding(crate::specs::JsonRepeats::repeats))]
 pub fn repeats_key(text: &[u8], value: &Value) -> bool
     ensures repeats { IsTrue result ↔ Repeats text.now (view value.now) }
 
     // There is a cut, and the answer does not depend on which one is taken.
-    ensures cut { HasCut text.now }
-    ensures each_cut { (pieces : List Piece) (ending : Ending) → IsCut text.now pieces ending →
-        (IsTrue result ↔ (names_in (view value.now) < count_by is_colon pieces)) }
-    ensures computed { result ≡ repeats text.now (view value.now) }
+    ensures cut { (count : ℕ) × HasColons text.now count }
+    ensures each_cut { (count : ℕ) → HasColons text.now count →
+        (IsTrue result ↔ (names_in (view value.now) < count)) }
 {
     0 < after_names(value, colons(text))
 }
@@ -72,37 +70,22 @@ enum Place {
     Escaped,
 }
 
-// Where the byte behind this one stands.
-fn place_after(place: Place, byte: u8) -> Place
-    ensures { place_of result ≡ place_after (place_of place) byte }
-{
-    match (place, byte) {
-        (Place::Outside, b'"') => Place::Inside,
-        (Place::Outside, _) => Place::Outside,
-        (Place::Inside, b'"') => Place::Outside,
-        (Place::Inside, b'\\') => Place::Escaped,
-        (Place::Inside, _) => Place::Inside,
-        (Place::Escaped, _) => Place::Inside,
-    }
-}
-
-fn is_counted(place: Place, byte: u8) -> bool
-    ensures { result ≡ counts (place_of place) byte }
-{
-    matches!(place, Place::Outside) && byte == b':'
-}
-
 // How many bytes `:` stand outside strings.
 fn colons(text: &[u8]) -> usize
-    ensures { result ≡ colons_from outside text.now }
+    ensures { HasColons text.now result }
 {
     let mut place = Place::Outside;
     let mut found = 0usize;
     for byte in text {
-        if is_counted(place, *byte) {
-            found += 1;
+        match (place, *byte) {
+            (Place::Outside, b'"') => place = Place::Inside,
+            (Place::Outside, b':') => found += 1,
+            (Place::Outside, _) => {}
+            (Place::Inside, b'"') => place = Place::Outside,
+            (Place::Inside, b'\\') => place = Place::Escaped,
+            (Place::Inside, _) => {}
+            (Place::Escaped, _) => place = Place::Inside,
         }
-        place = place_after(place, *byte);
     }
     found
 }

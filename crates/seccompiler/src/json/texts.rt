@@ -3,7 +3,7 @@
 ghost use Rattle.std.specs.Prelude.{IfOk, IfErr};
 ghost use Rattle.serde_json.specs.View.{view};
 ghost use Rattle.seccompiler.specs.Errors.{IsNoMemoryInFrontend};
-ghost use Rattle.seccompiler.specs.JsonAnswers.{IsReadAs, OfValue, TellsFrontendFault};
+ghost use Rattle.seccompiler.specs.JsonAnswers.{IsValueOf, OfValue, TellsFrontendFault};
 ghost use Rattle.seccompiler.specs.JsonFilters.{AreFilters};
 ghost use Rattle.seccompiler.specs.Reads.{Reads};
 ghost use Rattle.seccompiler.specs.declared.backend.TargetArch.{TargetArch};
@@ -40,19 +40,17 @@ fn filters_of(alloc: Global, text: &[u8]) -> Result<JsonFilterMap, JsonFrontendE
     ensures memory { IfErr result IsNoMemoryInFrontend }
 {
     let value = value_of(alloc, text)?;
-    if repeats_key(text, &value) {
-        return Err(JsonFrontendError::RepeatedKey);
-    }
     read_filters(alloc, &value)
 }
 
-// The value of a text.
+// The value of a text that repeats no name.
 fn value_of(alloc: Global, text: &[u8]) -> Result<Value, JsonFrontendError>
-    ensures value { IfOk result (λ value. IsReadAs text.now (view value)) }
+    ensures value { IfOk result (λ value. IsValueOf text.now (view value)) }
     ensures fault { IfErr result (λ e. (arch : TargetArch) → TellsFrontendFault arch text.now e) }
     ensures memory { IfErr result IsNoMemoryInFrontend }
 {
     match Value::from_slice(alloc, text) {
+        Ok(value) if repeats_key(text, &value) => Err(JsonFrontendError::RepeatedKey),
         Ok(value) => Ok(value),
         Err(error) if error.is_memory() => Err(JsonFrontendError::OutOfMemory),
         Err(error) => Err(JsonFrontendError::SerdeJson(error)),

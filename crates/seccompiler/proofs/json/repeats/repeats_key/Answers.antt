@@ -1,16 +1,13 @@
 use Rattle.std.proofs.Common.{arith}
-use Rattle.seccompiler.proofs.TextCuts.{count_of_cut, cut_of}
+use Rattle.seccompiler.proofs.TextCuts.{same_count}
 use Rattle.seccompiler.proofs.json.repeats.repeats_key.Goals as goal
 
 pub returns-clause-each_cut : goal.returns-clause-each_cut
-returns-clause-each_cut c = λ pieces ending cut. let count = count_of_cut c.args.text.now pieces ending cut in grind (arith, count)
-
-pub returns-clause-cut : goal.returns-clause-cut
-returns-clause-cut c = cut_of c.args.text.now
+returns-clause-each_cut c = λ count h. let same = same_count c.args.text.now _ _ c.colons.ensures h in grind (arith, same)
 
 pub returns-clause-repeats : goal.returns-clause-repeats
 returns-clause-repeats c =
-    let cut = cut_of c.args.text.now in (
-      λ told. record { pieces = cut.0; ending = cut.1; cut = cut.2; more = (returns-clause-each_cut c cut.0 cut.1 cut.2).0 told },
-      λ found. (returns-clause-each_cut c found.pieces found.ending found.cut).1 found.more,
+    let counted = c.colons.ensures in (
+      λ told. record { count = c.colons.result; colons = counted; more = (returns-clause-each_cut c _ counted).0 told },
+      λ found. (returns-clause-each_cut c _ found.colons).1 found.more,
     )

@@ -218,17 +218,17 @@ fn entries_of_one_call_make_one_chain(rt: HostRuntime) -> Result<(), Fail> {
 }
 
 #[test]
-fn an_entry_without_conditions_keeps_the_chain(rt: HostRuntime) -> Result<(), Fail> {
+fn an_entry_without_conditions_empties_the_chain(rt: HostRuntime) -> Result<(), Fail> {
     let alloc = rt.alloc();
     let one: &[Parts] = &[FINE];
-    let chains: &[(i64, &[&[Parts]])] = &[(202, &[one])];
+    let chains: &[(i64, &[&[Parts]])] = &[(202, &[])];
     assert_eq!(rt;
         make_trap(
             alloc,
-            &[("futex", None), ("futex", Some(one)), ("futex", None)]
+            &[("futex", Some(one)), ("futex", None), ("futex", Some(one))]
         )?,
         Making::Filter(filter(alloc, chains, Trap, Allow)?),
-        "futex with conditions, between two without"
+        "futex without conditions, between two with"
     );
     Ok(())
 }

@@ -1,6 +1,6 @@
 // JSON texts, and the filters and programs that they give.
 
-use crate::builders::{ALLOW, Parts, TRAP, call};
+use crate::builders::{ALLOW, Parts, call};
 use crate::json_samples::{
     COMPARES, Chains, MAIN_THREAD, README, READS, compiled, filter, filter_for, one_filter, policy,
     repeated,
@@ -46,8 +46,6 @@ fn assert_length(rt: &impl Abort, alloc: Global, entries: &str, length: usize) -
 
 #[test]
 fn programs_have_these_lengths(rt: HostRuntime) -> Result<(), Fail> {
-    let both = format!(in rt.alloc(); "{READS},{COMPARES}")?;
-    assert_length(&rt, rt.alloc(), both.as_str(), 12)?;
     assert_length(&rt, rt.alloc(), COMMENTED, 12)
 }
 
@@ -55,23 +53,6 @@ fn programs_have_these_lengths(rt: HostRuntime) -> Result<(), Fail> {
 fn the_longest_program_of_a_text(rt: HostRuntime) -> Result<(), Fail> {
     let many = repeated(rt.alloc(), COMPARES, 817)?;
     assert_length(&rt, rt.alloc(), many.as_str(), 4092)
-}
-
-#[test]
-fn a_call_with_and_without_arguments(rt: HostRuntime) -> Result<(), Fail> {
-    let alloc = rt.alloc();
-    let both = format!(in alloc; "{READS},{COMPARES}")?;
-    let program = compiled(alloc, policy(alloc, both.as_str())?.as_str(), "a")?;
-    assert!(rt; check(&program), "the program is refused");
-    for (first, word, steps) in [(5, ALLOW, 8), (6, TRAP, 8)] {
-        let record = call(0, [first, 0, 0, 0, 0, 0]).record();
-        assert_eq!(rt;
-            run(&program, &record),
-            Outcome { word, steps },
-            "argument {first}"
-        );
-    }
-    Ok(())
 }
 
 #[test]

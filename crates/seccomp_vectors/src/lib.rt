@@ -61,3 +61,5 @@ mod scripted;
 mod surface;
 #[cfg(test)]
 mod texts;
+#[cfg(test)]
+mod widened;

@@ -1,10 +1,12 @@
 -- The chains of a map, after one of them was written.
-use Rattle.std.proofs.Common.{◌≡◌, ℤ, ◌++◌, List, [], ◌∷◌, Vec, Global, Bool, true, false, ◌||◌, cond, Option, Some, None, option_map, refl, sym, ap, ◌∙◌, unwrap_or}
+use Rattle.std.proofs.Common.{◌≡◌, ℤ, ◌++◌, List, [], ◌∷◌, Vec, Global, Bool, true, false, ◌||◌, cond, Option, Some, None, option_map, refl, sym, ap, ◌∙◌, unwrap_or, append-nil}
 use Rattle.std.specs.BTreeMap.{is_at}
-use Rattle.std.specs.List.{list_any}
+use Rattle.std.specs.List.{filter, list_any}
 use Rattle.std.specs.Map.{lookup}
+use Rattle.std.specs.Option.{is_some}
 use Rattle.std.specs.Ordering.{int_cmp, int_eq}
 use Rattle.std.proofs.lemmas.Bool.Decides.{Decides-int_eq, same_from_decides, Decides-like}
+use Rattle.std.proofs.lemmas.List.Elements.{filter-append}
 use Rattle.std.proofs.lemmas.List.Folds.{list_any-append}
 use Rattle.std.proofs.lemmas.Map.Made.{lookup-map_values}
 use Rattle.seccompiler.specs.Policy.{Rule, Chain, chains_of}
@@ -42,20 +44,17 @@ chain_with_rule old new number before after start rule q written found empty lon
         let was : before.items ≡ unwrap_or (chain_at (chains_of old) number) [] = ap (λ v. v.items) found ∙ or_empty (held old number) start empty ∙ ap (λ o. unwrap_or o []) (sym (chain_held old number)) in
         ap Some (longer ∙ ap (λ front. front ++ rule ∷ []) was) ∙ ap (λ n. added (rule ∷ []) (chain_at (chains_of old) n)) same
 
--- A number's chain was begun, if it had none.
-pub chain_begun : (old new : List (ℤ × Vec Rule Global)) (number : ℤ) (after start : Vec Rule Global) (q : ℤ)
-    → held new q ≡ cond (int_eq number q) (Some after) (held old q) → after ≡ unwrap_or (held old number) start → start.items ≡ []
-    → chain_at (chains_of new) q ≡ chain_of (int_eq q number) (chain_at (chains_of old) q)
-chain_begun old new number after start q written found empty =
-    chain_held new q ∙ ap (option_map (λ v. v.items)) written ∙ by_case (int_eq number q) refl ∙ ap (λ b. chain_of b (chain_at (chains_of old) q)) (turned number q)
+-- The empty chain was put under a number.
+pub chain_emptied : (old new : List (ℤ × Vec Rule Global)) (number : ℤ) (empty : Vec Rule Global) (q : ℤ)
+    → held new q ≡ cond (int_eq number q) (Some empty) (held old q) → empty.items ≡ [] → chain_at (chains_of new) q ≡ chain_of (int_eq q number) (chain_at (chains_of old) q)
+chain_emptied old new number empty q written is_empty =
+    chain_held new q ∙ ap (option_map (λ v. v.items)) written ∙ by_case (int_eq number q) ∙ ap (λ b. chain_of b (chain_at (chains_of old) q)) (turned number q)
   where
-    by_case : (b : Bool) → int_eq number q ≡ b → option_map (λ v. v.items) (cond b (Some after) (held old q)) ≡ chain_of b (chain_at (chains_of old) q)
-    by_case false is = sym (chain_held old q)
-    by_case true is =
-        ap (λ (v : Vec Rule Global). Some v.items) found ∙ ap Some (or_empty (held old number) start empty ∙ ap (λ o. unwrap_or o []) (sym (chain_held old number)))
-        ∙ ap (λ n. chain_of true (chain_at (chains_of old) n)) ((Decides-int_eq number q).0 is)
+    by_case : (b : Bool) → option_map (λ v. v.items) (cond b (Some empty) (held old q)) ≡ chain_of b (chain_at (chains_of old) q)
+    by_case false = sym (chain_held old q)
+    by_case true = ap Some is_empty
 
--- The numbers that have a chain without conditions, one by one.
+-- The numbers that match always, one by one.
 pub chain_of_more : (done : List ℤ) (number q : ℤ) (found : Option Chain)
     → chain_of (int_eq q number) (chain_of (list_any (int_eq q) done) found) ≡ chain_of (list_any (int_eq q) (done ++ number ∷ [])) found
 chain_of_more done number q found = both (int_eq q number) (list_any (int_eq q) done) ∙ ap (λ b. chain_of b found) (sym (list_any-append (int_eq q) done (number ∷ [])))
@@ -65,3 +64,18 @@ chain_of_more done number q found = both (int_eq q number) (list_any (int_eq q) 
     both true false = refl
     both false true = refl
     both false false = refl
+
+-- A number has rules where the map holds some.
+pub some_held : (entries : List (ℤ × Vec Rule Global)) (number : ℤ) → is_some (chain_at (chains_of entries) number) ≡ is_some (held entries number)
+some_held entries number = ap is_some (chain_held entries number) ∙ by_case (held entries number)
+  where
+    by_case : (found : Option (Vec Rule Global)) → is_some (option_map (λ v. v.items) found) ≡ is_some found
+    by_case None = refl
+    by_case (Some v) = refl
+
+-- A filter of one item more.
+pub filter_kept : (p : ℤ → Bool) (done : List ℤ) (x : ℤ) → p x ≡ true → filter p (done ++ x ∷ []) ≡ filter p done ++ x ∷ []
+filter_kept p done x passes = filter-append p done (x ∷ []) ∙ ap (λ b. filter p done ++ cond b (x ∷ []) []) passes
+
+pub filter_left : (p : ℤ → Bool) (done : List ℤ) (x : ℤ) → p x ≡ false → filter p (done ++ x ∷ []) ≡ filter p done
+filter_left p done x fails = filter-append p done (x ∷ []) ∙ ap (λ b. filter p done ++ cond b (x ∷ []) []) fails ∙ append-nil (filter p done)

@@ -21,7 +21,7 @@ use Rattle.seccompiler.specs.declared.json.policy.Gathered.{Gathered}
 use Rattle.seccompiler.specs.declared.json.types.JsonCondition.{JsonCondition}
 use Rattle.seccompiler.specs.JsonFault.{Fault, refused}
 use Rattle.seccompiler.specs.JsonGathered.{added, chain_of, rules_at, AreGathered, HasChains}
-use Rattle.seccompiler.specs.JsonPolicyOf.{rules_of, rules_for, chain_at, is_for, is_always, is_number, IsFor, IsFine, IsPolicyOf, IsFirstFault, in_entries, in_actions}
+use Rattle.seccompiler.specs.JsonPolicyOf.{all_rules, chain_for, rules_of, chain_at, is_for, is_always, is_number, IsFor, IsFine, IsMadeOf, IsPolicyBefore, IsPolicyOf, IsFirstFault, in_entries, in_actions}
 use Rattle.seccompiler.specs.JsonTypes.{JsonRule, JsonFilter}
 use Rattle.seccompiler.specs.Policy.{Rule, Chain, Filter, chains_of}
 use Rattle.seccompiler.specs.Refusal.{numbers_of}
@@ -34,19 +34,24 @@ use Rattle.seccompiler.proofs.TableNames.{number_of-all}
 action_decides : (x y : SeccompAction) → Decides (action.ghosts.eq x y) (x ≡ y)
 action_decides x y = search rules
 
+-- A test that decides for each item decides for any.
+pub any_decides : {X : Type 0} (test : X → Bool) (P : X → Type 0) → ((x : X) → Decides (test x) (P x)) → (xs : List X) → Decides (list_any test xs) (Any P xs)
+any_decides test P each xs = (
+  λ h. let some = Any-from_list_any test xs h in (some.0, some.1, some.2, some.3, (each some.1).0 some.4),
+  λ some. list_any-from_Any test xs (some.0, some.1, some.2, some.3, (each some.1).1 some.4),
+)
+
 module _ (arch : TargetArch) where
   -- Whether an entry is for a number.
-  for_decides : (number : ℤ) (o : Option ℤ) → Decides (is_number number o) (o ≡ Some number)
-  for_decides number None = (λ h. absurd (true≢false (sym h)), λ e. cc)
-  for_decides number (Some other) = (λ h. ap Some (sym ((Decides-int_eq number other).0 h)), λ e. (Decides-int_eq number other).1 (let same : other ≡ number = cc in sym same))
+  is_decides : (number : ℤ) (o : Option ℤ) → Decides (is_number number o) (o ≡ Some number)
+  is_decides number None = (λ h. absurd (true≢false (sym h)), λ e. cc)
+  is_decides number (Some other) = (λ h. ap Some (sym ((Decides-int_eq number other).0 h)), λ e. (Decides-int_eq number other).1 (let same : other ≡ number = cc in sym same))
 
-  any_if : (number : ℤ) (entries : List JsonRule) → list_any (is_for arch number) entries ≡ true → Any (IsFor arch number) entries
-  any_if number entries h =
-      let some = Any-from_list_any (is_for arch number) entries h in
-      (some.0, some.1, some.2, some.3, (for_decides number _).0 some.4)
+  pub for_decides : (number : ℤ) (entry : JsonRule) → Decides (is_for arch number entry) (IsFor arch number entry)
+  for_decides number entry = is_decides number (number_of (table_of arch) entry.syscall)
 
-  if_any : (number : ℤ) (entries : List JsonRule) → Any (IsFor arch number) entries → list_any (is_for arch number) entries ≡ true
-  if_any number entries some = list_any-from_Any (is_for arch number) entries (some.0, some.1, some.2, some.3, (for_decides number _).1 some.4)
+  any_for : (number : ℤ) (entries : List JsonRule) → Decides (list_any (is_for arch number) entries) (Any (IsFor arch number) entries)
+  any_for number = any_decides (is_for arch number) (IsFor arch number) (for_decides number)
 
   -- The numbers of the entries' calls.
   abbrev numbers_of_entries : List JsonRule → List ℤ
@@ -61,14 +66,14 @@ module _ (arch : TargetArch) where
       ]
 
   -- Whether there are rules.
-  abbrev some_rules : List Rule → Bool
+  abbrev pub some_rules : List Rule → Bool
   some_rules [] = false
   some_rules (rule ∷ rules) = true
 
   -- An entry for a number has no conditions, or adds a rule.
-  for_either : (number : ℤ) (entries : List JsonRule) → list_any (is_for arch number) entries ≡ (list_any (is_always arch number) entries || some_rules (flat_map (rules_for arch number) entries))
+  pub for_either : (number : ℤ) (entries : List JsonRule) → list_any (is_for arch number) entries ≡ (list_any (is_always arch number) entries || some_rules (all_rules arch entries number))
   for_either number [] = refl
-  for_either number (entry ∷ entries) = both (is_for arch number entry) entry.conditions (list_any (is_always arch number) entries) (flat_map (rules_for arch number) entries) (for_either number entries)
+  for_either number (entry ∷ entries) = both (is_for arch number entry) entry.conditions (list_any (is_always arch number) entries) (all_rules arch entries number) (for_either number entries)
     where
       or_true : (b : Bool) → true ≡ (b || true)
       or_true true = refl
@@ -92,57 +97,67 @@ module _ (arch : TargetArch) where
     abbrev filter_of : List (ℤ × Chain) → Filter
     filter_of chains = record { chains = chains; mismatch_action = j.mismatch_action; match_action = j.match_action; target_arch = arch }
 
-    -- What each number has in a policy.
-    abbrev chain_for : ℤ → Option Chain
-    chain_for number = cond (list_any (is_for arch number) j.rules) (Some (flat_map (rules_for arch number) j.rules)) None
+    -- What each number has, where these chains are meant for the numbers.
+    abbrev meant : (ℤ → Chain) → ℤ → Option Chain
+    meant chains number = cond (list_any (is_for arch number) j.rules) (Some (chains number)) None
 
-    -- What was gathered of the entries gives it.
-    gathered_chain : (number : ℤ) → chain_of (list_any (is_always arch number) j.rules) (added (flat_map (rules_for arch number) j.rules) None) ≡ chain_for number
+    -- What was gathered of the entries gives the policy's chains.
+    gathered_chain : (number : ℤ) → chain_of (list_any (is_always arch number) j.rules) (added (all_rules arch j.rules number) None) ≡ meant (chain_for arch j.rules) number
     gathered_chain number =
-        by_case (list_any (is_always arch number) j.rules) (flat_map (rules_for arch number) j.rules)
-        ∙ ap (λ b. cond b (Some (flat_map (rules_for arch number) j.rules)) None) (sym (for_either number j.rules))
+        by_case (list_any (is_always arch number) j.rules) (all_rules arch j.rules number)
+        ∙ ap (λ b. cond b (Some (chain_for arch j.rules number)) None) (sym (for_either number j.rules))
       where
-        by_case : (always : Bool) (rules : List Rule) → chain_of always (added rules None) ≡ cond (always || some_rules rules) (Some rules) None
-        by_case true [] = refl
-        by_case true (rule ∷ rules) = refl
+        by_case : (always : Bool) (rules : List Rule) → chain_of always (added rules None) ≡ cond (always || some_rules rules) (Some (cond always [] rules)) None
+        by_case true rules = refl
         by_case false [] = refl
         by_case false (rule ∷ rules) = refl
 
-    -- Chains that have this under each number, in ascending order, make the policy.
-    made : (chains : List (ℤ × Chain)) → ((number : ℤ) → chain_at chains number ≡ chain_for number) → IsStrictlySortedBy int_cmp (numbers_of chains)
-        → All (IsFine arch) j.rules → j.mismatch_action ≢ j.match_action → IsPolicyOf arch j (filter_of chains)
-    made chains each ascending fine apart = record {
+    -- Chains that have under each number what is meant for it, in ascending order, make the filter.
+    made : (chain_for : ℤ → Chain) (chains : List (ℤ × Chain)) → ((number : ℤ) → chain_at chains number ≡ meant chain_for number) → IsStrictlySortedBy int_cmp (numbers_of chains)
+        → All (IsFine arch) j.rules → j.mismatch_action ≢ j.match_action → IsMadeOf chain_for arch j (filter_of chains)
+    made chain_for chains each ascending fine apart = record {
       mismatch_action = refl;
       match_action = refl;
       target_arch = refl;
       different = apart;
       entries = fine;
-      chain = λ number some. each number ∙ ap (λ b. cond b (Some (flat_map (rules_for arch number) j.rules)) None) (if_any number j.rules some);
-      no_other = λ number none. each number ∙ ap (λ b. cond b (Some (flat_map (rules_for arch number) j.rules)) None) (false_from_ne_true (list_any (is_for arch number) j.rules) (λ t. none (any_if number j.rules t)));
+      chain = λ number some. each number ∙ ap (λ b. cond b (Some (chain_for number)) None) ((any_for number j.rules).1 some);
+      no_other = λ number none. each number ∙ ap (λ b. cond b (Some (chain_for number)) None) (false_from_ne_true (list_any (is_for arch number) j.rules) (λ t. none ((any_for number j.rules).0 t)));
       ascending = ascending;
     }
+
+    -- There is such a filter, whatever is meant.
+    pub some_made : (chain_for : ℤ → Chain) → All (IsFine arch) j.rules → j.mismatch_action ≢ j.match_action → (f : Filter) × IsMadeOf chain_for arch j f
+    some_made chain_for fine apart =
+        let all = numbered chain_for (numbers_of_entries j.rules) in
+        (filter_of all.chains, made chain_for all.chains (λ number. all.each number ∙ ap (λ b. cond b (Some (chain_for number)) None) (any_number number j.rules)) all.ascending fine apart)
+
+    -- There are both policies.
+    pub both_made : All (IsFine arch) j.rules × (j.mismatch_action ≢ j.match_action) → ((before : Filter) × IsPolicyBefore arch j before) × ((now : Filter) × IsPolicyOf arch j now)
+    both_made faultless = (some_made (all_rules arch j.rules) faultless.0 faultless.1, some_made (chain_for arch j.rules) faultless.0 faultless.1)
 
     -- What was gathered of the entries makes the policy, where the actions differ.
     pub policy_made : (entries : List JsonRule) (gathered : Gathered) (chains : BTreeMap ℤ (Vec Rule Global)) → entries ≡ j.rules → All (IsFine arch) entries → AreGathered arch entries gathered → HasChains gathered chains
         → j.mismatch_action ≢ j.match_action → IsPolicyOf arch j (filter_of (chains_of chains.entries))
     policy_made entries gathered chains these fine is has apart =
         let all = subst (λ (es : List JsonRule). AreGathered arch es gathered) these is in
-        made (chains_of chains.entries)
+        made (chain_for arch j.rules) (chains_of chains.entries)
         (λ number. has.each number ∙ ap (λ b. chain_of b (rules_at gathered number)) (all.always number) ∙ ap (chain_of (list_any (is_always arch number) j.rules)) (all.rules number) ∙ gathered_chain number)
         (subst (IsStrictlySortedBy int_cmp) (sym (keys_of-map_values (λ (v : Vec Rule Global). v.items) chains.entries)) (has.ordered all.ordered))
         (subst (All (IsFine arch)) these fine) apart
 
-    -- What each number has in a policy.
-    found_in : (f : Filter) → IsPolicyOf arch j f → (number : ℤ) → chain_at f.chains number ≡ chain_for number
-    found_in f is number = elim (cases_Bool (list_any (is_for arch number) j.rules)) [
-      | inl some ↦ rw some (is.chain number (any_if number j.rules some))
-      | inr none ↦ rw none (is.no_other number (λ some. true≢false (sym (if_any number j.rules some) ∙ none)))
+    -- What each number has in such a filter.
+    pub found_in : (chain_for : ℤ → Chain) (f : Filter) → IsMadeOf chain_for arch j f → (number : ℤ) → chain_at f.chains number ≡ meant chain_for number
+    found_in chain_for f is number = elim (cases_Bool (list_any (is_for arch number) j.rules)) [
+      | inl some ↦ rw some (is.chain number ((any_for number j.rules).0 some))
+      | inr none ↦ rw none (is.no_other number (λ some. true≢false (sym ((any_for number j.rules).1 some) ∙ none)))
     ]
 
     -- There is one policy.
     pub one_policy : (f g : Filter) → IsPolicyOf arch j f → IsPolicyOf arch j g → f ≡ g
     one_policy f g first second =
-        let chains : f.chains ≡ g.chains = same_chains f.chains g.chains first.ascending second.ascending (λ q. found_in f first q ∙ sym (found_in g second q)) in
+        let chains : f.chains ≡ g.chains =
+        same_chains f.chains g.chains first.ascending second.ascending (λ q. found_in (chain_for arch j.rules) f first q ∙ sym (found_in (chain_for arch j.rules) g second q)) in
         let mismatches : f.mismatch_action ≡ g.mismatch_action = first.mismatch_action ∙ sym second.mismatch_action in
         let matches : f.match_action ≡ g.match_action = first.match_action ∙ sym second.match_action in
         let archs : f.target_arch ≡ g.target_arch = first.target_arch ∙ sym second.target_arch in
@@ -166,22 +181,15 @@ module _ (arch : TargetArch) where
       | inr (fault, wrong) ↦ inr (fault, in_entries wrong)
       | inl fine ↦ elim (cases_Bool (action.ghosts.eq j.mismatch_action j.match_action)) [
         | inl is ↦ inr (refused IdenticalActions, in_actions fine ((action_decides j.mismatch_action j.match_action).0 is) refl)
-        | inr is ↦
-            let all = numbered (λ number. flat_map (rules_for arch number) j.rules) (numbers_of_entries j.rules) in
-            inl (
-              filter_of all.chains,
-              made all.chains
-                  (λ number. all.each number ∙ ap (λ b. cond b (Some (flat_map (rules_for arch number) j.rules)) None) (any_number number j.rules))
-                  all.ascending fine (λ same. true≢false (sym ((action_decides j.mismatch_action j.match_action).1 same) ∙ is)),
-            )
+        | inr is ↦ inl (some_made (chain_for arch j.rules) fine (λ same. true≢false (sym ((action_decides j.mismatch_action j.match_action).1 same) ∙ is)))
       ]
     ]
 
     -- A policy's numbers are those of a table.
     pub numbers_in_range : (f : Filter) → IsPolicyOf arch j f → All IsTableNumber (numbers_of f.chains)
     numbers_in_range f is = All-keys_from_lookup int_eq_equiv IsTableNumber f.chains (λ number there.
-        by_case number (list_any (is_for arch number) j.rules) refl (subst IsSome (found_in f is number) there))
+        by_case number (list_any (is_for arch number) j.rules) refl (subst IsSome (found_in (chain_for arch j.rules) f is number) there))
       where
-        by_case : (number : ℤ) (b : Bool) → list_any (is_for arch number) j.rules ≡ b → IsSome (cond b (Some (flat_map (rules_for arch number) j.rules)) None) → IsTableNumber number
-        by_case number true some there = let any = any_if number j.rules some in in_range number any.1 any.4
+        by_case : (number : ℤ) (b : Bool) → list_any (is_for arch number) j.rules ≡ b → IsSome (cond b (Some (chain_for arch j.rules number)) None) → IsTableNumber number
+        by_case number true some there = let any = (any_for number j.rules).0 some in in_range number any.1 any.4
         by_case number false none there = absurd (true≢false (sym there))

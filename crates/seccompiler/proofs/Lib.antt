@@ -38,6 +38,7 @@ pub mod JsonGathered
 pub mod JsonEntries
 pub mod NumberedChains
 pub mod JsonPolicies
+pub mod JsonWidened
 pub mod ByName
 pub mod TextFilters
 pub mod TextPolicies

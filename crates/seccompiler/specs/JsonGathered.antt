@@ -2,7 +2,8 @@
 use Rattle.std.specs.Prelude.{◌≡◌, ℤ, Bool, true, false, ◌||◌, List, [], ◌∷◌, ◌++◌, Option, Some, None, Vec, unwrap_or}
 use Rattle.std.specs.BTreeMap.{BTreeMap, IsOrdered}
 use Rattle.std.specs.BTreeSet.{contains}
-use Rattle.std.specs.List.{flat_map, list_any}
+use Rattle.std.specs.List.{filter, flat_map, list_any}
+use Rattle.std.specs.Option.{is_some}
 use Rattle.std.specs.Ordering.{int_cmp}
 use Rattle.std.specs.declared.alloc.Global.{Global}
 use Rattle.seccompiler.specs.declared.backend.TargetArch.{TargetArch}
@@ -33,13 +34,17 @@ pub record AreGathered (arch : TargetArch) (entries : List JsonRule) (gathered :
   pub always : (number : ℤ) → contains int_cmp gathered.always number ≡ list_any (is_always arch number) entries
   pub ordered : IsOrdered int_cmp gathered.rules
 
--- The chain of a number: the rules that were gathered under it; and the empty chain where there are none, and some entry
--- has the number and no conditions.
+-- The chain of a number: the empty one where some entry with this number has no conditions; else the rules that were
+-- gathered under it, if there are any.
 abbrev pub chain_of : Bool → Option Chain → Option Chain
-chain_of true found = Some (unwrap_or found [])
+chain_of true found = Some []
 chain_of false found = found
 
 -- The chains are those of what was gathered.
 pub record HasChains (gathered : Gathered) (chains : BTreeMap ℤ (Vec Rule Global)) : Type 0 where
   pub each : (number : ℤ) → chain_at (chains_of chains.entries) number ≡ chain_of (contains int_cmp gathered.always number) (rules_at gathered number)
   pub ordered : IsOrdered int_cmp gathered.rules → IsOrdered int_cmp chains
+
+-- The numbers that were gathered of both kinds of entries.
+abbrev pub numbers_of_both : Gathered → List ℤ
+numbers_of_both gathered = filter (λ number. is_some (rules_at gathered number)) gathered.always.keys

@@ -1,7 +1,7 @@
 -- Which filter is the policy of a JSON filter, and which fault is the first of one that has none.
 use Rattle.std.specs.Prelude.{◌≡◌, ◌≢◌, ◌≤◌, ◌<◌, ℤ, Bool, false, ◌&&◌, List, [], ◌∷◌, ◌++◌, Option, Some, None, All, Any, IfSome, map, if◌then◌else◌, Result, Ok, Err, string_bytes}
 use Rattle.std.specs.BTreeMap.{is_at}
-use Rattle.std.specs.List.{flat_map}
+use Rattle.std.specs.List.{flat_map, list_any}
 use Rattle.std.specs.List.Sorted.{IsStrictlySortedBy}
 use Rattle.std.specs.Map.{lookup}
 use Rattle.std.specs.Option.{is_none}
@@ -69,18 +69,42 @@ pub record IsFine (arch : TargetArch) (entry : JsonRule) : Type 0 where
   pub is_for : IsFor arch number entry
   pub conditions : IfSome entry.conditions AreFine
 
--- The filter is the policy of a JSON filter on an architecture. It has the JSON filter's actions, which differ. Nothing is
--- wrong with any entry. The numbers that have a chain are those of the entries' calls, and the chain of a number is the
--- list that has, in order, one rule for each entry with this number and with conditions: these conditions, in order.
-pub record IsPolicyOf (arch : TargetArch) (j : JsonFilter) (f : Filter) : Type 0 where
+-- The filter is made of a JSON filter on an architecture, with the chains that are meant for the numbers. It has the JSON
+-- filter's actions, which differ. Nothing is wrong with any entry. The numbers that have a chain are those of the entries'
+-- calls, and each has the chain that is meant for it.
+pub record IsMadeOf (chain_for : ℤ → Chain) (arch : TargetArch) (j : JsonFilter) (f : Filter) : Type 0 where
   pub mismatch_action : f.mismatch_action ≡ j.mismatch_action
   pub match_action : f.match_action ≡ j.match_action
   pub target_arch : f.target_arch ≡ arch
   pub different : j.mismatch_action ≢ j.match_action
   pub entries : All (IsFine arch) j.rules
-  pub chain : (number : ℤ) → Any (IsFor arch number) j.rules → chain_at f.chains number ≡ Some (flat_map (rules_for arch number) j.rules)
+  pub chain : (number : ℤ) → Any (IsFor arch number) j.rules → chain_at f.chains number ≡ Some (chain_for number)
   pub no_other : (number : ℤ) → (Any (IsFor arch number) j.rules → ⊥) → chain_at f.chains number ≡ None
   pub ascending : IsStrictlySortedBy int_cmp (numbers_of f.chains)
+
+-- The rules of a number: in order, one for each entry with this number and with conditions, which has these conditions, in
+-- order.
+abbrev pub all_rules : TargetArch → List JsonRule → ℤ → Chain
+all_rules arch entries number = flat_map (rules_for arch number) entries
+
+-- The chain of a number: the empty one where some entry with this number has no conditions, else the rules of the number.
+abbrev pub chain_for : TargetArch → List JsonRule → ℤ → Chain
+chain_for arch entries number = if list_any (is_always arch number) entries then [] else all_rules arch entries number
+
+-- The filter is the policy of a JSON filter on an architecture: each number of an entry has its chain, so that a call with
+-- an entry without conditions matches always, whatever other entries it has.
+abbrev pub IsPolicyOf : TargetArch → JsonFilter → Filter → Type 0
+IsPolicyOf arch j f = IsMadeOf (chain_for arch j.rules) arch j f
+
+-- The filter is what the Rust crate makes of the JSON filter. It differs in this alone: an entry without conditions adds
+-- nothing to its number, whose chain is all rules of its other entries.
+abbrev pub IsPolicyBefore : TargetArch → JsonFilter → Filter → Type 0
+IsPolicyBefore arch j f = IsMadeOf (all_rules arch j.rules) arch j f
+
+-- The number has both an entry without conditions and one with conditions.
+pub record IsWidened (arch : TargetArch) (j : JsonFilter) (number : ℤ) : Type 0 where
+  pub without : Any (λ entry. IsFor arch number entry × (entry.conditions ≡ None)) j.rules
+  pub with_conditions : Any (λ entry. IsFor arch number entry × (entry.conditions ≢ None)) j.rules
 
 -- The first thing that is wrong with a list of conditions: an index is above 5; else the list is empty.
 pub data IsFaultIn (conditions : List JsonCondition) (fault : Fault) : Type 0 where

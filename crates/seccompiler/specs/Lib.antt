@@ -20,6 +20,7 @@ pub mod Refusal
 pub mod JsonTypes
 pub mod JsonPolicyOf
 pub mod JsonGathered
+pub mod JsonWidened
 pub mod ByName
 pub mod Reads
 pub mod JsonAnswers

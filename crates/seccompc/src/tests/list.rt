@@ -1,6 +1,6 @@
 // Listings: their lines, their order, and the faults.
 
-use super::policies::{LOGS, READS, of_names};
+use super::policies::{LOGS, READS, READS_ALWAYS, of_names};
 use super::scripted::{FailingReader, FailingWriter};
 use crate::error::ToolError;
 use crate::list::list;
@@ -22,6 +22,10 @@ fn list_writes_the_name_and_the_instructions(rt: HostRuntime) -> Result<(), Fail
         (
             READS,
             "filter 12 a\n0020 00 00 00000004\n0015 01 00 c000003e\n0006 00 00 80000000\n0020 00 00 00000000\n0015 00 01 00000000\n0005 00 00 00000001\n0005 00 00 00000004\n0020 00 00 00000010\n0015 00 01 00000005\n0006 00 00 7fff0000\n0006 00 00 00030000\n0006 00 00 00030000\n",
+        ),
+        (
+            READS_ALWAYS,
+            "filter 10 a\n0020 00 00 00000004\n0015 01 00 c000003e\n0006 00 00 80000000\n0020 00 00 00000000\n0015 00 01 00000000\n0005 00 00 00000001\n0005 00 00 00000002\n0006 00 00 7fff0000\n0006 00 00 00030000\n0006 00 00 00030000\n",
         ),
         ("{}", ""),
     ] {

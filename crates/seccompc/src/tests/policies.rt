@@ -12,6 +12,10 @@ pub const LOGS: &str = r#"{"a": {"match_action": "allow", "mismatch_action":"log
 pub const READS: &str =
     r#"{"a":{"mismatch_action":"trap","match_action":"allow","filter":[{"syscall":"read","args":[{"index":0,"type":"dword","op":"eq","val":5}]}]}}"#;
 
+/// The policy of one filter, `a`, that has that entry of `read` and one without arguments.
+pub const READS_ALWAYS: &str =
+    r#"{"a":{"mismatch_action":"trap","match_action":"allow","filter":[{"syscall":"read"},{"syscall":"read","args":[{"index":0,"type":"dword","op":"eq","val":5}]}]}}"#;
+
 /// The policy of `examples/complex-policy.json`, without its comments.
 pub const COMPLEX: &str =
     r#"{"main_thread":{"mismatch_action":{"errno":1000},"match_action":"allow","filter":[

@@ -1,7 +1,9 @@
 // From JSON filters to filters.
 
-ghost use Rattle.std.specs.Prelude.{◌≡◌, ◌⊎◌, ℕ, List, All, IfSome, IfOk, IfErr};
+ghost use Rattle.std.specs.Prelude.{◌≡◌, ◌↔◌, ◌⊎◌, ℕ, ℤ, List, All, Contains, IfSome, IfOk, IfErr, OnOk};
 ghost use Rattle.std.specs.HashMap.{get_by_text};
+ghost use Rattle.std.specs.List.Sorted.{IsStrictlySortedBy};
+ghost use Rattle.std.specs.Ordering.{int_cmp};
 ghost use Rattle.serde_json.specs.Data.{Data};
 ghost use Rattle.seccompiler.specs.ByName.{under, AreInOrder};
 ghost use Rattle.seccompiler.specs.Errors.{IsNoMemoryInFrontend};
@@ -12,12 +14,13 @@ ghost use Rattle.seccompiler.specs.Policy.{Filter};
 ghost use Rattle.seccompiler.specs.Refusal.{numbers_of};
 ghost use Rattle.seccompiler.specs.SyscallTable.{IsTableNumber};
 ghost use Rattle.seccompiler.specs.JsonFault.{Fault};
-ghost use Rattle.seccompiler.specs.JsonPolicyOf.{IsFirstFault, IsPolicyOf, IsRefusalOf};
+ghost use Rattle.seccompiler.specs.JsonWidened.{DecideAlikeOff, KeepsMatches, MatchesOn};
+ghost use Rattle.seccompiler.specs.JsonPolicyOf.{IsFirstFault, IsPolicyBefore, IsPolicyOf, IsRefusalOf, IsWidened};
 
 use crate::backend::TargetArch;
 use crate::filter::SeccompFilter;
 use crate::json::error::JsonFrontendError;
-use crate::json::policy::seccomp_filter;
+use crate::json::policy::{seccomp_filter, widened_numbers};
 use crate::json::texts::filters_from;
 use crate::json::types::{JsonFilter, JsonFilterMap};
 use std::alloc::Global;
@@ -51,9 +54,13 @@ impl JsonCompiler {
 
     /// Makes the filter that a JSON filter stands for: its policy on this architecture.
     ///
-    /// Each entry's call number becomes a key of the filter's map. Each entry with conditions adds
-    /// one rule at the end of the chain of its call's number; an entry without conditions adds the
-    /// key alone. The filter has the JSON filter's actions.
+    /// Each entry's call number becomes a key of the filter's map. A call of which some entry has no
+    /// conditions matches always, whatever other entries it has: its chain is empty. The chain of
+    /// any other call has one rule for each of its entries, in order. The filter has the JSON
+    /// filter's actions.
+    ///
+    /// In the Rust crate an entry without conditions has no effect beside entries with conditions;
+    /// `widened` tells which calls that makes a difference for.
     ///
     /// # Errors
     ///
@@ -79,6 +86,31 @@ impl JsonCompiler {
         ensures one_of_both { ((f : Filter) × IsPolicyOf self.now filter.now f) ⊎ ((fault : Fault) × IsFirstFault self.now filter.now fault) }
     {
         seccomp_filter(alloc, self.arch, filter)
+    }
+
+    /// The numbers of the calls that have both an entry without conditions and one with conditions,
+    /// ascending, each once.
+    ///
+    /// These are the calls on which a filter that was written for the Rust crate may mean something
+    /// else here. On each of them it matches, whatever the arguments, where the Rust crate's filter
+    /// matches only if the conditions of some entry hold. On every other call both decide the same,
+    /// and what the Rust crate's filter matches is matched here too.
+    ///
+    /// # Errors
+    ///
+    /// Those of `make_seccomp_filter`, in the same order.
+    pub fn widened(&self, alloc: Global, filter: &JsonFilter) -> Result<Vec<i64>, JsonFrontendError>
+        ensures numbers { IfOk result (λ numbers. (number : ℤ) → Contains numbers.items number ↔ IsWidened self.now filter.now number) }
+        ensures ascending { IfOk result (λ numbers. IsStrictlySortedBy int_cmp numbers.items) }
+        ensures policies { OnOk result (((before : Filter) × IsPolicyBefore self.now filter.now before) × ((now : Filter) × IsPolicyOf self.now filter.now now)) }
+        ensures refusal { IfErr result (IsRefusalOf self.now filter.now) }
+
+        // What the list says of every call record, by the Rust crate's policy and by this one.
+        ensures same_elsewhere { IfOk result (λ numbers. DecideAlikeOff numbers.items self.now filter.now) }
+        ensures matches_there { IfOk result (λ numbers. MatchesOn numbers.items self.now filter.now) }
+        ensures keeps_matches { KeepsMatches self.now filter.now }
+    {
+        widened_numbers(alloc, self.arch, filter)
     }
 
     // The filters of JSON filters, in byte order of their names.

@@ -1,15 +1,16 @@
 // From JSON filters to filters.
 
-ghost use Rattle.std.specs.Prelude.{◌≡◌, ℤ, [], ◌∷◌, Some, None, All, IfOk, IfErr, OnOk, map, if◌then◌else◌};
+ghost use Rattle.std.specs.Prelude.{◌≡◌, ◌≢◌, ◌↔◌, ℤ, [], ◌∷◌, Some, None, All, Contains, IfOk, IfErr, OnOk, map, if◌then◌else◌};
 ghost use Rattle.std.specs.BTreeMap.{IsOrdered};
+ghost use Rattle.std.specs.List.Sorted.{IsStrictlySortedBy};
 ghost use Rattle.std.specs.Ordering.{int_cmp, int_eq};
 ghost use Rattle.seccompiler.specs.Policy.{chains_of};
 ghost use Rattle.seccompiler.specs.SyscallTable.{number_of, table_of};
 ghost use Rattle.seccompiler.specs.JsonFault.{unknown_call};
-ghost use Rattle.seccompiler.specs.JsonGathered.{added, AreGathered, HasAdded, HasChains};
-ghost use Rattle.seccompiler.specs.JsonPolicyOf.{chain_at, condition_of, AreFine, IsConditionOf, IsFaultIn, IsFaultOf, IsFine, IsFirstOf, IsPolicyOf, IsRefusalOf, Tells};
+ghost use Rattle.seccompiler.specs.JsonGathered.{added, AreGathered, HasAdded, HasChains, numbers_of_both};
+ghost use Rattle.seccompiler.specs.JsonPolicyOf.{chain_at, condition_of, AreFine, IsConditionOf, IsFaultIn, IsFaultOf, IsFine, IsFirstOf, IsPolicyOf, IsRefusalOf, IsWidened, Tells};
 
-use crate::backend::TargetArch;
+use crate::backend::{BackendError, TargetArch};
 use crate::condition::SeccompCondition;
 use crate::filter::SeccompFilter;
 use crate::json::error::JsonFrontendError;
@@ -143,8 +144,8 @@ fn gather(
     Ok(gathered)
 }
 
-// The chain of each number: the rules that were gathered under it, if there are any; and the empty
-// chain where there is only an entry without conditions.
+// The chain of each number: the empty one where some entry has the number and no conditions, else the
+// rules that were gathered under it.
 fn chains_of_numbers(
     alloc: Global,
     gathered: Gathered,
@@ -153,9 +154,23 @@ fn chains_of_numbers(
 {
     let Gathered { mut rules, always } = gathered;
     for number in &always {
-        rules.entry(*number)?.or_insert(Vec::new(alloc));
+        drop(rules.insert(*number, Vec::new(alloc))?);
     }
     Ok(rules)
+}
+
+// The numbers under which rules were gathered, of those that match always.
+fn both_kinds(alloc: Global, gathered: &Gathered) -> Result<Vec<i64>, AllocError>
+    ensures numbers { IfOk result (λ numbers. numbers.items ≡ numbers_of_both gathered.now) }
+    ensures ascending { IfOk result (λ numbers. IsStrictlySortedBy int_cmp numbers.items) }
+{
+    let mut numbers = Vec::new(alloc);
+    for number in &gathered.always {
+        if gathered.rules.contains_key(number) {
+            numbers.push(*number)?;
+        }
+    }
+    Ok(numbers)
 }
 
 /// The filter of a JSON filter on an architecture.
@@ -170,4 +185,22 @@ pub fn seccomp_filter(
     let gathered = gather(alloc, arch, filter.rules.as_slice())?;
     let chains = chains_of_numbers(alloc, gathered)?;
     Ok(SeccompFilter::new(chains, filter.mismatch_action, filter.match_action, arch)?)
+}
+
+/// The numbers that have both an entry without conditions and one with conditions, ascending.
+pub fn widened_numbers(
+    alloc: Global,
+    arch: TargetArch,
+    filter: &JsonFilter,
+) -> Result<Vec<i64>, JsonFrontendError>
+    ensures numbers { IfOk result (λ numbers. (number : ℤ) → Contains numbers.items number ↔ IsWidened arch filter.now number) }
+    ensures ascending { IfOk result (λ numbers. IsStrictlySortedBy int_cmp numbers.items) }
+    ensures faultless { OnOk result (All (IsFine arch) filter.now.rules × (filter.now.mismatch_action ≢ filter.now.match_action)) }
+    ensures refused { IfErr result (IsRefusalOf arch filter.now) }
+{
+    let gathered = gather(alloc, arch, filter.rules.as_slice())?;
+    if filter.mismatch_action == filter.match_action {
+        return Err(JsonFrontendError::Backend(BackendError::IdenticalActions));
+    }
+    Ok(both_kinds(alloc, &gathered)?)
 }

@@ -1,0 +1,34 @@
+use Rattle.std.proofs.Common.{rules, ◌≡◌, ◌↔◌, ℤ, Vec, Global, Contains}
+use Rattle.std.proofs.lemmas.Result.{IfOk-weaker, on_ok_weaker}
+use Rattle.seccompiler.specs.JsonPolicyOf.{IsWidened}
+use Rattle.seccompiler.specs.JsonWidened.{DecideAlikeOff, MatchesOn}
+use Rattle.seccompiler.proofs.JsonPolicies.{both_made}
+use Rattle.seccompiler.proofs.JsonWidened.{alike_off, matches_on, keeps_matches}
+use Rattle.seccompiler.proofs.json.compiler.JsonCompiler.widened.Goals as goal
+
+pub returns-clause-numbers : goal.returns-clause-numbers
+returns-clause-numbers c = let same : c.args.self.now ≡ c.self.inside.arch = search rules in rw same c.widened_numbers.ensures.numbers
+
+pub returns-clause-policies : goal.returns-clause-policies
+returns-clause-policies c =
+    let same : c.args.self.now ≡ c.self.inside.arch = search rules in
+    rw same (on_ok_weaker c.widened_numbers.result (both_made c.self.inside.arch c.args.filter.now) c.widened_numbers.ensures.faultless)
+
+pub returns-clause-same_elsewhere : goal.returns-clause-same_elsewhere
+returns-clause-same_elsewhere c =
+    let same : c.args.self.now ≡ c.self.inside.arch = search rules in
+    let arch = c.self.inside.arch in
+    let j = c.args.filter.now in
+    rw same (IfOk-weaker c.widened_numbers.result (λ (numbers : Vec ℤ Global). (number : ℤ) → Contains numbers.items number ↔ IsWidened arch j number)
+    (λ numbers. DecideAlikeOff numbers.items arch j) (λ numbers. alike_off arch j numbers.items) c.widened_numbers.ensures.numbers)
+
+pub returns-clause-matches_there : goal.returns-clause-matches_there
+returns-clause-matches_there c =
+    let same : c.args.self.now ≡ c.self.inside.arch = search rules in
+    let arch = c.self.inside.arch in
+    let j = c.args.filter.now in
+    rw same (IfOk-weaker c.widened_numbers.result (λ (numbers : Vec ℤ Global). (number : ℤ) → Contains numbers.items number ↔ IsWidened arch j number)
+    (λ numbers. MatchesOn numbers.items arch j) (λ numbers. matches_on arch j numbers.items) c.widened_numbers.ensures.numbers)
+
+pub returns-clause-keeps_matches : goal.returns-clause-keeps_matches
+returns-clause-keeps_matches c = keeps_matches c.args.self.now c.args.filter.now

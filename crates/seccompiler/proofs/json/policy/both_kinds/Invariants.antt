@@ -1,0 +1,9 @@
+use Rattle.std.proofs.Common.{◌≡◌, ◌++◌, ℤ, List}
+use Rattle.std.specs.List.{filter}
+use Rattle.std.specs.Option.{is_some}
+use Rattle.seccompiler.specs.JsonGathered.{rules_at}
+use Rattle.seccompiler.proofs.json.policy.both_kinds.Given as goal
+
+abbrev pub invariant-loop-number : goal.invariant-loop-number
+invariant-loop-number l =
+    (done : List ℤ) × (l.gathered.always.keys ≡ done ++ l.number-iterator) × (l.numbers.items ≡ filter (λ number. is_some (rules_at l.gathered number)) done)

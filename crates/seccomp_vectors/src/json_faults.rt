@@ -205,3 +205,13 @@ fn the_least_filter_too_large_is_told(rt: HostRuntime) -> Result<(), Fail> {
     assert!(rt; told, "compile_from_json does not tell 4102 instructions");
     Ok(())
 }
+
+#[test]
+fn a_filter_of_one_instruction_too_many(rt: HostRuntime) -> Result<(), Fail> {
+    let alloc = rt.alloc();
+    let entries = repeated(alloc, COMPARES, 818)?;
+    let text = policy(alloc, entries.as_str())?;
+    let told = compile_from_json_tells(alloc, text.as_bytes(), Fault::FilterTooLarge(4097));
+    assert!(rt; told, "compile_from_json does not tell 4097 instructions");
+    Ok(())
+}

@@ -1,9 +1,9 @@
 // How long a program may be, and which numbers a call may have.
 
-use crate::builders::{ALLOW, Parts, TRAP, assert_answers, call, long_rule, one_chain, rule};
+use crate::builders::{ALLOW, Parts, TRAP, assert_answers, assert_word, call, one_chain, rule};
 use seccompiler::backend::BackendError::{FilterTooLarge, InvalidSyscallNumber};
 use seccompiler::backend::SeccompAction::{Allow, Trap};
-use seccompiler::backend::SeccompCmpArgLen::{Dword, Qword};
+use seccompiler::backend::SeccompCmpArgLen::Dword;
 use seccompiler::backend::SeccompCmpOp::{Eq, Le, MaskedEq};
 use seccompiler::backend::TargetArch;
 use seccompiler::filter::SeccompFilter;
@@ -45,22 +45,48 @@ fn the_longest_program_of_empty_chains(rt: HostRuntime) -> Result<(), Fail> {
 }
 
 #[test]
-fn too_large(rt: HostRuntime) -> Result<(), Fail> {
+fn the_longest_program_of_rules(rt: HostRuntime) -> Result<(), Fail> {
     let alloc = rt.alloc();
     let equal = (0, Dword, Eq, 1);
     let masked = (0, Dword, MaskedEq(1), 1);
-    let at_most = (0, Dword, Le, 1);
-    let many = single_conditions(alloc, &[(813, equal), (4, masked)])?;
-    let more = single_conditions(alloc, &[(999, at_most)])?;
-    let long = long_rule(alloc, &[(673, (0, Qword, MaskedEq(0), 0))])?;
-    for (name, rules, length) in [
-        ("817 rules", many, 4096),
-        ("999 rules", more, 5002),
-        ("673 conditions", vec![in alloc; long]?, 4096),
+    let rules = single_conditions(alloc, &[(813, equal), (4, masked)])?;
+    let filter = one_chain(alloc, 7, rules)?;
+    let program = filter.to_bpf(alloc)?;
+    assert!(rt;
+        program.len() == 4096,
+        "817 rules are not 4096 instructions"
+    );
+    for (call, word) in [
+        (call(7, [1, 0, 0, 0, 0, 0]), ALLOW),
+        (call(7, [2, 0, 0, 0, 0, 0]), TRAP),
+        (call(8, [1, 0, 0, 0, 0, 0]), TRAP),
     ] {
-        let filter = one_chain(alloc, 7, rules)?;
-        assert_eq!(rt; filter.program_len(), length, "the length of {name}");
-        assert_eq!(rt; filter.to_bpf(alloc), Err(FilterTooLarge(length)), "{name}");
+        assert_word(&rt, "817 rules", &filter, &program, &call, word);
+    }
+    Ok(())
+}
+
+// A call number, how many rules of this one condition it has, and the length that is refused.
+const TOO_LARGE: [(i64, usize, Parts, usize); 2] = [
+    (1, 818, (0, Dword, Eq, 1), 4097),
+    (7, 999, (0, Dword, Le, 1), 5002),
+];
+
+#[test]
+fn too_large(rt: HostRuntime) -> Result<(), Fail> {
+    let alloc = rt.alloc();
+    for (number, count, parts, length) in &TOO_LARGE {
+        let rules = single_conditions(alloc, &[(*count, *parts)])?;
+        let filter = one_chain(alloc, *number, rules)?;
+        assert!(rt;
+            filter.program_len() == *length,
+            "the length of {count} rules"
+        );
+        let refused = filter.to_bpf(alloc) == Err(FilterTooLarge(*length));
+        assert!(rt;
+            refused,
+            "{count} rules are not refused as {length} instructions"
+        );
     }
     Ok(())
 }

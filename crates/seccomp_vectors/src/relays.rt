@@ -145,6 +145,13 @@ fn long_rules_on_one_call(rt: HostRuntime) -> Result<(), Fail> {
             &[][..],
         ),
         (
+            "673 masked conditions",
+            &[(673, MASKED)][..],
+            16,
+            4088,
+            &[(call(7, [0; 6]), ALLOW, 4060), (call(8, [0; 6]), TRAP, 22)][..],
+        ),
+        (
             "672 masked conditions and one more",
             &[(672, MASKED), (1, AT_LEAST)][..],
             16,

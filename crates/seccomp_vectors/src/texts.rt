@@ -35,8 +35,8 @@ fn errors_of_the_backend(rt: HostRuntime) -> Result<(), Fail> {
             "The condition vector of a rule cannot be empty.",
         ),
         (
-            BackendError::FilterTooLarge(4096),
-            "The seccomp filter contains too many BPF instructions: 4096. Max length is 4096.",
+            BackendError::FilterTooLarge(4097),
+            "The seccomp filter contains too many BPF instructions: 4097. Max length is 4096.",
         ),
         (
             BackendError::IdenticalActions,

@@ -25,8 +25,9 @@ abbrev mutual
 abbrev pub HasColons : List ℕ → ℕ → Type 0
 HasColons text count = (pieces : List Piece) × (ending : Ending) × IsCut text pieces ending × (count ≡ count_by is_colon pieces)
 
--- The text has more colons than the value has names.
+-- The text, cut into pieces, has more pieces that are a colon than the value has names.
 pub record Repeats (text : List ℕ) (value : Data) : Type 0 where
-  pub count : ℕ
-  pub colons : HasColons text count
-  pub more : names_in value < count
+  pub pieces : List Piece
+  pub ending : Ending
+  pub cut : IsCut text pieces ending
+  pub more : names_in value < count_by is_colon pieces

@@ -1,7 +1,6 @@
 use Rattle.std.proofs.Common.{ℕ, List, rules}
-use Rattle.std.proofs.lemmas.Result.{IfOk-weaker, IfErr-weaker}
-use Rattle.seccompiler.specs.JsonAnswers.{OfValue, TellsFrontendFault}
-use Rattle.seccompiler.specs.JsonFilters.{AreFilters}
+use Rattle.std.proofs.lemmas.Result.{IfErr-weaker}
+use Rattle.seccompiler.specs.JsonAnswers.{TellsFrontendFault}
 use Rattle.seccompiler.specs.Reads.{Reads}
 use Rattle.seccompiler.specs.declared.backend.TargetArch.{TargetArch}
 use Rattle.seccompiler.specs.declared.json.error.JsonFrontendError.{JsonFrontendError}
@@ -11,11 +10,6 @@ use Rattle.seccompiler.proofs.json.texts.filters_from.Goals as goal
 -- An error that tells a fault of whichever architecture.
 abbrev Tells : JsonFrontendError → List ℕ → Type 0
 Tells e text = (arch : TargetArch) → TellsFrontendFault arch text e
-
-pub returns-in-Ok-clause-filters : goal.returns-in-Ok-clause-filters
-returns-in-Ok-clause-filters g c =
-    let text = c.as_slice.result.now in
-    IfOk-weaker c.filters_of.result (λ filters. OfValue text (λ d. AreFilters d filters)) (λ filters. Reads (g.R.Read.remaining c.args.reader) (λ t. OfValue t (λ d. AreFilters d filters))) (λ filters h. (text, search rules, h)) c.filters_of.ensures.filters
 
 pub returns-in-Ok-clause-fault : goal.returns-in-Ok-clause-fault
 returns-in-Ok-clause-fault g c =

@@ -23,6 +23,7 @@ pub mod CallNumbers
 pub mod Chains
 pub mod Searches
 pub mod FilterEquality
+pub mod LowHalves
 pub mod Reordering
 pub mod TableNames
 pub mod TableFacts

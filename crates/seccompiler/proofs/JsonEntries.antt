@@ -15,13 +15,9 @@ use Rattle.seccompiler.proofs.JsonRules.{fine_or_fault_in, not_both_in, one_faul
 -- An error that tells a fault tells one of which more is known.
 pub tells_more : (P Q : Fault → Type 0) → ((fault : Fault) → P fault → Q fault) → (error : JsonFrontendError) → Tells P error → Tells Q error
 tells_more P Q more (e.Backend cause) told = (more _ told.0, told.1)
-tells_more P Q more (e.SerdeJson cause) told = told
 tells_more P Q more (e.SyscallName name arch) told = more _ told
-tells_more P Q more (e.Read cause) told = told
-tells_more P Q more e.RepeatedKey told = told
-tells_more P Q more e.NotAnObject told = told
-tells_more P Q more (e.Shape name) told = told
 tells_more P Q more e.OutOfMemory told = told
+tells_more P Q more _ told = told
 
 module _ (arch : TargetArch) where
   -- An entry with a known call and these conditions is fine or has its first fault there.

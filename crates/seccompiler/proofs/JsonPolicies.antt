@@ -1,10 +1,10 @@
 -- A JSON filter has one policy or one first fault.
 use Rattle.std.proofs.Common.{◌≡◌, ◌≢◌, ℤ, List, [], ◌∷◌, ◌++◌, Bool, true, false, ◌||◌, ◌&&◌, cond, Option, Some, None, IsSome, All, Any, refl, sym, ap, ◌∙◌, subst, ◌⊎◌, inl, inr, rules, Decides}
 use Rattle.std.specs.BTreeMap.{BTreeMap}
-use Rattle.std.specs.List.{flat_map, list_any}
+use Rattle.std.specs.List.{list_any}
 use Rattle.std.specs.List.Sorted.{IsStrictlySortedBy}
-use Rattle.std.specs.Option.{is_none, option_to_list}
-use Rattle.std.specs.Ordering.{int_cmp, int_eq}
+use Rattle.std.specs.Option.{is_none}
+use Rattle.std.specs.Ordering.{int_cmp}
 use Rattle.std.specs.Prelude.{Vec}
 use Rattle.std.specs.declared.alloc.Global.{Global}
 use Rattle.std.proofs.lemmas.Bool.{true≢false, false_from_ne_true, cases_Bool}
@@ -53,18 +53,6 @@ module _ (arch : TargetArch) where
   any_for : (number : ℤ) (entries : List JsonRule) → Decides (list_any (is_for arch number) entries) (Any (IsFor arch number) entries)
   any_for number = any_decides (is_for arch number) (IsFor arch number) (for_decides number)
 
-  -- The numbers of the entries' calls.
-  abbrev numbers_of_entries : List JsonRule → List ℤ
-  numbers_of_entries entries = flat_map (λ (entry : JsonRule). option_to_list (number_of (table_of arch) entry.syscall)) entries
-
-  any_number : (number : ℤ) (entries : List JsonRule) → list_any (int_eq number) (numbers_of_entries entries) ≡ list_any (is_for arch number) entries
-  any_number number [] = refl
-  any_number number (entry ∷ entries) =
-      elim (number_of (table_of arch) entry.syscall) as (λ o. list_any (int_eq number) (option_to_list o ++ numbers_of_entries entries) ≡ (is_number number o || list_any (is_for arch number) entries)) [
-        | None ↦ any_number number entries
-        | Some other ↦ ap (λ b. int_eq number other || b) (any_number number entries)
-      ]
-
   -- Whether there are rules.
   abbrev pub some_rules : List Rule → Bool
   some_rules [] = false
@@ -92,17 +80,20 @@ module _ (arch : TargetArch) where
       let named = number_of-all IsTableNumber (table_of arch) entry.syscall facts.in_range in
       rw is at named
 
+  any_in_range : (number : ℤ) (entries : List JsonRule) → list_any (is_for arch number) entries ≡ true → IsTableNumber number
+  any_in_range number entries some = let any = (any_for number entries).0 some in in_range number any.1 any.4
+
   module _ (j : JsonFilter) where
     -- The filter of some chains.
     abbrev filter_of : List (ℤ × Chain) → Filter
     filter_of chains = record { chains = chains; mismatch_action = j.mismatch_action; match_action = j.match_action; target_arch = arch }
 
     -- What each number has, where these chains are meant for the numbers.
-    abbrev meant : (ℤ → Chain) → ℤ → Option Chain
-    meant chains number = cond (list_any (is_for arch number) j.rules) (Some (chains number)) None
+    abbrev at_number : (ℤ → Chain) → ℤ → Option Chain
+    at_number meant number = cond (list_any (is_for arch number) j.rules) (Some (meant number)) None
 
     -- What was gathered of the entries gives the policy's chains.
-    gathered_chain : (number : ℤ) → chain_of (list_any (is_always arch number) j.rules) (added (all_rules arch j.rules number) None) ≡ meant (chain_for arch j.rules) number
+    gathered_chain : (number : ℤ) → chain_of (list_any (is_always arch number) j.rules) (added (all_rules arch j.rules number) None) ≡ at_number (chain_for arch j.rules) number
     gathered_chain number =
         by_case (list_any (is_always arch number) j.rules) (all_rules arch j.rules number)
         ∙ ap (λ b. cond b (Some (chain_for arch j.rules number)) None) (sym (for_either number j.rules))
@@ -113,24 +104,24 @@ module _ (arch : TargetArch) where
         by_case false (rule ∷ rules) = refl
 
     -- Chains that have under each number what is meant for it, in ascending order, make the filter.
-    made : (chain_for : ℤ → Chain) (chains : List (ℤ × Chain)) → ((number : ℤ) → chain_at chains number ≡ meant chain_for number) → IsStrictlySortedBy int_cmp (numbers_of chains)
-        → All (IsFine arch) j.rules → j.mismatch_action ≢ j.match_action → IsMadeOf chain_for arch j (filter_of chains)
-    made chain_for chains each ascending fine apart = record {
+    made : (meant : ℤ → Chain) (chains : List (ℤ × Chain)) → ((number : ℤ) → chain_at chains number ≡ at_number meant number) → IsStrictlySortedBy int_cmp (numbers_of chains)
+        → All (IsFine arch) j.rules → j.mismatch_action ≢ j.match_action → IsMadeOf meant arch j (filter_of chains)
+    made meant chains each ascending fine apart = record {
       mismatch_action = refl;
       match_action = refl;
       target_arch = refl;
       different = apart;
       entries = fine;
-      chain = λ number some. each number ∙ ap (λ b. cond b (Some (chain_for number)) None) ((any_for number j.rules).1 some);
-      no_other = λ number none. each number ∙ ap (λ b. cond b (Some (chain_for number)) None) (false_from_ne_true (list_any (is_for arch number) j.rules) (λ t. none ((any_for number j.rules).0 t)));
+      chain = λ number some. each number ∙ ap (λ b. cond b (Some (meant number)) None) ((any_for number j.rules).1 some);
+      no_other = λ number none. each number ∙ ap (λ b. cond b (Some (meant number)) None) (false_from_ne_true (list_any (is_for arch number) j.rules) (λ t. none ((any_for number j.rules).0 t)));
       ascending = ascending;
     }
 
     -- There is such a filter, whatever is meant.
-    pub some_made : (chain_for : ℤ → Chain) → All (IsFine arch) j.rules → j.mismatch_action ≢ j.match_action → (f : Filter) × IsMadeOf chain_for arch j f
-    some_made chain_for fine apart =
-        let all = numbered chain_for (numbers_of_entries j.rules) in
-        (filter_of all.chains, made chain_for all.chains (λ number. all.each number ∙ ap (λ b. cond b (Some (chain_for number)) None) (any_number number j.rules)) all.ascending fine apart)
+    pub some_made : (meant : ℤ → Chain) → All (IsFine arch) j.rules → j.mismatch_action ≢ j.match_action → (f : Filter) × IsMadeOf meant arch j f
+    some_made meant fine apart =
+        let all = numbered (λ number. list_any (is_for arch number) j.rules) meant (λ number. any_in_range number j.rules) in
+        (filter_of all.chains, made meant all.chains all.each all.ascending fine apart)
 
     -- There are both policies.
     pub both_made : All (IsFine arch) j.rules × (j.mismatch_action ≢ j.match_action) → ((before : Filter) × IsPolicyBefore arch j before) × ((now : Filter) × IsPolicyOf arch j now)
@@ -147,8 +138,8 @@ module _ (arch : TargetArch) where
         (subst (All (IsFine arch)) these fine) apart
 
     -- What each number has in such a filter.
-    pub found_in : (chain_for : ℤ → Chain) (f : Filter) → IsMadeOf chain_for arch j f → (number : ℤ) → chain_at f.chains number ≡ meant chain_for number
-    found_in chain_for f is number = elim (cases_Bool (list_any (is_for arch number) j.rules)) [
+    pub found_in : (meant : ℤ → Chain) (f : Filter) → IsMadeOf meant arch j f → (number : ℤ) → chain_at f.chains number ≡ at_number meant number
+    found_in meant f is number = elim (cases_Bool (list_any (is_for arch number) j.rules)) [
       | inl some ↦ rw some (is.chain number ((any_for number j.rules).0 some))
       | inr none ↦ rw none (is.no_other number (λ some. true≢false (sym ((any_for number j.rules).1 some) ∙ none)))
     ]
@@ -191,5 +182,5 @@ module _ (arch : TargetArch) where
         by_case number (list_any (is_for arch number) j.rules) refl (subst IsSome (found_in (chain_for arch j.rules) f is number) there))
       where
         by_case : (number : ℤ) (b : Bool) → list_any (is_for arch number) j.rules ≡ b → IsSome (cond b (Some (chain_for arch j.rules number)) None) → IsTableNumber number
-        by_case number true some there = let any = (any_for number j.rules).0 some in in_range number any.1 any.4
+        by_case number true some there = any_in_range number j.rules some
         by_case number false none there = absurd (true≢false (sym there))

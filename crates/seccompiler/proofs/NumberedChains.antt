@@ -1,144 +1,122 @@
--- Chains under ascending numbers: there are some for any numbers, and what is found under each tells them.
-use Rattle.std.proofs.Common.{◌≡◌, ℤ, List, [], ◌∷◌, Bool, true, false, ◌||◌, cond, Option, Some, None, Ordering, Less, Equal, Greater, is_eq, refl, sym, ap, ◌∙◌}
-use Rattle.std.specs.List.{AllByRecursion, list_any}
+-- Chains under ascending numbers: there are some for any table numbers, and what is found under each tells them.
+use Rattle.std.proofs.Common.{◌≡◌, ℕ, ◌+◌, ◌<◌, ℤ, pos, negsuc, List, [], ◌∷◌, Bool, true, false, ◌||◌, ◌&&◌, cond, Some, None, Ordering, Less, Equal, Greater, ◌<ℤ◌, map, length, get_or, refl, sym, ap, subst, ◌∙◌, inl, inr, arith}
+use Rattle.std.specs.List.{filter, list_any, range_with_len}
 use Rattle.std.specs.List.Sorted.{IsStrictlySortedBy}
 use Rattle.std.specs.Map.{keys_of}
-use Rattle.std.specs.Ordering.{int_cmp, int_eq, match_ordering, ordering_reverse}
-use Rattle.std.specs.BTreeMap.{insert_entry}
+use Rattle.std.specs.Ordering.{int_cmp, int_eq, ordering_reverse, MatchOrdering}
+use Rattle.std.specs.BTreeMap.{is_at}
+use Rattle.std.proofs.lemmas.Bool.{cases_Bool}
 use Rattle.std.proofs.lemmas.Bool.Decides.{Decides-int_eq}
-use Rattle.std.proofs.lemmas.Cmp.{int_cmp_total, tied_itself}
-use Rattle.std.proofs.lemmas.List.Elements.{All-from_recursion, recursion_from_All}
+use Rattle.std.proofs.lemmas.Cmp.{int_cmp_total, int_eq_equiv, int_ranked}
+use Rattle.std.proofs.lemmas.Int.{ints}
+use Rattle.std.proofs.lemmas.List.{get_or-map, length-map}
+use Rattle.std.proofs.lemmas.List.FromFn.{length-range_with_len, get_or-range_with_len}
+use Rattle.std.proofs.lemmas.List.Folds.{list_any_at}
+use Rattle.std.proofs.lemmas.List.Kept.{IsStrictlySortedBy-filter}
+use Rattle.std.proofs.lemmas.Map.{lookup-none}
+use Rattle.std.proofs.lemmas.Map.Entries.{lookup_head, lookup_tail, none_past_head, none_below_head}
+use Rattle.std.proofs.lemmas.Map.Keys.{IsDistinct-from_sorted, sorted_from_all_adjacent, sorted_tail}
 use Rattle.std.proofs.lemmas.Map.Lookups.{exact_signed}
-use Rattle.std.proofs.lemmas.Map.Views.{All-keys-insert_entry}
+use Rattle.std.proofs.lemmas.Map.Made.{is_member-filter}
 use Rattle.seccompiler.specs.Policy.{Chain}
 use Rattle.seccompiler.specs.JsonPolicyOf.{chain_at}
+use Rattle.seccompiler.specs.SyscallTable.{IsTableNumber}
 
--- A test of numbers tells whether they are equal.
-same_number : (q k : ℤ) → is_eq (int_cmp q k) ≡ true → q ≡ k
-same_number q k h = (Decides-int_eq q k).0 h
+-- Chains that are made of numbers: each number has its own, and no other has one.
+found_made : (meant : ℤ → Chain) (q : ℤ) (numbers : List ℤ) → chain_at (map (λ n. (n, meant n)) numbers) q ≡ cond (list_any (int_eq q) numbers) (Some (meant q)) None
+found_made meant q [] = refl
+found_made meant q (k ∷ numbers) = ap (cond (int_eq q k) (Some (meant k))) (found_made meant q numbers) ∙ either (int_eq q k) refl
+  where
+    either : (b : Bool) → int_eq q k ≡ b → cond b (Some (meant k)) (cond (list_any (int_eq q) numbers) (Some (meant q)) None) ≡ cond (b || list_any (int_eq q) numbers) (Some (meant q)) None
+    either true is = ap (λ n. Some (meant n)) (sym ((Decides-int_eq q k).0 is))
+    either false is = refl
 
--- The same look-up made twice at one number is made once.
-twice : {X : Type 0} (b : Bool) (v w : X) (rest : Option X) → cond b (Some v) rest ≡ cond b (Some v) (cond b (Some w) rest)
-twice true v w rest = refl
-twice false v w rest = refl
+-- The numbers that a table may have, in ascending order.
+abbrev table_numbers : List ℤ
+table_numbers = map pos (range_with_len 0 463)
 
--- Look-ups at two numbers can change places, where not both are met.
-swapped : {X : Type 0} (a c : Bool) (v w : X) (rest : Option X) → (a ≡ true → c ≡ true → ⊥) → cond a (Some w) (cond c (Some v) rest) ≡ cond c (Some v) (cond a (Some w) rest)
-swapped true true v w rest apart = absurd (apart refl refl)
-swapped true false v w rest apart = refl
-swapped false c v w rest apart = refl
+number_at : (k : ℕ) (d : ℤ) → k < 463 → get_or table_numbers k d ≡ pos k
+number_at k d within =
+    let inside : k < length (range_with_len 0 463) = rw (length-range_with_len 0 463) within in
+    let none : 0 + k ≡ k = omega arith in
+    get_or-map pos (range_with_len 0 463) k 0 d inside ∙ ap pos (get_or-range_with_len 0 463 k 0 within ∙ none)
 
-put_found : (o : Ordering) (q k : ℤ) (v : Chain) (e : ℤ × Chain) (chains behind : List (ℤ × Chain)) → int_cmp k e.0 ≡ o
-    → chain_at behind q ≡ cond (is_eq (int_cmp q k)) (Some v) (chain_at chains q)
-    → chain_at (match_ordering o ((k, v) ∷ e ∷ chains) ((e.0, v) ∷ chains) (e ∷ behind)) q ≡ cond (is_eq (int_cmp q k)) (Some v) (chain_at (e ∷ chains) q)
-put_found Less q k v e chains behind is later = refl
-put_found Equal q k v e chains behind is later =
-    let same : k ≡ e.0 = exact_signed k e.0 is in
-    rw same (twice (is_eq (int_cmp q e.0)) v e.1 (chain_at chains q))
-put_found Greater q k v e chains behind is later =
-    rw later (swapped (is_eq (int_cmp q e.0)) (is_eq (int_cmp q k)) v e.1 (chain_at chains q)
-    (λ at_e at_k. let tied : int_cmp k e.0 ≡ Equal = ap (λ n. int_cmp n e.0) (sym (same_number q k at_k) ∙ same_number q e.0 at_e) ∙ tied_itself int_cmp_total e.0 in let h = sym is ∙ tied in cc))
+before_next : (k : ℕ) → int_cmp (pos k) (pos (k + 1)) ≡ Less
+before_next k = ranked (int_cmp (pos k) (pos (k + 1))) (int_ranked (pos k) (pos (k + 1)) _ refl)
+  where
+    ranked : (o : Ordering) → MatchOrdering o (pos k <ℤ pos (k + 1)) (pos k ≡ pos (k + 1)) (pos (k + 1) <ℤ pos k) → o ≡ Less
+    ranked Less h = refl
+    ranked Equal h = absurd (omega (arith, ints))
+    ranked Greater h = absurd (omega (arith, ints))
 
--- After a chain was put under a number, that number has it, and every other number has what it had.
-found_after : (chains : List (ℤ × Chain)) (q k : ℤ) (v : Chain) → chain_at (insert_entry int_cmp chains k v) q ≡ cond (is_eq (int_cmp q k)) (Some v) (chain_at chains q)
-found_after [] q k v = refl
-found_after (e ∷ chains) q k v = put_found (int_cmp k e.0) q k v e chains (insert_entry int_cmp chains k v) refl (found_after chains q k v)
+length_table : length table_numbers ≡ 463
+length_table = length-map (range_with_len 0 463) pos ∙ length-range_with_len 0 463
 
--- All these numbers are above one.
-abbrev AreAbove : ℤ → List ℤ → Type 0
-AreAbove number numbers = AllByRecursion (λ y. int_cmp number y ≡ Less) numbers
+table_ascends : IsStrictlySortedBy int_cmp table_numbers
+table_ascends = sorted_from_all_adjacent int_cmp_total table_numbers (pos 0)
+    (λ k within. let inside : k + 1 < 463 = rw (sym length_table) within in let too : k < 463 = omega arith in rw (number_at k (pos 0) too, number_at (k + 1) (pos 0) inside) (before_next k))
 
-still_above : (number : ℤ) (chains : List (ℤ × Chain)) (k : ℤ) (v : Chain) → AreAbove number (keys_of chains) → int_cmp number k ≡ Less → AreAbove number (keys_of (insert_entry int_cmp chains k v))
-still_above number chains k v above below =
-    recursion_from_All (λ y. int_cmp number y ≡ Less) (keys_of (insert_entry int_cmp chains k v))
-    (All-keys-insert_entry int_cmp k v (λ y. int_cmp number y ≡ Less) chains (All-from_recursion (λ y. int_cmp number y ≡ Less) (keys_of chains) above) below)
+in_table : (q : ℤ) → IsTableNumber q → list_any (int_eq q) table_numbers ≡ true
+in_table (pos n) is =
+    let small : n < 463 = let most = is.1 in omega (arith, ints) in
+    list_any_at (int_eq (pos n)) table_numbers n (pos 0) (rw length_table small) (rw (number_at n (pos 0) small) ((Decides-int_eq (pos n) (pos n)).1 refl))
+in_table (negsuc n) is = absurd (let least = is.0 in omega (arith, ints))
 
-above_too : (k number : ℤ) (numbers : List ℤ) → int_cmp k number ≡ Less → AreAbove number numbers → AreAbove k numbers
-above_too k number [] below above = tt
-above_too k number (y ∷ numbers) below above = (int_cmp_total.trans k number y below above.0, above_too k number numbers below above.1)
-
-put_ascends : (o : Ordering) (k : ℤ) (v : Chain) (e : ℤ × Chain) (chains behind : List (ℤ × Chain)) → int_cmp k e.0 ≡ o → IsStrictlySortedBy int_cmp (keys_of (e ∷ chains))
-    → (int_cmp e.0 k ≡ Less → AreAbove e.0 (keys_of behind)) → IsStrictlySortedBy int_cmp (keys_of behind)
-    → IsStrictlySortedBy int_cmp (keys_of (match_ordering o ((k, v) ∷ e ∷ chains) ((e.0, v) ∷ chains) (e ∷ behind)))
-unfolding IsStrictlySortedBy
-put_ascends Less k v e chains behind is ascends above later = ((is, above_too k e.0 (keys_of chains) is ascends.0), ascends)
-put_ascends Equal k v e chains behind is ascends above later = ascends
-put_ascends Greater k v e chains behind is ascends above later = (above (int_cmp_total.antisymm e.0 k ∙ ap ordering_reverse is), later)
-
--- Numbers that ascend still do after a chain was put under one.
-ascends_after : (chains : List (ℤ × Chain)) (k : ℤ) (v : Chain) → IsStrictlySortedBy int_cmp (keys_of chains) → IsStrictlySortedBy int_cmp (keys_of (insert_entry int_cmp chains k v))
-unfolding IsStrictlySortedBy
-ascends_after [] k v ascends = (tt, tt)
-ascends_after (e ∷ chains) k v ascends =
-    put_ascends (int_cmp k e.0) k v e chains (insert_entry int_cmp chains k v) refl ascends (still_above e.0 chains k v ascends.0) (ascends_after chains k v ascends.1)
-
--- Chains in which each of some numbers, and no other, has the chain that is meant for it.
-pub record AreNumbered (chain_for : ℤ → Chain) (numbers : List ℤ) : Type 0 where
+-- Chains in which each table number that passes a test, and no other number, has the chain that is meant for it.
+pub record AreNumbered (test : ℤ → Bool) (meant : ℤ → Chain) : Type 0 where
   pub chains : List (ℤ × Chain)
-  pub each : (q : ℤ) → chain_at chains q ≡ cond (list_any (int_eq q) numbers) (Some (chain_for q)) None
+  pub each : (q : ℤ) → chain_at chains q ≡ cond (test q) (Some (meant q)) None
   pub ascending : IsStrictlySortedBy int_cmp (keys_of chains)
 
-pub numbered : (chain_for : ℤ → Chain) (numbers : List ℤ) → AreNumbered chain_for numbers
-unfolding IsStrictlySortedBy
-numbered chain_for [] = record { chains = []; each = λ q. refl; ascending = tt }
-numbered chain_for (k ∷ numbers) =
-    let rest = numbered chain_for numbers in
-    record {
-      chains = insert_entry int_cmp rest.chains k (chain_for k);
-      each = λ q. found_after rest.chains q k (chain_for k) ∙ ap (cond (int_eq q k) (Some (chain_for k))) (rest.each q) ∙ either q (int_eq q k) refl;
-      ascending = ascends_after rest.chains k (chain_for k) rest.ascending;
-    }
+pub numbered : (test : ℤ → Bool) (meant : ℤ → Chain) → ((q : ℤ) → test q ≡ true → IsTableNumber q) → AreNumbered test meant
+numbered test meant in_range = record {
+  chains = map (λ n. (n, meant n)) (filter test table_numbers);
+  each = λ q. found_made meant q (filter test table_numbers)
+      ∙ ap (λ b. cond b (Some (meant q)) None) (is_member-filter int_eq_equiv test q (λ k same. ap test ((Decides-int_eq q k).0 same)) table_numbers ∙ passes (test q) (list_any (int_eq q) table_numbers) (λ t. in_table q (in_range q t)));
+  ascending = subst (IsStrictlySortedBy int_cmp) (sym (keys_made (filter test table_numbers))) (IsStrictlySortedBy-filter int_cmp test table_numbers table_ascends);
+}
   where
-    either : (q : ℤ) (b : Bool) → int_eq q k ≡ b
-        → cond b (Some (chain_for k)) (cond (list_any (int_eq q) numbers) (Some (chain_for q)) None) ≡ cond (b || list_any (int_eq q) numbers) (Some (chain_for q)) None
-    either q true is = ap (λ n. Some (chain_for n)) (sym ((Decides-int_eq q k).0 is))
-    either q false is = refl
+    passes : (b there : Bool) → (b ≡ true → there ≡ true) → (there && b) ≡ b
+    passes true there h = ap (λ t. t && true) (h refl)
+    passes false true h = refl
+    passes false false h = refl
 
--- A number below all others has no chain.
-not_found : (q : ℤ) (chains : List (ℤ × Chain)) → AreAbove q (keys_of chains) → chain_at chains q ≡ None
-not_found q [] above = refl
-not_found q (e ∷ chains) above = rw above.0 (not_found q chains above.1)
+    keys_made : (numbers : List ℤ) → keys_of (map (λ n. (n, meant n)) numbers) ≡ numbers
+    keys_made [] = refl
+    keys_made (k ∷ numbers) = ap (λ ks. k ∷ ks) (keys_made numbers)
 
 -- The first number has its own chain.
-first_found : (q : ℤ) (e : ℤ × Chain) (chains : List (ℤ × Chain)) → q ≡ e.0 → chain_at (e ∷ chains) q ≡ Some e.1
-first_found q e chains same = ap (λ b. cond b (Some e.1) (chain_at chains q)) ((Decides-int_eq q e.0).1 same)
+first_found : (x : ℤ × Chain) (xs : List (ℤ × Chain)) → chain_at (x ∷ xs) x.0 ≡ Some x.1
+first_found x xs = lookup_head (is_at (int_cmp x.0)) x xs ((Decides-int_eq x.0 x.0).1 refl)
 
--- Another number has what the rest has.
-later_found : (q : ℤ) (e : ℤ × Chain) (chains : List (ℤ × Chain)) → is_eq (int_cmp q e.0) ≡ false → chain_at (e ∷ chains) q ≡ chain_at chains q
-later_found q e chains apart = ap (λ b. cond b (Some e.1) (chain_at chains q)) apart
+module _ (x y : ℤ × Chain) (xs ys : List (ℤ × Chain)) (first : IsStrictlySortedBy int_cmp (keys_of (x ∷ xs))) (second : IsStrictlySortedBy int_cmp (keys_of (y ∷ ys)))
+    (same : (q : ℤ) → chain_at (x ∷ xs) q ≡ chain_at (y ∷ ys) q) where
+  -- Where each number has the same, the first numbers are the same.
+  heads : (o : Ordering) → int_cmp x.0 y.0 ≡ o → x.0 ≡ y.0
+  heads Less is = let h : Some x.1 ≡ None = sym (first_found x xs) ∙ same x.0 ∙ lookup-none _ (y ∷ ys) (none_below_head int_cmp_total x.0 y ys second is) in cc
+  heads Equal is = exact_signed x.0 y.0 is
+  heads Greater is =
+      let below : int_cmp y.0 x.0 ≡ Less = int_cmp_total.antisymm y.0 x.0 ∙ ap ordering_reverse is in
+      let h : Some y.1 ≡ None = sym (first_found y ys) ∙ sym (same y.0) ∙ lookup-none _ (x ∷ xs) (none_below_head int_cmp_total y.0 x xs first below) in cc
 
--- Behind equal first numbers, each number has the same.
-same_behind : (b : Bool) (q : ℤ) (x y : ℤ × Chain) (xs ys : List (ℤ × Chain)) → is_eq (int_cmp q x.0) ≡ b → x.0 ≡ y.0 → AreAbove x.0 (keys_of xs) → AreAbove y.0 (keys_of ys)
-    → chain_at (x ∷ xs) q ≡ chain_at (y ∷ ys) q → chain_at xs q ≡ chain_at ys q
-same_behind true q x y xs ys is first above other same =
-    let at_x : q ≡ x.0 = same_number q x.0 is in
-    ap (chain_at xs) at_x ∙ not_found x.0 xs above ∙ sym (ap (chain_at ys) (at_x ∙ first) ∙ not_found y.0 ys other)
-same_behind false q x y xs ys is first above other same =
-    sym (later_found q x xs is) ∙ same ∙ later_found q y ys (ap (λ n. is_eq (int_cmp q n)) (sym first) ∙ is)
-
-same_from : (o : Ordering) (x y : ℤ × Chain) (xs ys : List (ℤ × Chain)) → int_cmp x.0 y.0 ≡ o → AreAbove x.0 (keys_of xs) → AreAbove y.0 (keys_of ys)
-    → ((q : ℤ) → chain_at (x ∷ xs) q ≡ chain_at (y ∷ ys) q) → (((q : ℤ) → chain_at xs q ≡ chain_at ys q) → xs ≡ ys) → x ∷ xs ≡ y ∷ ys
-same_from Less x y xs ys is above other same rest =
-    let here = first_found x.0 x xs refl in
-    let there = not_found x.0 (y ∷ ys) (is, above_too x.0 y.0 (keys_of ys) is other) in
-    let h : Some x.1 ≡ None = sym here ∙ same x.0 ∙ there in cc
-same_from Greater x y xs ys is above other same rest =
-    let below : int_cmp y.0 x.0 ≡ Less = int_cmp_total.antisymm y.0 x.0 ∙ ap ordering_reverse is in
-    let here = first_found y.0 y ys refl in
-    let there = not_found y.0 (x ∷ xs) (below, above_too y.0 x.0 (keys_of xs) below above) in
-    let h : Some y.1 ≡ None = sym here ∙ sym (same y.0) ∙ there in cc
-same_from Equal x y xs ys is above other same rest =
-    let number : x.0 ≡ y.0 = exact_signed x.0 y.0 is in
-    let chain : Some x.1 ≡ Some y.1 = sym (first_found x.0 x xs refl) ∙ same x.0 ∙ first_found x.0 y ys number in
-    let value : x.1 ≡ y.1 = cc in
-    let pairs : x ≡ y = λ i. (number i, value i) in
-    let tails : xs ≡ ys = rest (λ q. same_behind (is_eq (int_cmp q x.0)) q x y xs ys refl number above other (same q)) in
-    λ i. pairs i ∷ tails i
+  -- Behind them each number has the same.
+  tails : x.0 ≡ y.0 → (q : ℤ) → chain_at xs q ≡ chain_at ys q
+  tails number q = elim (cases_Bool (int_eq q x.0)) [
+    | inl here ↦ past x xs first here ∙ sym (past y ys second (ap (int_eq q) (sym number) ∙ here))
+    | inr later ↦ sym (lookup_tail (is_at (int_cmp q)) x xs later) ∙ same q ∙ lookup_tail (is_at (int_cmp q)) y ys (ap (int_eq q) (sym number) ∙ later)
+  ]
+    where
+      past : (e : ℤ × Chain) (es : List (ℤ × Chain)) → IsStrictlySortedBy int_cmp (keys_of (e ∷ es)) → int_eq q e.0 ≡ true → chain_at es q ≡ None
+      past e es ascends here = lookup-none (is_at (int_cmp q)) es (none_past_head int_eq_equiv q e es (IsDistinct-from_sorted int_cmp (keys_of (e ∷ es)) ascends) here)
 
 -- Chains in ascending order of their numbers are the same where each number has the same.
 pub same_chains : (xs ys : List (ℤ × Chain)) → IsStrictlySortedBy int_cmp (keys_of xs) → IsStrictlySortedBy int_cmp (keys_of ys) → ((q : ℤ) → chain_at xs q ≡ chain_at ys q) → xs ≡ ys
-unfolding IsStrictlySortedBy
 same_chains [] [] first second same = refl
-same_chains [] (y ∷ ys) first second same = let h : None ≡ Some y.1 = same y.0 ∙ first_found y.0 y ys refl in cc
-same_chains (x ∷ xs) [] first second same = let h : None ≡ Some x.1 = sym (same x.0) ∙ first_found x.0 x xs refl in cc
-same_chains (x ∷ xs) (y ∷ ys) first second same = same_from (int_cmp x.0 y.0) x y xs ys refl first.0 second.0 same (same_chains xs ys first.1 second.1)
+same_chains [] (y ∷ ys) first second same = let h : None ≡ Some y.1 = same y.0 ∙ first_found y ys in cc
+same_chains (x ∷ xs) [] first second same = let h : None ≡ Some x.1 = sym (same x.0) ∙ first_found x xs in cc
+same_chains (x ∷ xs) (y ∷ ys) first second same =
+    let number : x.0 ≡ y.0 = heads x y xs ys first second same (int_cmp x.0 y.0) refl in
+    let found : Some x.1 ≡ Some y.1 = sym (first_found x xs) ∙ same x.0 ∙ ap (chain_at (y ∷ ys)) number ∙ first_found y ys in
+    let chain : x.1 ≡ y.1 = cc in
+    let rest = same_chains xs ys (sorted_tail int_cmp x.0 (keys_of xs) first) (sorted_tail int_cmp y.0 (keys_of ys) second) (tails x y xs ys first second same number) in
+    λ i. (number i, chain i) ∷ rest i

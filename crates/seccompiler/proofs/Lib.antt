@@ -25,6 +25,13 @@ pub mod Searches
 pub mod FilterEquality
 pub mod LowHalves
 pub mod Reordering
+pub mod RangesFound
+pub mod RangesMade
+pub mod RangesOnly
+pub mod RangesExist
+pub mod TreeLengths
+pub mod TreeCode
+pub mod TreeProgram
 pub mod TableNames
 pub mod TableFacts
 pub mod Halving

@@ -1,4 +1,5 @@
-// The second layout of programs: its instructions, its answers at the borders of ranges, and what it refuses.
+// The second layout of programs: its instructions, its answers at the borders of ranges, and what
+// it refuses.
 
 use crate::builders::{
     AARCH64, ALLOW, KILL_PROCESS, Parts, SeccompData, TRAP, X86_64, call, one_chain, rule,
@@ -31,12 +32,13 @@ fn allowed(alloc: Global, numbers: &[i64]) -> Result<SeccompFilter, Fail> {
 fn spread(alloc: Global, first: i64, step: i64, count: i64) -> Result<SeccompFilter, Fail> {
     let mut chains = BTreeMap::new(alloc);
     for index in 0..count {
-        drop(chains.insert(first + step * index, Vec::new(alloc))?);
+        let number = first.saturating_add(step.saturating_mul(index));
+        drop(chains.insert(number, Vec::new(alloc))?);
     }
     Ok(SeccompFilter::new(chains, Trap, Allow, TargetArch::x86_64)?)
 }
 
-// Asserts that the filter compiles to the guard, a load of the call number, this tree, and a return of the last word.
+// Asserts that the filter compiles to the guard, a load of the call number, and these instructions.
 fn assert_tree(
     rt: &impl Abort,
     alloc: Global,
@@ -307,12 +309,11 @@ fn words_at_the_borders(rt: HostRuntime) -> Result<(), Fail> {
         &three_calls(alloc, Qword)?,
         &numbers,
     )?;
-    let ends = allowed(alloc, &[0, 4294967295])?;
     assert_decides(
         &rt,
         alloc,
         "calls 0 and 4294967295",
-        &ends,
+        &allowed(alloc, &[0, 4294967295])?,
         &[0, 4294967295],
     )?;
     assert_decides(
@@ -336,7 +337,6 @@ fn words_at_the_borders(rt: HostRuntime) -> Result<(), Fail> {
 fn measured(
     rt: &impl Abort,
     alloc: Global,
-    name: &str,
     filter: &SeccompFilter,
     last: u32,
 ) -> Result<(usize, usize), Fail> {
@@ -345,68 +345,67 @@ fn measured(
     for number in 0..last {
         let record = call(number, [0; 6]).record();
         let answer = run(&program, &record);
-        assert_eq!(rt; answer.word, filter.decide(&record), "{name} on {number}");
+        assert_eq!(rt; answer.word, filter.decide(&record), "call {number}");
         most = most.max(answer.steps);
     }
     Ok((program.len(), most))
 }
 
+// Spread calls: the distance between them, how many they are, the tree's instructions and its most
+// steps, and the instructions of the other layout.
+const SPREAD: [(i64, i64, usize, usize, usize); 3] = [
+    (2, 300, 1209, 16, 1505),
+    (1, 1000, 10, 6, 5005),
+    (2, 1020, 4093, 18, 5105),
+];
+
 #[test]
 fn trees_of_many_calls(rt: HostRuntime) -> Result<(), Fail> {
     let alloc = rt.alloc();
-    for (name, step, count, tree, most, chains) in [
-        ("300 calls with gaps", 2, 300, 1209, 16, Ok(1505)),
-        ("1000 neighbours", 1, 1000, 10, 6, Err(FilterTooLarge(5005))),
-        (
-            "1020 calls with gaps",
-            2,
-            1020,
-            4093,
-            18,
-            Err(FilterTooLarge(5105)),
-        ),
-    ] {
-        let filter = spread(alloc, 1, step, count)?;
+    for (step, count, tree, most, chains) in &SPREAD {
+        let filter = spread(alloc, 1, *step, *count)?;
+        let found = measured(&rt, alloc, &filter, 2100)?;
+        assert_eq!(rt; found, (*tree, *most), "the tree of {count} calls");
+        assert_eq!(rt; filter.program_len(), *chains, "{count} calls");
+        if *chains > 4096 {
+            assert_eq!(rt;
+                filter.to_bpf(alloc),
+                Err(FilterTooLarge(*chains)),
+                "{count} calls"
+            );
+        }
+    }
+    Ok(())
+}
+
+#[test]
+fn trees_that_are_too_large(rt: HostRuntime) -> Result<(), Fail> {
+    let alloc = rt.alloc();
+    for (count, length) in [(1021, 4097), (1100, 4421)] {
+        let filter = spread(alloc, 1, 2, count)?;
         assert_eq!(rt;
-            measured(&rt, alloc, name, &filter, 2100)?,
-            (tree, most),
-            "the tree of {name}"
-        );
-        assert_eq!(rt;
-            filter.to_bpf(alloc).map(|program| program.len()),
-            chains,
-            "{name}"
+            filter.to_tree_bpf(alloc),
+            Err(FilterTooLarge(length)),
+            "{count} calls"
         );
     }
     Ok(())
 }
 
 #[test]
-fn trees_that_are_refused(rt: HostRuntime) -> Result<(), Fail> {
+fn trees_of_numbers_that_no_record_has(rt: HostRuntime) -> Result<(), Fail> {
     let alloc = rt.alloc();
-    for (name, filter, refusal) in [
-        (
-            "1021 calls with gaps",
-            spread(alloc, 1, 2, 1021)?,
-            FilterTooLarge(4097),
-        ),
-        (
-            "1100 calls with gaps",
-            spread(alloc, 1, 2, 1100)?,
-            FilterTooLarge(4421),
-        ),
-        (
-            "two numbers that do not fit",
-            allowed(alloc, &[-1, 4294967296])?,
-            InvalidSyscallNumber(-1),
-        ),
-        (
-            "1100 calls from -1 on",
-            spread(alloc, -1, 2, 1100)?,
-            InvalidSyscallNumber(-1),
-        ),
-    ] {
-        assert_eq!(rt; filter.to_tree_bpf(alloc), Err(refusal), "{name}");
-    }
+    let filter = allowed(alloc, &[-1, 4294967296])?;
+    assert_eq!(rt;
+        filter.to_tree_bpf(alloc),
+        Err(InvalidSyscallNumber(-1)),
+        "two numbers"
+    );
+    let filter = spread(alloc, -1, 2, 1100)?;
+    assert_eq!(rt;
+        filter.to_tree_bpf(alloc),
+        Err(InvalidSyscallNumber(-1)),
+        "beside 1099 others"
+    );
     Ok(())
 }

@@ -9,7 +9,7 @@ use Rattle.seccompiler.specs.Tree.{leaf_length, test_length, halved_length, tree
 use Rattle.seccompiler.specs.TreeCode.{AreHalves}
 
 -- a number below the border has the chain that it has in the lower ranges
-pub from_low : (found : Option Chain) (low high : List Range) (y : Range) (a : ℕ) → a < y.start → found_from found (low ++ y ∷ high) a ≡ found_from found low a
+from_low : (found : Option Chain) (low high : List Range) (y : Range) (a : ℕ) → a < y.start → found_from found (low ++ y ∷ high) a ≡ found_from found low a
 from_low found [] high y a below = let no : nat_le y.start a ≡ false = grind (arith, nat_tests) in rw no
 from_low found (x ∷ low) high y a below = ap (λ v. if nat_le x.start a then v else found) (from_low x.chain low high y a below)
 
@@ -19,7 +19,7 @@ above_start start [] high y h = h.0
 above_start start (x ∷ low) high y h = let k = above_start x.start low high y h.1 in omega (arith, h.0)
 
 -- a number from the border on has the chain that it has in the upper ranges
-pub from_high : (found : Option Chain) (start : ℕ) (low high : List Range) (y : Range) (a : ℕ) → AscendsFrom start (low ++ y ∷ high) → y.start ≤ a → found_from found (low ++ y ∷ high) a ≡ found_from y.chain high a
+from_high : (found : Option Chain) (start : ℕ) (low high : List Range) (y : Range) (a : ℕ) → AscendsFrom start (low ++ y ∷ high) → y.start ≤ a → found_from found (low ++ y ∷ high) a ≡ found_from y.chain high a
 from_high found start [] high y a h above = let yes : nat_le y.start a ≡ true = grind (arith, nat_tests) in rw yes
 from_high found start (x ∷ low) high y a h above =
     let below = above_start x.start low high y h.1 in
@@ -39,7 +39,7 @@ from_front : (start : ℕ) (low high : List Range) → AscendsFrom start (low ++
 from_front start [] high h = tt
 from_front start (x ∷ low) high h = (h.0, from_front x.start low high h.1)
 
-pub ascends_low : (low high : List Range) → 1 ≤ length low → Ascends (low ++ high) → Ascends low
+ascends_low : (low high : List Range) → 1 ≤ length low → Ascends (low ++ high) → Ascends low
 ascends_low [] high some h = absurd (omega arith)
 ascends_low (x ∷ low) high some h = from_front x.start low high h
 
@@ -47,19 +47,19 @@ from_back : (start : ℕ) (low high : List Range) (y : Range) → AscendsFrom st
 from_back start [] high y h = h.1
 from_back start (x ∷ low) high y h = from_back x.start low high y h.1
 
-pub ascends_high : (low high : List Range) (y : Range) → Ascends (low ++ y ∷ high) → Ascends (y ∷ high)
+ascends_high : (low high : List Range) (y : Range) → Ascends (low ++ y ∷ high) → Ascends (y ∷ high)
 ascends_high [] high y h = h
 ascends_high (x ∷ low) high y h = from_back x.start low high y h
 
 -- how long the two halves of a list are
-pub half_low : (ranges : List Range) → length (take (length ranges / 2) ranges) ≡ length ranges / 2
+half_low : (ranges : List Range) → length (take (length ranges / 2) ranges) ≡ length ranges / 2
 half_low ranges = length-take-le (length ranges / 2) ranges (omega arith)
 
-pub half_high : (ranges : List Range) → length (drop (length ranges / 2) ranges) ≡ length ranges - length ranges / 2
+half_high : (ranges : List Range) → length (drop (length ranges / 2) ranges) ≡ length ranges - length ranges / 2
 half_high ranges = length-drop (length ranges / 2) ranges
 
 -- the instructions do not depend on how many halvings are allowed, where those suffice
-pub halved_same : (j k : ℕ) (ranges : List Range) → length ranges ≤ j → length ranges ≤ k → halved_length j ranges ≡ halved_length k ranges
+halved_same : (j k : ℕ) (ranges : List Range) → length ranges ≤ j → length ranges ≤ k → halved_length j ranges ≡ halved_length k ranges
 unfolding halved_length
 halved_same j k [] le_j le_k = refl
 halved_same j k (x ∷ []) le_j le_k = refl

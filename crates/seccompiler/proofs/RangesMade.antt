@@ -216,7 +216,7 @@ covers_merged done n ranges small last h =
     }
 
 -- one more number and its chain
-pub covers_step : (done : List Entry) (next n : ℕ) (chain : Chain) (ranges ranges' : List Range) → n < 2 ^ 32 → next ≤ n → Puts ranges next n chain ranges' → Covers done next ranges → Covers (done ++ (pos n, chain) ∷ []) (n + 1) ranges'
+covers_step : (done : List Entry) (next n : ℕ) (chain : Chain) (ranges ranges' : List Range) → n < 2 ^ 32 → next ≤ n → Puts ranges next n chain ranges' → Covers done next ranges → Covers (done ++ (pos n, chain) ∷ []) (n + 1) ranges'
 covers_step done next n chain ranges ranges' small le (behind_gap lt made) h =
     let len : length (ranges ++ gap next ∷ []) ≡ length ranges + 1 = length-append ranges (gap next ∷ []) in
     subst (λ (l : List Range). Covers (done ++ (pos n, chain) ∷ []) (n + 1) l) (sym made)
@@ -241,7 +241,7 @@ covers_step done next n chain ranges ranges' small le (right_behind past differs
     (covers_push done n chain ranges small (tight_behind ranges n chain differs at.tight) (omega (arith, at.few)) at.some at.first at.ascends at.each at.above)
 
 -- the numbers that are left at the end
-pub covers_all : (done : List Entry) (next : ℕ) (ranges : List Range) → Covers done next ranges → AreRanges done (put_gap ranges next)
+covers_all : (done : List Entry) (next : ℕ) (ranges : List Range) → Covers done next ranges → AreRanges done (put_gap ranges next)
 covers_all done next ranges h = go (nat_lt next (2 ^ 32)) refl
   where
     go : (b : Bool) → nat_lt next (2 ^ 32) ≡ b → AreRanges done (if b then ranges ++ gap next ∷ [] else ranges)
@@ -280,7 +280,7 @@ from_zero (e ∷ entries) = (λ n is. omega arith, from_zero entries)
 less_is : (n m : ℕ) → int_cmp (pos n) (pos m) ≡ Less → n + 1 ≤ m
 less_is n m h = grind (arith, nat_tests)
 
-pub from_more : (n : ℕ) (z : ℤ) (entries : List MapEntry) → z ≡ pos n → AllByRecursion (λ y. int_cmp z y ≡ Less) (keys_of entries) → FromOn (n + 1) entries
+from_more : (n : ℕ) (z : ℤ) (entries : List MapEntry) → z ≡ pos n → AllByRecursion (λ y. int_cmp z y ≡ Less) (keys_of entries) → FromOn (n + 1) entries
 from_more n z [] is h = tt
 from_more n z (e ∷ entries) is h = (λ m key. less_is n m (ap (λ (x : ℤ). int_cmp x (pos m)) (sym is) ∙ ap (int_cmp z) (sym key) ∙ h.0), from_more n z entries is h.1)
 

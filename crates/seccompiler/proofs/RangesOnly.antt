@@ -31,7 +31,7 @@ no_follow x x' y ranges same up small follows plain found = follows.0 plain (sam
 equal_ranges : (x x' : Range) → x.start ≡ x'.start → x.chain ≡ x'.chain → x ≡ x'
 equal_ranges x x' s c = ap₂ (λ (n : ℕ) (found : Option Chain). let y : Range = record { start = n; chain = found } in y) s c
 
-pub only_tight : (x x' : Range) (one other : List Range) → x.start ≡ x'.start → AscendsFrom x.start one → AscendsFrom x'.start other → TightFrom x one → TightFrom x' other
+only_tight : (x x' : Range) (one other : List Range) → x.start ≡ x'.start → AscendsFrom x.start one → AscendsFrom x'.start other → TightFrom x one → TightFrom x' other
     → ((a : ℕ) → x.start ≤ a → a < 2 ^ 32 → found_in (x ∷ one) a ≡ found_in (x' ∷ other) a) → x.start < 2 ^ 32 → x ∷ one ≡ x' ∷ other
 only_tight x x' [] [] start up up' tight tight' same small =
     let first : x ≡ x' = equal_ranges x x' start (same x.start (omega arith) small) in

@@ -48,14 +48,14 @@ plain_answers x mismatch matched w names one fits = record {
 }
 
 module _ (mismatch matched : ℕ) (fits_mismatch : mismatch < 2 ^ 32) (fits_matched : matched < 2 ^ 32) where
-  pub leaf_none : (start : ℕ) → IsTreeCode (record { start = start; chain = None } ∷ []) mismatch matched (give mismatch ∷ [])
+  leaf_none : (start : ℕ) → IsTreeCode (record { start = start; chain = None } ∷ []) mismatch matched (give mismatch ∷ [])
   leaf_none start = plain_answers record { start = start; chain = None } mismatch matched mismatch (λ r. not_found refl refl) refl fits_mismatch
 
-  pub leaf_empty : (start : ℕ) → IsTreeCode (record { start = start; chain = Some [] } ∷ []) mismatch matched (give matched ∷ [])
+  leaf_empty : (start : ℕ) → IsTreeCode (record { start = start; chain = Some [] } ∷ []) mismatch matched (give matched ∷ [])
   leaf_empty start = plain_answers record { start = start; chain = Some [] } mismatch matched matched (λ r. found_matches [] refl (inl refl) refl) refl fits_matched
 
   -- one range whose numbers have rules
-  pub leaf_rules : (start : ℕ) (q : Rule) (chain : Chain) (rules : List sock_filter) → IsRulesCode (q ∷ chain) matched rules → IsTreeCode (record { start = start; chain = Some (q ∷ chain) } ∷ []) mismatch matched (rules ++ give mismatch ∷ [])
+  leaf_rules : (start : ℕ) (q : Rule) (chain : Chain) (rules : List sock_filter) → IsRulesCode (q ∷ chain) matched rules → IsTreeCode (record { start = start; chain = Some (q ∷ chain) } ∷ []) mismatch matched (rules ++ give mismatch ∷ [])
   unfolding leads_front
   leaf_rules start q chain rules h =
       let x : Range = record { start = start; chain = Some (q ∷ chain) } in
@@ -203,7 +203,7 @@ module _ (mismatch matched : ℕ) (low high : List Range) (y : Range) (test cl c
       let back : drop (length whole / 2) whole ≡ y ∷ high = ap (λ n. drop n whole) (sym half) ∙ drop-append_seam low (y ∷ high) in
       length_cut whole (omega arith) ∙ ap₂ (λ (l h : List Range). test_length (tree_length l) + tree_length l + tree_length h) front back
 
-  pub tree_joined : Ascends whole → 1 ≤ length low → length low ≡ length whole / 2 → IsTestCode y.start (length cl) test → IsTreeCode low mismatch matched cl → IsTreeCode (y ∷ high) mismatch matched ch → IsTreeCode whole mismatch matched code
+  tree_joined : Ascends whole → 1 ≤ length low → length low ≡ length whole / 2 → IsTestCode y.start (length cl) test → IsTreeCode low mismatch matched cl → IsTreeCode (y ∷ high) mismatch matched ch → IsTreeCode whole mismatch matched code
   tree_joined ascends some half is l h =
       let len_both : length (cl ++ ch) ≡ length cl + length ch = length-append cl ch in
       let len : length code ≡ length test + length (cl ++ ch) = length-append test (cl ++ ch) in

@@ -25,7 +25,7 @@ last_written xs ys z long =
     ap (λ n. set (ys ++ drop (length xs - 1) xs) n z) at ∙ set_one ys (drop (length xs - 1) xs) z (length-drop (length xs - 1) xs ∙ omega arith)
 
 -- a test takes one instruction or two
-pub test_cases : (n : ℕ) → ((n ≤ 255) × (test_length n ≡ 1)) ⊎ ((256 ≤ n) × (test_length n ≡ 2))
+test_cases : (n : ℕ) → ((n ≤ 255) × (test_length n ≡ 1)) ⊎ ((256 ≤ n) × (test_length n ≡ 2))
 test_cases n = go (nat_le n 255) refl
   where
     go : (b : Bool) → nat_le n 255 ≡ b → ((n ≤ 255) × (test_length n ≡ 1)) ⊎ ((256 ≤ n) × (test_length n ≡ 2))

@@ -85,7 +85,7 @@ module _ (f : Filter) (fits_mismatch : word_of f.mismatch_action < 2 ^ 32) (fits
         soon = omega arith;
       }
 
-  pub tree_program : (ranges : List Range) (tree : List sock_filter) → AreRanges f.chains ranges → length tree + 5 ≤ greatest_length → IsTreeCode ranges (word_of f.mismatch_action) (word_of f.match_action) tree → IsTreeCompiled f (program tree)
+  tree_program : (ranges : List Range) (tree : List sock_filter) → AreRanges f.chains ranges → length tree + 5 ≤ greatest_length → IsTreeCode ranges (word_of f.mismatch_action) (word_of f.match_action) tree → IsTreeCompiled f (program tree)
   tree_program ranges tree are short h =
       let len : length (program tree) ≡ 4 + (length tree + 1) = omega (arith, length-append tree last) in
       record {

@@ -68,9 +68,8 @@ impl Hoard {
         Ok(Hoard { large, small })
     }
 
-    /// Gives back the last of the small blocks. Whether any are left.
-    pub fn give_back(&mut self) -> bool {
+    /// Gives back the last of the small blocks that are left.
+    pub fn give_back(&mut self) {
         drop(self.small.pop());
-        !self.small.is_empty()
     }
 }

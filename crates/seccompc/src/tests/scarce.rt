@@ -81,9 +81,7 @@ fn refusals(alloc: Global, engine: Engine) -> Result<(usize, Answer), AllocError
         if answer != Answer::Refused {
             return Ok((refused, answer));
         }
-        if !hoard.give_back() {
-            return Ok((refused, answer));
-        }
+        hoard.give_back();
     }
     Ok((SMALL_ROOM, Answer::Refused))
 }

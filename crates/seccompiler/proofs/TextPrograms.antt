@@ -1,5 +1,5 @@
 -- The programs of a value's policies, and the refusal of the least name's.
-use Rattle.std.proofs.Common.{◌≡◌, ℕ, ℤ, pos, negsuc, ◌++◌, List, [], ◌∷◌, Option, Some, None, String, Global, Vec, string_bytes, refl, sym, ap, ◌∙◌, subst, IfSome, arith}
+use Rattle.std.proofs.Common.{◌≡◌, ℕ, ℤ, pos, negsuc, ◌++◌, List, [], ◌∷◌, Option, Some, None, String, Global, Vec, string_bytes, refl, subst, IfSome, arith}
 use Rattle.std.specs.Prelude.{All}
 use Rattle.std.proofs.lemmas.Int.{ints}
 use Rattle.std.proofs.lemmas.List.Elements.{All-contains, All-head, All-tail}

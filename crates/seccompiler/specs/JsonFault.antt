@@ -18,13 +18,8 @@ pub data Fault : Type 0 where
 
 -- A backend's error as one of the front end: want of memory stays so.
 abbrev pub from_backend : BackendError → JsonFrontendError
-from_backend of_backend.EmptyRule = of_json.Backend of_backend.EmptyRule
-from_backend (of_backend.FilterTooLarge n) = of_json.Backend (of_backend.FilterTooLarge n)
-from_backend of_backend.IdenticalActions = of_json.Backend of_backend.IdenticalActions
-from_backend of_backend.InvalidArgumentNumber = of_json.Backend of_backend.InvalidArgumentNumber
-from_backend (of_backend.InvalidTargetArch t) = of_json.Backend (of_backend.InvalidTargetArch t)
-from_backend (of_backend.InvalidSyscallNumber n) = of_json.Backend (of_backend.InvalidSyscallNumber n)
 from_backend of_backend.OutOfMemory = of_json.OutOfMemory
+from_backend refusal = of_json.Backend refusal
 
 -- The error tells this answer's fault. Want of memory tells of none. No call fails to read that is
 -- given no reader.

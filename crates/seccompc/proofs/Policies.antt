@@ -68,8 +68,8 @@ found_value : (target : TargetArch) (find : Find) (d : Data) → AreProgramsOf t
 found_value target find d programs name program found None lacks = let none : Some program ≡ None = sym found ∙ programs.no_other name lacks in cc
 found_value target find d programs name program found (Some value) has =
     let own = programs.each name value has in
-    let same : own.1 ≡ program = let e : Some own.1 ≡ Some program = sym own.2 ∙ found in cc in
-    (value, has, record { policy = own.0; is_policy = own.3; compiled = subst (λ (p : Vec sock_filter Global). IsCompiled own.0 p.items) same own.4.compiled })
+    let same : own.0 ≡ program = let e : Some own.0 ≡ Some program = sym own.1 ∙ found in cc in
+    (value, has, record { policy = own.2.0; is_policy = own.2.1; compiled = subst (λ (p : Vec sock_filter Global). IsCompiled own.2.0 p.items) same own.2.2.compiled })
 
 pub found_there : (target : TargetArch) (find : Find) (d : Data) → AreProgramsOf target find d → (name : List ℕ) (program : Vec sock_filter Global) → find name ≡ Some program
     → Under d name (λ value. HasProgram target value program.items)
@@ -78,13 +78,13 @@ found_there target find d programs name program found = found_value target find 
 -- Where no program is found, the name is not there.
 found_nowhere : (target : TargetArch) (find : Find) (d : Data) → AreProgramsOf target find d → (name : List ℕ) → find name ≡ None → (o : Option Data) → get name d ≡ o → Lacks d name
 found_nowhere target find d programs name none None lacks = lacks
-found_nowhere target find d programs name none (Some value) has = let own = programs.each name value has in let some : Some own.1 ≡ None = sym own.2 ∙ none in cc
+found_nowhere target find d programs name none (Some value) has = let own = programs.each name value has in let some : Some own.0 ≡ None = sym own.1 ∙ none in cc
 
 -- Each value has a program.
 all_programs : (target : TargetArch) (find : Find) (d : Data) → AreProgramsOf target find d → HaveAllPrograms target d
 all_programs target find d programs = record {
   is_object = programs.is_object;
-  each = λ name value has. let own = programs.each name value has in (own.1.items, record { policy = own.0; is_policy = own.3; compiled = own.4.compiled });
+  each = λ name value has. let own = programs.each name value has in (own.0.items, record { policy = own.2.0; is_policy = own.2.1; compiled = own.2.2.compiled });
 }
 
 -- What is found under the names of a policy's text.
@@ -170,7 +170,7 @@ listed target find d entries text programs same sorted is = record {
       (each_found (λ name (program : Vec sock_filter Global). Under d name (λ value. HasProgram target value program.items)) entries sorted
       (λ name program there. found_there target find d programs name program (sym (same name) ∙ there)));
   complete = λ name value has. let own = programs.each name value has in
-      subst (λ names. Contains names name) (sym (names_of entries)) (found_name name own.1 entries (same name ∙ own.2));
+      subst (λ names. Contains names name) (sym (names_of entries)) (found_name name own.0 entries (same name ∙ own.1));
   listings = is;
 }
 

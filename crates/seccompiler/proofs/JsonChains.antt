@@ -1,21 +1,18 @@
 -- The chains of a map, after one of them was written.
-use Rattle.std.proofs.Common.{◌≡◌, ℤ, ◌++◌, List, [], ◌∷◌, Vec, Global, Bool, true, false, ◌||◌, cond, Option, Some, None, option_map, refl, sym, ap, ◌∙◌, unwrap_or, append-nil}
+use Rattle.std.proofs.Common.{◌≡◌, ℤ, ◌++◌, List, [], ◌∷◌, Vec, Global, Bool, true, false, ◌||◌, cond, Option, Some, None, option_map, refl, sym, ap, ◌∙◌, unwrap_or}
 use Rattle.std.specs.BTreeMap.{is_at}
 use Rattle.std.specs.List.{filter, list_any}
 use Rattle.std.specs.Map.{lookup}
 use Rattle.std.specs.Option.{is_some}
 use Rattle.std.specs.Ordering.{int_cmp, int_eq}
-use Rattle.std.proofs.lemmas.Bool.Decides.{Decides-int_eq, same_from_decides, Decides-like}
+use Rattle.std.proofs.lemmas.Bool.Decides.{Decides-int_eq}
+use Rattle.std.proofs.lemmas.Cmp.{int_eq_equiv}
 use Rattle.std.proofs.lemmas.List.Elements.{filter-append}
 use Rattle.std.proofs.lemmas.List.Folds.{list_any-append}
 use Rattle.std.proofs.lemmas.Map.Made.{lookup-map_values}
 use Rattle.seccompiler.specs.Policy.{Rule, Chain, chains_of}
 use Rattle.seccompiler.specs.JsonGathered.{added, chain_of}
 use Rattle.seccompiler.specs.JsonPolicyOf.{chain_at}
-
--- A test of two numbers is the same from both sides.
-pub turned : (x y : ℤ) → int_eq x y ≡ int_eq y x
-turned x y = same_from_decides (int_eq x y) (int_eq y x) (Decides-int_eq x y) (Decides-like (int_eq y x) sym sym (Decides-int_eq y x))
 
 -- What a map holds under a number.
 abbrev pub held : List (ℤ × Vec Rule Global) → ℤ → Option (Vec Rule Global)
@@ -35,7 +32,7 @@ pub chain_with_rule : (old new : List (ℤ × Vec Rule Global)) (number : ℤ) (
     → held new q ≡ cond (int_eq number q) (Some after) (held old q) → before ≡ unwrap_or (held old number) start → start.items ≡ [] → after.items ≡ before.items ++ rule ∷ []
     → chain_at (chains_of new) q ≡ added (cond (int_eq q number) (rule ∷ []) []) (chain_at (chains_of old) q)
 chain_with_rule old new number before after start rule q written found empty longer =
-    chain_held new q ∙ ap (option_map (λ v. v.items)) written ∙ by_case (int_eq number q) refl ∙ ap (λ b. added (cond b (rule ∷ []) []) (chain_at (chains_of old) q)) (turned number q)
+    chain_held new q ∙ ap (option_map (λ v. v.items)) written ∙ by_case (int_eq number q) refl ∙ ap (λ b. added (cond b (rule ∷ []) []) (chain_at (chains_of old) q)) (int_eq_equiv.symm number q)
   where
     by_case : (b : Bool) → int_eq number q ≡ b → option_map (λ v. v.items) (cond b (Some after) (held old q)) ≡ added (cond b (rule ∷ []) []) (chain_at (chains_of old) q)
     by_case false is = sym (chain_held old q)
@@ -48,7 +45,7 @@ chain_with_rule old new number before after start rule q written found empty lon
 pub chain_emptied : (old new : List (ℤ × Vec Rule Global)) (number : ℤ) (empty : Vec Rule Global) (q : ℤ)
     → held new q ≡ cond (int_eq number q) (Some empty) (held old q) → empty.items ≡ [] → chain_at (chains_of new) q ≡ chain_of (int_eq q number) (chain_at (chains_of old) q)
 chain_emptied old new number empty q written is_empty =
-    chain_held new q ∙ ap (option_map (λ v. v.items)) written ∙ by_case (int_eq number q) ∙ ap (λ b. chain_of b (chain_at (chains_of old) q)) (turned number q)
+    chain_held new q ∙ ap (option_map (λ v. v.items)) written ∙ by_case (int_eq number q) ∙ ap (λ b. chain_of b (chain_at (chains_of old) q)) (int_eq_equiv.symm number q)
   where
     by_case : (b : Bool) → option_map (λ v. v.items) (cond b (Some empty) (held old q)) ≡ chain_of b (chain_at (chains_of old) q)
     by_case false = sym (chain_held old q)
@@ -74,8 +71,5 @@ some_held entries number = ap is_some (chain_held entries number) ∙ by_case (h
     by_case (Some v) = refl
 
 -- A filter of one item more.
-pub filter_kept : (p : ℤ → Bool) (done : List ℤ) (x : ℤ) → p x ≡ true → filter p (done ++ x ∷ []) ≡ filter p done ++ x ∷ []
-filter_kept p done x passes = filter-append p done (x ∷ []) ∙ ap (λ b. filter p done ++ cond b (x ∷ []) []) passes
-
-pub filter_left : (p : ℤ → Bool) (done : List ℤ) (x : ℤ) → p x ≡ false → filter p (done ++ x ∷ []) ≡ filter p done
-filter_left p done x fails = filter-append p done (x ∷ []) ∙ ap (λ b. filter p done ++ cond b (x ∷ []) []) fails ∙ append-nil (filter p done)
+pub filter_more : (p : ℤ → Bool) (done : List ℤ) (x : ℤ) (b : Bool) → p x ≡ b → filter p (done ++ x ∷ []) ≡ filter p done ++ cond b (x ∷ []) []
+filter_more p done x b is = filter-append p done (x ∷ []) ∙ ap (λ b. filter p done ++ cond b (x ∷ []) []) is

@@ -66,7 +66,7 @@ pub least_fault : (done : List Entry) (e : Entry) (more : List Entry) → IsStri
 least_fault done e more sorted so_far none = record {
   value = view e.1;
   there = has (string_bytes e.0) (done ++ e ∷ more) ∙ ap (option_map view) (found_there done e more sorted);
-  faulty = none;
+  own = none;
   below = λ other d there below.
       let found = viewed (under (done ++ e ∷ more) other) d (sym (has other (done ++ e ∷ more)) ∙ there) in
       so_far other d (has other done ∙ ap (option_map view) (found_in_front done e more sorted other found.0 found.1 below) ∙ ap Some found.2);

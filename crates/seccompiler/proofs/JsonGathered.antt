@@ -1,8 +1,8 @@
 -- What is gathered of entries, one after the other.
-use Rattle.std.proofs.Common.{◌≡◌, ℕ, ◌+◌, ◌<◌, length, get_or, take, ◌++◌, List, [], ◌∷◌, Bool, true, false, ◌||◌, Some, None, refl, sym, ap, subst, ◌∙◌, append-nil}
+use Rattle.std.proofs.Common.{◌≡◌, ℕ, ◌+◌, ◌<◌, length, get_or, take, ◌++◌, List, [], ◌∷◌, ◌||◌, Some, None, refl, sym, ap, subst, ◌∙◌, append-nil}
 use Rattle.std.specs.List.{flat_map, list_any}
-use Rattle.std.proofs.lemmas.List.{take_more}
-use Rattle.std.proofs.lemmas.List.Concat.{flat_map-append}
+use Rattle.std.proofs.Math.Bool.{or-false}
+use Rattle.std.proofs.lemmas.List.{take_more, flat_map_more}
 use Rattle.std.proofs.lemmas.List.Folds.{list_any-append}
 use Rattle.seccompiler.specs.declared.backend.TargetArch.{TargetArch}
 use Rattle.seccompiler.specs.declared.json.policy.Gathered.{Gathered}
@@ -17,24 +17,14 @@ added_twice [] own = refl
 added_twice (r ∷ front) [] = ap Some (sym (append-nil (r ∷ front)))
 added_twice (r ∷ front) (q ∷ own) = refl
 
--- One item more.
-flat_map_push : {X Y : Type 0} (f : X → List Y) (xs : List X) (x : X) → flat_map f xs ++ f x ≡ flat_map f (xs ++ x ∷ [])
-flat_map_push f xs x = ap (λ ys. flat_map f xs ++ ys) (sym (append-nil (f x))) ∙ sym (flat_map-append f xs (x ∷ []))
-
-or_false : (b : Bool) → (b || false) ≡ b
-or_false true = refl
-or_false false = refl
-
-list_any_push : {X : Type 0} (p : X → Bool) (xs : List X) (x : X) → (list_any p xs || p x) ≡ list_any p (xs ++ x ∷ [])
-list_any_push p xs x = ap (λ b. list_any p xs || b) (sym (or_false (p x))) ∙ sym (list_any-append p xs (x ∷ []))
-
 -- What was gathered of some entries, and of one more behind them.
 gathered_push : (arch : TargetArch) (entries : List JsonRule) (entry : JsonRule) (old new : Gathered) → AreGathered arch entries old → HasAdded arch entry old new → AreGathered arch (entries ++ entry ∷ []) new
 gathered_push arch entries entry old new so_far more = record {
   rules = λ number. more.rules number ∙ ap (added (rules_for arch number entry)) (so_far.rules number)
       ∙ added_twice (flat_map (rules_for arch number) entries) (rules_for arch number entry)
-      ∙ ap (λ rules. added rules None) (flat_map_push (rules_for arch number) entries entry);
-  always = λ number. more.always number ∙ ap (λ b. b || is_always arch number entry) (so_far.always number) ∙ list_any_push (is_always arch number) entries entry;
+      ∙ ap (λ rules. added rules None) (flat_map_more (rules_for arch number) [] entries entry);
+  always = λ number. more.always number ∙ ap (λ b. b || is_always arch number entry) (so_far.always number)
+      ∙ ap (λ b. list_any (is_always arch number) entries || b) (sym (or-false (is_always arch number entry))) ∙ sym (list_any-append (is_always arch number) entries (entry ∷ []));
   ordered = more.ordered so_far.ordered;
 }
 

@@ -7,14 +7,15 @@ use Rattle.std.specs.Option.{is_none}
 use Rattle.std.specs.Ordering.{int_cmp}
 use Rattle.std.specs.Prelude.{Vec}
 use Rattle.std.specs.declared.alloc.Global.{Global}
+use Rattle.std.proofs.Math.Bool.{or-true}
 use Rattle.std.proofs.lemmas.Bool.{true≢false, false_from_ne_true, cases_Bool}
 use Rattle.std.proofs.lemmas.Bool.Decides.{Decides-int_eq}
 use Rattle.std.proofs.lemmas.Cmp.{int_eq_equiv}
 use Rattle.std.proofs.lemmas.List.Folds.{Any-from_list_any, list_any-from_Any}
 use Rattle.std.proofs.lemmas.Map.Made.{keys_of-map_values}
 use Rattle.std.proofs.lemmas.Map.Views.{All-keys_from_lookup}
+use Rattle.seccompiler.specs.contracts.backend.SeccompActionEqualByParts.TheImpl.Laws as laws
 use Rattle.seccompiler.specs.contracts.backend.SeccompActionPartialEq.TheImpl as action
-use Rattle.seccompiler.specs.declared.backend.SeccompAction.{SeccompAction}
 use Rattle.seccompiler.specs.declared.backend.TargetArch.{TargetArch}
 use Rattle.seccompiler.specs.declared.backend.BackendError.TheVariants.{IdenticalActions}
 use Rattle.seccompiler.specs.declared.json.policy.Gathered.{Gathered}
@@ -30,9 +31,6 @@ use Rattle.seccompiler.proofs.JsonEntries.{all_fine_or_fault, none_wrong, one_fi
 use Rattle.seccompiler.proofs.NumberedChains.{numbered, same_chains}
 use Rattle.seccompiler.proofs.TableFacts.{is_call_table}
 use Rattle.seccompiler.proofs.TableNames.{number_of-all}
-
-action_decides : (x y : SeccompAction) → Decides (action.ghosts.eq x y) (x ≡ y)
-action_decides x y = search rules
 
 -- A test that decides for each item decides for any.
 pub any_decides : {X : Type 0} (test : X → Bool) (P : X → Type 0) → ((x : X) → Decides (test x) (P x)) → (xs : List X) → Decides (list_any test xs) (Any P xs)
@@ -63,15 +61,11 @@ module _ (arch : TargetArch) where
   for_either number [] = refl
   for_either number (entry ∷ entries) = both (is_for arch number entry) entry.conditions (list_any (is_always arch number) entries) (all_rules arch entries number) (for_either number entries)
     where
-      or_true : (b : Bool) → true ≡ (b || true)
-      or_true true = refl
-      or_true false = refl
-
       both : (b : Bool) (conditions : Option (List JsonCondition)) (always : Bool) (rules : List Rule) → list_any (is_for arch number) entries ≡ (always || some_rules rules)
           → (b || list_any (is_for arch number) entries) ≡ (((b && is_none conditions) || always) || some_rules (cond b (rules_of conditions) [] ++ rules))
       both false conditions always rules rest = rest
       both true None always rules rest = refl
-      both true (Some conditions) always rules rest = or_true always
+      both true (Some conditions) always rules rest = sym (or-true always)
 
   -- The number of an entry's call is one of the table.
   in_range : (number : ℤ) (entry : JsonRule) → IsFor arch number entry → IsTableNumber number
@@ -171,8 +165,8 @@ module _ (arch : TargetArch) where
     policy_or_fault = elim (all_fine_or_fault arch j.rules) [
       | inr (fault, wrong) ↦ inr (fault, in_entries wrong)
       | inl fine ↦ elim (cases_Bool (action.ghosts.eq j.mismatch_action j.match_action)) [
-        | inl is ↦ inr (refused IdenticalActions, in_actions fine ((action_decides j.mismatch_action j.match_action).0 is) refl)
-        | inr is ↦ inl (some_made (chain_for arch j.rules) fine (λ same. true≢false (sym ((action_decides j.mismatch_action j.match_action).1 same) ∙ is)))
+        | inl is ↦ inr (refused IdenticalActions, in_actions fine ((laws.decides-law j.mismatch_action j.match_action).0 is) refl)
+        | inr is ↦ inl (some_made (chain_for arch j.rules) fine (λ same. true≢false (sym ((laws.decides-law j.mismatch_action j.match_action).1 same) ∙ is)))
       ]
     ]
 

@@ -9,12 +9,10 @@ use Rattle.serde_json.specs.Data.{Data, null, string, array, Items, no_items, it
 use Rattle.serde_json.specs.Find.{get}
 use Rattle.seccompiler.specs.declared.backend.SeccompAction.{SeccompAction}
 use Rattle.seccompiler.specs.declared.backend.SeccompAction.TheVariants.{Allow, Errno, KillThread, KillProcess, Log, Trace, Trap}
-use Rattle.seccompiler.specs.declared.backend.SeccompCmpOp.{SeccompCmpOp}
 use Rattle.seccompiler.specs.declared.backend.SeccompCmpOp.TheVariants.{Eq, Ge, Gt, Le, Lt, MaskedEq, Ne}
-use Rattle.seccompiler.specs.declared.backend.SeccompCmpArgLen.{SeccompCmpArgLen}
 use Rattle.seccompiler.specs.declared.backend.SeccompCmpArgLen.TheVariants.{Dword, Qword}
 use Rattle.seccompiler.specs.declared.json.types.JsonCondition.{JsonCondition}
-use Rattle.seccompiler.specs.JsonTypes.{JsonRule, JsonFilter}
+use Rattle.seccompiler.specs.JsonTypes.{JsonFilter}
 use Rattle.seccompiler.specs.JsonShape.{IsWhole, IsNumbered, Under, IsAction, IsOperator, IsArgLen, IsCondition, OneByOne, IsListOf, IsArgs, IsEntry, IsOneAction, IsFilter}
 
 -- The value is at most one thing of the kind.
@@ -74,17 +72,13 @@ one_arg_len d Dword Dword h k = refl
 one_arg_len d Qword Qword h k = refl
 one_arg_len d a b h k = absurd (two_words d _ _ refl h k)
 
--- Parts that are equal make equal conditions.
-same_condition : (i j : ℕ) (l m : SeccompCmpArgLen) (o p : SeccompCmpOp) (v w : ℕ) → i ≡ j → l ≡ m → o ≡ p → v ≡ w → let C : JsonCondition = record { arg_index = i; arg_len = l; operator = o; value = v } in C ≡ record { arg_index = j; arg_len = m; operator = p; value = w }
-same_condition i j l m o p v w hi hl ho hv = cc
-
 one_condition : AtMostOne IsCondition
 one_condition d c e h k =
     let i = one_under (IsWhole 255) (one_whole 255) (codes "index") d _ _ h.arg_index k.arg_index in
     let l = one_under IsArgLen one_arg_len (codes "type") d _ _ h.arg_len k.arg_len in
     let o = one_under IsOperator one_operator (codes "op") d _ _ h.operator k.operator in
     let v = one_under (IsWhole (2 ^ 64 - 1)) (one_whole (2 ^ 64 - 1)) (codes "val") d _ _ h.value k.value in
-    same_condition _ _ _ _ _ _ _ _ i l o v
+    λ t. record { arg_index = i t; arg_len = l t; operator = o t; value = v t }
 
 -- Items are at most one list of things, if each value is at most one.
 one_by_one : {X : Type 0} (P : Data → X → Type 0) → AtMostOne P → (items : Items) (xs ys : List X) → OneByOne P items xs → OneByOne P items ys → xs ≡ ys
@@ -107,14 +101,11 @@ one_args (Some (array items)) None b h k = absurd h
 one_args (Some (array items)) (Some xs) None h k = absurd k
 one_args (Some d) a b h k = absurd h
 
-same_entry : (s t : List ℕ) (a b : Option (List JsonCondition)) → s ≡ t → a ≡ b → let R : JsonRule = record { syscall = s; conditions = a } in R ≡ record { syscall = t; conditions = b }
-same_entry s t a b hs ha = cc
-
 one_entry : AtMostOne IsEntry
 one_entry d r s h k =
     let name = one_under (λ v t. v ≡ string t) (λ v t u e f. let g = sym e ∙ f in cc) (codes "syscall") d _ _ h.syscall k.syscall in
     let args = one_args (get (codes "args") d) _ _ h.conditions k.conditions in
-    same_entry _ _ _ _ name args
+    λ t. record { syscall = name t; conditions = args t }
 
 one_of_two : (o p : Option Data) (a b : SeccompAction) → IsOneAction o p a → IsOneAction o p b → a ≡ b
 one_of_two None None a b h k = absurd h
@@ -122,12 +113,9 @@ one_of_two (Some d) None a b h k = one_action d a b h k
 one_of_two None (Some d) a b h k = one_action d a b h k
 one_of_two (Some d) (Some e) a b h k = absurd h
 
-same_filter : (n o m l : SeccompAction) (r s : List JsonRule) → n ≡ o → m ≡ l → r ≡ s → let F : JsonFilter = record { mismatch_action = n; match_action = m; rules = r } in F ≡ record { mismatch_action = o; match_action = l; rules = s }
-same_filter n o m l r s hn hm hr = cc
-
 pub one_filter : (d : Data) (f g : JsonFilter) → IsFilter d f → IsFilter d g → f ≡ g
 one_filter d f g h k =
     let n = one_of_two _ _ _ _ h.mismatch_action k.mismatch_action in
     let m = one_of_two _ _ _ _ h.match_action k.match_action in
     let rules = one_under (IsListOf IsEntry) (one_list IsEntry one_entry) (codes "filter") d _ _ h.rules k.rules in
-    same_filter _ _ _ _ _ _ n m rules
+    λ t. record { mismatch_action = n t; match_action = m t; rules = rules t }

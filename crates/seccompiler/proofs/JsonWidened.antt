@@ -11,7 +11,7 @@ use Rattle.seccompiler.specs.declared.json.policy.Gathered.{Gathered}
 use Rattle.seccompiler.specs.declared.json.types.JsonCondition.{JsonCondition}
 use Rattle.seccompiler.specs.JsonGathered.{added, rules_at, AreGathered, numbers_of_both}
 use Rattle.seccompiler.specs.JsonPolicyOf.{all_rules, chain_for, rules_of, chain_at, is_for, is_always, IsFor, IsPolicyBefore, IsPolicyOf, IsWidened}
-use Rattle.seccompiler.specs.JsonWidened.{DecideAlikeOff, KeepsMatches, MatchesOn}
+use Rattle.seccompiler.specs.JsonWidened.{DecideAlikeOff, MatchesOn}
 use Rattle.seccompiler.specs.JsonTypes.{JsonRule, JsonFilter}
 use Rattle.seccompiler.specs.Policy.{Rule, Filter, Matches, IsDecision, other_architecture, policy_matches, policy_differs}
 use Rattle.seccompiler.specs.Action.{audit_word, word_of}
@@ -84,9 +84,6 @@ module _ (arch : TargetArch) where
       matches = inl refl;
     }
 
-    matches_widened : (now : Filter) → IsPolicyOf arch j now → (r : List ℕ) → IsWidened arch j (pos (word_at r 0)) → Matches now r
-    matches_widened now new r both = matches_always now new r ((always_decides (pos (word_at r 0)) j.rules).1 both.without)
-
     module _ (before now : Filter) (old : IsPolicyBefore arch j before) (new : IsPolicyOf arch j now) where
       -- A number without entries of both kinds has the same chain in both.
       same_chain : (number : ℤ) → (IsWidened arch j number → ⊥) → chain_at before.chains number ≡ chain_at now.chains number
@@ -118,8 +115,9 @@ module _ (arch : TargetArch) where
           decided f g r w same archs matches mismatches (policy_matches ours m is) = policy_matches (ours ∙ ap audit_word archs) (matches_alike f g r same m) (is ∙ ap word_of matches)
           decided f g r w same archs matches mismatches (policy_differs ours none is) = policy_differs (ours ∙ ap audit_word archs) (λ m. none (matches_alike g f r (sym same) m)) (is ∙ ap word_of mismatches)
 
-      kept : (r : List ℕ) → Matches before r → Matches now r
-      kept r m = elim (cases_Bool (list_any (is_always arch (pos (word_at r 0))) j.rules)) [
+      -- What the Rust crate's filter matches is matched.
+      pub keeps_matches : (r : List ℕ) → Matches before r → Matches now r
+      keeps_matches r m = elim (cases_Bool (list_any (is_always arch (pos (word_at r 0))) j.rules)) [
         | inl always ↦ matches_always now new r always
         | inr not ↦ matches_alike before now r (same_chain (pos (word_at r 0)) (λ both. true≢false (sym ((always_decides (pos (word_at r 0)) j.rules).1 both.without) ∙ not))) m
       ]
@@ -129,7 +127,4 @@ module _ (arch : TargetArch) where
     alike_off numbers exactly before now old new r off w = same_decision before now old new r (λ both. off ((exactly (pos (word_at r 0))).1 both)) w
 
     pub matches_on : (numbers : List ℤ) → ((number : ℤ) → Contains numbers number ↔ IsWidened arch j number) → MatchesOn numbers arch j
-    matches_on numbers exactly now new r on = matches_widened now new r ((exactly (pos (word_at r 0))).0 on)
-
-    pub keeps_matches : KeepsMatches arch j
-    keeps_matches before now old new r m = kept before now old new r m
+    matches_on numbers exactly now new r on = matches_always now new r ((always_decides (pos (word_at r 0)) j.rules).1 ((exactly (pos (word_at r 0))).0 on).without)

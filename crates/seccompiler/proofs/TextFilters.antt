@@ -1,9 +1,12 @@
 -- From what a text is read as to what is told of it, and what a value has under its names.
-use Rattle.std.proofs.Common.{◌≡◌, ℕ, List, Option, [], Some, None, refl, sym, ◌∙◌, subst}
+use Rattle.std.proofs.Common.{◌≡◌, ℕ, ◌++◌, List, ◌∷◌, Option, String, Global, [], Some, None, string_bytes, refl, sym, ap, ◌∙◌, subst}
 use Rattle.serde_json.specs.Data.{Data}
 use Rattle.serde_json.specs.Find.{get}
-use Rattle.seccompiler.specs.JsonShape.{Has, Under, Lacks}
+use Rattle.seccompiler.specs.ByName.{ByName, under, AreInOrder}
+use Rattle.seccompiler.specs.JsonFilters.{AreFound, IsLeast}
+use Rattle.seccompiler.specs.JsonShape.{Under}
 use Rattle.seccompiler.specs.Reads.{Reads}
+use Rattle.seccompiler.proofs.ByName.{AreMade, found_there, found_in_front, made_under}
 
 -- What holds of every text holds of the one that is read.
 pub reads_some : (known : Option (List ℕ)) (P : List ℕ → Type 0) → ((text : List ℕ) → P text) → Reads known P
@@ -11,14 +14,43 @@ reads_some None P all = ([], tt, all [])
 reads_some (Some text) P all = (text, refl, all text)
 
 -- What is found under a name is that of the name's value.
-pub value_under : {X : Type 0} (P : Data → X → Type 0) (d : Data) (find : List ℕ → Option X)
-    → ((name : List ℕ) (value : Data) → Has d name value → (x : X) × (find name ≡ Some x) × P value x) → ((name : List ℕ) → Lacks d name → find name ≡ None)
-    → (name : List ℕ) (x : X) → find name ≡ Some x → Under d name (λ value. P value x)
-value_under {X} P d find each no_other name x there = by (get name d) refl
+pub value_under : {X : Type 0} (P : Data → X → Type 0) (find : List ℕ → Option X) (d : Data) → AreFound P find d → (name : List ℕ) (x : X) → find name ≡ Some x → Under d name (λ value. P value x)
+value_under {X} P find d are name x there = by (get name d) refl
   where
     by : (o : Option Data) → get name d ≡ o → Under d name (λ value. P value x)
-    by None lacks = let none : Some x ≡ None = sym there ∙ no_other name lacks in cc
+    by None lacks = let none : Some x ≡ None = sym there ∙ are.no_other name lacks in cc
     by (Some value) has =
-        let own = each name value has in
+        let own = are.each name value has in
         let same : own.0 ≡ x = let both : Some own.0 ≡ Some x = sym own.1 ∙ there in cc in
         (value, has, subst (P value) same own.2)
+
+module _ {X Y : Type 0} (P : Data → X → Type 0) (R : X → Y → Type 0) (find : List ℕ → Option X) (d : Data) (are : AreFound P find d) (xs : ByName X) (listed : (name : List ℕ) → find name ≡ under xs name) where
+  -- What is made of all that is found is the value's, where it is so of one.
+  pub all_made : (Q : Data → Y → Type 0) → ((value : Data) (x : X) (y : Y) → P value x → R x y → Q value y) → (ys : ByName Y) → AreMade R xs ys → AreFound Q (under ys) d
+  all_made Q one ys h = record {
+    is_object = are.is_object;
+    each = λ name value there.
+        let known = are.each name value there in
+        let made = made_under R xs ys h name in
+        let made = rw (sym (listed name) ∙ known.1) at made in
+        (made.0, made.1, one value known.0 made.0 known.2 made.2);
+    no_other = λ name none. let made = made_under R xs ys h name in rw (sym (listed name) ∙ are.no_other name none) at made;
+  }
+
+  -- Behind values of which something is made, one that is at fault is that of the least name.
+  pub least : (fault : X → Type 0) (Q : Data → Type 0) → ((value : Data) (x : X) (y : Y) → P value x → R x y → Q value)
+      → (front : ByName X) (entry : String Global × X) (back : ByName X) → xs ≡ front ++ entry ∷ back → AreInOrder (front ++ entry ∷ back) → (ys : ByName Y) → AreMade R front ys → fault entry.1
+      → IsLeast (λ value. (x : X) × P value x × fault x) Q d (string_bytes entry.0)
+  least fault Q one front entry back whole order ys h wrong =
+      let found : (name : List ℕ) → find name ≡ under (front ++ entry ∷ back) name = λ name. listed name ∙ ap (λ (es : ByName X). under es name) whole in
+      let own = value_under P find d are (string_bytes entry.0) entry.1 (found (string_bytes entry.0) ∙ found_there front entry back order) in
+      record {
+        value = own.0;
+        there = own.1;
+        own = (entry.1, own.2, wrong);
+        below = λ other value there less.
+            let known = are.each other value there in
+            let made = made_under R front ys h other in
+            let made = rw (found_in_front front entry back order other known.0 (sym (found other) ∙ known.1) less) at made in
+            one value known.0 made.0 known.2 made.2;
+      }

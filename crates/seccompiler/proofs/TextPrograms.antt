@@ -1,5 +1,5 @@
 -- The programs of a value's policies, and the refusal of the least name's.
-use Rattle.std.proofs.Common.{◌≡◌, ℕ, ℤ, pos, negsuc, ◌++◌, List, [], ◌∷◌, Option, Some, None, String, Global, Vec, string_bytes, refl, sym, ap, ◌∙◌, subst, IfSome, arith}
+use Rattle.std.proofs.Common.{◌≡◌, ℕ, ℤ, pos, negsuc, ◌++◌, List, [], ◌∷◌, Option, Some, None, String, Global, Vec, string_bytes, refl, subst, IfSome, arith}
 use Rattle.std.specs.Prelude.{All}
 use Rattle.std.proofs.lemmas.Int.{ints}
 use Rattle.std.proofs.lemmas.List.Elements.{All-contains, All-head, All-tail}
@@ -16,8 +16,8 @@ use Rattle.seccompiler.specs.declared.backend.BackendError.{BackendError}
 use Rattle.seccompiler.specs.declared.backend.BackendError.TheVariants as b
 use Rattle.seccompiler.specs.declared.backend.TargetArch.{TargetArch}
 use Rattle.seccompiler.specs.declared.bpf.sock_filter.{sock_filter}
-use Rattle.seccompiler.proofs.ByName.{AreMade, found_there, found_in_front, made_there, made_nowhere}
-use Rattle.seccompiler.proofs.TextFilters.{value_under}
+use Rattle.seccompiler.proofs.ByName.{AreMade}
+use Rattle.seccompiler.proofs.TextFilters.{value_under, all_made, least}
 
 -- A number of a table is a call number.
 call_number : (z : ℤ) → IsTableNumber z → IsCallNumber z
@@ -37,44 +37,23 @@ pub record Compiles (policy : Filter) (program : Vec sock_filter Global) : Type 
 module _ (arch : TargetArch) (d : Data) (policies : ByName Filter) (are : ArePoliciesOf arch (under policies) d) where
   -- The programs that are made of the value's policies are the value's.
   pub are_programs : (made : ByName (Vec sock_filter Global)) → AreMade Compiles policies made → AreProgramsOf arch (under made) d
-  are_programs made h = record {
-    is_object = are.is_object;
-    each = λ name value there.
-        let policy = are.each name value there in
-        let program = made_there Compiles policies made h name policy.0 policy.1 in
-        (policy.0, program.0, program.1, policy.2, program.2.is_program);
-    no_other = λ name none. made_nowhere Compiles policies made h name (are.no_other name none);
-  }
+  are_programs = all_made (HasPolicy arch) Compiles (under policies) d are policies (λ name. refl) _ (λ value policy program has made. (policy, has, made.is_program))
 
   module _ (front : ByName Filter) (entry : String Global × Filter) (back : ByName Filter) (whole : policies ≡ front ++ entry ∷ back) (order : AreInOrder policies) (made : ByName (Vec sock_filter Global)) (h : AreMade Compiles front made) where
     -- Behind policies that are compiled, one that is too large is that of the least name.
     least_too_large : (n : ℕ) → IsTooLarge entry.1 n → IsLeastTooLarge arch n d
-    least_too_large n large =
-        let sorted : AreInOrder (front ++ entry ∷ back) = subst (λ xs. AreInOrder xs) whole order in
-        let own = value_under (HasPolicy arch) d (under policies) are.each are.no_other (string_bytes entry.0) entry.1 (ap (λ xs. under xs (string_bytes entry.0)) whole ∙ found_there front entry back sorted) in
-        record {
-          all_policies = record { is_object = are.is_object; each = λ name value there. let policy = are.each name value there in (policy.0, policy.2) };
-          name = string_bytes entry.0;
-          value = own.0;
-          there = own.1;
-          policy = entry.1;
-          has_policy = own.2;
-          too_large = large;
-          below = λ other value there less.
-              let policy = are.each other value there in
-              let program = made_there Compiles front made h other policy.0 (found_in_front front entry back sorted other policy.0 (ap (λ xs. under xs other) (sym whole) ∙ policy.1) less) in
-              (policy.0, policy.2, program.2.compilable);
-        }
+    least_too_large n large = (
+      record { is_object = are.is_object; each = λ name value there. let policy = are.each name value there in (policy.0, policy.2) },
+      string_bytes entry.0,
+      least (HasPolicy arch) Compiles (under policies) d are policies (λ name. refl) (λ policy. IsTooLarge policy n) _ (λ value policy program has made. (policy, has, made.compilable)) front entry back whole (subst (λ xs. AreInOrder xs) whole order) made h large,
+    )
 
     -- Its refusal is the text's first fault, where its numbers are those of a table.
     pub refused_told : (text : List ℕ) → IsValueOf text d → All IsTableNumber (numbers_of entry.1.chains) → (e : BackendError) → IsRefusal entry.1 e → TellsFirstFault arch text (from_backend e)
-    refused_told text is numbers b.EmptyRule h = absurd h
     refused_told text is numbers (b.FilterTooLarge n) h = (d, is, least_too_large n h)
-    refused_told text is numbers b.IdenticalActions h = absurd h
-    refused_told text is numbers b.InvalidArgumentNumber h = absurd h
-    refused_told text is numbers (b.InvalidTargetArch t) h = absurd h
     refused_told text is numbers (b.InvalidSyscallNumber n) h = absurd (h.unfit (call_number n (All-contains IsTableNumber (numbers_of entry.1.chains) n numbers h.among)))
     refused_told text is numbers b.OutOfMemory h = tt
+    refused_told text is numbers e h = absurd h
 
 -- Each of a value's programs may be run.
 pub all_checked : (arch : TargetArch) (find : List ℕ → Option (Vec sock_filter Global)) (d : Data) → AreProgramsOf arch find d → (name : List ℕ) → IfSome (find name) (λ program. IsChecked program.items)
@@ -82,7 +61,4 @@ all_checked arch find d are name = by (find name) refl
   where
     by : (o : Option (Vec sock_filter Global)) → find name ≡ o → IfSome o (λ program. IsChecked program.items)
     by None is = tt
-    by (Some program) is =
-        let value = value_under (λ value (program : Vec sock_filter Global). (policy : Filter) × HasPolicy arch value policy × IsProgramOf policy program) d find
-        (λ name value there. let own = are.each name value there in (own.1, own.2, (own.0, own.3, own.4))) are.no_other name program is in
-        value.2.2.compiled.checked
+    by (Some program) is = let value = value_under _ find d are name program is in value.2.2.compiled.checked

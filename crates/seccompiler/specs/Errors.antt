@@ -15,24 +15,13 @@ use Rattle.seccompiler.specs.Texts.{backend_text}
 
 -- A refusal of the backend; want of memory stays want of memory.
 abbrev pub from_backend : BackendError → Error
-from_backend backend.EmptyRule = whole.Backend backend.EmptyRule
-from_backend (backend.FilterTooLarge n) = whole.Backend (backend.FilterTooLarge n)
-from_backend backend.IdenticalActions = whole.Backend backend.IdenticalActions
-from_backend backend.InvalidArgumentNumber = whole.Backend backend.InvalidArgumentNumber
-from_backend (backend.InvalidTargetArch t) = whole.Backend (backend.InvalidTargetArch t)
-from_backend (backend.InvalidSyscallNumber n) = whole.Backend (backend.InvalidSyscallNumber n)
 from_backend backend.OutOfMemory = whole.OutOfMemory
+from_backend refusal = whole.Backend refusal
 
 -- A refusal of the front end; want of memory stays want of memory.
 abbrev pub from_frontend : JsonFrontendError → Error
-from_frontend (frontend.Backend cause) = whole.JsonFrontend (frontend.Backend cause)
-from_frontend (frontend.SerdeJson cause) = whole.JsonFrontend (frontend.SerdeJson cause)
-from_frontend (frontend.SyscallName name arch) = whole.JsonFrontend (frontend.SyscallName name arch)
-from_frontend (frontend.Read cause) = whole.JsonFrontend (frontend.Read cause)
-from_frontend frontend.RepeatedKey = whole.JsonFrontend frontend.RepeatedKey
-from_frontend frontend.NotAnObject = whole.JsonFrontend frontend.NotAnObject
-from_frontend (frontend.Shape name) = whole.JsonFrontend (frontend.Shape name)
 from_frontend frontend.OutOfMemory = whole.OutOfMemory
+from_frontend refusal = whole.JsonFrontend refusal
 
 -- The text of an error, where it is known: that of JSON that can't be read ends in serde_json's own words.
 abbrev pub error_text : Error → Option (List ℕ)

@@ -1,13 +1,13 @@
 -- What the policies of a JSON text are, and which of its faults is told.
-use Rattle.std.specs.Prelude.{◌≡◌, ℕ, List, Option, Some, None, string_bytes}
+use Rattle.std.specs.Prelude.{◌≡◌, ℕ, List, Option, Some, string_bytes}
 use Rattle.std.specs.Str.{IsUtf8}
 use Rattle.serde_json.specs.Data.{Data}
 use Rattle.serde_json.specs.Read.{read}
 use Rattle.seccompiler.specs.JsonFault.{Fault, unknown_call, refused}
-use Rattle.seccompiler.specs.JsonFilters.{IsBelow, IsLeastFault}
+use Rattle.seccompiler.specs.JsonFilters.{AreFound, AreAll, IsLeast, IsSomeFilter, IsLeastFault}
 use Rattle.seccompiler.specs.JsonPolicyOf.{IsPolicyOf, IsFirstFault}
 use Rattle.seccompiler.specs.JsonRepeats.{Repeats}
-use Rattle.seccompiler.specs.JsonShape.{IsObject, Has, Lacks, IsFilter}
+use Rattle.seccompiler.specs.JsonShape.{IsObject, IsFilter}
 use Rattle.seccompiler.specs.Policy.{Filter}
 use Rattle.seccompiler.specs.declared.backend.TargetArch.{TargetArch}
 use Rattle.seccompiler.specs.declared.json.error.JsonFrontendError.{JsonFrontendError}
@@ -29,33 +29,21 @@ abbrev pub OfValue : List ℕ → (Data → Type 0) → Type 0
 OfValue text P = (d : Data) × IsValueOf text d × P d
 
 -- The value is a filter, whose policy on this architecture is this one.
-pub record HasPolicy (arch : TargetArch) (value : Data) (policy : Filter) : Type 0 where
-  pub filter : JsonFilter
-  pub is_filter : IsFilter value filter
-  pub is_policy : IsPolicyOf arch filter policy
+abbrev pub HasPolicy : TargetArch → Data → Filter → Type 0
+HasPolicy arch value policy = (f : JsonFilter) × IsFilter value f × IsPolicyOf arch f policy
+
+-- The value has some policy on this architecture.
+abbrev pub HasSomePolicy : TargetArch → Data → Type 0
+HasSomePolicy arch value = (policy : Filter) × HasPolicy arch value policy
 
 -- The value is an object, and what is found under a name is the policy of the name's value; under no other name
 -- there is anything.
-pub record ArePoliciesOf (arch : TargetArch) (find : List ℕ → Option Filter) (d : Data) : Type 0 where
-  pub is_object : IsObject d
-  pub each : (name : List ℕ) (value : Data) → Has d name value → (policy : Filter) × (find name ≡ Some policy) × HasPolicy arch value policy
-  pub no_other : (name : List ℕ) → Lacks d name → find name ≡ None
-
--- The value is an object, and each value in it is a filter.
-pub record AreAllFilters (d : Data) : Type 0 where
-  pub is_object : IsObject d
-  pub each : (name : List ℕ) (value : Data) → Has d name value → (f : JsonFilter) × IsFilter value f
+abbrev pub ArePoliciesOf : TargetArch → (List ℕ → Option Filter) → Data → Type 0
+ArePoliciesOf arch = AreFound (HasPolicy arch)
 
 -- All values are filters; this is the first fault of one, and each name below its name has a policy.
-pub record IsLeastRefused (arch : TargetArch) (fault : Fault) (d : Data) : Type 0 where
-  pub all_filters : AreAllFilters d
-  pub name : List ℕ
-  pub value : Data
-  pub there : Has d name value
-  pub filter : JsonFilter
-  pub is_filter : IsFilter value filter
-  pub is_refused : IsFirstFault arch filter fault
-  pub below : (other : List ℕ) (v : Data) → Has d other v → IsBelow other name → (policy : Filter) × HasPolicy arch v policy
+abbrev pub IsLeastRefused : TargetArch → Fault → Data → Type 0
+IsLeastRefused arch fault d = AreAll IsSomeFilter d × (name : List ℕ) × IsLeast (λ value. (f : JsonFilter) × IsFilter value f × IsFirstFault arch f fault) (HasSomePolicy arch) d name
 
 -- The error tells what is at fault in the text, and nothing that comes earlier in the order of faults is: the bytes
 -- are no JSON; they have more colons than names; the top is no object; a filter has a wrong shape; a filter is refused. The least

@@ -1,5 +1,5 @@
 -- The filters of a JSON text, under their names.
-use Rattle.std.specs.Prelude.{◌≡◌, ℕ, List, Some, None, map, String, string_bytes}
+use Rattle.std.specs.Prelude.{◌≡◌, ℕ, List, Option, Some, None, map, String, string_bytes}
 use Rattle.std.specs.BTreeMap.{get_by_text}
 use Rattle.std.specs.Cmp.Lexicographic.{slice_cmp}
 use Rattle.std.specs.Ordering.{nat_cmp}
@@ -24,22 +24,40 @@ named entry = (string_bytes entry.0, entry.1)
 abbrev pub filters_of : JsonFilterMap → List Named
 filters_of filters = map named filters.0.entries
 
--- The value is an object, and the map has exactly its names, each with the filter that its value is.
-pub record AreFilters (d : Data) (filters : JsonFilterMap) : Type 0 where
+-- The value is an object, and what is found under each of its names is, as P says, what the name's value is; under no
+-- other name there is anything.
+pub record AreFound {X : Type 0} (P : Data → X → Type 0) (find : List ℕ → Option X) (d : Data) : Type 0 where
   pub is_object : IsObject d
-  pub each : (name : List ℕ) (value : Data) → Has d name value → (f : JsonFilter) × (get_by_text filters.0 name ≡ Some f) × IsFilter value f
-  pub no_other : (name : List ℕ) → Lacks d name → get_by_text filters.0 name ≡ None
+  pub each : (name : List ℕ) (value : Data) → Has d name value → (x : X) × (find name ≡ Some x) × P value x
+  pub no_other : (name : List ℕ) → Lacks d name → find name ≡ None
+
+-- The value is an object, and each value in it is as P says.
+pub record AreAll (P : Data → Type 0) (d : Data) : Type 0 where
+  pub is_object : IsObject d
+  pub each : (name : List ℕ) (value : Data) → Has d name value → P value
 
 -- The name is below the other in byte order.
 abbrev pub IsBelow : List ℕ → List ℕ → Type 0
 IsBelow name other = slice_cmp nat_cmp name other ≡ Less
 
--- The value of this name is no filter, and the value of each name below it is one.
-pub record IsLeastFault (d : Data) (name : List ℕ) : Type 0 where
+-- The value of this name is as P says, and the value of each name below it as Q says.
+pub record IsLeast (P Q : Data → Type 0) (d : Data) (name : List ℕ) : Type 0 where
   pub value : Data
   pub there : Has d name value
-  pub faulty : (f : JsonFilter) → IsFilter value f → ⊥
-  pub below : (other : List ℕ) (v : Data) → Has d other v → IsBelow other name → (f : JsonFilter) × IsFilter v f
+  pub own : P value
+  pub below : (other : List ℕ) (v : Data) → Has d other v → IsBelow other name → Q v
+
+-- The value is an object, and the map has exactly its names, each with the filter that its value is.
+abbrev pub AreFilters : Data → JsonFilterMap → Type 0
+AreFilters d filters = AreFound IsFilter (get_by_text filters.0) d
+
+-- The value is some filter.
+abbrev pub IsSomeFilter : Data → Type 0
+IsSomeFilter value = (f : JsonFilter) × IsFilter value f
+
+-- The value of this name is no filter, and the value of each name below it is one.
+abbrev pub IsLeastFault : Data → List ℕ → Type 0
+IsLeastFault = IsLeast (λ value. (f : JsonFilter) → IsFilter value f → ⊥) IsSomeFilter
 
 -- Why the value is refused: it is no object, or this is its least name whose value is no filter.
 -- Want of memory may come in place of both, and no other error comes.

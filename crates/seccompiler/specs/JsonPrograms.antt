@@ -1,11 +1,10 @@
 -- What the programs of a JSON text are, and which of its faults is told.
-use Rattle.std.specs.Prelude.{◌≡◌, ℕ, List, Option, Some, None, Vec}
+use Rattle.std.specs.Prelude.{ℕ, List, Option, Vec}
 use Rattle.std.specs.declared.alloc.Global.{Global}
 use Rattle.serde_json.specs.Data.{Data}
 use Rattle.seccompiler.specs.Compiled.{IsCompiled, Passes}
-use Rattle.seccompiler.specs.JsonAnswers.{HasPolicy, OfValue, TellsFrontendFault}
-use Rattle.seccompiler.specs.JsonFilters.{IsBelow}
-use Rattle.seccompiler.specs.JsonShape.{IsObject, Has, Lacks}
+use Rattle.seccompiler.specs.JsonAnswers.{HasPolicy, HasSomePolicy, OfValue, TellsFrontendFault}
+use Rattle.seccompiler.specs.JsonFilters.{AreFound, AreAll, IsLeast}
 use Rattle.seccompiler.specs.Policy.{Filter}
 use Rattle.seccompiler.specs.Refusal.{IsCompilable, IsTooLarge}
 use Rattle.seccompiler.specs.declared.backend.BackendError.TheVariants.{FilterTooLarge}
@@ -21,26 +20,13 @@ pub record IsProgramOf (policy : Filter) (program : Vec sock_filter Global) : Ty
 
 -- The value is an object, and what is found under a name is a program for the policy of the name's value; under no
 -- other name there is anything.
-pub record AreProgramsOf (arch : TargetArch) (find : List ℕ → Option (Vec sock_filter Global)) (d : Data) : Type 0 where
-  pub is_object : IsObject d
-  pub each : (name : List ℕ) (value : Data) → Has d name value → (policy : Filter) × (program : Vec sock_filter Global) × (find name ≡ Some program) × HasPolicy arch value policy × IsProgramOf policy program
-  pub no_other : (name : List ℕ) → Lacks d name → find name ≡ None
-
--- The value is an object, and each value in it has a policy.
-pub record HaveAllPolicies (arch : TargetArch) (d : Data) : Type 0 where
-  pub is_object : IsObject d
-  pub each : (name : List ℕ) (value : Data) → Has d name value → (policy : Filter) × HasPolicy arch value policy
+abbrev pub AreProgramsOf : TargetArch → (List ℕ → Option (Vec sock_filter Global)) → Data → Type 0
+AreProgramsOf arch = AreFound (λ value program. (policy : Filter) × HasPolicy arch value policy × IsProgramOf policy program)
 
 -- All values have policies; one policy is too large, n telling its length, and no policy of a name below its name is.
-pub record IsLeastTooLarge (arch : TargetArch) (n : ℕ) (d : Data) : Type 0 where
-  pub all_policies : HaveAllPolicies arch d
-  pub name : List ℕ
-  pub value : Data
-  pub there : Has d name value
-  pub policy : Filter
-  pub has_policy : HasPolicy arch value policy
-  pub too_large : IsTooLarge policy n
-  pub below : (other : List ℕ) (v : Data) → Has d other v → IsBelow other name → (q : Filter) × HasPolicy arch v q × IsCompilable q
+abbrev pub IsLeastTooLarge : TargetArch → ℕ → Data → Type 0
+IsLeastTooLarge arch n d = AreAll (HasSomePolicy arch) d × (name : List ℕ)
+    × IsLeast (λ value. (policy : Filter) × HasPolicy arch value policy × IsTooLarge policy n) (λ value. (policy : Filter) × HasPolicy arch value policy × IsCompilable policy) d name
 
 -- The error tells what is at fault in the text, and nothing that comes earlier in the order of faults is: all faults of
 -- the front end, and then the least name's policy that is too large. Want of memory may come in place of all.

@@ -1,4 +1,4 @@
-use Rattle.std.proofs.Common.{rules, ◌++◌, ◌∷◌, [], List, ℤ, Bool, w64, sym, ap, ◌∙◌, subst, append_assoc, append-nil}
+use Rattle.std.proofs.Common.{rules, ◌++◌, ◌∷◌, [], List, ℤ, Bool, true, false, w64, sym, ap, ◌∙◌, subst, append_assoc, append-nil}
 use mir.Val.{SFits}
 use Rattle.std.specs.List.{filter}
 use Rattle.std.specs.List.Sorted.{IsStrictlySortedBy}
@@ -7,7 +7,7 @@ use Rattle.std.specs.Ordering.{int_cmp}
 use Rattle.std.proofs.lemmas.Int.{to_z-of_z}
 use Rattle.std.proofs.lemmas.List.Kept.{IsStrictlySortedBy-filter}
 use Rattle.seccompiler.specs.JsonGathered.{rules_at}
-use Rattle.seccompiler.proofs.JsonChains.{some_held, filter_kept, filter_left}
+use Rattle.seccompiler.proofs.JsonChains.{some_held, filter_more}
 use Rattle.seccompiler.proofs.json.policy.both_kinds.Goals as goal
 
 pub loop-number-preserved-in-Continue-1 : goal.loop-number-preserved-in-Continue-1
@@ -20,7 +20,7 @@ loop-number-preserved-in-Continue-1 c =
     let some = some_held c.args.gathered.now.rules.entries number ∙ sym c.contains_key.ensures ∙ c.if-contains_key.true in (
       done ++ number ∷ [],
       so_far.1 ∙ ap (λ (rest : List ℤ). done ++ rest) c.in-Some.ensures.steps ∙ sym (append_assoc done (number ∷ []) _),
-      pushed ∙ ap (λ (numbers : List ℤ). numbers ++ number ∷ []) so_far.2 ∙ sym (filter_kept (λ n. is_some (rules_at c.args.gathered.now n)) done number some),
+      pushed ∙ ap (λ (numbers : List ℤ). numbers ++ number ∷ []) so_far.2 ∙ sym (filter_more (λ n. is_some (rules_at c.args.gathered.now n)) done number true some),
     )
 
 pub loop-number-preserved : goal.loop-number-preserved
@@ -31,7 +31,7 @@ loop-number-preserved c =
     let none = some_held c.args.gathered.now.rules.entries number ∙ sym c.contains_key.ensures ∙ c.if-contains_key.false in (
       done ++ number ∷ [],
       so_far.1 ∙ ap (λ (rest : List ℤ). done ++ rest) c.in-Some.ensures.steps ∙ sym (append_assoc done (number ∷ []) _),
-      so_far.2 ∙ sym (filter_left (λ n. is_some (rules_at c.args.gathered.now n)) done number none),
+      so_far.2 ∙ sym (filter_more (λ n. is_some (rules_at c.args.gathered.now n)) done number false none ∙ append-nil _),
     )
 
 pub returns-clause-ascending : goal.returns-clause-ascending

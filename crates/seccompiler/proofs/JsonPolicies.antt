@@ -81,10 +81,7 @@ module _ (arch : TargetArch) where
 
   -- The number of an entry's call is one of the table.
   in_range : (number : ℤ) (entry : JsonRule) → IsFor arch number entry → IsTableNumber number
-  in_range number entry is =
-      let facts = is_call_table arch in
-      let named = number_of-all IsTableNumber (table_of arch) entry.syscall facts.in_range in
-      rw is at named
+  in_range number entry is = let named = number_of-all IsTableNumber (table_of arch) entry.syscall (is_call_table arch).in_range in rw is at named
 
   module _ (j : JsonFilter) where
     -- The filter of some chains.

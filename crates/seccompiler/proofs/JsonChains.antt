@@ -64,11 +64,7 @@ chain_of_more done number q found = both (int_eq q number) (list_any (int_eq q) 
 
 -- A number has rules where the map holds some.
 pub some_held : (entries : List (ℤ × Vec Rule Global)) (number : ℤ) → is_some (chain_at (chains_of entries) number) ≡ is_some (held entries number)
-some_held entries number = ap is_some (chain_held entries number) ∙ by_case (held entries number)
-  where
-    by_case : (found : Option (Vec Rule Global)) → is_some (option_map (λ v. v.items) found) ≡ is_some found
-    by_case None = refl
-    by_case (Some v) = refl
+some_held entries number = ap is_some (chain_held entries number) ∙ elim (held entries number) as (λ found. is_some (option_map (λ v. v.items) found) ≡ is_some found) [ None ↦ refl | Some v ↦ refl ]
 
 -- A filter of one item more.
 pub filter_more : (p : ℤ → Bool) (done : List ℤ) (x : ℤ) (b : Bool) → p x ≡ b → filter p (done ++ x ∷ []) ≡ filter p done ++ cond b (x ∷ []) []

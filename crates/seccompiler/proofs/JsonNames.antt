@@ -20,14 +20,11 @@ module _ (name : List ℕ) (d : Data) (members : Members) where
       at Equal is = inl ((bytes_eq-Decides other name).0 (sym (is_eq-slice_cmp other name) ∙ ap is_eq is), rw is refl)
       at Greater is = inr (rw is refl)
 
-  first_there : get_member name (member name d members) ≡ Some d
-  first_there = rw (tied_itself nat_list_cmp_total name) refl
-
   -- The names of an object are among some where the first member's is, and the others' are.
   only_step : (names : List (List ℕ)) → HasOnly (object (member name d members)) names ↔ ((list_any (bytes_eq name) names ≡ true) × HasOnly (object members) names)
   only_step names = (
     λ h. (
-      list_any-from_Contains {eq = bytes_eq} nat_list_eq_equiv name names (h.no_other name d first_there),
+      list_any-from_Contains {eq = bytes_eq} nat_list_eq_equiv name names (h.no_other name d (rw (tied_itself nat_list_cmp_total name) refl)),
       record {
         is_object = (members, refl);
         no_other = λ other v there. elim (first_or_later other) [ inl own ↦ h.no_other other d own.1 | inr later ↦ h.no_other other v (later ∙ there) ];

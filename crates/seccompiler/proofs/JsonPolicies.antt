@@ -69,10 +69,7 @@ module _ (arch : TargetArch) where
 
   -- The number of an entry's call is one of the table.
   in_range : (number : ℤ) (entry : JsonRule) → IsFor arch number entry → IsTableNumber number
-  in_range number entry is =
-      let facts = is_call_table arch in
-      let named = number_of-all IsTableNumber (table_of arch) entry.syscall facts.in_range in
-      rw is at named
+  in_range number entry is = let named = number_of-all IsTableNumber (table_of arch) entry.syscall (is_call_table arch).in_range in rw is at named
 
   any_in_range : (number : ℤ) (entries : List JsonRule) → list_any (is_for arch number) entries ≡ true → IsTableNumber number
   any_in_range number entries some = let any = (any_for number entries).0 some in in_range number any.1 any.4

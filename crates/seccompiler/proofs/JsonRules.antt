@@ -19,14 +19,10 @@ all_or_any P Q either (x ∷ xs) = elim (either x) [
   ]
 ]
 
--- An index is within bounds, or above them.
-small_or_above : (c : JsonCondition) → (c.arg_index ≤ 5) ⊎ (5 < c.arg_index)
-small_or_above c = elim (cases_lt 5 c.arg_index) [ inl above ↦ inr above | inr small ↦ inl small ]
-
 -- Nothing is wrong with conditions, or some fault is their first.
 pub fine_or_fault_in : (cs : List JsonCondition) → AreFine cs ⊎ ((fault : Fault) × IsFaultIn cs fault)
 fine_or_fault_in [] = inr (refused EmptyRule, empty_args refl refl)
-fine_or_fault_in (c ∷ cs) = elim (all_or_any (λ (c : JsonCondition). c.arg_index ≤ 5) (λ c. 5 < c.arg_index) small_or_above (c ∷ cs)) [
+fine_or_fault_in (c ∷ cs) = elim (all_or_any (λ (c : JsonCondition). c.arg_index ≤ 5) (λ c. 5 < c.arg_index) (λ c. elim (cases_lt 5 c.arg_index) [ inl above ↦ inr above | inr small ↦ inl small ]) (c ∷ cs)) [
   | inl within ↦ inl (record { indices = within; some = λ e. cc })
   | inr above ↦ inr (refused InvalidArgumentNumber, index_above above refl)
 ]

@@ -1,12 +1,14 @@
 // Conditions: what is refused, their instructions, and when they hold.
 
-use crate::builders::{ALLOW, Parts, SeccompData, TRAP, call, condition, one_rule, rule};
+use crate::builders::{
+    ALLOW, Parts, SeccompData, TRAP, assert_word, call, condition, one_rule, rule,
+};
 use crate::instructions::{jump_at_least, jump_equal, jump_greater, load, mask};
-use seccompiler::backend::BackendError;
 use seccompiler::backend::SeccompCmpArgLen::{Dword, Qword};
 use seccompiler::backend::SeccompCmpOp::{Eq, Ge, Gt, Le, Lt, MaskedEq, Ne};
+use seccompiler::backend::{BackendError, SeccompCmpArgLen, SeccompCmpOp};
+use seccompiler::bpf::sock_filter;
 use seccompiler::condition::SeccompCondition;
-use seccompiler::machine::{check, run};
 use std::alloc::Global;
 use std::process::Abort;
 use std::test::Fail;
@@ -61,162 +63,112 @@ fn indices_above_5_are_refused(rt: HostRuntime) -> Result<(), Fail> {
     Ok(())
 }
 
-#[test]
-fn each_operator_has_its_code(rt: HostRuntime) -> Result<(), Fail> {
-    let alloc = rt.alloc();
-    for (parts, offset, want) in [
-        (
-            (3, Dword, Eq, VALUE),
-            9,
-            &[load(40), jump_equal(5, 0, 9)][..],
-        ),
-        (
-            (3, Dword, Ne, VALUE),
-            9,
-            &[load(40), jump_equal(5, 9, 0)][..],
-        ),
-        (
-            (3, Dword, Ge, VALUE),
-            9,
-            &[load(40), jump_at_least(5, 0, 9)][..],
-        ),
-        (
-            (3, Dword, Gt, VALUE),
-            9,
-            &[load(40), jump_greater(5, 0, 9)][..],
-        ),
-        (
-            (3, Dword, Le, VALUE),
-            9,
-            &[load(40), jump_greater(5, 9, 0)][..],
-        ),
-        (
-            (3, Dword, Lt, VALUE),
-            9,
-            &[load(40), jump_at_least(5, 9, 0)][..],
-        ),
-        (
-            (3, Dword, MaskedEq(MASK), VALUE),
-            9,
-            &[load(40), mask(12), jump_equal(4, 0, 9)][..],
-        ),
-        (
-            (3, Qword, Eq, VALUE),
-            9,
-            &[
-                load(44),
-                jump_equal(7, 0, 11),
-                load(40),
-                jump_equal(5, 0, 9),
-            ][..],
-        ),
-        (
-            (3, Qword, Ne, VALUE),
-            9,
-            &[load(44), jump_equal(7, 0, 2), load(40), jump_equal(5, 9, 0)][..],
-        ),
-        (
-            (3, Qword, Ge, VALUE),
-            9,
-            &[
-                load(44),
-                jump_greater(7, 3, 0),
-                jump_equal(7, 0, 11),
-                load(40),
-                jump_at_least(5, 0, 9),
-            ][..],
-        ),
-        (
-            (3, Qword, Gt, VALUE),
-            9,
-            &[
-                load(44),
-                jump_greater(7, 3, 0),
-                jump_equal(7, 0, 11),
-                load(40),
-                jump_greater(5, 0, 9),
-            ][..],
-        ),
-        (
-            (3, Qword, Le, VALUE),
-            9,
-            &[
-                load(44),
-                jump_greater(7, 12, 0),
-                jump_equal(7, 0, 2),
-                load(40),
-                jump_greater(5, 9, 0),
-            ][..],
-        ),
-        (
-            (3, Qword, Lt, VALUE),
-            9,
-            &[
-                load(44),
-                jump_greater(7, 12, 0),
-                jump_equal(7, 0, 2),
-                load(40),
-                jump_at_least(5, 9, 0),
-            ][..],
-        ),
-        (
-            (3, Qword, MaskedEq(MASK), VALUE),
-            9,
-            &[
-                load(44),
-                mask(6),
-                jump_equal(6, 0, 12),
-                load(40),
-                mask(12),
-                jump_equal(4, 0, 9),
-            ][..],
-        ),
-        // At the least offset, between them, and at the greatest.
-        (
-            (2, Qword, Le, 4294967310),
-            1,
-            &[
-                load(36),
-                jump_greater(1, 4, 0),
-                jump_equal(1, 0, 2),
-                load(32),
-                jump_greater(14, 1, 0),
-            ][..],
-        ),
-        (
-            (2, Qword, MaskedEq(10), 14),
-            3,
-            &[
-                load(36),
-                mask(0),
-                jump_equal(0, 0, 6),
-                load(32),
-                mask(10),
-                jump_equal(10, 0, 3),
-            ][..],
-        ),
-        (
-            (0, Qword, MaskedEq(u64::MAX), 0),
-            248,
-            &[
-                load(20),
-                mask(4294967295),
-                jump_equal(0, 0, 251),
-                load(16),
-                mask(4294967295),
-                jump_equal(0, 0, 248),
-            ][..],
-        ),
-    ] {
-        assert!(rt; 1 <= offset && offset <= 248, "offset {offset}");
-        let code = condition(parts)?.to_bpf(alloc, offset)?;
-        assert_eq!(rt;
-            code.as_slice(),
-            want,
-            "the code of {parts:?} at offset {offset}"
-        );
-    }
+// Asserts the code of the condition at the offset.
+fn assert_code(
+    rt: &impl Abort,
+    alloc: Global,
+    parts: Parts,
+    offset: u8,
+    want: &[sock_filter],
+) -> Result<(), Fail> {
+    assert!(rt; 1 <= offset && offset <= 248, "offset {offset}");
+    let code = condition(parts)?.to_bpf(alloc, offset)?;
+    assert!(rt;
+        code.as_slice() == want,
+        "the code of {parts:?} at offset {offset} is {code:?}"
+    );
     Ok(())
+}
+
+// Asserts the code on argument 3, at offset 9, with a value whose halves are 7 and 5.
+fn assert_code_on_3(
+    rt: &impl Abort,
+    alloc: Global,
+    arg_len: SeccompCmpArgLen,
+    operator: SeccompCmpOp,
+    want: &[sock_filter],
+) -> Result<(), Fail> {
+    assert_code(rt, alloc, (3, arg_len, operator, VALUE), 9, want)
+}
+
+#[test]
+fn each_operator_on_low_halves_has_its_code(rt: HostRuntime) -> Result<(), Fail> {
+    let alloc = rt.alloc();
+    let low = load(40);
+    assert_code_on_3(&rt, alloc, Dword, Eq, &[low, jump_equal(5, 0, 9)])?;
+    assert_code_on_3(&rt, alloc, Dword, Ne, &[low, jump_equal(5, 9, 0)])?;
+    assert_code_on_3(&rt, alloc, Dword, Ge, &[low, jump_at_least(5, 0, 9)])?;
+    assert_code_on_3(&rt, alloc, Dword, Gt, &[low, jump_greater(5, 0, 9)])?;
+    assert_code_on_3(&rt, alloc, Dword, Le, &[low, jump_greater(5, 9, 0)])?;
+    assert_code_on_3(&rt, alloc, Dword, Lt, &[low, jump_at_least(5, 9, 0)])?;
+    let masked = [low, mask(12), jump_equal(4, 0, 9)];
+    assert_code_on_3(&rt, alloc, Dword, MaskedEq(MASK), &masked)
+}
+
+#[test]
+fn equality_of_both_halves_has_its_code(rt: HostRuntime) -> Result<(), Fail> {
+    let alloc = rt.alloc();
+    let (high, low) = (load(44), load(40));
+    let equal = [high, jump_equal(7, 0, 11), low, jump_equal(5, 0, 9)];
+    assert_code_on_3(&rt, alloc, Qword, Eq, &equal)?;
+    let differs = [high, jump_equal(7, 0, 2), low, jump_equal(5, 9, 0)];
+    assert_code_on_3(&rt, alloc, Qword, Ne, &differs)?;
+    let masked = [
+        high,
+        mask(6),
+        jump_equal(6, 0, 12),
+        low,
+        mask(12),
+        jump_equal(4, 0, 9),
+    ];
+    assert_code_on_3(&rt, alloc, Qword, MaskedEq(MASK), &masked)
+}
+
+#[test]
+fn order_of_both_halves_has_its_code(rt: HostRuntime) -> Result<(), Fail> {
+    let alloc = rt.alloc();
+    let (high, low) = (load(44), load(40));
+    let (above, equal) = (jump_greater(7, 3, 0), jump_equal(7, 0, 11));
+    let at_least = [high, above, equal, low, jump_at_least(5, 0, 9)];
+    assert_code_on_3(&rt, alloc, Qword, Ge, &at_least)?;
+    let greater = [high, above, equal, low, jump_greater(5, 0, 9)];
+    assert_code_on_3(&rt, alloc, Qword, Gt, &greater)?;
+    let (above, equal) = (jump_greater(7, 12, 0), jump_equal(7, 0, 2));
+    let at_most = [high, above, equal, low, jump_greater(5, 9, 0)];
+    assert_code_on_3(&rt, alloc, Qword, Le, &at_most)?;
+    let less = [high, above, equal, low, jump_at_least(5, 9, 0)];
+    assert_code_on_3(&rt, alloc, Qword, Lt, &less)
+}
+
+#[test]
+fn offsets_from_the_least_to_the_greatest(rt: HostRuntime) -> Result<(), Fail> {
+    let alloc = rt.alloc();
+    let want = [
+        load(36),
+        jump_greater(1, 4, 0),
+        jump_equal(1, 0, 2),
+        load(32),
+        jump_greater(14, 1, 0),
+    ];
+    assert_code(&rt, alloc, (2, Qword, Le, 4294967310), 1, &want)?;
+    let want = [
+        load(36),
+        mask(0),
+        jump_equal(0, 0, 6),
+        load(32),
+        mask(10),
+        jump_equal(10, 0, 3),
+    ];
+    assert_code(&rt, alloc, (2, Qword, MaskedEq(10), 14), 3, &want)?;
+    let want = [
+        load(20),
+        mask(4294967295),
+        jump_equal(0, 0, 251),
+        load(16),
+        mask(4294967295),
+        jump_equal(0, 0, 248),
+    ];
+    assert_code(&rt, alloc, (0, Qword, MaskedEq(u64::MAX), 0), 248, &want)
 }
 
 // Call 7 with this argument, and all other arguments 0.
@@ -240,25 +192,12 @@ fn assert_holds(
     let (index, _, _, _) = parts;
     let filter = one_rule(alloc, rule(alloc, &[parts])?)?;
     let program = filter.to_bpf(alloc)?;
-    assert!(rt; check(&program), "the program of {parts:?} is refused");
     let word = if holds { ALLOW } else { TRAP };
     for argument in arguments {
-        let record = call_with(index, *argument).record();
-        assert_eq!(rt;
-            condition(parts)?.holds(&record),
-            holds,
-            "{parts:?} on {argument}"
-        );
-        assert_eq!(rt;
-            run(&program, &record).word,
-            word,
-            "the program of {parts:?} on {argument}"
-        );
-        assert_eq!(rt;
-            filter.decide(&record),
-            word,
-            "the decision of {parts:?} on {argument}"
-        );
+        let asked = call_with(index, *argument);
+        let held = condition(parts)?.holds(&asked.record());
+        assert!(rt; held == holds, "{parts:?} on {argument}");
+        assert_word(rt, "a condition", &filter, &program, &asked, word);
     }
     Ok(())
 }

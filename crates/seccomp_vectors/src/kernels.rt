@@ -1,6 +1,7 @@
 // Installing in a kernel that answers from two lists and records the calls that are made to it.
 
 use crate::instructions::give;
+use crate::scarce::Hoard;
 use seccompiler::{
     BpfProgramRef, Error, Kernel, apply_filter, apply_filter_all_threads, sock_filter,
 };
@@ -128,8 +129,31 @@ fn expected(flags: u64, answer: Answer) -> Installation {
     }
 }
 
-// Asserts the answer and the calls where a kernel with these answers is to install the program, for all
-// threads where the flags say so.
+// What installing the program answers and calls, for all threads where the flags say so, in a kernel with
+// these answers. There is nothing where the program is too long to be installed.
+fn install(
+    flags: u64,
+    program: &[sock_filter],
+    first: (i32, i32),
+    second: (i64, i32),
+) -> Option<Installation> {
+    if program.len() > LONGEST {
+        return None;
+    }
+    let (firsts, seconds) = ([first], [second]);
+    let mut kernel = ScriptedKernel::new(&firsts, &seconds, program);
+    let installed = match flags {
+        0 => apply_filter(&mut kernel, program),
+        _all_threads => apply_filter_all_threads(&mut kernel, program),
+    };
+    Some(Installation {
+        answer: answer_of(installed),
+        calls: kernel.calls,
+        made: kernel.made,
+    })
+}
+
+// Asserts the answer and the calls.
 fn assert_installation(
     rt: &impl Abort,
     flags: u64,
@@ -138,23 +162,9 @@ fn assert_installation(
     second: (i64, i32),
     answer: Answer,
 ) {
+    let found = install(flags, program, first, second);
     assert!(rt;
-        program.len() <= LONGEST,
-        "a program too long to be installed"
-    );
-    let (firsts, seconds) = ([first], [second]);
-    let mut kernel = ScriptedKernel::new(&firsts, &seconds, program);
-    let installed = match flags {
-        0 => apply_filter(&mut kernel, program),
-        _all_threads => apply_filter_all_threads(&mut kernel, program),
-    };
-    let found = Installation {
-        answer: answer_of(installed),
-        calls: kernel.calls,
-        made: kernel.made,
-    };
-    assert!(rt;
-        found == expected(flags, answer),
+        found == Some(expected(flags, answer)),
         "answers {first:?} and {second:?}, with flags {flags}, are {found:?}"
     );
 }
@@ -218,4 +228,22 @@ fn codes_up_to_the_ends_of_their_range(rt: HostRuntime) {
             }
         }
     }
+}
+
+#[test]
+fn installing_takes_no_memory(rt: HostRuntime) -> Result<(), Fail> {
+    let program = [give(0)];
+    let hoard = Hoard::take(rt.alloc())?;
+    let one = install(0, &program, (0, 0), (0, 0));
+    let all = install(1, &program, (0, 0), (-1, 22));
+    drop(hoard);
+    assert!(rt;
+        one == Some(expected(0, Answer::Installed)),
+        "one thread is {one:?}"
+    );
+    assert!(rt;
+        all == Some(expected(1, Answer::Seccomp(22))),
+        "all threads are {all:?}"
+    );
+    Ok(())
 }

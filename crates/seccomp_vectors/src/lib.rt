@@ -62,4 +62,6 @@ mod surface;
 #[cfg(test)]
 mod texts;
 #[cfg(test)]
+mod trees;
+#[cfg(test)]
 mod widened;

@@ -1,11 +1,12 @@
 // Rules whose conditions take more instructions than one jump reaches over, and their relays.
 
-use crate::builders::{ALLOW, Parts, TRAP, assert_answers, call, long_rule, one_rule};
+use crate::builders::{ALLOW, Parts, SeccompData, TRAP, assert_answers, call, long_rule, one_rule};
 use crate::instructions::{jump, jump_equal, load, mask};
 use seccompiler::backend::BackendError;
 use seccompiler::backend::SeccompCmpArgLen::{Dword, Qword};
 use seccompiler::backend::SeccompCmpOp::{Eq, Ge, MaskedEq};
 use seccompiler::bpf::sock_filter;
+use std::alloc::Global;
 use std::process::Abort;
 use std::test::Fail;
 
@@ -55,126 +56,140 @@ fn a_relay_stands_before_the_condition_that_closes_a_group(rt: HostRuntime) -> R
     Ok(())
 }
 
-#[test]
-fn groups_close_at_248_instructions(rt: HostRuntime) -> Result<(), Fail> {
-    let alloc = rt.alloc();
-    for (name, conditions, length, count, front) in [
-        (
-            "248 instructions",
-            &[(62, QWORD_EQUAL)][..],
-            250,
-            0,
-            &[jump(1), jump(250)][..],
-        ),
-        (
-            "248 instructions and a condition more",
-            &[(62, QWORD_EQUAL), (1, DWORD_EQUAL)][..],
-            255,
-            1,
-            &[
-                jump(1),
-                jump(4),
-                load(16),
-                jump_equal(0, 0, 1),
-                jump(2),
-                jump(250),
-                jump(250),
-            ][..],
-        ),
-        (
-            "247 instructions and two conditions more",
-            &[
-                (49, AT_LEAST),
-                (1, DWORD_EQUAL),
-                (1, MASKED),
-                (1, DWORD_EQUAL),
-            ][..],
-            260,
-            1,
-            &[
-                jump(1),
-                jump(4),
-                load(16),
-                jump_equal(0, 0, 1),
-                jump(2),
-                jump(255),
-                jump(255),
-                load(20),
-                mask(0),
-                jump_equal(0, 0, 251),
-            ][..],
-        ),
-    ] {
-        let code = long_rule(alloc, conditions)?.to_bpf(alloc)?;
-        assert_eq!(rt; code.len(), length, "the length of {name}");
-        assert_eq!(rt; relays(&code), count, "the relays of {name}");
-        assert_eq!(rt; code.get(..front.len()), Some(front), "the front of {name}");
-    }
+// Conditions of a rule, each as many times as it says.
+type Conditions<'a> = &'a [(usize, Parts)];
+
+// Asserts the length of the code of these conditions, how many relays it has, and its front.
+fn assert_rule(
+    rt: &impl Abort,
+    alloc: Global,
+    conditions: Conditions,
+    length: usize,
+    count: usize,
+    front: &[sock_filter],
+) -> Result<(), Fail> {
+    let code = long_rule(alloc, conditions)?.to_bpf(alloc)?;
+    assert!(rt; code.len() == length, "the length of {conditions:?}");
+    assert!(rt; relays(&code) == count, "the relays of {conditions:?}");
+    assert!(rt; code.starts_with(front), "the front of {conditions:?}");
     Ok(())
 }
 
 #[test]
-fn long_rules_on_one_call(rt: HostRuntime) -> Result<(), Fail> {
+fn groups_close_at_248_instructions(rt: HostRuntime) -> Result<(), Fail> {
     let alloc = rt.alloc();
-    for (name, conditions, count, length, answers) in [
-        (
-            "200 masked conditions",
-            &[(200, MASKED)][..],
-            4,
-            1214,
-            &[(call(7, [0; 6]), ALLOW, 1210), (call(8, [0; 6]), TRAP, 10)][..],
-        ),
-        (
-            "an equality and 82 more",
-            &[(1, (1, Qword, Eq, 5)), (82, QWORD_EQUAL)][..],
-            1,
-            337,
-            &[
-                (call(7, [0, 5, 0, 0, 0, 0]), ALLOW, 339),
-                (call(7, [0, 4, 0, 0, 0, 0]), TRAP, 339),
-                (call(7, [0, 4294967301, 0, 0, 0, 0]), TRAP, 337),
-                (call(7, [1, 5, 0, 0, 0, 0]), TRAP, 11),
-                (call(8, [0; 6]), TRAP, 7),
-            ][..],
-        ),
-        (
-            "672 masked conditions",
-            &[(672, MASKED)][..],
-            15,
-            4079,
-            &[][..],
-        ),
-        (
-            "673 masked conditions",
-            &[(673, MASKED)][..],
-            16,
-            4088,
-            &[(call(7, [0; 6]), ALLOW, 4060), (call(8, [0; 6]), TRAP, 22)][..],
-        ),
-        (
-            "672 masked conditions and one more",
-            &[(672, MASKED), (1, AT_LEAST)][..],
-            16,
-            4087,
-            &[(call(7, [0; 6]), ALLOW, 4059), (call(8, [0; 6]), TRAP, 22)][..],
-        ),
-    ] {
-        let rule = long_rule(alloc, conditions)?;
-        let code = rule.to_bpf(alloc)?;
-        assert_eq!(rt; code.len(), length, "the rule of {name}");
-        assert_eq!(rt; relays(&code), count, "the relays of {name}");
-        let filter = one_rule(alloc, rule)?;
-        // Beside the rule: seven instructions around it, and its own return.
-        assert_eq!(rt; filter.program_len(), length + 8, "the program of {name}");
-        assert_answers(&rt, alloc, name, &filter, answers)?;
-    }
-    Ok(())
+    let front = [jump(1), jump(250)];
+    assert_rule(&rt, alloc, &[(62, QWORD_EQUAL)], 250, 0, &front)?;
+    let front = [
+        jump(1),
+        jump(4),
+        load(16),
+        jump_equal(0, 0, 1),
+        jump(2),
+        jump(250),
+        jump(250),
+    ];
+    assert_rule(
+        &rt,
+        alloc,
+        &[(62, QWORD_EQUAL), (1, DWORD_EQUAL)],
+        255,
+        1,
+        &front,
+    )
+}
+
+#[test]
+fn a_group_of_247_instructions_takes_one_condition_more(rt: HostRuntime) -> Result<(), Fail> {
+    let conditions = [
+        (49, AT_LEAST),
+        (1, DWORD_EQUAL),
+        (1, MASKED),
+        (1, DWORD_EQUAL),
+    ];
+    let front = [
+        jump(1),
+        jump(4),
+        load(16),
+        jump_equal(0, 0, 1),
+        jump(2),
+        jump(255),
+        jump(255),
+        load(20),
+        mask(0),
+        jump_equal(0, 0, 251),
+    ];
+    assert_rule(&rt, rt.alloc(), &conditions, 260, 1, &front)
+}
+
+// Asserts what a filter of one rule on call 7 answers, and its length: seven instructions stand around
+// the rule, and its own return.
+fn assert_filter(
+    rt: &impl Abort,
+    alloc: Global,
+    conditions: Conditions,
+    rule_length: usize,
+    answers: &[(SeccompData, u32, usize)],
+) -> Result<(), Fail> {
+    let filter = one_rule(alloc, long_rule(alloc, conditions)?)?;
+    assert!(rt;
+        filter.program_len() == rule_length.saturating_add(8),
+        "{conditions:?}"
+    );
+    assert_answers(rt, alloc, "a long rule", &filter, answers)
+}
+
+#[test]
+fn two_hundred_conditions(rt: HostRuntime) -> Result<(), Fail> {
+    let alloc = rt.alloc();
+    assert_rule(&rt, alloc, &[(200, MASKED)], 1214, 4, &[])?;
+    let answers = [(call(7, [0; 6]), ALLOW, 1210), (call(8, [0; 6]), TRAP, 10)];
+    assert_filter(&rt, alloc, &[(200, MASKED)], 1214, &answers)
+}
+
+const EQUALITIES: [(usize, Parts); 2] = [(1, (1, Qword, Eq, 5)), (82, QWORD_EQUAL)];
+
+#[test]
+fn an_equality_and_82_more(rt: HostRuntime) -> Result<(), Fail> {
+    let alloc = rt.alloc();
+    assert_rule(&rt, alloc, &EQUALITIES, 337, 1, &[])?;
+    let answers = [
+        (call(7, [0, 5, 0, 0, 0, 0]), ALLOW, 339),
+        (call(7, [0, 4, 0, 0, 0, 0]), TRAP, 339),
+        (call(7, [0, 4294967301, 0, 0, 0, 0]), TRAP, 337),
+        (call(7, [1, 5, 0, 0, 0, 0]), TRAP, 11),
+        (call(8, [0; 6]), TRAP, 7),
+    ];
+    assert_filter(&rt, alloc, &EQUALITIES, 337, &answers)
+}
+
+#[test]
+fn fifteen_relays(rt: HostRuntime) -> Result<(), Fail> {
+    assert_rule(&rt, rt.alloc(), &[(672, MASKED)], 4079, 15, &[])?;
+    assert_filter(&rt, rt.alloc(), &[(672, MASKED)], 4079, &[])
+}
+
+#[test]
+fn sixteen_relays(rt: HostRuntime) -> Result<(), Fail> {
+    let alloc = rt.alloc();
+    assert_rule(&rt, alloc, &[(673, MASKED)], 4088, 16, &[])?;
+    let answers = [(call(7, [0; 6]), ALLOW, 4060), (call(8, [0; 6]), TRAP, 22)];
+    assert_filter(&rt, alloc, &[(673, MASKED)], 4088, &answers)
+}
+
+#[test]
+fn sixteen_relays_and_an_order(rt: HostRuntime) -> Result<(), Fail> {
+    let alloc = rt.alloc();
+    let conditions = [(672, MASKED), (1, AT_LEAST)];
+    assert_rule(&rt, alloc, &conditions, 4087, 16, &[])?;
+    let answers = [(call(7, [0; 6]), ALLOW, 4059), (call(8, [0; 6]), TRAP, 22)];
+    assert_filter(&rt, alloc, &conditions, 4087, &answers)
 }
 
 #[test]
 fn jumps_of_two_groups(rt: HostRuntime) -> Result<(), Fail> {
     let alloc = rt.alloc();
-    let rule = long_rule(alloc, &[(1, (1, Qword, Eq, 5)), (82, QWORD_EQUAL)])?;
+    let rule = long_rule(alloc, &EQUALITIES)?;
     let program = one_rule(alloc, rule)?.to_bpf(alloc)?;
     let entry = [jump(1), jump(86)];
     assert_eq!(rt;

@@ -40,30 +40,31 @@ fn the_first_condition_stands_last(rt: HostRuntime) -> Result<(), Fail> {
         load(16),
         jump_equal(1, 0, 1),
     ];
-    assert_eq!(rt;
-        code.as_slice(),
-        want.as_slice(),
+    assert!(rt;
+        code.as_slice() == want.as_slice(),
         "the code of two conditions"
     );
     Ok(())
 }
 
+// Arguments 0 and 2, and whether the rule of two conditions holds for them.
+const ARGUMENTS: [(u64, u64, bool); 7] = [
+    (1, 10, true),
+    (1, 14, true),
+    (1, 4294967306, true),
+    (4294967297, 10, true),
+    (1, 8, false),
+    (2, 10, false),
+    (0, 0, false),
+];
+
 #[test]
 fn all_conditions_must_hold(rt: HostRuntime) -> Result<(), Fail> {
     let rule = two_conditions(rt.alloc())?;
-    for (first, third, holds) in [
-        (1, 10, true),
-        (1, 14, true),
-        (1, 4294967306, true),
-        (4294967297, 10, true),
-        (1, 8, false),
-        (2, 10, false),
-        (0, 0, false),
-    ] {
-        let record = call(7, [first, 0, third, 0, 0, 0]).record();
-        assert_eq!(rt;
-            rule.holds(&record),
-            holds,
+    for (first, third, holds) in &ARGUMENTS {
+        let record = call(7, [*first, 0, *third, 0, 0, 0]).record();
+        assert!(rt;
+            rule.holds(&record) == *holds,
             "arguments 0 and 2 are {first} and {third}"
         );
     }

@@ -10,7 +10,7 @@ const LARGE_ROOM: usize = 100_000;
 const SMALL_ROOM: usize = 400_000;
 
 // Memory for the small blocks, taken while the large ones are.
-const RESERVE: usize = 4 << 20;
+const RESERVE: usize = 16 << 20;
 
 /// All memory that the process may still have, in blocks that nothing is written to.
 ///
@@ -44,7 +44,7 @@ fn take_one(held: &mut Vec<Vec<u8>>, alloc: Global, size: usize) -> Result<(), A
 
 // Takes blocks of 16 to 1024 bytes in turn.
 fn take_small(held: &mut Vec<Vec<u8>>, alloc: Global) -> Result<(), AllocError> {
-    for _ in 0..200 {
+    for _ in 0..480 {
         for class in 1..65 {
             take_one(held, alloc, class * 16)?;
         }
@@ -69,11 +69,12 @@ impl Hoard {
         Ok(Hoard { large, small })
     }
 
-    /// Gives back the last few of the small blocks that are left.
-    pub fn give_back(&mut self, blocks: usize) {
+    /// Gives back the last few of the small blocks. Whether any are left.
+    pub fn give_back(&mut self, blocks: usize) -> bool {
         for _ in 0..blocks {
             drop(self.small.pop());
         }
+        !self.small.is_empty()
     }
 }
 
@@ -116,7 +117,9 @@ fn refusals<C: Call>(
         if answer != Answer::Refused {
             return Ok((refused, answer));
         }
-        hoard.give_back(blocks);
+        if !hoard.give_back(blocks) {
+            return Ok((refused, answer));
+        }
     }
     Ok((SMALL_ROOM, Answer::Refused))
 }

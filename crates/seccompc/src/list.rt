@@ -17,6 +17,9 @@ use std::io::{Read, Write};
 /// 00 to 1f, 7f and the backslash are written as `\x` and two lower-case hexadecimal digits, all others
 /// as they are. The whole listing is written at once.
 ///
+/// The policy's text is what its reader gives; of a reader whose type doesn't tell its bytes, as that
+/// of standard input, the contract says that there is such a text.
+///
 /// # Errors
 ///
 /// The first of these: `Library` with `InvalidTargetArch` and the text as it was given where `arch` is

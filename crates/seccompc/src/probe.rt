@@ -26,6 +26,9 @@ use std::io::{Read, Write};
 /// line is the word in 8 lower-case hexadecimal digits, a space, the steps in decimal, a line feed.
 /// All records are read before the first line is written, and all lines are written at once.
 ///
+/// The records are what their reader gives; of a reader whose type doesn't tell its bytes, as that of
+/// standard input, the contract says that there are such bytes.
+///
 /// # Errors
 ///
 /// The first of these: `Library` with `InvalidTargetArch` and the text as it was given where `arch`

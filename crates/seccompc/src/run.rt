@@ -17,6 +17,9 @@ use std::io::{Read, Write};
 /// The policy is read to its end and compiled, and its filter under `name` looked up, before the records
 /// are read; all records are read before the first line is written, and all lines are written at once.
 ///
+/// The policy's text and the records are what their readers give; of a reader whose type doesn't tell
+/// its bytes, as a file's, the contract says that there are such bytes.
+///
 /// # Errors
 ///
 /// The first of these: `Library` with `InvalidTargetArch` and the text as it was given where `arch` is

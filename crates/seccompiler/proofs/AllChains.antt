@@ -30,7 +30,7 @@ at_other : (a n : ℕ) → a ≢ n → is_at (int_cmp (pos a)) (pos n) ≡ false
 at_other a n differs = grind (arith, nat_tests)
 
 -- a chain that is found is found with one more behind
-found_before : (chains : List Entry) (e : Entry) (a : ℕ) (chain : Chain) → chain_under chains a ≡ Some chain → chain_under (chains ++ e ∷ []) a ≡ Some chain
+pub found_before : (chains : List Entry) (e : Entry) (a : ℕ) (chain : Chain) → chain_under chains a ≡ Some chain → chain_under (chains ++ e ∷ []) a ≡ Some chain
 found_before [] e a chain h = cc
 found_before (x ∷ chains) e a chain h = go (is_at (int_cmp (pos a)) x.0) h (found_before chains e a chain)
   where
@@ -47,10 +47,10 @@ found_last (x ∷ chains) e a h = go (is_at (int_cmp (pos a)) x.0) h (found_last
     go true h rest = cc
     go false h rest = rest h
 
-last_same : (chains : List Entry) (a : ℕ) (chain : Chain) → chain_under chains a ≡ None → chain_under (chains ++ (pos a, chain) ∷ []) a ≡ Some chain
+pub last_same : (chains : List Entry) (a : ℕ) (chain : Chain) → chain_under chains a ≡ None → chain_under (chains ++ (pos a, chain) ∷ []) a ≡ Some chain
 last_same chains a chain none = found_last chains (pos a, chain) a none ∙ ap (λ b. cond b (Some chain) None) (at_same a)
 
-last_other : (chains : List Entry) (a n : ℕ) (chain : Chain) → a ≢ n → chain_under chains a ≡ None → chain_under (chains ++ (pos n, chain) ∷ []) a ≡ None
+pub last_other : (chains : List Entry) (a n : ℕ) (chain : Chain) → a ≢ n → chain_under chains a ≡ None → chain_under (chains ++ (pos n, chain) ∷ []) a ≡ None
 last_other chains a n chain differs none = found_last chains (pos n, chain) a none ∙ ap (λ b. cond b (Some chain) None) (at_other a n differs)
 
 pub chains_empty : (mismatch matched : ℕ) → IsChainsCode [] mismatch matched []

@@ -14,16 +14,20 @@ capped_sum m a b = omega arith
 
 -- One rule more.
 pub capped_rule : (m : ℕ) (chain : Chain) (i : ℕ) (rule : Rule) (so_far size both more : ℕ)
-    → i < length chain → rule ≡ get_or chain i rule → so_far ≡ min (2 + rules_length (take i chain)) m → size ≡ min (rule_length rule) m
-    → both ≡ min (so_far + size) m → more ≡ min (both + 1) m → more ≡ min (2 + rules_length (take (i + 1) chain)) m
+    → i < length chain → rule ≡ get_or chain i rule → so_far ≡ min (rules_length (take i chain)) m → size ≡ min (rule_length rule) m
+    → both ≡ min (so_far + size) m → more ≡ min (both + 1) m → more ≡ min (rules_length (take (i + 1) chain)) m
 capped_rule m chain i rule so_far size both more within is first second third fourth =
     let sum : rules_length (take (i + 1) chain) ≡ rules_length (take i chain) + (rule_length rule + 1) = sum_by_more (λ q. rule_length q + 1) chain i rule within ∙ ap (λ q. rules_length (take i chain) + (rule_length q + 1)) (sym is) in
-    rw (fourth, third, first, second, capped_sum m (2 + rules_length (take i chain)) (rule_length rule), sum) (ap (λ n. min n m) (omega arith))
+    rw (fourth, third, first, second, capped_sum m (rules_length (take i chain)) (rule_length rule)) (ap (λ n. min n m) (sym sum))
 
--- All rules of a chain that has some.
-pub capped_chain : (m : ℕ) (chain : Chain) (i so_far : ℕ) → false ≡ (length chain == 0) → length chain ≤ i → so_far ≡ min (2 + rules_length (take i chain)) m → so_far ≡ min (chain_length chain) m
-capped_chain m [] i so_far some long first = cc
-capped_chain m (q ∷ chain) i so_far some long first = first ∙ ap (λ rules. min (2 + rules_length rules) m) (take_all i (q ∷ chain) long)
+-- All rules of a chain.
+pub capped_rules : (m : ℕ) (chain : Chain) (i so_far : ℕ) → length chain ≤ i → so_far ≡ min (rules_length (take i chain)) m → so_far ≡ min (rules_length chain) m
+capped_rules m chain i so_far long first = first ∙ ap (λ rules. min (rules_length rules) m) (take_all i chain long)
+
+-- A chain that has some.
+pub capped_chain : (m : ℕ) (chain : Chain) (rules more : ℕ) → false ≡ (length chain == 0) → rules ≡ min (rules_length chain) m → more ≡ min (rules + 2) m → more ≡ min (chain_length chain) m
+capped_chain m [] rules more some first second = cc
+capped_chain m (q ∷ chain) rules more some first second = second ∙ ap (λ n. min (n + 2) m) first ∙ omega arith
 
 -- The length of chains that are lent.
 abbrev pub lent_length : List (Bor (Vec Rule Global)) → ℕ

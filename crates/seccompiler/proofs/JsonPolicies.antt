@@ -89,11 +89,11 @@ module _ (arch : TargetArch) where
     filter_of chains = record { chains = chains; mismatch_action = j.mismatch_action; match_action = j.match_action; target_arch = arch }
 
     -- What each number has, where these chains are meant for the numbers.
-    abbrev meant : (ℤ → Chain) → ℤ → Option Chain
-    meant chains number = cond (list_any (is_for arch number) j.rules) (Some (chains number)) None
+    abbrev at_number : (ℤ → Chain) → ℤ → Option Chain
+    at_number meant number = cond (list_any (is_for arch number) j.rules) (Some (meant number)) None
 
     -- What was gathered of the entries gives the policy's chains.
-    gathered_chain : (number : ℤ) → chain_of (list_any (is_always arch number) j.rules) (added (all_rules arch j.rules number) None) ≡ meant (chain_for arch j.rules) number
+    gathered_chain : (number : ℤ) → chain_of (list_any (is_always arch number) j.rules) (added (all_rules arch j.rules number) None) ≡ at_number (chain_for arch j.rules) number
     gathered_chain number =
         by_case (list_any (is_always arch number) j.rules) (all_rules arch j.rules number)
         ∙ ap (λ b. cond b (Some (chain_for arch j.rules number)) None) (sym (for_either number j.rules))
@@ -104,24 +104,24 @@ module _ (arch : TargetArch) where
         by_case false (rule ∷ rules) = refl
 
     -- Chains that have under each number what is meant for it, in ascending order, make the filter.
-    made : (chain_for : ℤ → Chain) (chains : List (ℤ × Chain)) → ((number : ℤ) → chain_at chains number ≡ meant chain_for number) → IsStrictlySortedBy int_cmp (numbers_of chains)
-        → All (IsFine arch) j.rules → j.mismatch_action ≢ j.match_action → IsMadeOf chain_for arch j (filter_of chains)
-    made chain_for chains each ascending fine apart = record {
+    made : (meant : ℤ → Chain) (chains : List (ℤ × Chain)) → ((number : ℤ) → chain_at chains number ≡ at_number meant number) → IsStrictlySortedBy int_cmp (numbers_of chains)
+        → All (IsFine arch) j.rules → j.mismatch_action ≢ j.match_action → IsMadeOf meant arch j (filter_of chains)
+    made meant chains each ascending fine apart = record {
       mismatch_action = refl;
       match_action = refl;
       target_arch = refl;
       different = apart;
       entries = fine;
-      chain = λ number some. each number ∙ ap (λ b. cond b (Some (chain_for number)) None) ((any_for number j.rules).1 some);
-      no_other = λ number none. each number ∙ ap (λ b. cond b (Some (chain_for number)) None) (false_from_ne_true (list_any (is_for arch number) j.rules) (λ t. none ((any_for number j.rules).0 t)));
+      chain = λ number some. each number ∙ ap (λ b. cond b (Some (meant number)) None) ((any_for number j.rules).1 some);
+      no_other = λ number none. each number ∙ ap (λ b. cond b (Some (meant number)) None) (false_from_ne_true (list_any (is_for arch number) j.rules) (λ t. none ((any_for number j.rules).0 t)));
       ascending = ascending;
     }
 
     -- There is such a filter, whatever is meant.
-    pub some_made : (chain_for : ℤ → Chain) → All (IsFine arch) j.rules → j.mismatch_action ≢ j.match_action → (f : Filter) × IsMadeOf chain_for arch j f
-    some_made chain_for fine apart =
-        let all = numbered chain_for (numbers_of_entries j.rules) in
-        (filter_of all.chains, made chain_for all.chains (λ number. all.each number ∙ ap (λ b. cond b (Some (chain_for number)) None) (any_number number j.rules)) all.ascending fine apart)
+    pub some_made : (meant : ℤ → Chain) → All (IsFine arch) j.rules → j.mismatch_action ≢ j.match_action → (f : Filter) × IsMadeOf meant arch j f
+    some_made meant fine apart =
+        let all = numbered meant (numbers_of_entries j.rules) in
+        (filter_of all.chains, made meant all.chains (λ number. all.each number ∙ ap (λ b. cond b (Some (meant number)) None) (any_number number j.rules)) all.ascending fine apart)
 
     -- There are both policies.
     pub both_made : All (IsFine arch) j.rules × (j.mismatch_action ≢ j.match_action) → ((before : Filter) × IsPolicyBefore arch j before) × ((now : Filter) × IsPolicyOf arch j now)
@@ -138,8 +138,8 @@ module _ (arch : TargetArch) where
         (subst (All (IsFine arch)) these fine) apart
 
     -- What each number has in such a filter.
-    pub found_in : (chain_for : ℤ → Chain) (f : Filter) → IsMadeOf chain_for arch j f → (number : ℤ) → chain_at f.chains number ≡ meant chain_for number
-    found_in chain_for f is number = elim (cases_Bool (list_any (is_for arch number) j.rules)) [
+    pub found_in : (meant : ℤ → Chain) (f : Filter) → IsMadeOf meant arch j f → (number : ℤ) → chain_at f.chains number ≡ at_number meant number
+    found_in meant f is number = elim (cases_Bool (list_any (is_for arch number) j.rules)) [
       | inl some ↦ rw some (is.chain number ((any_for number j.rules).0 some))
       | inr none ↦ rw none (is.no_other number (λ some. true≢false (sym ((any_for number j.rules).1 some) ∙ none)))
     ]

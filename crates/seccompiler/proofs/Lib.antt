@@ -23,7 +23,15 @@ pub mod CallNumbers
 pub mod Chains
 pub mod Searches
 pub mod FilterEquality
+pub mod LowHalves
 pub mod Reordering
+pub mod RangesFound
+pub mod RangesMade
+pub mod RangesOnly
+pub mod RangesExist
+pub mod TreeLengths
+pub mod TreeCode
+pub mod TreeProgram
 pub mod TableNames
 pub mod TableFacts
 pub mod Halving

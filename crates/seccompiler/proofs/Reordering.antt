@@ -1,6 +1,5 @@
--- What a decision does not depend on: the order of rules and conditions, the instruction pointer, and high halves that
--- are not compared.
-use Rattle.std.proofs.Common.{◌≡◌, ◌↔◌, IsTrue, ℕ, ℤ, zero, suc, pos, ◌+◌, ◌*◌, ◌%◌, ◌^◌, ◌<◌, ◌≤◌, List, [], ◌∷◌, length, get_or, Option, Some, Bool, true, false, cond, refl, sym, ap, ◌∙◌, subst, arith, inl, inr}
+-- What a decision does not depend on: the order of rules and conditions, and the instruction pointer.
+use Rattle.std.proofs.Common.{◌≡◌, ℕ, ℤ, zero, suc, pos, ◌+◌, ◌*◌, ◌<◌, ◌≤◌, List, [], ◌∷◌, length, get_or, Option, Some, Bool, true, false, cond, refl, sym, ap, ◌∙◌, subst, arith, inl, inr}
 use Rattle.std.specs.Prelude.{slice_index, Any}
 use Rattle.std.specs.List.{AllZip}
 use Rattle.std.specs.List.Sorted.{IsPermutation}
@@ -10,15 +9,11 @@ use Rattle.std.specs.Ordering.{int_cmp}
 use Rattle.std.proofs.lemmas.List.{get_or_default, nil_from_length}
 use Rattle.std.proofs.lemmas.List.Elements.{All-weaker, AllZip-get_or, length_all_zip}
 use Rattle.std.proofs.lemmas.List.Sorted.{All-permutation, Contains-permutation, IsPermutation-sym, length_permutation}
-use Rattle.seccompiler.specs.declared.backend.SeccompCmpOp.{SeccompCmpOp}
-use Rattle.seccompiler.specs.declared.backend.SeccompCmpOp.TheVariants.{MaskedEq}
-use Rattle.seccompiler.specs.declared.backend.SeccompCmpArgLen.TheVariants.{Dword, Qword}
 use Rattle.seccompiler.specs.Record.{number_at, word_at, argument_at}
 use Rattle.seccompiler.specs.Action.{word_of, audit_word}
 use Rattle.seccompiler.specs.Condition.{Condition, part_of, Compares, Holds}
 use Rattle.seccompiler.specs.Policy.{Rule, Chain, Filter, chain_under, RuleHolds, ChainMatches, Matches, IsDecision, other_architecture, policy_matches, policy_differs}
 use Rattle.seccompiler.specs.Reorder.{IsReorderedRule, IsReorderedChain, IsReorderedEntry, IsReordered, IsSameCall}
-use Rattle.seccompiler.specs.LowHalf.{low_operator, IsSameLowHalf, HasSameLowArgument}
 
 -- Records that agree in the bytes of a number agree in the number.
 same_number : (r s : List ℕ) (k n : ℕ) → ((j : ℕ) → k ≤ j → j < k + n → slice_index r j ≡ slice_index s j) → number_at r k n ≡ number_at s k n
@@ -165,35 +160,3 @@ same_decision f g r s w order same (policy_differs here differs is) =
     (sym word ∙ here ∙ ap audit_word order.target_arch)
     (λ matches. differs (reordered_matches_back f g r s order same matches))
     (is ∙ ap word_of order.mismatch_action)
-
--- A comparison of low halves reads the low 32 bits of the mask alone.
-reads_low_mask : (o : SeccompCmpOp) (x v : ℕ) → Compares o (part_of Dword) x v ↔ Compares (low_operator o) (part_of Qword) x v
-reads_low_mask (MaskedEq m) x v = (λ h. h, λ h. h)
-reads_low_mask _ x v = (λ h. h, λ h. h)
-
--- Comparisons of low halves by operators with the same low mask agree.
-same_comparison : (o p : SeccompCmpOp) (x y v w : ℕ) → low_operator o ≡ low_operator p → x ≡ y → v ≡ w → Compares o (part_of Dword) x v → Compares p (part_of Dword) y w
-same_comparison o p x y v w operator argument value compares =
-    (reads_low_mask p y w).1 (rw (← operator, ← argument, ← value) ((reads_low_mask o x v).0 compares))
-
--- A condition on the low half of an argument depends on the low 32 bits of argument, value and mask alone.
-low_half_decides : (c d : Condition) (r s : List ℕ) → IsSameLowHalf c d → HasSameLowArgument c.arg_index r s → Holds c r → Holds d s
-low_half_decides c d r s same argument holds =
-    let low_holds = subst (λ l. Compares c.operator (part_of l) (part_of l (argument_at r c.arg_index)) (part_of l c.value)) same.first_length holds in
-    let low_argument = argument ∙ ap (λ i. argument_at s i % 2 ^ 32) same.index in
-    subst
-    (λ l. Compares d.operator (part_of l) (part_of l (argument_at s d.arg_index)) (part_of l d.value))
-    (sym same.second_length)
-    (same_comparison c.operator d.operator _ _ _ _ same.operator low_argument same.value low_holds)
-
--- Both ways: what decides a condition by low halves decides it alike.
-low_half_same : (c d : Condition) (r s : List ℕ) → IsSameLowHalf c d → HasSameLowArgument c.arg_index r s → Holds c r ↔ Holds d s
-low_half_same c d r s same argument =
-    let back : IsSameLowHalf d c = record { first_length = same.second_length; second_length = same.first_length; index = sym same.index; operator = sym same.operator; value = sym same.value } in
-    (low_half_decides c d r s same argument, low_half_decides d c s r back (sym (subst (λ i. HasSameLowArgument i r s) same.index argument)))
-
--- So does a test of the one.
-pub low_half_test : (b : Bool) (c : Condition) (r : List ℕ) → IsTrue b ↔ Holds c r → (d : Condition) (s : List ℕ) → IsSameLowHalf c d → HasSameLowArgument c.arg_index r s → IsTrue b ↔ Holds d s
-low_half_test b c r test d s same argument =
-    let both = low_half_same c d r s same argument in
-    (λ t. both.0 (test.0 t), λ h. test.1 (both.1 h))

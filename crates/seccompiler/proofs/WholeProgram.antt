@@ -49,7 +49,7 @@ fine_inside i place m n le (inside_greater c a b) = fine_greater c (omega arith)
 fine_inside i place m n le (inside_at_least c a b) = fine_at_least c (omega arith) (omega arith)
 
 -- a block whose jumps stay within it, with a return behind it, is a checked program
-checked_of : (front : List sock_filter) (w : ℕ) → AreInRange (front ++ give w ∷ []) → IsBlock (front ++ give w ∷ []) (length front) → length front + 1 ≤ greatest_length → IsChecked (front ++ give w ∷ [])
+pub checked_of : (front : List sock_filter) (w : ℕ) → AreInRange (front ++ give w ∷ []) → IsBlock (front ++ give w ∷ []) (length front) → length front + 1 ≤ greatest_length → IsChecked (front ++ give w ∷ [])
 checked_of front w ranges block short =
     let p = front ++ give w ∷ [] in
     let len : length p ≡ length front + 1 = length-append front (give w ∷ []) in
@@ -68,39 +68,39 @@ checked_of front w ranges block short =
 
 -- a filter whose words and whose architecture's word fit a machine's word
 module _ (f : Filter) (fits_mismatch : word_of f.mismatch_action < 2 ^ 32) (fits_matched : word_of f.match_action < 2 ^ 32) (fits_arch : audit_word f.target_arch < 2 ^ 32) where
-  abbrev mismatch_word : ℕ
+  abbrev pub mismatch_word : ℕ
   mismatch_word = word_of f.mismatch_action
 
-  abbrev match_word : ℕ
+  abbrev pub match_word : ℕ
   match_word = word_of f.match_action
 
-  abbrev arch_word : ℕ
+  abbrev pub arch_word : ℕ
   arch_word = audit_word f.target_arch
 
   -- the three instructions that answer another architecture
-  abbrev guard : List sock_filter
+  abbrev pub guard : List sock_filter
   guard = guard_code arch_word
 
-  load_in_range : (k : ℕ) → k ≤ 60 → IsInRange (load k)
+  pub load_in_range : (k : ℕ) → k ≤ 60 → IsInRange (load k)
   load_in_range k h = record { code = omega arith; jt = omega arith; jf = omega arith; k = omega arith }
 
-  guard_ranges : AreInRange guard
+  pub guard_ranges : AreInRange guard
   guard_ranges = ranges_from guard (load_in_range 4 (omega arith), (test_in_range arch_word 1 0 fits_arch (omega arith) (omega arith), (give_in_range 0x80000000 (omega arith), tt)))
 
-  guard_block : IsBlock guard 3
+  pub guard_block : IsBlock guard 3
   guard_block =
       block_join (load 4 ∷ []) (jump_equal arch_word 1 0 ∷ give 0x80000000 ∷ []) 3 2 3 (block_one _ 3 (inside_load refl refl (omega arith)))
       (block_join (jump_equal arch_word 1 0 ∷ []) (give 0x80000000 ∷ []) 2 1 2 (block_one _ 2 (inside_equal refl (omega arith) (omega arith))) (block_give 0x80000000 1) (omega arith) (omega arith)) (omega arith) (omega arith)
 
   -- a record of another architecture
-  other_returns : (back : List sock_filter) (r : List ℕ) → IsRecord r → word_at r 4 ≢ arch_word → Returns (guard ++ back) r 0 0 0x80000000
-  other_returns back r rec differs =
+  pub other_goes : (back : List sock_filter) (r : List ℕ) → IsRecord r → word_at r 4 ≢ arch_word → Goes (guard ++ back) r 0 0 2 2 (word_at r 4)
+  other_goes back r rec differs =
       let p = guard ++ back in
       let g = then_step stays (on_load p r 0 0 4 (word_at r 4) refl (omega (arith, rec.long)) (omega arith) (word_fits r 4 rec) refl) in
-      ⊎_elim
-      (λ t. absurd (differs t.0))
-      (λ t. record { to = 2; count = 2; accumulator = word_at r 4; instruction = give 0x80000000; goes = then_step g t.1; here = refl; returns = refl; value = refl })
-      (on_equal p r 1 (word_at r 4) arch_word 1 0 refl (word_fits r 4 rec))
+      ⊎_elim (λ t. absurd (differs t.0)) (λ t. then_step g t.1) (on_equal p r 1 (word_at r 4) arch_word 1 0 refl (word_fits r 4 rec))
+
+  other_returns : (back : List sock_filter) (r : List ℕ) → IsRecord r → word_at r 4 ≢ arch_word → Returns (guard ++ back) r 0 0 0x80000000
+  other_returns back r rec differs = record { to = 2; count = 2; accumulator = word_at r 4; instruction = give 0x80000000; goes = other_goes back r rec differs; here = refl; returns = refl; value = refl }
 
   -- a record of this one
   same_goes : (back : List sock_filter) (r : List ℕ) → IsRecord r → word_at r 4 ≡ arch_word → Goes (guard ++ back) r 0 0 2 3 (word_at r 4)
@@ -109,7 +109,7 @@ module _ (f : Filter) (fits_mismatch : word_of f.mismatch_action < 2 ^ 32) (fits
       let g = then_step stays (on_load p r 0 0 4 (word_at r 4) refl (omega (arith, rec.long)) (omega arith) (word_fits r 4 rec) refl) in
       ⊎_elim (λ t. then_step g t.1) (λ t. absurd (t.0 same)) (on_equal p r 1 (word_at r 4) arch_word 1 0 refl (word_fits r 4 rec))
 
-  decided : (r : List ℕ) → (word_at r 4 ≡ arch_word) ⊎ (word_at r 4 ≢ arch_word)
+  pub decided : (r : List ℕ) → (word_at r 4 ≡ arch_word) ⊎ (word_at r 4 ≢ arch_word)
   decided r = cases_eq (word_at r 4) arch_word
 
   -- the program of a filter without chains
@@ -128,11 +128,11 @@ module _ (f : Filter) (fits_mismatch : word_of f.mismatch_action < 2 ^ 32) (fits
       }
 
   -- the program of a filter with chains: the guard, a load of the call number, the chains, and a return
-  abbrev whole : List sock_filter → List sock_filter
+  abbrev pub whole : List sock_filter → List sock_filter
   whole chains = guard ++ (load 0 ∷ (chains ++ give mismatch_word ∷ []))
 
   -- what a record of this architecture reaches behind the guard and the load
-  reaches : (chains : List sock_filter) (r : List ℕ) → IsRecord r → word_at r 4 ≡ arch_word → Goes (whole chains) r 0 0 3 4 (word_at r 0)
+  pub reaches : (chains : List sock_filter) (r : List ℕ) → IsRecord r → word_at r 4 ≡ arch_word → Goes (whole chains) r 0 0 3 4 (word_at r 0)
   reaches chains r rec same =
       then_step (same_goes (load 0 ∷ (chains ++ give mismatch_word ∷ [])) r rec same) (on_load (whole chains) r 3 (word_at r 4) 0 (word_at r 0) refl (omega (arith, rec.long)) (word_fits r 4 rec) (word_fits r 0 rec) refl)
 
@@ -232,14 +232,18 @@ audit_word_fits aarch64 = omega arith
 audit_word_fits riscv64 = omega arith
 
 -- What is known of a filter whose program is written: its words, and its chains as the map holds them.
-pub record Written (f : Filter) (entries : List (ℤ × Vec Rule Global)) (mismatch matched arch : ℕ) : Type 0 where
+pub record Written (f : Filter) (entries : List (ℤ × Vec Rule Global)) (mismatch matched : ℕ) : Type 0 where
   pub chains : chains_of entries ≡ f.chains
   pub mismatch_is : mismatch ≡ word_of f.mismatch_action
   pub matched_is : matched ≡ word_of f.match_action
-  pub arch_is : arch ≡ audit_word f.target_arch
-  pub mismatch_fits : mismatch < 2 ^ 32
-  pub matched_fits : matched < 2 ^ 32
-  pub arch_fits : arch < 2 ^ 32
+
+pub words_of : (f : Filter) (entries : List (ℤ × Vec Rule Global)) (mismatch_action match_action : SeccompAction) (arch : TargetArch) (mismatch matched : ℕ)
+    → record { chains = chains_of entries; mismatch_action = mismatch_action; match_action = match_action; target_arch = arch } ≡ f → mismatch ≡ word_of mismatch_action → matched ≡ word_of match_action → Written f entries mismatch matched
+words_of f entries mismatch_action match_action arch mismatch matched is first second = record {
+  chains = ap (λ (g : Filter). g.chains) is;
+  mismatch_is = first ∙ ap (λ (g : Filter). word_of g.mismatch_action) is;
+  matched_is = second ∙ ap (λ (g : Filter). word_of g.match_action) is;
+}
 
 -- chains are there where the map has entries
 some_mapped : (entries : List (ℤ × Vec Rule Global)) (chains : List (ℤ × Chain)) → chains_of entries ≡ chains → 0 < length entries → 0 < length chains
@@ -256,29 +260,29 @@ counted_empty [] chains e none = ap counted_length_of (sym e)
 counted_empty (x ∷ entries) chains e none = absurd (omega arith)
 
 -- the program of a filter with chains, as it was written
-pub written_full : (f : Filter) (entries : List (ℤ × Vec Rule Global)) (mismatch matched arch : ℕ) (chains p : List sock_filter) → Written f entries mismatch matched arch → 0 < length entries → counted_length f ≤ greatest_length → IsChainsCode (chains_of entries) mismatch matched chains
-    → p ≡ load 4 ∷ jump_equal arch 1 0 ∷ give 0x80000000 ∷ load 0 ∷ (chains ++ give mismatch ∷ []) → IsCompiled f p × Passes f p
-written_full f entries mismatch matched arch chains p w some short code e =
-    let fits_mismatch = subst (λ n. n < 2 ^ 32) w.mismatch_is w.mismatch_fits in
-    let fits_matched = subst (λ n. n < 2 ^ 32) w.matched_is w.matched_fits in
-    let fits_arch = subst (λ n. n < 2 ^ 32) w.arch_is w.arch_fits in
+pub written_full : (f : Filter) (entries : List (ℤ × Vec Rule Global)) (mismatch matched : ℕ) (chains p : List sock_filter) → Written f entries mismatch matched → 0 < length entries → counted_length f ≤ greatest_length → IsChainsCode (chains_of entries) mismatch matched chains
+    → p ≡ load 4 ∷ jump_equal (audit_word f.target_arch) 1 0 ∷ give 0x80000000 ∷ load 0 ∷ (chains ++ give mismatch ∷ []) → IsCompiled f p × Passes f p
+written_full f entries mismatch matched chains p w some short code e =
+    let fits_mismatch = action_word_fits f.mismatch_action in
+    let fits_matched = action_word_fits f.match_action in
+    let fits_arch = audit_word_fits f.target_arch in
     let own = subst (λ l. IsChainsCode l (word_of f.mismatch_action) (word_of f.match_action) chains) w.chains
     (subst (λ n. IsChainsCode (chains_of entries) n (word_of f.match_action) chains) w.mismatch_is (subst (λ n. IsChainsCode (chains_of entries) mismatch n chains) w.matched_is code)) in
-    let same = ap (λ (n : ℕ). load 4 ∷ jump_equal n 1 0 ∷ give 0x80000000 ∷ load 0 ∷ (chains ++ give mismatch ∷ [])) w.arch_is ∙ ap (λ (n : ℕ). load 4 ∷ jump_equal (audit_word f.target_arch) 1 0 ∷ give 0x80000000 ∷ load 0 ∷ (chains ++ give n ∷ [])) w.mismatch_is in
+    let same = ap (λ (n : ℕ). load 4 ∷ jump_equal (audit_word f.target_arch) 1 0 ∷ give 0x80000000 ∷ load 0 ∷ (chains ++ give n ∷ [])) w.mismatch_is in
     let some_chains = some_mapped entries f.chains w.chains some in
     subst (λ q. IsCompiled f q × Passes f q) (sym (e ∙ same))
     (full_program f fits_mismatch fits_matched fits_arch chains some_chains short own, full_passes f fits_mismatch fits_matched fits_arch chains own)
 
 -- the program of a filter without chains, as it was written
-pub written_empty : (f : Filter) (entries : List (ℤ × Vec Rule Global)) (mismatch matched arch : ℕ) (p : List sock_filter) → Written f entries mismatch matched arch → length entries ≡ 0
-    → p ≡ load 4 ∷ jump_equal arch 1 0 ∷ give 0x80000000 ∷ give mismatch ∷ [] → IsCompiled f p × Passes f p
-written_empty f [] mismatch matched arch p w none e =
-    let fits_mismatch = subst (λ n. n < 2 ^ 32) w.mismatch_is w.mismatch_fits in
-    let fits_matched = subst (λ n. n < 2 ^ 32) w.matched_is w.matched_fits in
-    let fits_arch = subst (λ n. n < 2 ^ 32) w.arch_is w.arch_fits in
-    let same = ap (λ (n : ℕ). load 4 ∷ jump_equal n 1 0 ∷ give 0x80000000 ∷ give mismatch ∷ []) w.arch_is ∙ ap (λ (n : ℕ). load 4 ∷ jump_equal (audit_word f.target_arch) 1 0 ∷ give 0x80000000 ∷ give n ∷ []) w.mismatch_is in
+pub written_empty : (f : Filter) (entries : List (ℤ × Vec Rule Global)) (mismatch matched : ℕ) (p : List sock_filter) → Written f entries mismatch matched → length entries ≡ 0
+    → p ≡ load 4 ∷ jump_equal (audit_word f.target_arch) 1 0 ∷ give 0x80000000 ∷ give mismatch ∷ [] → IsCompiled f p × Passes f p
+written_empty f [] mismatch matched p w none e =
+    let fits_mismatch = action_word_fits f.mismatch_action in
+    let fits_matched = action_word_fits f.match_action in
+    let fits_arch = audit_word_fits f.target_arch in
+    let same = ap (λ (n : ℕ). load 4 ∷ jump_equal (audit_word f.target_arch) 1 0 ∷ give 0x80000000 ∷ give n ∷ []) w.mismatch_is in
     subst (λ q. IsCompiled f q × Passes f q) (sym (e ∙ same)) (empty_program f fits_mismatch fits_matched fits_arch (sym w.chains), empty_passes f fits_mismatch fits_matched fits_arch p' (sym w.chains))
   where
     p' : List sock_filter
     p' = load 4 ∷ jump_equal (audit_word f.target_arch) 1 0 ∷ give 0x80000000 ∷ give (word_of f.mismatch_action) ∷ []
-written_empty f (x ∷ entries) mismatch matched arch p w none e = absurd (omega arith)
+written_empty f (x ∷ entries) mismatch matched p w none e = absurd (omega arith)

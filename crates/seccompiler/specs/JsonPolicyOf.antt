@@ -72,13 +72,13 @@ pub record IsFine (arch : TargetArch) (entry : JsonRule) : Type 0 where
 -- The filter is made of a JSON filter on an architecture, with the chains that are meant for the numbers. It has the JSON
 -- filter's actions, which differ. Nothing is wrong with any entry. The numbers that have a chain are those of the entries'
 -- calls, and each has the chain that is meant for it.
-pub record IsMadeOf (chain_for : ℤ → Chain) (arch : TargetArch) (j : JsonFilter) (f : Filter) : Type 0 where
+pub record IsMadeOf (meant : ℤ → Chain) (arch : TargetArch) (j : JsonFilter) (f : Filter) : Type 0 where
   pub mismatch_action : f.mismatch_action ≡ j.mismatch_action
   pub match_action : f.match_action ≡ j.match_action
   pub target_arch : f.target_arch ≡ arch
   pub different : j.mismatch_action ≢ j.match_action
   pub entries : All (IsFine arch) j.rules
-  pub chain : (number : ℤ) → Any (IsFor arch number) j.rules → chain_at f.chains number ≡ Some (chain_for number)
+  pub chain : (number : ℤ) → Any (IsFor arch number) j.rules → chain_at f.chains number ≡ Some (meant number)
   pub no_other : (number : ℤ) → (Any (IsFor arch number) j.rules → ⊥) → chain_at f.chains number ≡ None
   pub ascending : IsStrictlySortedBy int_cmp (numbers_of f.chains)
 

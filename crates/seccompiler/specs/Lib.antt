@@ -37,3 +37,6 @@ pub mod JsonTexts
 pub mod TextPieces
 pub mod Equality
 pub mod EqualityLaws
+pub mod Ranges
+pub mod Tree
+pub mod TreeCode

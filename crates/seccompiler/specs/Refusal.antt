@@ -42,3 +42,8 @@ IsRefusal f InvalidArgumentNumber = ⊥
 IsRefusal f (InvalidTargetArch t) = ⊥
 IsRefusal f (InvalidSyscallNumber n) = IsLeastUnfit (numbers_of f.chains) n
 IsRefusal f OutOfMemory = IsCompilable f
+
+-- The refusal of a program of n instructions: it is too large, or want of memory.
+pub data RefusesLength (n : ℕ) (e : BackendError) : Type 0 where
+  too_large : greatest_length < n → e ≡ FilterTooLarge n → RefusesLength n e
+  no_memory : n ≤ greatest_length → e ≡ OutOfMemory → RefusesLength n e

@@ -65,7 +65,15 @@ pub(crate) fn chain_len(chain: &[SeccompRule]) -> usize
     if chain.is_empty() {
         return 5;
     }
-    let mut length: usize = 2;
+    rules_len(chain).saturating_add(2)
+}
+
+/// How many instructions the rules of the chain take, each with its return, or `usize::MAX` if that
+/// is less.
+pub(crate) fn rules_len(chain: &[SeccompRule]) -> usize
+    ensures { result ≡ min (rules_length chain.now) usize.MAX }
+{
+    let mut length: usize = 0;
     for rule in chain {
         length = length.saturating_add(rule.code_len()).saturating_add(1);
     }
@@ -98,8 +106,8 @@ pub(crate) fn write_chains(
     }
 }
 
-// The call number as a record has it.
-fn call_number(number: &i64) -> u32
+/// The call number as a record has it.
+pub(crate) fn call_number(number: &i64) -> u32
     requires { IsCallNumber number.now }
     ensures { number.now ≡ pos result }
 {
@@ -134,8 +142,8 @@ fn write_chain(
     part[last] = return_word(mismatch);
 }
 
-// Fills the part with the rules of a chain, each with its return.
-fn write_rules(part: &mut [sock_filter], chain: &[SeccompRule], matched: u32)
+/// Fills the part with the rules of a chain, each with its return.
+pub(crate) fn write_rules(part: &mut [sock_filter], chain: &[SeccompRule], matched: u32)
     requires room { length part.old ≡ rules_length chain.now }
     requires short { length part.old ≤ greatest_length }
     ensures code { IsRulesCode chain.now matched part.new }

@@ -1,5 +1,11 @@
 // A policy on system calls, and its program.
 
+mod tree_layout;
+
+ghost use Rattle.std.specs.Prelude.{◌≡◌, ◌≤◌, vec_len, IfOk, IfErr};
+ghost use Rattle.seccompiler.specs.Checked.{greatest_length};
+ghost use Rattle.seccompiler.specs.Refusal.{RefusesLength};
+
 use crate::backend::{BackendError, SeccompAction, TargetArch, arch_guard};
 use crate::bpf::{
     BPF_MAX_LEN, BpfProgram, SECCOMP_DATA_ARCH_OFFSET, SECCOMP_DATA_NR_OFFSET, load_word,
@@ -37,16 +43,16 @@ impl Model for SeccompFilter {
 }
 
 impl SeccompFilter {
-    ghost use Rattle.std.specs.Prelude.{◌≡◌, ◌≢◌, ◌≤◌, ◌↔◌, ℕ, List, length, min, IfOk, IfErr, IsOk, IsTrue, OnOk, IsOkUnless};
+    ghost use Rattle.std.specs.Prelude.{◌≡◌, ◌≢◌, ◌≤◌, ◌↔◌, ℕ, ℤ, List, length, min, IfOk, IfErr, IsOk, IsTrue, OnOk, IsOkUnless};
     ghost use Rattle.std.specs.List.Sorted.{IsStrictlySortedBy};
     ghost use Rattle.std.specs.Ordering.{int_cmp};
-    ghost use Rattle.seccompiler.specs.declared.backend.BackendError.TheVariants.{IdenticalActions, OutOfMemory};
+    ghost use Rattle.seccompiler.specs.declared.backend.BackendError.TheVariants.{IdenticalActions, InvalidSyscallNumber, OutOfMemory};
     ghost use Rattle.seccompiler.specs.Policy.{Filter, chains_of, Matches, IsDecision};
     ghost use Rattle.seccompiler.specs.Reorder.{IsReordered, IsSameCall};
     ghost use Rattle.seccompiler.specs.Layout.{counted_length};
     ghost use Rattle.seccompiler.specs.Checked.{greatest_length};
     ghost use Rattle.seccompiler.specs.Compiled.{IsCompiled, Passes};
-    ghost use Rattle.seccompiler.specs.Refusal.{numbers_of, AreCallNumbers, IsCompilable, IsRefusal};
+    ghost use Rattle.seccompiler.specs.Refusal.{numbers_of, AreCallNumbers, IsLeastUnfit, IsCompilable, IsRefusal};
 
     /// Makes a filter: `rules` has the chain of each call number, its rules joined by or.
     ///
@@ -92,14 +98,8 @@ impl SeccompFilter {
         ensures compilable { OnOk result (IsCompilable self.now) }
         ensures refused { IfErr result (IsRefusal self.now) }
     {
-        if let Some(number) = unfit_number(&self.rules) {
-            return Err(BackendError::InvalidSyscallNumber(number));
-        }
-        let length = self.program_len();
-        if length > BPF_MAX_LEN {
-            return Err(BackendError::FilterTooLarge(length));
-        }
-        let mut program = vec![in alloc; return_word(0); length]?;
+        self.check_numbers()?;
+        let mut program = blank_program(alloc, self.program_len())?;
         self.write(&mut program);
         Ok(program)
     }
@@ -175,6 +175,17 @@ impl SeccompFilter {
         length
     }
 
+    // Refuses a filter of which a number does not fit.
+    fn check_numbers(&self) -> Result<(), BackendError>
+        ensures fit { OnOk result (AreCallNumbers (numbers_of self.now.chains)) }
+        ensures unfit { IfErr result (λ e. (n : ℤ) × (e ≡ InvalidSyscallNumber n) × IsLeastUnfit (numbers_of self.now.chains) n) }
+    {
+        if let Some(number) = unfit_number(&self.rules) {
+            return Err(BackendError::InvalidSyscallNumber(number));
+        }
+        Ok(())
+    }
+
     // Fills the part with the filter's program.
     fn write(&self, program: &mut [sock_filter])
         requires numbers { AreCallNumbers (numbers_of self.now.chains) }
@@ -199,6 +210,17 @@ impl SeccompFilter {
         );
         program[last] = return_word(mismatch);
     }
+}
+
+// A program of this length whose instructions are still to be written.
+fn blank_program(alloc: Global, length: usize) -> Result<BpfProgram, BackendError>
+    ensures long { IfOk result (λ program. (vec_len program ≡ length) × (length ≤ greatest_length)) }
+    ensures refused { IfErr result (RefusesLength length) }
+{
+    if length > BPF_MAX_LEN {
+        return Err(BackendError::FilterTooLarge(length));
+    }
+    Ok(vec![in alloc; return_word(0); length]?)
 }
 
 /// Filters are equal where their chains, their actions and their architectures are.

@@ -68,8 +68,9 @@ impl Hoard {
         Ok(Hoard { large, small })
     }
 
-    /// Gives back the last of the small blocks that are left.
-    pub fn give_back(&mut self) {
+    /// Gives back the last of the small blocks. Whether any are left.
+    pub fn give_back(&mut self) -> bool {
         drop(self.small.pop());
+        !self.small.is_empty()
     }
 }

@@ -81,7 +81,9 @@ fn refusals(alloc: Global, engine: Engine) -> Result<(usize, Answer), AllocError
         if answer != Answer::Refused {
             return Ok((refused, answer));
         }
-        hoard.give_back();
+        if !hoard.give_back() {
+            return Ok((refused, answer));
+        }
     }
     Ok((SMALL_ROOM, Answer::Refused))
 }

@@ -1,4 +1,4 @@
-// From JSON filters to filters.
+// From JSON filters, and from a text of them, to filters.
 
 ghost use Rattle.std.specs.Prelude.{◌≡◌, ◌↔◌, ◌⊎◌, ℕ, ℤ, List, All, Contains, IfSome, IfOk, IfErr, OnOk};
 ghost use Rattle.std.specs.HashMap.{get_by_text};

@@ -101,6 +101,7 @@ fn add_rule(
 }
 
 // Adds what the entry stands for: its rule at the end of those of its call's number, or that number.
+#[tactic(auto, using(crate::proofs::JsonEntries::wrong_entry))]
 fn add_entry(
     alloc: Global,
     arch: TargetArch,
@@ -125,6 +126,7 @@ fn add_entry(
 }
 
 // What the entries stand for.
+#[tactic(auto, using(crate::proofs::JsonEntries::first_wrong))]
 fn gather(
     alloc: Global,
     arch: TargetArch,

@@ -1,14 +1,7 @@
-use Rattle.std.proofs.lemmas.Result.{err_from_is_err_and}
 use Rattle.seccompiler.specs.JsonPolicyOf.{IsFine}
-use Rattle.seccompiler.proofs.JsonEntries.{first_wrong}
 use Rattle.seccompiler.proofs.JsonGathered.{gathered_more}
 use Rattle.seccompiler.proofs.Searches.{All-one_more}
 use Rattle.seccompiler.proofs.json.policy.gather.Goals as goal
-
-pub returns-in_err-add_entry-clause-refused : goal.returns-in_err-add_entry-clause-refused
-returns-in_err-add_entry-clause-refused c =
-    let p = err_from_is_err_and c.from_residual.result c.from_residual.ensures.1 in
-    rw (p.1, p.2) (first_wrong c.args.arch c.args.entries.now c.loop-entry.entry-index c.entry-item.result _ c.loop-entry-test.true c.entry-item.is c.loop-entry.invariant.fine c.in_err-add_entry.ensures.refused)
 
 pub loop-entry-preserved : goal.loop-entry-preserved
 loop-entry-preserved c = record {

@@ -1,0 +1,97 @@
+-- The second layout of a filter's program, a tree of tests over ranges of call numbers: how long it is, and what it does.
+use Rattle.std.specs.Prelude.{◌≡◌, ℕ, zero, suc, ◌+◌, ◌-◌, ◌*◌, ◌/◌, ◌^◌, ◌<◌, ◌≤◌, List, [], ◌∷◌, Option, Some, None, length, take, drop, nat_le, if◌then◌else◌, min}
+use Rattle.seccompiler.specs.declared.bpf.sock_filter.{sock_filter}
+use Rattle.seccompiler.specs.declared.backend.BackendError.{BackendError}
+use Rattle.seccompiler.specs.declared.backend.BackendError.TheVariants.{EmptyRule, FilterTooLarge, IdenticalActions, InvalidArgumentNumber, InvalidTargetArch, InvalidSyscallNumber, OutOfMemory}
+use Rattle.seccompiler.specs.Record.{IsRecord, word_at}
+use Rattle.seccompiler.specs.Action.{audit_word}
+use Rattle.seccompiler.specs.Machine.{Ends}
+use Rattle.seccompiler.specs.Checked.{greatest_length, IsChecked}
+use Rattle.seccompiler.specs.Policy.{Filter, Chain, chain_under}
+use Rattle.seccompiler.specs.ChainCode.{rules_length}
+use Rattle.seccompiler.specs.Compiled.{EndsAtDecision}
+use Rattle.seccompiler.specs.Refusal.{numbers_of, AreCallNumbers, IsLeastUnfit}
+use Rattle.seccompiler.specs.Ranges.{Range, HasNoRules, AreRanges}
+
+-- The instructions of one range: a return, and in front of it the rules of its chain, each with a return.
+abbrev pub leaf_length : Option Chain → ℕ
+leaf_length None = 1
+leaf_length (Some []) = 1
+leaf_length (Some (q ∷ chain)) = rules_length (q ∷ chain) + 1
+
+-- The instructions of a test that jumps over n instructions: an 8-bit offset reaches over 255.
+abbrev pub test_length : ℕ → ℕ
+test_length n = if nat_le n 255 then 1 else 2
+
+-- The instructions of ranges, which are halved at most k times: those of one range, or those of the lower half, those of
+-- the upper half, which has one range more where their number is odd, and a test in front that jumps over the lower half.
+unfoldable pub halved_length : ℕ → List Range → ℕ
+halved_length k [] = 0
+halved_length k (x ∷ []) = leaf_length x.chain
+halved_length zero (x ∷ y ∷ ranges) = 0
+halved_length (suc k) (x ∷ y ∷ ranges) =
+    let half = length (x ∷ y ∷ ranges) / 2 in
+    let low = halved_length k (take half (x ∷ y ∷ ranges)) in
+    test_length low + low + halved_length k (drop half (x ∷ y ∷ ranges))
+
+-- The instructions of ranges, which are halved until one is left.
+unfoldable pub tree_length : List Range → ℕ
+tree_length ranges = halved_length (length ranges) ranges
+
+-- The filter's program takes n instructions in this layout: those of its ranges, two loads, the test and the return of
+-- another architecture, and a last return.
+pub record IsTreeLength (f : Filter) (n : ℕ) : Type 0 where
+  pub ranges : List Range
+  pub are : AreRanges f.chains ranges
+  pub long : n ≡ 5 + tree_length ranges
+
+-- The program returns the word that the policy names for the record, within so many steps.
+pub record DecidesWithin (f : Filter) (p : List sock_filter) (r : List ℕ) (most : ℕ) : Type 0 where
+  pub at : EndsAtDecision f p r
+  pub soon : at.steps ≤ most
+
+-- The program is compiled for the filter in this layout: it has its length, may be run, and decides every call record;
+-- where the record is of another architecture, or its number has no rules, within two steps for each halving of the
+-- ranges and four more.
+pub record IsTreeCompiled (f : Filter) (p : List sock_filter) : Type 0 where
+  pub sized : IsTreeLength f (length p)
+  pub checked : IsChecked p
+  pub decides : (r : List ℕ) → IsRecord r → EndsAtDecision f p r
+  pub soon : (ranges : List Range) → AreRanges f.chains ranges → (k : ℕ) → length ranges ≤ 2 ^ k → (r : List ℕ) → IsRecord r
+      → (word_at r 4 ≡ audit_word f.target_arch → HasNoRules (chain_under f.chains (word_at r 0))) → DecidesWithin f p r (4 + 2 * k)
+
+-- A filter that may be compiled in this layout: its numbers are call numbers, and the length is at most the greatest
+-- length.
+pub record IsTreeCompilable (f : Filter) : Type 0 where
+  pub numbers : AreCallNumbers (numbers_of f.chains)
+  pub length : ℕ
+  pub sized : IsTreeLength f length
+  pub short : length ≤ greatest_length
+
+-- All its numbers are call numbers, but the length, which is n where a machine's number can hold it, is more than the
+-- greatest length.
+pub record IsTreeTooLarge (f : Filter) (n : ℕ) : Type 0 where
+  pub numbers : AreCallNumbers (numbers_of f.chains)
+  pub length : ℕ
+  pub sized : IsTreeLength f length
+  pub large : greatest_length < length
+  pub told : n ≡ min length (2 ^ 64 - 1)
+
+-- The refusal of a filter comes of its own cause alone: of the least number that is no call number; else of the
+-- length; and want of memory, which the ranges take too, comes only where all numbers are call numbers.
+abbrev pub IsTreeRefusal : Filter → BackendError → Type 0
+IsTreeRefusal f EmptyRule = ⊥
+IsTreeRefusal f (FilterTooLarge n) = IsTreeTooLarge f n
+IsTreeRefusal f IdenticalActions = ⊥
+IsTreeRefusal f InvalidArgumentNumber = ⊥
+IsTreeRefusal f (InvalidTargetArch t) = ⊥
+IsTreeRefusal f (InvalidSyscallNumber n) = IsLeastUnfit (numbers_of f.chains) n
+IsTreeRefusal f OutOfMemory = AreCallNumbers (numbers_of f.chains)
+
+-- Two programs return one word for the record.
+pub record AnswerAlike (p q : List sock_filter) (r : List ℕ) : Type 0 where
+  pub word : ℕ
+  pub steps : ℕ
+  pub ends : Ends p r steps word
+  pub other_steps : ℕ
+  pub other_ends : Ends q r other_steps word

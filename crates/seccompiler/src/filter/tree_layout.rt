@@ -1,0 +1,82 @@
+// The second layout of a filter's program: a tree of tests over ranges of call numbers.
+
+use super::{SeccompFilter, blank_program};
+use crate::backend::{BackendError, arch_guard};
+use crate::bpf::{
+    BpfProgram, BpfProgramRef, SECCOMP_DATA_NR_OFFSET, load_word, return_word, sock_filter,
+};
+use crate::tree::{CallRange, ranges_of, tree_len, write_tree};
+use std::alloc::Global;
+
+impl SeccompFilter {
+    ghost use Rattle.std.specs.Prelude.{◌≡◌, ◌≤◌, ◌+◌, ℕ, List, length, IfOk, IfErr, OnOk};
+    ghost use Rattle.seccompiler.specs.Record.{IsRecord};
+    ghost use Rattle.seccompiler.specs.Refusal.{numbers_of, AreCallNumbers};
+    ghost use Rattle.seccompiler.specs.Checked.{greatest_length};
+    ghost use Rattle.seccompiler.specs.Compiled.{IsCompiled};
+    ghost use Rattle.seccompiler.specs.Ranges.{AreRanges, HasRanges};
+    ghost use Rattle.seccompiler.specs.Tree.{tree_length, IsTreeCompiled, IsTreeCompilable, IsTreeRefusal, AnswerAlike};
+
+    /// The filter's program in a second layout, which finds a call's rules by halving.
+    ///
+    /// The program that [`to_bpf`](SeccompFilter::to_bpf) gives tests one call number after the
+    /// other. This one tests on which side of a border the call number lies, and so halves the
+    /// ranges of call numbers until one is left: neighbouring numbers without a chain, neighbouring
+    /// numbers whose chains have no rules, or a single number whose chain has rules. It passes
+    /// `machine::check`, and returns for every call record, within as many steps as it has
+    /// instructions, the word that `decide` gives.
+    ///
+    /// A call that has no rules of its own, or is of another architecture, is answered within
+    /// `4 + 2 * k` steps, where `2^k` is at least the number of ranges. They are at most twice the
+    /// chains and one, so this takes at most 24 steps in a filter of 500 calls.
+    ///
+    /// # Errors
+    ///
+    /// `InvalidSyscallNumber` with the least key that lies outside 0 to 4294967295, where there is
+    /// one, which takes no memory; else `FilterTooLarge` with the number of instructions where that
+    /// is more than 4096, or `usize::MAX` if that is less. `OutOfMemory` where memory for the ranges or
+    /// for the program is refused; since the ranges are made before the number of instructions is
+    /// known, it may come in place of `FilterTooLarge`.
+    pub fn to_tree_bpf(&self, alloc: Global) -> Result<BpfProgram, BackendError>
+        ensures compiled { IfOk result (λ program. IsTreeCompiled self.now program.items) }
+        ensures compilable { OnOk result (IsTreeCompilable self.now) }
+        ensures refused { IfErr result (IsTreeRefusal self.now) }
+        ensures ranges { AreCallNumbers (numbers_of self.now.chains) → HasRanges self.now.chains }
+    {
+        self.check_numbers()?;
+        let ranges = ranges_of(alloc, &self.rules)?;
+        let mut program = blank_program(alloc, tree_len(&ranges).saturating_add(5))?;
+        self.write_by_ranges(&mut program, &ranges);
+        Ok(program)
+    }
+
+    /// Whatever both layouts give for a filter, the two programs return the same word for every call
+    /// record.
+    ///
+    /// It computes nothing: its contract says so to a caller's proof.
+    pub fn layouts_agree(&self, program: BpfProgramRef<'_>, tree: BpfProgramRef<'_>)
+        requires compiled { IsCompiled self.now program.now }
+        requires tree_compiled { IsTreeCompiled self.now tree.now }
+        ensures { (r : List ℕ) → IsRecord r → AnswerAlike program.now tree.now r }
+    {}
+
+    // Fills the part with the filter's program in the second layout.
+    fn write_by_ranges(&self, program: &mut [sock_filter], ranges: &[CallRange<'_>])
+        requires ranges { AreRanges self.now.chains ranges.now }
+        requires room { length program.old ≡ 5 + tree_length ranges.now }
+        requires short { length program.old ≤ greatest_length }
+        ensures compiled { IsTreeCompiled self.now program.new }
+    {
+        let mismatch = u32::from(self.mismatch_action);
+        program[..3].copy_from_slice(&arch_guard(self.target_arch));
+        program[3] = load_word(u32::from(SECCOMP_DATA_NR_OFFSET));
+        let last = program.len() - 1;
+        write_tree(
+            &mut program[4..last],
+            ranges,
+            mismatch,
+            self.match_action.into(),
+        );
+        program[last] = return_word(mismatch);
+    }
+}

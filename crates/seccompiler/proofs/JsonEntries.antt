@@ -17,18 +17,9 @@ pub tells_more : (P Q : Fault → Type 0) → ((fault : Fault) → P fault → Q
 tells_more P Q more (e.Backend cause) told = (more _ told.0, told.1)
 tells_more P Q more (e.SyscallName name arch) told = more _ told
 tells_more P Q more e.OutOfMemory told = told
-tells_more P Q more _ told = told
+tells_more P Q more error told = absurd told
 
 module _ (arch : TargetArch) where
-  -- An entry with a known call and these conditions is fine or has its first fault there.
-  with_conditions : (entry : JsonRule) (number : ℤ) (conditions : Option (List JsonCondition)) → IsFor arch number entry → entry.conditions ≡ conditions
-      → IsFine arch entry ⊎ ((fault : Fault) × IsFaultOf arch entry fault)
-  with_conditions entry number None known is = inl (record { number = number; is_for = known; conditions = rw is tt })
-  with_conditions entry number (Some conditions) known is = elim (fine_or_fault_in conditions) [
-    | inl fine ↦ inl (record { number = number; is_for = known; conditions = rw is fine })
-    | inr wrong ↦ inr (wrong.0, wrong_args number conditions known is wrong.1)
-  ]
-
   -- What is wrong with the conditions of a known call is wrong with the entry.
   pub wrong_entry : (entry : JsonRule) (number : ℤ) (conditions : List JsonCondition) (error : JsonFrontendError) → IsFor arch number entry → entry.conditions ≡ Some conditions
       → Tells (IsFaultIn conditions) error → Tells (IsFaultOf arch entry) error
@@ -36,11 +27,15 @@ module _ (arch : TargetArch) where
 
   -- Nothing is wrong with an entry, or some fault is its first.
   fine_or_fault : (entry : JsonRule) → IsFine arch entry ⊎ ((fault : Fault) × IsFaultOf arch entry fault)
-  fine_or_fault entry = looked_up (number_of (table_of arch) entry.syscall) refl
+  fine_or_fault entry = by (number_of (table_of arch) entry.syscall) entry.conditions refl refl
     where
-      looked_up : (o : Option ℤ) → number_of (table_of arch) entry.syscall ≡ o → IsFine arch entry ⊎ ((fault : Fault) × IsFaultOf arch entry fault)
-      looked_up None is = inr (unknown_call entry.syscall arch, unknown_name is refl)
-      looked_up (Some number) is = with_conditions entry number entry.conditions is refl
+      by : (o : Option ℤ) (cs : Option (List JsonCondition)) → number_of (table_of arch) entry.syscall ≡ o → entry.conditions ≡ cs → IsFine arch entry ⊎ ((fault : Fault) × IsFaultOf arch entry fault)
+      by None cs unknown are = inr (unknown_call entry.syscall arch, unknown_name unknown refl)
+      by (Some number) None known are = inl (record { number = number; is_for = known; conditions = rw are tt })
+      by (Some number) (Some conditions) known are = elim (fine_or_fault_in conditions) [
+        | inl fine ↦ inl (record { number = number; is_for = known; conditions = rw are fine })
+        | inr wrong ↦ inr (wrong.0, wrong_args number conditions known are wrong.1)
+      ]
 
   -- An entry with which nothing is wrong has no fault.
   not_both : (entry : JsonRule) (fault : Fault) → IsFine arch entry → IsFaultOf arch entry fault → ⊥

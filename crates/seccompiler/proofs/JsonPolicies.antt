@@ -1,10 +1,10 @@
 -- A JSON filter has one policy or one first fault.
 use Rattle.std.proofs.Common.{◌≡◌, ◌≢◌, ℤ, List, [], ◌∷◌, ◌++◌, Bool, true, false, ◌||◌, ◌&&◌, cond, Option, Some, None, IsSome, All, Any, refl, sym, ap, ◌∙◌, subst, ◌⊎◌, inl, inr, rules, Decides}
 use Rattle.std.specs.BTreeMap.{BTreeMap}
-use Rattle.std.specs.List.{list_any}
+use Rattle.std.specs.List.{flat_map, list_any}
 use Rattle.std.specs.List.Sorted.{IsStrictlySortedBy}
-use Rattle.std.specs.Option.{is_none}
-use Rattle.std.specs.Ordering.{int_cmp}
+use Rattle.std.specs.Option.{is_none, option_to_list}
+use Rattle.std.specs.Ordering.{int_cmp, int_eq}
 use Rattle.std.specs.Prelude.{Vec}
 use Rattle.std.specs.declared.alloc.Global.{Global}
 use Rattle.std.proofs.Math.Bool.{or-true}
@@ -51,6 +51,18 @@ module _ (arch : TargetArch) where
   any_for : (number : ℤ) (entries : List JsonRule) → Decides (list_any (is_for arch number) entries) (Any (IsFor arch number) entries)
   any_for number = any_decides (is_for arch number) (IsFor arch number) (for_decides number)
 
+  -- The numbers of the entries' calls.
+  abbrev numbers_of_entries : List JsonRule → List ℤ
+  numbers_of_entries entries = flat_map (λ (entry : JsonRule). option_to_list (number_of (table_of arch) entry.syscall)) entries
+
+  any_number : (number : ℤ) (entries : List JsonRule) → list_any (int_eq number) (numbers_of_entries entries) ≡ list_any (is_for arch number) entries
+  any_number number [] = refl
+  any_number number (entry ∷ entries) =
+      elim (number_of (table_of arch) entry.syscall) as (λ o. list_any (int_eq number) (option_to_list o ++ numbers_of_entries entries) ≡ (is_number number o || list_any (is_for arch number) entries)) [
+        | None ↦ any_number number entries
+        | Some other ↦ ap (λ b. int_eq number other || b) (any_number number entries)
+      ]
+
   -- Whether there are rules.
   abbrev pub some_rules : List Rule → Bool
   some_rules [] = false
@@ -70,9 +82,6 @@ module _ (arch : TargetArch) where
   -- The number of an entry's call is one of the table.
   in_range : (number : ℤ) (entry : JsonRule) → IsFor arch number entry → IsTableNumber number
   in_range number entry is = let named = number_of-all IsTableNumber (table_of arch) entry.syscall (is_call_table arch).in_range in rw is at named
-
-  any_in_range : (number : ℤ) (entries : List JsonRule) → list_any (is_for arch number) entries ≡ true → IsTableNumber number
-  any_in_range number entries some = let any = (any_for number entries).0 some in in_range number any.1 any.4
 
   module _ (j : JsonFilter) where
     -- The filter of some chains.
@@ -111,8 +120,8 @@ module _ (arch : TargetArch) where
     -- There is such a filter, whatever is meant.
     pub some_made : (meant : ℤ → Chain) → All (IsFine arch) j.rules → j.mismatch_action ≢ j.match_action → (f : Filter) × IsMadeOf meant arch j f
     some_made meant fine apart =
-        let all = numbered (λ number. list_any (is_for arch number) j.rules) meant (λ number. any_in_range number j.rules) in
-        (filter_of all.chains, made meant all.chains all.each all.ascending fine apart)
+        let all = numbered meant (numbers_of_entries j.rules) in
+        (filter_of all.chains, made meant all.chains (λ number. all.each number ∙ ap (λ b. cond b (Some (meant number)) None) (any_number number j.rules)) all.ascending fine apart)
 
     -- There are both policies.
     pub both_made : All (IsFine arch) j.rules × (j.mismatch_action ≢ j.match_action) → ((before : Filter) × IsPolicyBefore arch j before) × ((now : Filter) × IsPolicyOf arch j now)
@@ -173,5 +182,5 @@ module _ (arch : TargetArch) where
         by_case number (list_any (is_for arch number) j.rules) refl (subst IsSome (found_in (chain_for arch j.rules) f is number) there))
       where
         by_case : (number : ℤ) (b : Bool) → list_any (is_for arch number) j.rules ≡ b → IsSome (cond b (Some (chain_for arch j.rules number)) None) → IsTableNumber number
-        by_case number true some there = any_in_range number j.rules some
+        by_case number true some there = let any = (any_for number j.rules).0 some in in_range number any.1 any.4
         by_case number false none there = absurd (true≢false (sym there))

@@ -1,4 +1,4 @@
--- The faults of a JSON filter, and what an error of the backend is in the front end.
+-- The faults of a JSON filter, and a backend's error as one of the front end.
 use Rattle.std.specs.Prelude.{ℕ, List}
 use Rattle.seccompiler.specs.declared.backend.TargetArch.{TargetArch}
 use Rattle.seccompiler.specs.declared.backend.BackendError.{BackendError}
@@ -6,7 +6,7 @@ use Rattle.seccompiler.specs.declared.backend.BackendError.TheVariants as of_bac
 use Rattle.seccompiler.specs.declared.json.error.JsonFrontendError.{JsonFrontendError}
 use Rattle.seccompiler.specs.declared.json.error.JsonFrontendError.TheVariants as of_json
 
--- What can be wrong with a JSON filter: an architecture has no call of this name, or the backend refuses.
+-- What can be wrong with a JSON filter on an architecture.
 pub data Fault : Type 0 where
   unknown_call : List ℕ → TargetArch → Fault
   refused : BackendError → Fault
@@ -14,4 +14,4 @@ pub data Fault : Type 0 where
 -- A backend's error as one of the front end: want of memory stays so.
 abbrev pub from_backend : BackendError → JsonFrontendError
 from_backend of_backend.OutOfMemory = of_json.OutOfMemory
-from_backend cause = of_json.Backend cause
+from_backend refusal = of_json.Backend refusal

@@ -215,6 +215,7 @@ fn one_action(first: Option<&Value>, second: Option<&Value>) -> Option<SeccompAc
     }
 }
 
+/// The filter that the value is, or `None` where it is none; an error only for want of memory.
 pub fn filter_of(alloc: Global, value: &Value) -> Result<Option<JsonFilter>, AllocError>
     ensures found { IfOk result (λ o. IfSome o (IsFilter (view value.now))) }
     ensures none { IfOk result

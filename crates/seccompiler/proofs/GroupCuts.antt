@@ -5,6 +5,7 @@ use Rattle.std.proofs.lemmas.List.{append_cancel_left}
 use Rattle.std.proofs.lemmas.List.Elements.{All-nil, All-cons, All-head, All-tail}
 use Rattle.std.proofs.lemmas.List.Sums.{sum_by-append}
 use Rattle.seccompiler.specs.Condition.{Condition, size_of}
+use Rattle.seccompiler.specs.Sizes.{greatest_offset}
 use Rattle.seccompiler.specs.Groups.{total_size, ClosesLate, IsCut, groups_from, groups_of, IsOnlyCut, relays}
 
 -- How two fronts of one list lie: they are equal, or one is a proper front of the other.
@@ -32,11 +33,11 @@ one_closes_late c [] back d e = omega arith
 one_closes_late c (x ∷ front) back d e = absurd (omega (arith, ap length e, length-append front (d ∷ back)))
 
 -- A group that is not full closes late with one condition more.
-more_closes_late : (group : List Condition) (c : Condition) → ClosesLate group → total_size group < 248 → ClosesLate (group ++ c ∷ [])
+more_closes_late : (group : List Condition) (c : Condition) → ClosesLate group → total_size group < greatest_offset → ClosesLate (group ++ c ∷ [])
 more_closes_late group c late few front back d e = by (two_fronts group front (c ∷ []) (d ∷ back) e)
   where
-    by : Fronts group front → total_size front < 248
-    by (same f) = subst (λ l. total_size l < 248) f few
+    by : Fronts group front → total_size front < greatest_offset
+    by (same f) = subst (λ l. total_size l < greatest_offset) f few
     by (shorter x rest f) = absurd (omega (arith, ap length e, ap length f, length-append group (c ∷ []), length-append front (d ∷ back), length-append group (x ∷ rest)))
     by (longer x rest f) = late front rest x f
 
@@ -51,7 +52,7 @@ last_cut group some late = record {
 
 -- A full group before a cut makes a cut.
 full_cut : (group q : List Condition) (groups : List (List Condition))
-    → 1 ≤ length group → ClosesLate group → 248 ≤ total_size group → IsCut q groups → IsCut (group ++ q) (group ∷ groups)
+    → 1 ≤ length group → ClosesLate group → greatest_offset ≤ total_size group → IsCut q groups → IsCut (group ++ q) (group ∷ groups)
 full_cut group q groups some late many cut = record {
   joined = ap (λ l. group ++ l) cut.joined;
   some = All-cons (λ g. 1 ≤ length g) group groups some cut.some;
@@ -59,21 +60,21 @@ full_cut group q groups some late many cut = record {
   full = is_full;
 }
   where
-    is_full : (front back : List (List Condition)) (g next : List Condition) → group ∷ groups ≡ front ++ g ∷ next ∷ back → 248 ≤ total_size g
-    is_full [] back g next e = let here : group ≡ g = cc in subst (λ l. 248 ≤ total_size l) here many
+    is_full : (front back : List (List Condition)) (g next : List Condition) → group ∷ groups ≡ front ++ g ∷ next ∷ back → greatest_offset ≤ total_size g
+    is_full [] back g next e = let here : group ≡ g = cc in subst (λ l. greatest_offset ≤ total_size l) here many
     is_full (first ∷ front) back g next e = cut.full front back g next (cc)
 
 -- The groups of a group that is begun and the conditions behind it are a cut of both.
 begun_cut : (group q : List Condition) → 1 ≤ length group → ClosesLate group → IsCut (group ++ q) (groups_from group q)
 begun_cut group [] some late = last_cut group some late
 begun_cut group (c ∷ q) some late =
-    by (nat_le 248 (total_size group)) refl
+    by (nat_le greatest_offset (total_size group)) refl
     (begun_cut (c ∷ []) q (omega arith) (one_closes_late c))
     (λ few. begun_cut (group ++ c ∷ []) q (omega (arith, length-append group (c ∷ []))) (more_closes_late group c late few))
   where
-    by : (b : Bool) → nat_le 248 (total_size group) ≡ b
+    by : (b : Bool) → nat_le greatest_offset (total_size group) ≡ b
         → IsCut (c ∷ q) (groups_from (c ∷ []) q)
-        → (total_size group < 248 → IsCut ((group ++ c ∷ []) ++ q) (groups_from (group ++ c ∷ []) q))
+        → (total_size group < greatest_offset → IsCut ((group ++ c ∷ []) ++ q) (groups_from (group ++ c ∷ []) q))
         → IsCut (group ++ c ∷ q) (if b then group ∷ groups_from (c ∷ []) q else groups_from (group ++ c ∷ []) q)
     by true e anew on = full_cut group (c ∷ q) (groups_from (c ∷ []) q) some late (grind (arith, nat_tests)) anew
     by false e anew on = subst (λ l. IsCut l (groups_from (group ++ c ∷ []) q)) (append_assoc group (c ∷ []) q) (on (grind (arith, nat_tests)))
@@ -107,8 +108,8 @@ not_shorter : (q group other : List Condition) (groups others : List (List Condi
 not_shorter q group other [] others c back cut another e =
     omega (arith, ap length cut.joined, ap length another.joined, ap length e, length-append group [], length-append other (join others), length-append group (c ∷ back))
 not_shorter q group other (next ∷ groups) others c back cut another e =
-    let few : total_size group < 248 = All-head ClosesLate other others another.late group back c e in
-    let many : 248 ≤ total_size group = cut.full [] groups group next refl in
+    let few : total_size group < greatest_offset = All-head ClosesLate other others another.late group back c e in
+    let many : greatest_offset ≤ total_size group = cut.full [] groups group next refl in
     omega arith
 
 -- A cut into no groups and a cut into some are not of the same conditions.
@@ -139,16 +140,16 @@ groups_of-only q = record {
   only = λ others cut. cuts_same q others (groups_of q) cut (groups_of-cut q);
 }
 
--- The groups of a cut but the last take 248 instructions or more each.
-cut_small : (q : List Condition) (groups : List (List Condition)) → IsCut q groups → 248 * (length groups - 1) ≤ total_size q
+-- The groups of a cut but the last take as many instructions as the border or more each.
+cut_small : (q : List Condition) (groups : List (List Condition)) → IsCut q groups → greatest_offset * (length groups - 1) ≤ total_size q
 cut_small q [] cut = omega arith
 cut_small q (group ∷ []) cut = omega arith
 cut_small q (group ∷ next ∷ groups) cut =
-    let many : 248 ≤ total_size group = cut.full [] groups group next refl in
+    let many : greatest_offset ≤ total_size group = cut.full [] groups group next refl in
     let rest = cut_small (join (next ∷ groups)) (next ∷ groups) (cut_rest q group (next ∷ groups) cut) in
     let total : total_size q ≡ total_size group + total_size (join (next ∷ groups)) = ap (λ l. total_size l) (sym cut.joined) ∙ sum_by-append size_of group (join (next ∷ groups)) in
     omega arith
 
--- A rule's conditions take 248 instructions or more for each of its relays.
-pub relays_small : (q : List Condition) → 248 * relays q ≤ total_size q
+-- A rule's conditions take as many instructions as the border or more for each of its relays.
+pub relays_small : (q : List Condition) → greatest_offset * relays q ≤ total_size q
 relays_small q = cut_small q (groups_of q) (groups_of-cut q)

@@ -1,8 +1,8 @@
 -- A list of which a part was written anew, and a list cut at an index.
-use Rattle.std.proofs.Common.{◌≡◌, ℕ, suc, ◌+◌, ◌-◌, ◌<◌, ◌≤◌, List, [], ◌∷◌, ◌++◌, length, get_or, set, take, drop, sym, ap, ◌∙◌, refl, length-drop, take-append-drop, append_assoc, arith}
+use Rattle.std.proofs.Common.{◌≡◌, ℕ, suc, ◌+◌, ◌-◌, ◌<◌, ◌≤◌, List, [], ◌∷◌, ◌++◌, length, get_or, set, take, drop, sym, ap, ◌∙◌, refl, length-drop, take-append-drop, append_assoc, subst, arith}
 use Rattle.std.proofs.Math.ListN.{length-set}
-use Rattle.std.proofs.Math.Seq.{drop-cons, take-suc-set}
-use Rattle.std.proofs.lemmas.List.{take_all}
+use Rattle.std.proofs.Math.Seq.{drop-cons, take-suc-set, take-append-add}
+use Rattle.std.proofs.lemmas.List.{take_all, take-append-le}
 use Rattle.std.proofs.lemmas.Slice.{take-put_mid}
 use lib.Seq.{length-take-le, drop_at}
 use borrow.Rule.Slice.PartMut.{put_mid, post_of, Post-is, same_len_mid}
@@ -32,17 +32,24 @@ around items i x within is =
     let e : i + 1 ≡ suc i = omega arith in
     sym (take-append-drop i items) ∙ ap (λ l. take i items ++ l) (drop-cons items i x within ∙ ap (λ y. y ∷ drop (suc i) items) (sym is) ∙ ap (λ n. x ∷ drop n items) (sym e))
 
--- a list whose first element, whose last, and what lies between them were written
-pub framed : {X : Type 0} (xs ys : List X) (x z : X) → length ys + 2 ≡ length xs → set (put_mid 1 (length xs - 1 - 1) (set xs 0 x) ys) (length xs - 1) z ≡ x ∷ (ys ++ z ∷ [])
-framed {X} [] ys x z long = absurd (omega arith)
-framed {X} (y ∷ xs) ys x z long =
-    let last = length (y ∷ xs) - 1 in
-    let one = x ∷ xs in
-    let e : last + 1 ≡ length one = omega arith in
-    let whole = set (put_mid 1 (last - 1) one ys) last z in
-    let count : length ys ≡ last - 1 = omega arith in
-    let long_whole : length whole ≡ length one = length-set (put_mid 1 (last - 1) one ys) last z ∙ same_len_mid 1 (last - 1) one ys (count ∙ sym (length-part 1 last one (omega arith) (omega arith))) in
-    sym (take_all (last + 1) whole (omega arith)) ∙ take-written 1 last one ys z (omega arith) (omega arith) count
+-- up to a place of the part, it has what it had, and then what was written up to that place
+pub take-front : {X : Type 0} (a n : ℕ) (xs ys : List X) → a ≤ length xs → n ≤ length ys → take (a + n) (put_mid a (length xs - a) xs ys) ≡ take a xs ++ take n ys
+take-front a n xs ys inside few =
+    let behind = post_of a (length xs - a) xs in
+    let at : length (take a xs) ≡ a = length-take-le a xs inside in
+    subst (λ m. take (m + n) (put_mid a (length xs - a) xs ys) ≡ take a xs ++ take n ys) at
+    (take-append-add (take a xs) (ys ++ behind) n ∙ ap (λ l. take a xs ++ l) (take-append-le n ys behind few))
+
+-- the front of a list whose first element was written, what lies behind it, and one more element behind n of these
+pub framed : {X : Type 0} (n : ℕ) (xs ys : List X) (x z : X) → length ys + 1 ≡ length xs → n < length ys → let first = set xs 0 x in take (1 + n + 1) (set (put_mid 1 (length first - 1) first ys) (1 + n) z) ≡ x ∷ (take n ys ++ z ∷ [])
+framed n [] ys x z long few = absurd (omega arith)
+framed n (y ∷ xs) ys x z long few =
+    let first = x ∷ xs in
+    let whole = put_mid 1 (length first - 1) first ys in
+    let count : length ys ≡ length first - 1 = omega arith in
+    let same = same_len_mid 1 (length first - 1) first ys (count ∙ sym (length-part 1 (length first) first (omega arith) (omega arith))) in
+    let one_more : 1 + n + 1 ≡ suc (1 + n) = omega arith in
+    ap (λ m. take m (set whole (1 + n) z)) one_more ∙ take-suc-set whole (1 + n) z (omega arith) ∙ ap (λ l. l ++ z ∷ []) (take-front 1 n first ys (omega arith) (omega arith))
 
 -- a list of four elements of which three were written together, and then the last
 pub four-written : {X : Type 0} (front xs : List X) (a b c d : X) → front ≡ a ∷ b ∷ c ∷ [] → length xs ≡ 4 → set (front ++ drop 3 xs) 3 d ≡ a ∷ b ∷ c ∷ d ∷ []

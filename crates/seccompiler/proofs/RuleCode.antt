@@ -13,6 +13,7 @@ use Rattle.seccompiler.specs.Machine.{Goes, stays, then_step}
 use Rattle.seccompiler.specs.Checked.{inside_jump, IsClosed, AreInRange}
 use Rattle.seccompiler.specs.Condition.{Condition, Holds, size_by, size_of}
 use Rattle.seccompiler.specs.Policy.{RuleHolds}
+use Rattle.seccompiler.specs.Sizes.{greatest_offset}
 use Rattle.seccompiler.specs.Groups.{total_size, relays}
 use Rattle.seccompiler.specs.Relay.{relay_code, entry_code}
 use Rattle.seccompiler.specs.Pieces.{Leads, Exits, IsConditionCode, IsRuleCode}
@@ -79,7 +80,7 @@ hold_last : (q : List Condition) (c : Condition) (r : List ℕ) → RuleHolds (q
 hold_last q c r h = (All-pop (λ x. Holds x r) (q ++ c ∷ []) q (Some c) refl h).1
 
 -- one condition more, in front
-pub body_more : (q : List Condition) (code own : List sock_filter) (o k : ℕ) (c : Condition) → o ≤ 248 → IsConditionCode c o own → Body q code o k → Body (q ++ c ∷ []) (own ++ code) (o + size_of c) k
+pub body_more : (q : List Condition) (code own : List sock_filter) (o k : ℕ) (c : Condition) → o ≤ greatest_offset → IsConditionCode c o own → Body q code o k → Body (q ++ c ∷ []) (own ++ code) (o + size_of c) k
 body_more q code own o k c room one body =
     let size : length own ≡ size_of c = one.long in
     let small_size : size_of c ≤ 6 = size_small c in

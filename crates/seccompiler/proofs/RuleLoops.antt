@@ -1,5 +1,5 @@
 -- The loops over the conditions of a rule: one counts its instructions, one writes them from the end to the front.
-use Rattle.std.proofs.Common.{◌≡◌, ℕ, suc, ◌+◌, ◌-◌, ◌*◌, ◌<◌, ◌≤◌, ◌^◌, List, [], ◌∷◌, ◌++◌, length, min, refl, sym, ap, ◌∙◌, subst, arith, take, drop, get_or, true, false, nat_le, length-drop, ⊎_elim}
+use Rattle.std.proofs.Common.{◌≡◌, ℕ, suc, ◌+◌, ◌-◌, ◌*◌, ◌<◌, ◌≤◌, ◌^◌, List, [], ◌∷◌, ◌++◌, length, min, refl, sym, ap, ◌∙◌, subst, arith, take, drop, get_or, true, false, nat_lt, length-drop, ⊎_elim}
 use Rattle.std.specs.Prelude.{if◌then◌else◌}
 use Rattle.std.proofs.lemmas.Bool.{cases_lt}
 use Rattle.std.proofs.lemmas.Bool.Decides.{nat_tests}
@@ -7,6 +7,7 @@ use Rattle.std.proofs.lemmas.List.{take_more, take_all}
 use Rattle.std.proofs.lemmas.List.Sums.{sum_by-append, sum_by-cons}
 use Rattle.seccompiler.specs.declared.bpf.sock_filter.{sock_filter}
 use Rattle.seccompiler.specs.Condition.{Condition, size_of}
+use Rattle.seccompiler.specs.Sizes.{greatest_offset}
 use Rattle.seccompiler.specs.Groups.{total_size}
 use Rattle.seccompiler.specs.Layout.{rule_length}
 use Rattle.seccompiler.specs.Relay.{relay_code, entry_code, relay_front, offset_behind}
@@ -16,14 +17,14 @@ use Rattle.seccompiler.proofs.Parts.{around}
 use Rattle.seccompiler.proofs.RelayCount.{Cutting, none, cutting_more, cutting_relay, relays_are, relays_so_far, relays_so_far_full}
 
 -- What is needed of an offset at which a relay is or is not put.
-relay_none : (o : ℕ) → o < 249 → (relay_front o ≡ []) × (offset_behind o ≡ o)
+relay_none : (o : ℕ) → o ≤ greatest_offset → (relay_front o ≡ []) × (offset_behind o ≡ o)
 relay_none o near =
-    let test : nat_le 249 o ≡ false = grind (arith, nat_tests) in
+    let test : nat_lt greatest_offset o ≡ false = grind (arith, nat_tests) in
     (ap (λ b. if b then relay_code o else []) test, ap (λ b. if b then 1 else o) test)
 
-relay_one : (o : ℕ) → 249 ≤ o → (relay_front o ≡ relay_code o) × (offset_behind o ≡ 1)
+relay_one : (o : ℕ) → greatest_offset < o → (relay_front o ≡ relay_code o) × (offset_behind o ≡ 1)
 relay_one o far =
-    let test : nat_le 249 o ≡ true = grind (arith, nat_tests) in
+    let test : nat_lt greatest_offset o ≡ true = grind (arith, nat_tests) in
     (ap (λ b. if b then relay_code o else []) test, ap (λ b. if b then 1 else o) test)
 
 -- What the writing loop has made: the code of the conditions so far, and how far the cut has come.
@@ -39,7 +40,8 @@ built_empty = record { k = 0; body = body_empty; cutting = none refl refl refl }
 built_more : (q : List Condition) (code own : List sock_filter) (o : ℕ) (c : Condition) → IsConditionCode c (offset_behind o) own → Built q code o → Built (q ++ c ∷ []) (own ++ (relay_front o ++ code)) (offset_behind o + size_of c)
 built_more q code own o c one h =
     ⊎_elim
-    (λ near.
+    (λ lt.
+    let near : o ≤ greatest_offset = omega arith in
     let e = relay_none o near in
     let own_code = subst (λ d. IsConditionCode c d own) e.1 one in
     let made : Built (q ++ c ∷ []) (own ++ code) (o + size_of c) = record { k = h.k; body = body_more q code own o h.k c (omega arith) own_code h.body; cutting = cutting_more q o h.k c (omega arith) h.cutting } in
@@ -49,7 +51,7 @@ built_more q code own o c one h =
     let own_code = subst (λ d. IsConditionCode c d own) e.1 one in
     let made : Built (q ++ c ∷ []) (own ++ (relay_code o ++ code)) (1 + size_of c) = record { k = suc h.k; body = body_more q (relay_code o ++ code) own 1 (suc h.k) c (omega arith) own_code (body_relay q code o h.k h.body); cutting = cutting_relay q o h.k c far h.cutting } in
     subst (λ l. Built (q ++ c ∷ []) (own ++ (l ++ code)) (offset_behind o + size_of c)) (sym e.0) (subst (λ d. Built (q ++ c ∷ []) (own ++ (relay_code o ++ code)) (d + size_of c)) (sym e.1) made))
-    (cases_lt o 249)
+    (cases_lt o (greatest_offset + 1))
 
 -- the size of a list around one condition
 total_around : (q rest : List Condition) (c : Condition) → total_size (q ++ c ∷ rest) ≡ total_size q + (size_of c + total_size rest)
@@ -60,13 +62,14 @@ room_for : (q rest : List Condition) (code : List sock_filter) (o free : ℕ) (c
 room_for q rest code o free c h whole =
     let sizes = total_around q rest c in
     ⊎_elim
-    (λ near.
+    (λ lt.
+    let near : o ≤ greatest_offset = omega arith in
     let none_put : length (relay_front o) ≡ 0 = ap length (relay_none o near).0 in
     omega (arith, h.body.long, relays_so_far q (c ∷ rest) o h.k h.cutting))
     (λ far.
     let one_put : length (relay_front o) ≡ 3 = ap length (relay_one o far).0 in
     omega (arith, h.body.long, relays_so_far_full q rest o h.k c far h.cutting))
-    (cases_lt o 249)
+    (cases_lt o (greatest_offset + 1))
 
 -- there is room for it at an index of the loop
 pub room_at : (items : List Condition) (i : ℕ) (code : List sock_filter) (o free : ℕ) (c : Condition) → i < length items → c ≡ get_or items i c → Built (take i items) code o → free + length code ≡ rule_length items → 2 + length (relay_front o) + size_of c ≤ free
@@ -102,7 +105,7 @@ pub counted_empty : Counted [] 2 1
 counted_empty = record { k = 0; cutting = none refl refl refl; low = omega arith; high = omega arith; count = refl }
 
 -- one condition more, near enough
-pub counted_more : (q : List Condition) (c : Condition) (n n' o o' : ℕ) → o < 249 → n' ≡ min (n + size_of c) (2 ^ 64 - 1) → o' ≡ o + size_of c → Counted q n o → Counted (q ++ c ∷ []) n' o'
+pub counted_more : (q : List Condition) (c : Condition) (n n' o o' : ℕ) → o ≤ greatest_offset → n' ≡ min (n + size_of c) (2 ^ 64 - 1) → o' ≡ o + size_of c → Counted q n o → Counted (q ++ c ∷ []) n' o'
 counted_more q c n n' o o' near en eo h = record {
   k = h.k;
   cutting = subst (λ d. Cutting (q ++ c ∷ []) d h.k) (sym eo) (cutting_more q o h.k c (omega arith) h.cutting);
@@ -112,7 +115,7 @@ counted_more q c n n' o o' near en eo h = record {
 }
 
 -- one condition more, behind a relay
-pub counted_relay : (q : List Condition) (c : Condition) (n n' o o' : ℕ) → 249 ≤ o → n' ≡ min (min (n + 3) (2 ^ 64 - 1) + size_of c) (2 ^ 64 - 1) → o' ≡ 1 + size_of c → Counted q n o → Counted (q ++ c ∷ []) n' o'
+pub counted_relay : (q : List Condition) (c : Condition) (n n' o o' : ℕ) → greatest_offset < o → n' ≡ min (min (n + 3) (2 ^ 64 - 1) + size_of c) (2 ^ 64 - 1) → o' ≡ 1 + size_of c → Counted q n o → Counted (q ++ c ∷ []) n' o'
 counted_relay q c n n' o o' far en eo h = record {
   k = suc h.k;
   cutting = subst (λ d. Cutting (q ++ c ∷ []) d (suc h.k)) (sym eo) (cutting_relay q o h.k c far h.cutting);

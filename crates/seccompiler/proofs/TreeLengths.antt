@@ -1,6 +1,9 @@
 -- Lengths of ranges that stop at the greatest number that a machine's number holds.
-use Rattle.std.proofs.Common.{◌≡◌, ℕ, ◌+◌, ◌-◌, ◌<◌, ◌≤◌, List, [], ◌∷◌, ◌++◌, length, Some, set, drop, Bool, true, false, nat_le, if◌then◌else◌, ◌⊎◌, inl, inr, ⊎_elim, min, refl, sym, ap, ◌∙◌, length-drop, arith}
+use Rattle.std.proofs.Common.{◌≡◌, ℕ, ◌+◌, ◌-◌, ◌<◌, ◌≤◌, List, [], ◌∷◌, ◌++◌, length, Some, set, take, suc, Bool, true, false, nat_le, if◌then◌else◌, ◌⊎◌, inl, inr, ⊎_elim, min, refl, sym, ap, ◌∙◌, arith}
 use Rattle.std.proofs.lemmas.Bool.Decides.{nat_tests}
+use Rattle.std.proofs.lemmas.List.{take_all}
+use Rattle.std.proofs.Math.ListN.{length-set}
+use Rattle.std.proofs.Math.Seq.{take-suc-set}
 use Rattle.seccompiler.specs.Policy.{Chain}
 use Rattle.seccompiler.specs.ChainCode.{rules_length}
 use Rattle.seccompiler.specs.Ranges.{Range}
@@ -12,17 +15,10 @@ pub leaf_some : (chain : Chain) → 0 < length chain → leaf_length (Some chain
 leaf_some [] some = absurd (omega arith)
 leaf_some (q ∷ chain) some = refl
 
--- the last element of a list, set behind what was written in front of it
-set_one : {X : Type 0} (ys tail : List X) (z : X) → length tail ≡ 1 → set (ys ++ tail) (length ys) z ≡ ys ++ z ∷ []
-set_one [] [] z one = absurd (omega arith)
-set_one [] (t ∷ []) z one = refl
-set_one [] (t ∷ u ∷ tail) z one = absurd (omega arith)
-set_one (y ∷ ys) tail z one = ap (λ l. y ∷ l) (set_one ys tail z one)
-
-pub last_written : {X : Type 0} (xs ys : List X) (z : X) → length ys + 1 ≡ length xs → set (ys ++ drop (length xs - 1) xs) (length xs - 1) z ≡ ys ++ z ∷ []
-last_written xs ys z long =
-    let at : length xs - 1 ≡ length ys = omega arith in
-    ap (λ n. set (ys ++ drop (length xs - 1) xs) n z) at ∙ set_one ys (drop (length xs - 1) xs) z (length-drop (length xs - 1) xs ∙ omega arith)
+-- a list whose last element was set
+pub last_written : {X : Type 0} (n : ℕ) (xs : List X) (z : X) → length xs ≡ n + 1 → set xs n z ≡ take n xs ++ z ∷ []
+last_written n xs z long =
+    sym (take_all (suc n) (set xs n z) (omega (arith, length-set xs n z))) ∙ take-suc-set xs n z (omega arith)
 
 -- a test takes one instruction or two
 test_cases : (n : ℕ) → ((n ≤ 255) × (test_length n ≡ 1)) ⊎ ((256 ≤ n) × (test_length n ≡ 2))

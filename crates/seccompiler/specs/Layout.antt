@@ -1,16 +1,17 @@
 -- How long the program of a filter is, and how many steps a call without a chain takes, as sums.
 use Rattle.std.specs.Prelude.{ℕ, ℤ, ◌+◌, ◌*◌, List, [], ◌∷◌, sum_by}
+use Rattle.seccompiler.specs.Sizes.{guard_length, entry_length, relay_length, empty_chain_length, chain_ends, program_ends}
 use Rattle.seccompiler.specs.Groups.{total_size, relays}
 use Rattle.seccompiler.specs.Policy.{Rule, Chain, Filter}
 
 -- The instructions of a rule: two jumps in front, its conditions, and three jumps for each relay.
 abbrev pub rule_length : Rule → ℕ
-rule_length q = 2 + total_size q + 3 * relays q
+rule_length q = entry_length + total_size q + relay_length * relays q
 
--- The instructions of a chain: those of its rules, each with a return, and two more.
+-- The instructions of a chain: those of its rules, each with a return, and its ends.
 abbrev pub chain_length : Chain → ℕ
-chain_length [] = 5
-chain_length (q ∷ chain) = 2 + sum_by (λ rule. rule_length rule + 1) (q ∷ chain)
+chain_length [] = empty_chain_length
+chain_length (q ∷ chain) = chain_ends + sum_by (λ rule. rule_length rule + 1) (q ∷ chain)
 
 -- The counted length of the chains.
 abbrev pub chains_length : List (ℤ × Chain) → ℕ
@@ -18,8 +19,8 @@ chains_length chains = sum_by (λ (e : ℤ × Chain). chain_length e.1) chains
 
 -- The counted length of a filter: how many instructions its program has. It has no limit.
 abbrev pub counted_length_of : List (ℤ × Chain) → ℕ
-counted_length_of [] = 4
-counted_length_of (e ∷ chains) = 5 + chains_length (e ∷ chains)
+counted_length_of [] = guard_length + 1
+counted_length_of (e ∷ chains) = guard_length + program_ends + chains_length (e ∷ chains)
 
 abbrev pub counted_length : Filter → ℕ
 counted_length f = counted_length_of f.chains

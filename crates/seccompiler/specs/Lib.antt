@@ -10,6 +10,7 @@ pub mod Errors
 pub mod Install
 pub mod Condition
 pub mod Policy
+pub mod Sizes
 pub mod Groups
 pub mod Layout
 pub mod Relay

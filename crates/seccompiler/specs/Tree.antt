@@ -11,6 +11,7 @@ use Rattle.seccompiler.specs.Policy.{Filter, Chain, chain_under}
 use Rattle.seccompiler.specs.ChainCode.{rules_length}
 use Rattle.seccompiler.specs.Compiled.{EndsAtDecision}
 use Rattle.seccompiler.specs.Refusal.{numbers_of, AreCallNumbers, IsLeastUnfit}
+use Rattle.seccompiler.specs.Sizes.{guard_length, program_ends}
 use Rattle.seccompiler.specs.Ranges.{Range, HasNoRules, AreRanges}
 
 -- The instructions of one range: a return, and in front of it the rules of its chain, each with a return.
@@ -43,7 +44,7 @@ tree_length ranges = halved_length (length ranges) ranges
 pub record IsTreeLength (f : Filter) (n : ℕ) : Type 0 where
   pub ranges : List Range
   pub are : AreRanges f.chains ranges
-  pub long : n ≡ 5 + tree_length ranges
+  pub long : n ≡ guard_length + program_ends + tree_length ranges
 
 -- The program returns the word that the policy names for the record, within so many steps.
 pub record DecidesWithin (f : Filter) (p : List sock_filter) (r : List ℕ) (most : ℕ) : Type 0 where

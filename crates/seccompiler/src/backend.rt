@@ -330,8 +330,11 @@ pub fn build_arch_validation_sequence(
     Ok(arch_guard(arch).to_vec(alloc)?)
 }
 
+// How many instructions begin each program.
+pub(crate) const GUARD_LEN: usize = 3;
+
 // The three instructions that begin each program.
-pub(crate) fn arch_guard(arch: TargetArch) -> [sock_filter; 3]
+pub(crate) fn arch_guard(arch: TargetArch) -> [sock_filter; GUARD_LEN]
     ensures { result ≡ guard_code (audit_word arch) }
 {
     [

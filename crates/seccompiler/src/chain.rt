@@ -1,6 +1,6 @@
 // The chains of a filter: rules of one call number, and their code.
 
-ghost use Rattle.std.specs.Prelude.{◌≡◌, ◌≤◌, ◌<◌, ◌^◌, ◌-◌, ◌↔◌, ℤ, pos, min, map, length, All, IsTrue, IsNone, IfOk, IfSome, IsOkUnless};
+ghost use Rattle.std.specs.Prelude.{◌≡◌, ◌≤◌, ◌<◌, ◌^◌, ◌-◌, ◌↔◌, ℤ, pos, min, map, length, take, All, IsTrue, IsNone, IfOk, IfSome, IsOkUnless};
 ghost use Rattle.std.specs.BTreeMap.{keys};
 ghost use Rattle.seccompiler.specs.declared.backend.BackendError.TheVariants.{OutOfMemory};
 ghost use Rattle.seccompiler.specs.Checked.{greatest_length};
@@ -14,6 +14,12 @@ use crate::bpf::{jump_if_equal, jump_over, return_word, sock_filter};
 use crate::rule::SeccompRule;
 use std::alloc::Global;
 use std::collections::BTreeMap;
+
+// The instructions of a chain without rules.
+const EMPTY_CHAIN_LEN: usize = 5;
+
+// The test in front of a chain's rules, and the return behind them.
+const CHAIN_ENDS: usize = 2;
 
 /// The least number that does not fit 32 unsigned bits, if there is one.
 pub(crate) fn unfit_number(rules: &BTreeMap<i64, Vec<SeccompRule>>) -> Option<i64>
@@ -63,9 +69,9 @@ pub(crate) fn chain_len(chain: &[SeccompRule]) -> usize
     ensures { result ≡ min (chain_length chain.now) usize.MAX }
 {
     if chain.is_empty() {
-        return 5;
+        return EMPTY_CHAIN_LEN;
     }
-    rules_len(chain).saturating_add(2)
+    rules_len(chain).saturating_add(CHAIN_ENDS)
 }
 
 /// How many instructions the rules of the chain take, each with its return, or `usize::MAX` if that
@@ -94,15 +100,13 @@ pub(crate) fn write_chains(
 {
     let mut start = 0;
     for (number, chain) in rules {
-        let end = start + chain_len(chain);
-        write_chain(
-            &mut part[start..end],
+        start += write_chain(
+            &mut part[start..],
             call_number(number),
             chain,
             mismatch,
             matched,
         );
-        start = end;
     }
 }
 
@@ -114,39 +118,42 @@ pub(crate) fn call_number(number: &i64) -> u32
     *number as u32
 }
 
-// Fills the part with the code of a chain: a test of the call number, the rules, and a return.
+// Fills the front of the part with the code of a chain: a test of the call number, the rules, and a return. Gives its
+// length.
 fn write_chain(
     part: &mut [sock_filter],
     number: u32,
     chain: &[SeccompRule],
     mismatch: u32,
     matched: u32,
-)
-    requires room { length part.old ≡ chain_length chain.now }
+) -> usize
+    requires room { chain_length chain.now ≤ length part.old }
     requires short { length part.old ≤ greatest_length }
-    ensures code { IsChainCode number chain.now mismatch matched part.new }
+    ensures length { result ≡ chain_length chain.now }
+    ensures code { IsChainCode number chain.now mismatch matched (take result part.new) }
 {
     if chain.is_empty() {
-        part.copy_from_slice(&[
+        part[..EMPTY_CHAIN_LEN].copy_from_slice(&[
             jump_if_equal(number, 0, 1),
             jump_over(1),
             jump_over(2),
             return_word(matched),
             return_word(mismatch),
         ]);
-        return;
+        return EMPTY_CHAIN_LEN;
     }
-    let last = part.len() - 1;
     part[0] = jump_if_equal(number, 0, 1);
-    write_rules(&mut part[1..last], chain, matched);
-    part[last] = return_word(mismatch);
+    let end = 1 + write_rules(&mut part[1..], chain, matched);
+    part[end] = return_word(mismatch);
+    end + 1
 }
 
-/// Fills the part with the rules of a chain, each with its return.
-pub(crate) fn write_rules(part: &mut [sock_filter], chain: &[SeccompRule], matched: u32)
-    requires room { length part.old ≡ rules_length chain.now }
+/// Fills the front of the part with the rules of a chain, each with its return, and gives their length.
+pub(crate) fn write_rules(part: &mut [sock_filter], chain: &[SeccompRule], matched: u32) -> usize
+    requires room { rules_length chain.now ≤ length part.old }
     requires short { length part.old ≤ greatest_length }
-    ensures code { IsRulesCode chain.now matched part.new }
+    ensures length { result ≡ rules_length chain.now }
+    ensures code { IsRulesCode chain.now matched (take result part.new) }
 {
     let mut start = 0;
     for rule in chain {
@@ -155,4 +162,5 @@ pub(crate) fn write_rules(part: &mut [sock_filter], chain: &[SeccompRule], match
         part[end] = return_word(matched);
         start = end + 1;
     }
+    start
 }

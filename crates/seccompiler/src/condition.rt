@@ -2,13 +2,17 @@
 
 use crate::backend::{BackendError, SeccompCmpArgLen, SeccompCmpOp};
 use crate::bpf::{
-    ARG_NUMBER_MAX, SECCOMP_DATA_ARG_SIZE, SECCOMP_DATA_ARGS_OFFSET, and_mask, jump_if_at_least,
-    jump_if_equal, jump_if_greater, load_word, return_word, sock_filter,
+    ARG_NUMBER_MAX, CONDITION_MAX_LEN, SECCOMP_DATA_ARG_SIZE, SECCOMP_DATA_ARGS_OFFSET, and_mask,
+    jump_if_at_least, jump_if_equal, jump_if_greater, load_word, return_word, sock_filter,
 };
 use crate::equality::EqualByParts;
 use crate::record::argument_at;
 use std::alloc::Global;
 use std::marker::Model;
+
+// The greatest offset of its failure exit at which any condition's jumps fit 8 bits: the longest of
+// them passes over the offset and what is left of the condition behind the jump.
+pub(crate) const GREATEST_OFFSET: u8 = u8::MAX - CONDITION_MAX_LEN - 1;
 
 /// A condition that an argument of a system call must meet for a rule to hold.
 #[derive(Clone, Copy, Debug, PartialEq, Eq)]
@@ -46,6 +50,7 @@ impl SeccompCondition {
     ghost use Rattle.std.specs.Prelude.{◌≡◌, ℕ, List, ◌+◌, ◌*◌, ◌/◌, ◌%◌, ◌^◌, ◌≤◌, ◌<◌, ◌↔◌, length, IfOk, IfErr, IsOk, IsOkUnless, IsTrue};
     ghost use Rattle.seccompiler.specs.declared.backend.BackendError.TheVariants.{InvalidArgumentNumber, OutOfMemory};
     ghost use Rattle.seccompiler.specs.declared.backend.SeccompCmpArgLen.TheVariants.{Dword, Qword};
+    ghost use Rattle.seccompiler.specs.Sizes.{greatest_offset};
     ghost use Rattle.seccompiler.specs.Condition.{Condition, Holds, size_of, condition_code};
     ghost use Rattle.seccompiler.specs.LowHalf.{IsSameLowHalf, HasSameLowArgument};
     ghost use Rattle.seccompiler.specs.Checked.{AreInRange};
@@ -111,14 +116,14 @@ impl SeccompCondition {
     /// The code of the condition: run from its first instruction it leaves at its end where the
     /// condition holds, and `offset` instructions further where it does not.
     ///
-    /// The offset is from 1 to 248, so that each jump over it fits 8 bits.
+    /// The offset is from 1 to 248, so that each jump over it and the rest of the condition fits 8 bits.
     ///
     /// # Errors
     ///
     /// `OutOfMemory` where memory is refused.
     pub fn to_bpf(&self, alloc: Global, offset: u8) -> Result<Vec<sock_filter>, BackendError>
         requires some { 1 ≤ offset }
-        requires few { offset ≤ 248 }
+        requires few { offset ≤ greatest_offset }
         ensures code { IfOk result (λ code. code.items ≡ condition_code self.now offset) }
         ensures meets { IfOk result (λ code. IsConditionCode self.now offset code.items) }
         ensures memory { IsOkUnless result OutOfMemory }
@@ -150,7 +155,7 @@ impl SeccompCondition {
     pub fn write(&self, part: &mut [sock_filter], offset: u8)
         requires room { length part.old ≡ size_of self.now }
         requires some { 1 ≤ offset }
-        requires few { offset ≤ 248 }
+        requires few { offset ≤ greatest_offset }
         ensures code { part.new ≡ condition_code self.now offset }
         ensures meets { IsConditionCode self.now offset part.new }
     {
@@ -164,7 +169,7 @@ impl SeccompCondition {
     fn write_dword(&self, part: &mut [sock_filter], offset: u8)
         requires dword { self.now.arg_len ≡ Dword }
         requires room { length part.old ≡ size_of self.now }
-        requires few { offset ≤ 248 }
+        requires few { offset ≤ greatest_offset }
         ensures code { part.new ≡ condition_code self.now offset }
         ensures ranges { AreInRange part.new }
     {
@@ -190,7 +195,7 @@ impl SeccompCondition {
     fn write_qword(&self, part: &mut [sock_filter], offset: u8)
         requires qword { self.now.arg_len ≡ Qword }
         requires room { length part.old ≡ size_of self.now }
-        requires few { offset ≤ 248 }
+        requires few { offset ≤ greatest_offset }
         ensures code { part.new ≡ condition_code self.now offset }
         ensures ranges { AreInRange part.new }
     {

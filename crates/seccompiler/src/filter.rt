@@ -6,7 +6,7 @@ ghost use Rattle.std.specs.Prelude.{◌≡◌, ◌≤◌, vec_len, IfOk, IfErr};
 ghost use Rattle.seccompiler.specs.Checked.{greatest_length};
 ghost use Rattle.seccompiler.specs.Refusal.{RefusesLength};
 
-use crate::backend::{BackendError, SeccompAction, TargetArch, arch_guard};
+use crate::backend::{BackendError, GUARD_LEN, SeccompAction, TargetArch, arch_guard};
 use crate::bpf::{
     BPF_MAX_LEN, BpfProgram, SECCOMP_DATA_ARCH_OFFSET, SECCOMP_DATA_NR_OFFSET, load_word,
     return_word, sock_filter,
@@ -18,6 +18,9 @@ use crate::rule::SeccompRule;
 use std::alloc::Global;
 use std::collections::BTreeMap;
 use std::marker::Model;
+
+// The load of the call number behind the guard, and the return at the end.
+const PROGRAM_ENDS: usize = 2;
 
 /// A policy on system calls: a chain of rules for each of some call numbers, what to answer where
 /// a chain matches and where none does, and the architecture that the numbers are of.
@@ -166,9 +169,9 @@ impl SeccompFilter {
         ensures ordered { IsStrictlySortedBy int_cmp (numbers_of self.now.chains) }
     {
         if self.rules.is_empty() {
-            return 4;
+            return GUARD_LEN + 1;
         }
-        let mut length: usize = 5;
+        let mut length = GUARD_LEN + PROGRAM_ENDS;
         for chain in self.rules.values() {
             length = length.saturating_add(chain_len(chain));
         }
@@ -195,15 +198,15 @@ impl SeccompFilter {
         ensures passes { Passes self.now program.new }
     {
         let mismatch = u32::from(self.mismatch_action);
-        program[..3].copy_from_slice(&arch_guard(self.target_arch));
+        program[..GUARD_LEN].copy_from_slice(&arch_guard(self.target_arch));
         if self.rules.is_empty() {
-            program[3] = return_word(mismatch);
+            program[GUARD_LEN] = return_word(mismatch);
             return;
         }
-        program[3] = load_word(u32::from(SECCOMP_DATA_NR_OFFSET));
+        program[GUARD_LEN] = load_word(u32::from(SECCOMP_DATA_NR_OFFSET));
         let last = program.len() - 1;
         write_chains(
-            &mut program[4..last],
+            &mut program[GUARD_LEN + 1..last],
             &self.rules,
             mismatch,
             self.match_action.into(),

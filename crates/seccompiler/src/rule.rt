@@ -1,14 +1,17 @@
 // Conditions that must all hold.
 
 use crate::backend::BackendError;
-use crate::bpf::{BpfProgram, CONDITION_MAX_LEN, jump_over, return_word, sock_filter};
-use crate::condition::SeccompCondition;
+use crate::bpf::{BpfProgram, jump_over, return_word, sock_filter};
+use crate::condition::{GREATEST_OFFSET, SeccompCondition};
 use crate::equality::EqualByParts;
 use std::alloc::Global;
 use std::marker::Model;
 
-// From this offset on a further condition might leave no room for its jumps.
-const RELAY_OFFSET: u8 = u8::MAX - CONDITION_MAX_LEN;
+// The two jumps in front of a rule.
+const ENTRY_LEN: usize = 2;
+
+// The three jumps of a relay.
+const RELAY_LEN: usize = 3;
 
 /// A rule: one condition or more, which must all hold for the rule to hold.
 #[derive(Debug, Drop)]
@@ -31,6 +34,7 @@ impl SeccompRule {
     ghost use Rattle.std.specs.Prelude.{◌≡◌, ◌*◌, ◌≤◌, ◌↔◌, length, min, IfOk, IfErr, IsOk, IsOkUnless, IsTrue};
     ghost use Rattle.seccompiler.specs.declared.backend.BackendError.TheVariants.{EmptyRule, OutOfMemory};
     ghost use Rattle.seccompiler.specs.Policy.{RuleHolds};
+    ghost use Rattle.seccompiler.specs.Sizes.{greatest_offset};
     ghost use Rattle.seccompiler.specs.Groups.{total_size, groups_of, relays, IsOnlyCut};
     ghost use Rattle.seccompiler.specs.Layout.{rule_length};
     ghost use Rattle.seccompiler.specs.Pieces.{IsRuleCode};
@@ -88,7 +92,7 @@ impl SeccompRule {
     pub fn to_bpf(&self, alloc: Global) -> Result<BpfProgram, BackendError>
         ensures code { IfOk result (λ code. IsRuleCode self.now code.items) }
         ensures groups { IsOnlyCut self.now (groups_of self.now) }
-        ensures few_relays { 248 * relays self.now ≤ total_size self.now }
+        ensures few_relays { greatest_offset * relays self.now ≤ total_size self.now }
         ensures memory { IsOkUnless result OutOfMemory }
     {
         let length = self.code_len();
@@ -108,13 +112,13 @@ impl SeccompRule {
     pub fn code_len(&self) -> usize
         ensures length { result ≡ min (rule_length self.now) usize.MAX }
         ensures groups { IsOnlyCut self.now (groups_of self.now) }
-        ensures few_relays { 248 * relays self.now ≤ total_size self.now }
+        ensures few_relays { greatest_offset * relays self.now ≤ total_size self.now }
     {
-        let mut length: usize = 2;
+        let mut length = ENTRY_LEN;
         let mut offset: u8 = 1;
         for condition in &self.conditions {
-            if offset >= RELAY_OFFSET {
-                length = length.saturating_add(3);
+            if offset > GREATEST_OFFSET {
+                length = length.saturating_add(RELAY_LEN);
                 offset = 1;
             }
             let size = condition.code_len();
@@ -190,6 +194,7 @@ impl EqualByParts for SeccompRule {
 
 ghost use Rattle.std.specs.Prelude.{◌≡◌, ◌≤◌, ◌+◌, ◌++◌, length, drop};
 ghost use Rattle.seccompiler.specs.Checked.{AreInRange};
+ghost use Rattle.seccompiler.specs.Sizes.{entry_length, relay_length};
 ghost use Rattle.seccompiler.specs.Relay.{entry_code, relay_code, relay_front, offset_behind};
 
 // Puts a relay in front of what is written from `end` on, where the offset is too far for a further
@@ -201,16 +206,17 @@ fn relay_if_far(part: &mut [sock_filter], end: usize, offset: u8) -> (usize, u8)
     ensures front { result.0 + length (relay_front offset) ≡ end }
     ensures offset { result.1 ≡ offset_behind offset }
 {
-    if offset < RELAY_OFFSET {
+    if offset <= GREATEST_OFFSET {
         return (end, offset);
     }
-    write_relay(&mut part[end - 3..end], offset);
-    (end - 3, 1)
+    let start = end - RELAY_LEN;
+    write_relay(&mut part[start..end], offset);
+    (start, 1)
 }
 
 // The three jumps of a relay: on to the conditions behind it, to the failure exit, and past the rule.
 fn write_relay(part: &mut [sock_filter], offset: u8)
-    requires room { length part.old ≡ 3 }
+    requires room { length part.old ≡ relay_length }
     ensures code { part.new ≡ relay_code offset }
 {
     let far = u32::from(offset) + 1;
@@ -219,7 +225,7 @@ fn write_relay(part: &mut [sock_filter], offset: u8)
 
 // The two jumps in front of a rule: on to its conditions, and past the rule.
 fn write_entry(part: &mut [sock_filter], offset: u8)
-    requires room { length part.old ≡ 2 }
+    requires room { length part.old ≡ entry_length }
     ensures code { part.new ≡ entry_code offset }
 {
     part.copy_from_slice(&[jump_over(1), jump_over(u32::from(offset) + 1)]);

@@ -78,9 +78,8 @@ impl<'a> CallRange<'a> {
                     part.copy_from_slice(&[return_word(matched)]);
                     return;
                 }
-                let last = part.len() - 1;
-                write_rules(&mut part[..last], chain, matched);
-                part[last] = return_word(mismatch);
+                let end = write_rules(part, chain, matched);
+                part[end] = return_word(mismatch);
             }
             None => part.copy_from_slice(&[return_word(mismatch)]),
         }

@@ -1,7 +1,7 @@
 // The second layout of a filter's program: a tree of tests over ranges of call numbers.
 
-use super::{SeccompFilter, blank_program};
-use crate::backend::{BackendError, arch_guard};
+use super::{PROGRAM_ENDS, SeccompFilter, blank_program};
+use crate::backend::{BackendError, GUARD_LEN, arch_guard};
 use crate::bpf::{
     BpfProgram, BpfProgramRef, SECCOMP_DATA_NR_OFFSET, load_word, return_word, sock_filter,
 };
@@ -14,6 +14,7 @@ impl SeccompFilter {
     ghost use Rattle.seccompiler.specs.Refusal.{numbers_of, AreCallNumbers};
     ghost use Rattle.seccompiler.specs.Checked.{greatest_length};
     ghost use Rattle.seccompiler.specs.Compiled.{IsCompiled};
+    ghost use Rattle.seccompiler.specs.Sizes.{guard_length, program_ends};
     ghost use Rattle.seccompiler.specs.Ranges.{AreRanges, HasRanges};
     ghost use Rattle.seccompiler.specs.Tree.{tree_length, IsTreeCompiled, IsTreeCompilable, IsTreeRefusal, AnswerAlike};
 
@@ -45,7 +46,10 @@ impl SeccompFilter {
     {
         self.check_numbers()?;
         let ranges = ranges_of(alloc, &self.rules)?;
-        let mut program = blank_program(alloc, tree_len(&ranges).saturating_add(5))?;
+        let mut program = blank_program(
+            alloc,
+            tree_len(&ranges).saturating_add(GUARD_LEN + PROGRAM_ENDS),
+        )?;
         self.write_by_ranges(&mut program, &ranges);
         Ok(program)
     }
@@ -63,16 +67,16 @@ impl SeccompFilter {
     // Fills the part with the filter's program in the second layout.
     fn write_by_ranges(&self, program: &mut [sock_filter], ranges: &[CallRange<'_>])
         requires ranges { AreRanges self.now.chains ranges.now }
-        requires room { length program.old ≡ 5 + tree_length ranges.now }
+        requires room { length program.old ≡ guard_length + program_ends + tree_length ranges.now }
         requires short { length program.old ≤ greatest_length }
         ensures compiled { IsTreeCompiled self.now program.new }
     {
         let mismatch = u32::from(self.mismatch_action);
-        program[..3].copy_from_slice(&arch_guard(self.target_arch));
-        program[3] = load_word(u32::from(SECCOMP_DATA_NR_OFFSET));
+        program[..GUARD_LEN].copy_from_slice(&arch_guard(self.target_arch));
+        program[GUARD_LEN] = load_word(u32::from(SECCOMP_DATA_NR_OFFSET));
         let last = program.len() - 1;
         write_tree(
-            &mut program[4..last],
+            &mut program[GUARD_LEN + 1..last],
             ranges,
             mismatch,
             self.match_action.into(),

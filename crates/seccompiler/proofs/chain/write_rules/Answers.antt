@@ -18,7 +18,7 @@ record Room (start count : ℕ) (part : List sock_filter) (q : Rule) : Type 0 wh
   within : start + count < length part
   short : length part ≤ greatest_length
 
-room : (chain : Chain) (i start count w : ℕ) (part whole : List sock_filter) (q : Rule) → i < length chain → q ≡ get_or chain i q → IsRulesCode (take i chain) w (take start part) → start ≤ length part → length part ≡ length whole → length whole ≡ rules_length chain → length whole ≤ greatest_length → count ≡ min (rule_length q) (2 ^ 64 - 1) → Room start count part q
+room : (chain : Chain) (i start count w : ℕ) (part whole : List sock_filter) (q : Rule) → i < length chain → q ≡ get_or chain i q → IsRulesCode (take i chain) w (take start part) → start ≤ length part → length part ≡ length whole → rules_length chain ≤ length whole → length whole ≤ greatest_length → count ≡ min (rule_length q) (2 ^ 64 - 1) → Room start count part q
 room chain i start count w part whole q within is code le same long short counted =
     let start_is : start ≡ rules_length (take i chain) = sym (length-take-le start part le) ∙ code.long in
     let fits = rules_room chain i start q within is start_is in
@@ -55,5 +55,4 @@ pub returns : goal.returns
 returns c =
     let l = c.loop-rule in
     let all = rules_all c.args.chain.now l.rule-index c.args.matched (take l.start l.part) c.loop-rule-test.false l.invariant.code in
-    let whole : take l.start l.part ≡ l.part = take_all l.start l.part (omega (arith, all.long, length-take-le l.start l.part l.invariant.within, l.auto.part, c.requires.room)) in
-    record { code = subst (λ code. IsRulesCode c.args.chain.now c.args.matched code) whole all }
+    record { length = sym (length-take-le l.start l.part l.invariant.within) ∙ all.long; code = all }

@@ -4,7 +4,7 @@ use Rattle.seccompiler.specs.Layout.{rule_length}
 use Rattle.seccompiler.proofs.GroupCuts.{groups_of-only, relays_small}
 use Rattle.seccompiler.proofs.RuleLoops.{counted_empty, counted_more, counted_relay, counted_at, counted_rule}
 use Rattle.seccompiler.proofs.rule.SeccompRule.code_len.Goals as goal
-use Rattle.seccompiler.proofs.rule.SeccompRule.code_len.Goals.{then-offset-ge-RELAY_OFFSET, else-offset-ge-RELAY_OFFSET}
+use Rattle.seccompiler.proofs.rule.SeccompRule.code_len.Goals.{then-offset-gt-GREATEST_OFFSET, else-offset-gt-GREATEST_OFFSET}
 
 pub loop-condition-init : goal.loop-condition-init
 loop-condition-init c = counted_empty
@@ -15,9 +15,9 @@ loop-condition-preserved c =
     let size : c.code_len-size.result ≡ size_of c.condition-item.result = c.code_len-size.ensures in
     let sum = c.saturating_add-length-in-loop-condition.ensures in
     counted_at c.deref-condition-items.result.now l.condition-index c.condition-item.result _ _ c.loop-condition-test.true c.condition-item.is
-    (elim c.if-offset-ge-RELAY_OFFSET.branch [
-      | then-offset-ge-RELAY_OFFSET w ↦ counted_relay _ c.condition-item.result l.length _ l.offset _ w.if-offset-ge-RELAY_OFFSET.true (sum ∙ cc (w.length-is, w.saturating_add-length.ensures, size)) (cc (w.offset-is, size)) l.invariant
-      | else-offset-ge-RELAY_OFFSET w ↦ counted_more _ c.condition-item.result l.length _ l.offset _ w.if-offset-ge-RELAY_OFFSET.false (sum ∙ cc (w.length-is, size)) (cc (w.offset-is, size)) l.invariant
+    (elim c.if-offset-gt-GREATEST_OFFSET.branch [
+      | then-offset-gt-GREATEST_OFFSET w ↦ counted_relay _ c.condition-item.result l.length _ l.offset _ w.if-offset-gt-GREATEST_OFFSET.true (sum ∙ cc (w.length-is, w.saturating_add-length.ensures, size)) (cc (w.offset-is, size)) l.invariant
+      | else-offset-gt-GREATEST_OFFSET w ↦ counted_more _ c.condition-item.result l.length _ l.offset _ w.if-offset-gt-GREATEST_OFFSET.false (sum ∙ cc (w.length-is, size)) (cc (w.offset-is, size)) l.invariant
     ])
 
 pub returns : goal.returns

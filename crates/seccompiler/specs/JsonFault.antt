@@ -12,6 +12,6 @@ pub data Fault : Type 0 where
   refused : BackendError → Fault
 
 -- A backend's error as one of the front end: want of memory stays so.
-abbrev pub from_backend : BackendError → JsonFrontendError
-from_backend of_backend.OutOfMemory = of_json.OutOfMemory
-from_backend refusal = of_json.Backend refusal
+abbrev pub frontend_refusal : BackendError → JsonFrontendError
+frontend_refusal of_backend.OutOfMemory = of_json.OutOfMemory
+frontend_refusal refusal = of_json.Backend refusal

@@ -21,8 +21,8 @@ abbrev pub named : String Global × JsonFilter → Named
 named entry = (string_bytes entry.0, entry.1)
 
 -- The map's filters with their names, in byte order of the names.
-abbrev pub filters_of : JsonFilterMap → List Named
-filters_of filters = map named filters.0.entries
+abbrev pub named_filters : JsonFilterMap → List Named
+named_filters filters = map named filters.0.entries
 
 -- The value is an object, and what is found under each of its names is, as P says, what the name's value is; under no
 -- other name there is anything.
@@ -61,8 +61,8 @@ IsLeastFault = IsLeast (λ value. (f : JsonFilter) → IsFilter value f → ⊥)
 
 -- Why the value is refused: it is no object, or this is its least name whose value is no filter.
 -- Want of memory may come in place of both, and no other error comes.
-abbrev pub IsRefusal : Data → JsonFrontendError → Type 0
-IsRefusal d NotAnObject = IsObject d → ⊥
-IsRefusal d (Shape name) = IsLeastFault d (string_bytes name)
-IsRefusal d OutOfMemory = Unit {0}
-IsRefusal d _ = ⊥
+abbrev pub IsShapeRefusal : Data → JsonFrontendError → Type 0
+IsShapeRefusal d NotAnObject = IsObject d → ⊥
+IsShapeRefusal d (Shape name) = IsLeastFault d (string_bytes name)
+IsShapeRefusal d OutOfMemory = Unit {0}
+IsShapeRefusal d _ = ⊥

@@ -59,15 +59,15 @@ abbrev pub chain_at : List (ℤ × Chain) → ℤ → Option Chain
 chain_at chains number = lookup (is_at (int_cmp number)) chains
 
 -- Nothing is wrong with a list of conditions: each index is at most 5, and the list is not empty.
-pub record AreFine (conditions : List JsonCondition) : Type 0 where
+pub record AreFineArgs (conditions : List JsonCondition) : Type 0 where
   pub indices : All (λ c. c.arg_index ≤ 5) conditions
   pub some : conditions ≢ []
 
 -- Nothing is wrong with an entry: its call has a number; and nothing is wrong with its list of conditions, if there is one.
-pub record IsFine (arch : TargetArch) (entry : JsonRule) : Type 0 where
+pub record IsFineEntry (arch : TargetArch) (entry : JsonRule) : Type 0 where
   pub number : ℤ
   pub is_for : IsFor arch number entry
-  pub conditions : IfSome entry.conditions AreFine
+  pub conditions : IfSome entry.conditions AreFineArgs
 
 -- The filter is made of a JSON filter on an architecture, with the chains that are meant for the numbers. It has the JSON
 -- filter's actions, which differ. Nothing is wrong with any entry. The numbers that have a chain are those of the entries'
@@ -77,7 +77,7 @@ pub record IsMadeOf (meant : ℤ → Chain) (arch : TargetArch) (j : JsonFilter)
   pub match_action : f.match_action ≡ j.match_action
   pub target_arch : f.target_arch ≡ arch
   pub different : j.mismatch_action ≢ j.match_action
-  pub entries : All (IsFine arch) j.rules
+  pub entries : All (IsFineEntry arch) j.rules
   pub chain : (number : ℤ) → Any (IsFor arch number) j.rules → chain_at f.chains number ≡ Some (meant number)
   pub no_other : (number : ℤ) → (Any (IsFor arch number) j.rules → ⊥) → chain_at f.chains number ≡ None
   pub ascending : IsStrictlySortedBy int_cmp (numbers_of f.chains)
@@ -124,14 +124,14 @@ pub record IsFirstOf (arch : TargetArch) (entries : List JsonRule) (fault : Faul
   pub entry : JsonRule
   pub back : List JsonRule
   pub whole : entries ≡ front ++ entry ∷ back
-  pub fine : All (IsFine arch) front
+  pub fine : All (IsFineEntry arch) front
   pub wrong : IsFaultOf arch entry fault
 
 -- The first fault of a JSON filter on an architecture: that of its entries; or, where nothing is wrong with any entry,
 -- that its two actions are equal.
 pub data IsFirstFault (arch : TargetArch) (j : JsonFilter) (fault : Fault) : Type 0 where
   in_entries : IsFirstOf arch j.rules fault → IsFirstFault arch j fault
-  in_actions : All (IsFine arch) j.rules → j.mismatch_action ≡ j.match_action → fault ≡ refused IdenticalActions → IsFirstFault arch j fault
+  in_actions : All (IsFineEntry arch) j.rules → j.mismatch_action ≡ j.match_action → fault ≡ refused IdenticalActions → IsFirstFault arch j fault
 
 -- An error tells a fault of which P holds, and no want of memory stands in it. Want of memory may come in place of the
 -- fault, and no other error comes.
@@ -142,5 +142,5 @@ Tells P OutOfMemory = Unit {0}
 Tells P _ = ⊥
 
 -- Why a JSON filter has no policy, as an error tells it: its first fault.
-abbrev pub IsRefusalOf : TargetArch → JsonFilter → JsonFrontendError → Type 0
-IsRefusalOf arch j = Tells (IsFirstFault arch j)
+abbrev pub IsPolicyRefusal : TargetArch → JsonFilter → JsonFrontendError → Type 0
+IsPolicyRefusal arch j = Tells (IsFirstFault arch j)

@@ -57,7 +57,7 @@ ending_bytes (unclosed items) = 34 ∷ items_bytes items
 ending_bytes (unclosed_backslash items) = 34 ∷ (items_bytes items ++ 92 ∷ [])
 
 -- The text is these pieces and this ending, one behind the other.
-pub record IsCut (text : List ℕ) (pieces : List Piece) (ending : Ending) : Type 0 where
+pub record IsCutIntoPieces (text : List ℕ) (pieces : List Piece) (ending : Ending) : Type 0 where
   pub each : AllByRecursion IsPiece pieces
   pub last : IsEnding ending
   pub spelled : text ≡ flat_map piece_bytes pieces ++ ending_bytes ending

@@ -20,9 +20,9 @@ use Rattle.seccompiler.specs.declared.backend.TargetArch.{TargetArch}
 use Rattle.seccompiler.specs.declared.backend.BackendError.TheVariants.{IdenticalActions}
 use Rattle.seccompiler.specs.declared.json.policy.Gathered.{Gathered}
 use Rattle.seccompiler.specs.declared.json.types.JsonCondition.{JsonCondition}
-use Rattle.seccompiler.specs.JsonFault.{Fault, refused}
+use Rattle.seccompiler.specs.JsonPolicyOf.{Fault, refused, all_rules, chain_for, rules_of, chain_at, is_for, is_always, is_number, IsFor, IsFineEntry, IsMadeOf, IsPolicyOf, IsFirstFault, in_entries, in_actions}
 use Rattle.seccompiler.specs.JsonGathered.{added, chain_of, rules_at, AreGathered, HasChains}
-use Rattle.seccompiler.specs.JsonPolicyOf.{all_rules, chain_for, rules_of, chain_at, is_for, is_always, is_number, IsFor, IsFineEntry, IsMadeOf, IsPolicyBefore, IsPolicyOf, IsFirstFault, in_entries, in_actions}
+use Rattle.seccompiler.specs.JsonWidened.{IsPolicyBefore}
 use Rattle.seccompiler.specs.JsonTypes.{JsonRule, JsonFilter}
 use Rattle.seccompiler.specs.Policy.{Rule, Chain, Filter, chains_of}
 use Rattle.seccompiler.specs.Refusal.{numbers_of}

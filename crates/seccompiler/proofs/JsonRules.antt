@@ -4,8 +4,7 @@ use Rattle.std.proofs.lemmas.Bool.{cases_lt}
 use Rattle.std.proofs.lemmas.List.Elements.{All-nil, All-cons, All-weaker}
 use Rattle.seccompiler.specs.declared.backend.BackendError.TheVariants.{EmptyRule, InvalidArgumentNumber}
 use Rattle.seccompiler.specs.declared.json.types.JsonCondition.{JsonCondition}
-use Rattle.seccompiler.specs.JsonFault.{Fault, refused}
-use Rattle.seccompiler.specs.JsonPolicyOf.{AreFineArgs, IsFaultIn, index_above, empty_args}
+use Rattle.seccompiler.specs.JsonPolicyOf.{Fault, refused, AreFineArgs, IsFaultIn, index_above, empty_args}
 use Rattle.seccompiler.proofs.Searches.{none_is_any}
 
 -- Each item of a list has one property, or some item has the other.

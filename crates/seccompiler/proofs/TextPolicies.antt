@@ -4,9 +4,8 @@ use Rattle.std.specs.BTreeMap.{get_by_text}
 use Rattle.serde_json.specs.Data.{Data}
 use Rattle.seccompiler.specs.ByName.{ByName, under, AreInOrder}
 use Rattle.seccompiler.specs.JsonAnswers.{IsValueOf, HasPolicy, HasSomePolicy, ArePoliciesOf, IsLeastRefused, TellsFrontendFault}
-use Rattle.seccompiler.specs.JsonFault.{Fault, refused, unknown_call}
-use Rattle.seccompiler.specs.JsonFilters.{AreFilters}
-use Rattle.seccompiler.specs.JsonPolicyOf.{IsPolicyOf, IsFirstFault, IsPolicyRefusal}
+use Rattle.seccompiler.specs.JsonPolicyOf.{Fault, refused, unknown_call, IsPolicyOf, IsFirstFault}
+use Rattle.seccompiler.specs.JsonSteps.{AreFilters, IsPolicyRefusal}
 use Rattle.seccompiler.specs.JsonShape.{IsFilter}
 use Rattle.seccompiler.specs.Policy.{Filter}
 use Rattle.seccompiler.specs.declared.backend.TargetArch.{TargetArch}

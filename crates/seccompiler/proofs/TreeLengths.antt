@@ -2,7 +2,7 @@
 use Rattle.std.proofs.Common.{◌≡◌, ℕ, ◌+◌, ◌-◌, ◌<◌, ◌≤◌, List, [], ◌∷◌, ◌++◌, length, Some, set, drop, Bool, true, false, nat_le, if◌then◌else◌, ◌⊎◌, inl, inr, ⊎_elim, min, refl, sym, ap, ◌∙◌, length-drop, arith}
 use Rattle.std.proofs.lemmas.Bool.Decides.{nat_tests}
 use Rattle.seccompiler.specs.Policy.{Chain}
-use Rattle.seccompiler.specs.ChainCode.{rules_length}
+use Rattle.seccompiler.specs.Layout.{rules_length}
 use Rattle.seccompiler.specs.Ranges.{Range}
 use Rattle.seccompiler.specs.Tree.{leaf_length, test_length, tree_length}
 use Rattle.seccompiler.specs.TreeCode.{AreHalves}

@@ -12,8 +12,7 @@ use Rattle.seccompiler.specs.contracts.json.types.JsonConditionEqualByParts.TheI
 use Rattle.seccompiler.specs.JsonTypes.{JsonRule, JsonFilter}
 use Rattle.seccompiler.specs.declared.json.types.JsonFilterMap.{JsonFilterMap}
 use Rattle.seccompiler.specs.EqualityLaws.{through}
-use Rattle.seccompiler.specs.JsonEquality.{rule_eq, filter_eq, filter_map_eq}
-use Rattle.seccompiler.specs.JsonFilters.{named, named_filters}
+use Rattle.seccompiler.specs.JsonEquality.{rule_eq, filter_eq, filter_map_eq, named, named_filters}
 
 -- of two `Option`s
 option_decides : {K : Type 0} {E : K → K → Bool} → ((x y : K) → Decides (E x y) (x ≡ y)) → (x y : Option K) → Decides (option_eq E x y) (x ≡ y)

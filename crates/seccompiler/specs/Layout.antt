@@ -7,10 +7,14 @@ use Rattle.seccompiler.specs.Policy.{Rule, Chain, Filter}
 abbrev pub rule_length : Rule → ℕ
 rule_length q = 2 + total_size q + 3 * relays q
 
--- The instructions of a chain: those of its rules, each with a return, and two more.
+-- How many instructions the rules of a chain take, each with its return.
+abbrev pub rules_length : Chain → ℕ
+rules_length chain = sum_by (λ rule. rule_length rule + 1) chain
+
+-- The instructions of a chain: those of its rules, and two more.
 abbrev pub chain_length : Chain → ℕ
 chain_length [] = 5
-chain_length (q ∷ chain) = 2 + sum_by (λ rule. rule_length rule + 1) (q ∷ chain)
+chain_length (q ∷ chain) = 2 + rules_length (q ∷ chain)
 
 -- The counted length of the chains.
 abbrev pub chains_length : List (ℤ × Chain) → ℕ

@@ -8,14 +8,13 @@ ghost use Rattle.serde_json.specs.Data.{Data};
 ghost use Rattle.seccompiler.specs.ByName.{under, AreInOrder};
 ghost use Rattle.seccompiler.specs.Errors.{IsNoMemoryInFrontend};
 ghost use Rattle.seccompiler.specs.JsonAnswers.{IsValueOf, OfValue, ArePoliciesOf, TellsFrontendFault};
-ghost use Rattle.seccompiler.specs.JsonFilters.{AreFilters};
+ghost use Rattle.seccompiler.specs.JsonSteps.{AreFilters, IsPolicyRefusal};
 ghost use Rattle.seccompiler.specs.Reads.{Reads};
 ghost use Rattle.seccompiler.specs.Policy.{Filter};
 ghost use Rattle.seccompiler.specs.Refusal.{numbers_of};
 ghost use Rattle.seccompiler.specs.SyscallTable.{IsTableNumber};
-ghost use Rattle.seccompiler.specs.JsonFault.{Fault};
-ghost use Rattle.seccompiler.specs.JsonWidened.{DecideAlikeOff, KeepsMatches, MatchesOn};
-ghost use Rattle.seccompiler.specs.JsonPolicyOf.{IsFirstFault, IsPolicyBefore, IsPolicyOf, IsPolicyRefusal, IsWidened};
+ghost use Rattle.seccompiler.specs.JsonPolicyOf.{Fault, IsFirstFault, IsPolicyOf};
+ghost use Rattle.seccompiler.specs.JsonWidened.{DecideAlikeOff, KeepsMatches, MatchesOn, IsPolicyBefore, IsWidened};
 
 use crate::backend::TargetArch;
 use crate::filter::SeccompFilter;

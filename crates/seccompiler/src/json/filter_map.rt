@@ -5,7 +5,7 @@ ghost use Rattle.std.specs.BTreeMap.{IsOrdered};
 ghost use Rattle.std.specs.String.{string_cmp};
 ghost use Rattle.serde_json.specs.Data.{Data, object};
 ghost use Rattle.serde_json.specs.View.{view, members_view};
-ghost use Rattle.seccompiler.specs.JsonFilters.{AreFilters, IsShapeRefusal};
+ghost use Rattle.seccompiler.specs.JsonSteps.{AreFilters, IsShapeRefusal};
 ghost use Rattle.seccompiler.specs.JsonShape.{IsFilter};
 ghost use Rattle.seccompiler.specs.JsonTypes.{JsonFilter};
 

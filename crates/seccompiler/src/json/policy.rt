@@ -6,9 +6,10 @@ ghost use Rattle.std.specs.List.Sorted.{IsStrictlySortedBy};
 ghost use Rattle.std.specs.Ordering.{int_cmp, int_eq};
 ghost use Rattle.seccompiler.specs.Policy.{chains_of};
 ghost use Rattle.seccompiler.specs.SyscallTable.{number_of, table_of};
-ghost use Rattle.seccompiler.specs.JsonFault.{unknown_call};
+ghost use Rattle.seccompiler.specs.JsonPolicyOf.{unknown_call, chain_at, condition_of, AreFineArgs, IsFaultIn, IsFaultOf, IsFineEntry, IsFirstOf, IsPolicyOf};
 ghost use Rattle.seccompiler.specs.JsonGathered.{added, AreGathered, HasAdded, HasChains, numbers_of_both};
-ghost use Rattle.seccompiler.specs.JsonPolicyOf.{chain_at, condition_of, AreFineArgs, IsConditionOf, IsFaultIn, IsFaultOf, IsFineEntry, IsFirstOf, IsPolicyOf, IsPolicyRefusal, IsWidened, Tells};
+ghost use Rattle.seccompiler.specs.JsonWidened.{IsWidened};
+ghost use Rattle.seccompiler.specs.JsonSteps.{IsConditionOf, IsPolicyRefusal, Tells};
 
 use crate::backend::{BackendError, TargetArch};
 use crate::condition::SeccompCondition;
@@ -26,7 +27,7 @@ use std::collections::{BTreeMap, BTreeSet};
 ///
 /// `Backend(InvalidArgumentNumber)` where the index is above 5: a system call has six arguments.
 impl TryFrom<JsonCondition> for SeccompCondition {
-    ghost use Rattle.seccompiler.specs.JsonPolicyOf.{IsConditionOf};
+    ghost use Rattle.seccompiler.specs.JsonSteps.{IsConditionOf};
 
     type Error = JsonFrontendError;
 

@@ -143,7 +143,7 @@ impl PartialEq for JsonFilterMap {
 impl EqualByParts for JsonFilterMap {
     ghost use Rattle.std.specs.Prelude.{◌≡◌};
     ghost use Rattle.seccompiler.specs.JsonEqualityLaws.{filter_map_decides};
-    ghost use Rattle.seccompiler.specs.JsonFilters.{named_filters};
+    ghost use Rattle.seccompiler.specs.JsonEquality.{named_filters};
 
     ghost has_same_parts = { λ m n. named_filters m ≡ named_filters n };
 

@@ -6,7 +6,7 @@ use Rattle.std.specs.Result.{OkIff, result_ok}
 use Rattle.std.specs.Str.Parse.{ParsesUnsigned, ParsesSigned}
 use Rattle.std.proofs.lemmas.List.Elements.{All-nil, All-head, All-tail, All-cons}
 use Rattle.std.proofs.lemmas.Str.Parse.{IsDigitsTest, IsNumeralModel, numerals_by_weight, parse_plain, parse_signed_plain, parse_signed_minus}
-use Rattle.seccompc.specs.Words.{number_of, IsNumberText, IsSignedText, IsSigned64, unsigned, after_minus}
+use Rattle.seccompc.specs.Words.{written_number, IsNumberText, IsSignedText, IsSigned64, unsigned, after_minus}
 use mir.Syntax.{w64}
 
 abbrev IsDigit : ℕ → Type 0
@@ -21,8 +21,8 @@ digits_test = record {
 }
 
 -- The number of digits is the one that std's `parse` reads.
-numerals : IsNumeralModel (All IsDigit) number_of
-numerals = numerals_by_weight (All IsDigit) digits_test number_of (record { empty = refl; more = λ c cs h. refl })
+numerals : IsNumeralModel (All IsDigit) written_number
+numerals = numerals_by_weight (All IsDigit) digits_test written_number (record { empty = refl; more = λ c cs h. refl })
 
 -- A number's text begins with a digit.
 number_begins : (text : List ℕ) (n : ℕ) → IsNumberText text n → IsDigit (slice_index text 0)
@@ -34,7 +34,7 @@ pub record IsNumberRead (text : List ℕ) (r : Option ℕ) : Type 0 where
   pub unread : IfNone r ((n : ℕ) → n < 2 ^ 64 → IsNumberText text n → ⊥)
 
 number_cases : {E : Type 0} (text : List ℕ) (r : Result ℕ E)
-    → OkIff r (All IsDigit text × (0 < length text) × (number_of text < 2 ^ 64)) (number_of text) → IsNumberRead text (result_ok r)
+    → OkIff r (All IsDigit text × (0 < length text) × (written_number text < 2 ^ 64)) (written_number text) → IsNumberRead text (result_ok r)
 number_cases text (Ok n) h = record { read = record { some = omega arith; digits = h.0.0; value = h.1 }; unread = tt }
 number_cases text (Err e) h = record { read = tt; unread = λ n few is. h (is.digits, omega arith, subst (λ m. m < 2 ^ 64) is.value few) }
 
@@ -49,9 +49,9 @@ pub record IsSignedRead (text : List ℕ) (r : Option ℤ) : Type 0 where
 
 -- Where no sign stands in front.
 unsigned_cases : {E : Type 0} (text : List ℕ) (r : Result ℤ E) → slice_index text 0 ≢ 45
-    → OkIff r (All IsDigit text × (0 < length text) × (number_of text < 2 ^ 63)) (pos (number_of text)) → IsSignedRead text (result_ok r)
+    → OkIff r (All IsDigit text × (0 < length text) × (written_number text < 2 ^ 63)) (pos (written_number text)) → IsSignedRead text (result_ok r)
 unsigned_cases text (Ok z) differs h = record {
-  read = unsigned (number_of text) (record { some = omega arith; digits = h.0.0; value = refl }) h.1;
+  read = unsigned (written_number text) (record { some = omega arith; digits = h.0.0; value = refl }) h.1;
   unread = tt;
 }
 unsigned_cases text (Err e) differs h = record {
@@ -64,10 +64,10 @@ unsigned_cases text (Err e) differs h = record {
 
 -- Where a minus does.
 minus_cases : {E : Type 0} (digits : List ℕ) (r : Result ℤ E)
-    → OkIff r (All IsDigit digits × (0 < length digits) × (number_of digits ≤ 2 ^ 63)) (neg_ℤ (pos (number_of digits)))
+    → OkIff r (All IsDigit digits × (0 < length digits) × (written_number digits ≤ 2 ^ 63)) (neg_ℤ (pos (written_number digits)))
     → IsSignedRead (45 ∷ digits) (result_ok r)
 minus_cases digits (Ok z) h = record {
-  read = after_minus digits (number_of digits) refl (record { some = omega arith; digits = h.0.0; value = refl }) h.1;
+  read = after_minus digits (written_number digits) refl (record { some = omega arith; digits = h.0.0; value = refl }) h.1;
   unread = tt;
 }
 minus_cases digits (Err e) h = record {

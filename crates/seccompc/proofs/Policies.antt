@@ -29,7 +29,7 @@ use Rattle.seccompc.specs.Answers.{WritesLines, AnswersRecords}
 use Rattle.seccompc.specs.Errors.{from_library, IsTraceError}
 use Rattle.seccompc.specs.Lines.{AreLines, Traced}
 use Rattle.seccompc.specs.Listing.{NamedProgram, named_program, HasProgram, Listed, listing_of}
-use Rattle.seccompc.specs.Policies.{OfNamed, IsRefusedPolicy, no_architecture, of_policy, HaveAllPrograms, IsFaultless, WritesListing, WritesTrace, WritesAll, WritesShort, UnderName, AnswersRun}
+use Rattle.seccompc.specs.Policies.{OfNamed, IsRefusedPolicy, no_architecture, of_policy, HaveAllPrograms, OfFaultlessPolicy, WritesListing, WritesTrace, WritesAll, WritesShort, UnderName, AnswersRun}
 use Rattle.seccompc.specs.Probe.{IsNameOf}
 use Rattle.seccompc.specs.declared.error.ToolError.{ToolError}
 use Rattle.seccompc.specs.declared.error.ToolError.TheVariants as tool
@@ -93,7 +93,7 @@ FindsPrograms arch known find = OfNamed arch (λ target. Reads known (λ text. O
 
 -- Nothing is at fault where the programs are there, and what they show holds.
 pub faultless : (arch : List ℕ) (known : Option (List ℕ)) (find : Find) (P : TargetArch → Data → Type 0) → FindsPrograms arch known find
-    → ((target : TargetArch) (d : Data) → AreProgramsOf target find d → P target d) → IsFaultless arch known P
+    → ((target : TargetArch) (d : Data) → AreProgramsOf target find d → P target d) → OfFaultlessPolicy arch known P
 faultless arch known find P h shows =
     let target = h.0 in
     let read = h.2 in
@@ -102,7 +102,7 @@ faultless arch known find P h shows =
 
 -- The name is in no filter where nothing is found under it.
 pub no_filter : (arch : List ℕ) (known : Option (List ℕ)) (find : Find) (name : List ℕ) → FindsPrograms arch known find → find name ≡ None
-    → IsFaultless arch known (λ target d. Lacks d name)
+    → OfFaultlessPolicy arch known (λ target d. Lacks d name)
 no_filter arch known find name h none = faultless arch known find (λ target d. Lacks d name) h (λ target d programs. found_nowhere target find d programs name none (get name d) refl)
 
 -- The lines of a program that is compiled for a filter are the filter's.
@@ -137,7 +137,7 @@ short_written records program rest old new target value has w = (w.0, w.1, (w.2.
 
 -- What holds of the value of a program's name holds under the name.
 under_name : (arch : List ℕ) (known : Option (List ℕ)) (find : Find) (name : List ℕ) (program : Vec sock_filter Global) (P : TargetArch → Data → Type 0) → FindsPrograms arch known find
-    → find name ≡ Some program → ((target : TargetArch) (value : Data) → HasProgram target value program.items → P target value) → IsFaultless arch known (UnderName name P)
+    → find name ≡ Some program → ((target : TargetArch) (value : Data) → HasProgram target value program.items → P target value) → OfFaultlessPolicy arch known (UnderName name P)
 under_name arch known find name program P h found shows = faultless arch known find (UnderName name P) h (λ target d programs.
     let there = found_there target find d programs name program found in (there.0, there.1, shows target there.0 there.2))
 
@@ -177,6 +177,6 @@ listed target find d entries text programs same sorted is = record {
 -- The answer of a listing that is written.
 pub written : (arch : List ℕ) (known : Option (List ℕ)) (find : Find) (entries : List Entry) (text sent : List ℕ) (old new : Option (List ℕ)) → FindsPrograms arch known find
     → ((name : List ℕ) → lookup (is_text name) entries ≡ find name) → IsStrictlySortedBy string_cmp (keys_of entries)
-    → text ≡ concat (map listing_of (map named_program entries)) → sent ≡ text → Appends old new sent → IsFaultless arch known (WritesListing old new)
+    → text ≡ concat (map listing_of (map named_program entries)) → sent ≡ text → Appends old new sent → OfFaultlessPolicy arch known (WritesListing old new)
 written arch known find entries text sent old new h same sorted is sends appends = faultless arch known find (WritesListing old new) h
     (λ target d programs. record { text = text; listed = listed target find d entries text programs same sorted is; appends = subst (Appends old new) sends appends })

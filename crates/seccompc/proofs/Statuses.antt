@@ -3,11 +3,11 @@
 use Rattle.std.proofs.Common.{◌≡◌, ℕ, ℤ, List, Option, Result, Ok, Err, arith}
 use Rattle.std.specs.Prelude.{OnErr, ⊤}
 use Rattle.seccompc.specs.Policies.{AnswersList, AnswersRun}
-use Rattle.seccompc.specs.Probe.{AnswersWords, IsFaultless}
+use Rattle.seccompc.specs.Probe.{AnswersWords, IsProbeFaultless}
 use Rattle.seccompc.specs.Statuses.{NamesArchitecture}
 use Rattle.seccompc.specs.declared.error.ToolError.{ToolError}
 
-pub probe_faultless : (arch : List ℕ) (nr : ℤ) (index : ℕ) (r : Result ⊤ ToolError) (status : ℕ) → AnswersWords arch nr index r → OnErr r (status ≡ 1) → status ≡ 0 → IsFaultless arch nr index
+pub probe_faultless : (arch : List ℕ) (nr : ℤ) (index : ℕ) (r : Result ⊤ ToolError) (status : ℕ) → AnswersWords arch nr index r → OnErr r (status ≡ 1) → status ≡ 0 → IsProbeFaultless arch nr index
 probe_faultless arch nr index (Ok done) status answers failed zero = answers
 probe_faultless arch nr index (Err e) status answers failed zero = absurd (omega arith)
 

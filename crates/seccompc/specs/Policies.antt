@@ -47,8 +47,8 @@ pub record HaveAllPrograms (target : TargetArch) (d : Data) : Type 0 where
 
 -- Nothing is at fault: the text names an architecture, and the policy's text is of a value all of whose filters have
 -- programs. P holds of both.
-abbrev pub IsFaultless : List ℕ → Option (List ℕ) → (TargetArch → Data → Type 0) → Type 0
-IsFaultless arch known P = OfNamed arch (λ target. Reads known (λ text. OfValue text (λ d. HaveAllPrograms target d × P target d)))
+abbrev pub OfFaultlessPolicy : List ℕ → Option (List ℕ) → (TargetArch → Data → Type 0) → Type 0
+OfFaultlessPolicy arch known P = OfNamed arch (λ target. Reads known (λ text. OfValue text (λ d. HaveAllPrograms target d × P target d)))
 
 -- What is written grew by the listing of the value's filters.
 pub record WritesListing (old new : Option (List ℕ)) (target : TargetArch) (d : Data) : Type 0 where
@@ -59,9 +59,9 @@ pub record WritesListing (old new : Option (List ℕ)) (target : TargetArch) (d 
 -- The answer of a listing. It is Ok only where nothing is at fault, and the listing is written; a refusal of the
 -- library is the first fault; a writer's fault comes where nothing is at fault. Want of memory may come in place of all.
 abbrev pub AnswersList : List ℕ → Option (List ℕ) → Result ⊤ ToolError → Option (List ℕ) → Option (List ℕ) → Type 0
-AnswersList arch known (Ok done) old new = IsFaultless arch known (WritesListing old new)
+AnswersList arch known (Ok done) old new = OfFaultlessPolicy arch known (WritesListing old new)
 AnswersList arch known (Err (Library e)) old new = IsPolicyFault arch known e
-AnswersList arch known (Err (Write e)) old new = IsFaultless arch known (λ target d. ⊤)
+AnswersList arch known (Err (Write e)) old new = OfFaultlessPolicy arch known (λ target d. ⊤)
 AnswersList arch known (Err OutOfMemory) old new = ⊤
 AnswersList arch known (Err e) old new = ⊥
 
@@ -89,10 +89,10 @@ WritesShort records rest old new target value = Reads records (λ bytes. (0 < re
 -- the lines of the whole records written, that the records end inside one. It is Ok only where nothing is at fault, and
 -- the lines are written. Want of memory may come in place of all.
 abbrev pub AnswersRun : List ℕ → Option (List ℕ) → List ℕ → Option (List ℕ) → Result ⊤ ToolError → Option (List ℕ) → Option (List ℕ) → Type 0
-AnswersRun arch known name records (Ok done) old new = IsFaultless arch known (UnderName name (WritesAll records old new))
+AnswersRun arch known name records (Ok done) old new = OfFaultlessPolicy arch known (UnderName name (WritesAll records old new))
 AnswersRun arch known name records (Err (Library e)) old new = IsPolicyFault arch known e
-AnswersRun arch known name records (Err (NoFilter text)) old new = (string_bytes text ≡ name) × IsFaultless arch known (λ target d. Lacks d name)
-AnswersRun arch known name records (Err (ShortRecord rest)) old new = IsFaultless arch known (UnderName name (WritesShort records rest old new))
-AnswersRun arch known name records (Err (Read e)) old new = IsReadFault e × IsFaultless arch known (UnderName name (λ target value. ⊤))
-AnswersRun arch known name records (Err (Write e)) old new = IsFaultless arch known (UnderName name (λ target value. ⊤))
+AnswersRun arch known name records (Err (NoFilter text)) old new = (string_bytes text ≡ name) × OfFaultlessPolicy arch known (λ target d. Lacks d name)
+AnswersRun arch known name records (Err (ShortRecord rest)) old new = OfFaultlessPolicy arch known (UnderName name (WritesShort records rest old new))
+AnswersRun arch known name records (Err (Read e)) old new = IsReadFault e × OfFaultlessPolicy arch known (UnderName name (λ target value. ⊤))
+AnswersRun arch known name records (Err (Write e)) old new = OfFaultlessPolicy arch known (UnderName name (λ target value. ⊤))
 AnswersRun arch known name records (Err OutOfMemory) old new = ⊤

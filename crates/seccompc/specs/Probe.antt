@@ -32,7 +32,7 @@ abbrev pub IsNameOf : List ℕ → TargetArch → Type 0
 IsNameOf text target = str_to_ascii_lowercase text ≡ arch_text target
 
 -- The text names an architecture, a call has an argument of this index, and the number is a call number.
-pub record IsFaultless (arch : List ℕ) (nr : ℤ) (index : ℕ) : Type 0 where
+pub record IsProbeFaultless (arch : List ℕ) (nr : ℤ) (index : ℕ) : Type 0 where
   pub target : TargetArch
   pub named : IsNameOf arch target
   pub argument : index ≤ 5
@@ -40,22 +40,22 @@ pub record IsFaultless (arch : List ℕ) (nr : ℤ) (index : ℕ) : Type 0 where
 
 -- The first of these that is so: the text names no architecture, no call has an argument of this index, the number is
 -- no call number.
-pub data IsFirstFault (arch : List ℕ) (nr : ℤ) (index : ℕ) (e : Error) : Type 0 where
+pub data IsProbeFault (arch : List ℕ) (nr : ℤ) (index : ℕ) (e : Error) : Type 0 where
   no_architecture : (text : String Global) → ((target : TargetArch) → IsNameOf arch target → ⊥) → string_bytes text ≡ arch
-      → e ≡ Backend (InvalidTargetArch text) → IsFirstFault arch nr index e
-  no_argument : (target : TargetArch) → IsNameOf arch target → 5 < index → e ≡ Backend InvalidArgumentNumber → IsFirstFault arch nr index e
+      → e ≡ Backend (InvalidTargetArch text) → IsProbeFault arch nr index e
+  no_argument : (target : TargetArch) → IsNameOf arch target → 5 < index → e ≡ Backend InvalidArgumentNumber → IsProbeFault arch nr index e
   no_call_number : (target : TargetArch) → IsNameOf arch target → index ≤ 5 → (IsCallNumber nr → ⊥)
-      → e ≡ Backend (InvalidSyscallNumber nr) → IsFirstFault arch nr index e
+      → e ≡ Backend (InvalidSyscallNumber nr) → IsProbeFault arch nr index e
 
 -- When each answer of a probe comes: a refusal of the library is the words' first fault, and any other answer but want
 -- of memory comes of words without one. A reader's fault for want of memory is answered as such, and not as `Read`.
 abbrev pub AnswersWords : List ℕ → ℤ → ℕ → Result ⊤ ToolError → Type 0
-AnswersWords arch nr index (Ok done) = IsFaultless arch nr index
-AnswersWords arch nr index (Err (Library e)) = IsFirstFault arch nr index e
+AnswersWords arch nr index (Ok done) = IsProbeFaultless arch nr index
+AnswersWords arch nr index (Err (Library e)) = IsProbeFault arch nr index e
 AnswersWords arch nr index (Err (NoFilter name)) = ⊥
-AnswersWords arch nr index (Err (ShortRecord rest)) = IsFaultless arch nr index
-AnswersWords arch nr index (Err (Read e)) = IsFaultless arch nr index × IsReadFault e
-AnswersWords arch nr index (Err (Write e)) = IsFaultless arch nr index
+AnswersWords arch nr index (Err (ShortRecord rest)) = IsProbeFaultless arch nr index
+AnswersWords arch nr index (Err (Read e)) = IsProbeFaultless arch nr index × IsReadFault e
+AnswersWords arch nr index (Err (Write e)) = IsProbeFaultless arch nr index
 AnswersWords arch nr index (Err OutOfMemory) = ⊤
 
 -- The filter is the one that words without the first two faults ask for.
@@ -67,11 +67,11 @@ pub record IsFilterFor (arch : List ℕ) (nr : ℤ) (index value : ℕ) (f : Fil
 
 -- The program is compiled for the filter that words without a fault ask for.
 pub record IsCompiledFor (arch : List ℕ) (nr : ℤ) (index value : ℕ) (program : List sock_filter) : Type 0 where
-  pub faultless : IsFaultless arch nr index
+  pub faultless : IsProbeFaultless arch nr index
   pub compiled : IsCompiled (probe_filter faultless.target nr index value) program
 
 -- The error is the first fault, or want of memory.
 abbrev pub IsRefusedProbe : List ℕ → ℤ → ℕ → ToolError → Type 0
-IsRefusedProbe arch nr index (Library e) = IsFirstFault arch nr index e
+IsRefusedProbe arch nr index (Library e) = IsProbeFault arch nr index e
 IsRefusedProbe arch nr index OutOfMemory = ⊤
 IsRefusedProbe arch nr index e = ⊥

@@ -10,7 +10,7 @@ abbrev pub NamesArchitecture : List ℕ → Type 0
 NamesArchitecture text = (target : TargetArch) × probe.IsNameOf text target
 
 -- The command's own words have no fault: they name an architecture, and a probe's ask for a filter that can be compiled.
-abbrev pub IsFaultless : Command → Type 0
-IsFaultless (Probe arch nr index value) = probe.IsFaultless arch.now nr index
-IsFaultless (Listing arch) = NamesArchitecture arch.now
-IsFaultless (Run arch file name) = NamesArchitecture arch.now
+abbrev pub HasNoFault : Command → Type 0
+HasNoFault (Probe arch nr index value) = probe.IsProbeFaultless arch.now nr index
+HasNoFault (Listing arch) = NamesArchitecture arch.now
+HasNoFault (Run arch file name) = NamesArchitecture arch.now

@@ -4,15 +4,15 @@ use Rattle.seccompc.specs.declared.words.Command.{Command}
 use Rattle.seccompc.specs.declared.words.Command.TheVariants.{Probe, List as Listing, Run}
 
 -- The number that decimal digits write: each digit has the weight of its place.
-abbrev pub number_of : List ℕ → ℕ
-number_of [] = 0
-number_of (digit ∷ digits) = (digit - 48) * 10 ^ length digits + number_of digits
+abbrev pub written_number : List ℕ → ℕ
+written_number [] = 0
+written_number (digit ∷ digits) = (digit - 48) * 10 ^ length digits + written_number digits
 
 -- The text is one ASCII digit or more and nothing else, and they write this number.
 pub record IsNumberText (text : List ℕ) (n : ℕ) : Type 0 where
   pub some : 1 ≤ length text
   pub digits : All (λ c. (48 ≤ c) × (c ≤ 57)) text
-  pub value : n ≡ number_of text
+  pub value : n ≡ written_number text
 
 -- The text is such digits, with one `-` in front or none, and they write this number.
 pub data IsSignedText (text : List ℕ) (z : ℤ) : Type 0 where

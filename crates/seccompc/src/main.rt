@@ -16,7 +16,7 @@ mod words;
 
 ghost use Rattle.std.specs.Prelude.{◌≡◌, ◌≤◌, IfSome, IfNone, OnOk, OnErr};
 ghost use Rattle.std.specs.Process.{exit_status};
-ghost use Rattle.seccompc.specs.Statuses.{IsFaultless};
+ghost use Rattle.seccompc.specs.Statuses.{HasNoFault};
 
 use crate::error::ToolError;
 use crate::words::{Command, read_words};
@@ -47,7 +47,7 @@ fn carry_out(
     ensures carried_out { IfSome command.entry (λ asked. exit_status result ≤ 1) }
 
     // Status 0 comes only where the command's own words have no fault.
-    ensures faultless { IfSome command.entry (λ asked. exit_status result ≡ 0 → IsFaultless asked) }
+    ensures faultless { IfSome command.entry (λ asked. exit_status result ≡ 0 → HasNoFault asked) }
 {
     let alloc = rt.alloc();
     let mut out = io::writer(rt);

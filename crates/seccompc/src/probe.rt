@@ -69,11 +69,11 @@ pub(crate) fn program_of(
     ensures compiled { IfOk result (λ program. IsCompiledFor arch.now nr index value program.items) }
     ensures refused { IfErr result (IsRefusedProbe arch.now nr index) }
 {
-    Ok(filter_of(alloc, arch, nr, index, value)?.to_bpf(alloc)?)
+    Ok(probe_filter(alloc, arch, nr, index, value)?.to_bpf(alloc)?)
 }
 
 // The filter that lets call `nr` pass where argument `index` equals `value`.
-fn filter_of(
+fn probe_filter(
     alloc: Global,
     arch: &str,
     nr: i64,

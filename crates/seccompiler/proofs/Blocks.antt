@@ -4,8 +4,8 @@ use Rattle.std.specs.Prelude.{slice_get}
 use Rattle.seccompiler.specs.declared.bpf.sock_filter.{sock_filter}
 use Rattle.seccompiler.specs.Code.{give, jump_equal}
 use Rattle.seccompiler.specs.Machine.{stays}
-use Rattle.seccompiler.specs.Checked.{IsInside, IsClosed, IsInRange}
-use Rattle.seccompiler.specs.Pieces.{Leads}
+use Rattle.seccompiler.specs.Checked.{IsInRange}
+use Rattle.seccompiler.specs.Pieces.{IsInside, IsClosed, Leads}
 use Rattle.seccompiler.specs.ChainCode.{Returns, IsBlock}
 use Rattle.seccompiler.proofs.Runs.{get_before, get_behind, goes_shift, goes_on, goes_front, stands_second}
 use Rattle.seccompiler.proofs.Closed.{inside_shift, get_split}

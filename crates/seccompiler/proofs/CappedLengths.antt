@@ -5,8 +5,7 @@ use Rattle.std.proofs.lemmas.List.Sums.{sum_by_more, sum_by_push, sum_by-cons}
 use Rattle.std.specs.Map.{values_of}
 use Rattle.std.specs.Map.Iter.{deref}
 use Rattle.seccompiler.specs.Policy.{Rule, Chain, Filter, chains_of}
-use Rattle.seccompiler.specs.Layout.{rule_length, chain_length, chains_length, counted_length, counted_length_of}
-use Rattle.seccompiler.specs.ChainCode.{rules_length}
+use Rattle.seccompiler.specs.Layout.{rule_length, chain_length, chains_length, counted_length, counted_length_of, rules_length}
 
 -- Where each sum stops at m, a sum of sums stops there too.
 capped_sum : (m a b : ℕ) → min (min (min a m + min b m) m + 1) m ≡ min (a + (b + 1)) m

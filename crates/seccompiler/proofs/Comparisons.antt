@@ -10,7 +10,8 @@ use Rattle.seccompiler.specs.declared.backend.SeccompCmpArgLen.TheVariants.{Dwor
 use Rattle.seccompiler.specs.Record.{word_at}
 use Rattle.seccompiler.specs.Code.{load, jump_equal, jump_greater}
 use Rattle.seccompiler.specs.Machine.{Step, stays, then_step}
-use Rattle.seccompiler.specs.Condition.{part_of, Compares, comparison_code}
+use Rattle.seccompiler.specs.Condition.{part_of, Compares}
+use Rattle.seccompiler.specs.ConditionCode.{comparison_code}
 use Rattle.seccompiler.specs.Pieces.{Exits}
 use Rattle.seccompiler.proofs.Words.{mask_halves}
 use Rattle.seccompiler.proofs.Steps.{on_load, on_mask, on_equal, on_greater, on_at_least, arrive}

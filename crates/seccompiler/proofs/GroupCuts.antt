@@ -6,7 +6,7 @@ use Rattle.std.proofs.lemmas.List.Elements.{All-nil, All-cons, All-head, All-tai
 use Rattle.std.proofs.lemmas.List.Sums.{sum_by-append}
 use Rattle.seccompiler.specs.Condition.{Condition, size_of}
 use Rattle.seccompiler.specs.Sizes.{greatest_offset}
-use Rattle.seccompiler.specs.Groups.{total_size, ClosesLate, IsCut, groups_from, groups_of, IsOnlyCut, relays}
+use Rattle.seccompiler.specs.Groups.{total_size, ClosesLate, IsCutIntoGroups, groups_from, groups_of, IsOnlyCut, relays}
 
 -- How two fronts of one list lie: they are equal, or one is a proper front of the other.
 data Fronts (one other : List Condition) : Type 0 where
@@ -42,7 +42,7 @@ more_closes_late group c late few front back d e = by (two_fronts group front (c
     by (longer x rest f) = late front rest x f
 
 -- A single group that closes late is a cut.
-last_cut : (group : List Condition) → 1 ≤ length group → ClosesLate group → IsCut (group ++ []) (group ∷ [])
+last_cut : (group : List Condition) → 1 ≤ length group → ClosesLate group → IsCutIntoGroups (group ++ []) (group ∷ [])
 last_cut group some late = record {
   joined = refl;
   some = All-cons (λ g. 1 ≤ length g) group [] some (All-nil _);
@@ -52,7 +52,7 @@ last_cut group some late = record {
 
 -- A full group before a cut makes a cut.
 full_cut : (group q : List Condition) (groups : List (List Condition))
-    → 1 ≤ length group → ClosesLate group → greatest_offset ≤ total_size group → IsCut q groups → IsCut (group ++ q) (group ∷ groups)
+    → 1 ≤ length group → ClosesLate group → greatest_offset ≤ total_size group → IsCutIntoGroups q groups → IsCutIntoGroups (group ++ q) (group ∷ groups)
 full_cut group q groups some late many cut = record {
   joined = ap (λ l. group ++ l) cut.joined;
   some = All-cons (λ g. 1 ≤ length g) group groups some cut.some;
@@ -65,7 +65,7 @@ full_cut group q groups some late many cut = record {
     is_full (first ∷ front) back g next e = cut.full front back g next (cc)
 
 -- The groups of a group that is begun and the conditions behind it are a cut of both.
-begun_cut : (group q : List Condition) → 1 ≤ length group → ClosesLate group → IsCut (group ++ q) (groups_from group q)
+begun_cut : (group q : List Condition) → 1 ≤ length group → ClosesLate group → IsCutIntoGroups (group ++ q) (groups_from group q)
 begun_cut group [] some late = last_cut group some late
 begun_cut group (c ∷ q) some late =
     by (nat_le greatest_offset (total_size group)) refl
@@ -73,14 +73,14 @@ begun_cut group (c ∷ q) some late =
     (λ few. begun_cut (group ++ c ∷ []) q (omega (arith, length-append group (c ∷ []))) (more_closes_late group c late few))
   where
     by : (b : Bool) → nat_le greatest_offset (total_size group) ≡ b
-        → IsCut (c ∷ q) (groups_from (c ∷ []) q)
-        → (total_size group < greatest_offset → IsCut ((group ++ c ∷ []) ++ q) (groups_from (group ++ c ∷ []) q))
-        → IsCut (group ++ c ∷ q) (if b then group ∷ groups_from (c ∷ []) q else groups_from (group ++ c ∷ []) q)
+        → IsCutIntoGroups (c ∷ q) (groups_from (c ∷ []) q)
+        → (total_size group < greatest_offset → IsCutIntoGroups ((group ++ c ∷ []) ++ q) (groups_from (group ++ c ∷ []) q))
+        → IsCutIntoGroups (group ++ c ∷ q) (if b then group ∷ groups_from (c ∷ []) q else groups_from (group ++ c ∷ []) q)
     by true e anew on = full_cut group (c ∷ q) (groups_from (c ∷ []) q) some late (grind (arith, nat_tests)) anew
-    by false e anew on = subst (λ l. IsCut l (groups_from (group ++ c ∷ []) q)) (append_assoc group (c ∷ []) q) (on (grind (arith, nat_tests)))
+    by false e anew on = subst (λ l. IsCutIntoGroups l (groups_from (group ++ c ∷ []) q)) (append_assoc group (c ∷ []) q) (on (grind (arith, nat_tests)))
 
 -- The groups of a rule's conditions are a cut of them.
-groups_of-cut : (q : List Condition) → IsCut q (groups_of q)
+groups_of-cut : (q : List Condition) → IsCutIntoGroups q (groups_of q)
 groups_of-cut [] = record {
   joined = refl;
   some = All-nil _;
@@ -94,7 +94,7 @@ abbrev join : List (List Condition) → List Condition
 join groups = flat_map (λ group. group) groups
 
 -- The groups behind the first are a cut of their conditions.
-cut_rest : (q group : List Condition) (groups : List (List Condition)) → IsCut q (group ∷ groups) → IsCut (join groups) groups
+cut_rest : (q group : List Condition) (groups : List (List Condition)) → IsCutIntoGroups q (group ∷ groups) → IsCutIntoGroups (join groups) groups
 cut_rest q group groups cut = record {
   joined = refl;
   some = All-tail (λ g. 1 ≤ length g) group groups cut.some;
@@ -104,7 +104,7 @@ cut_rest q group groups cut = record {
 
 -- The first group of a cut is no proper front of the first group of another cut of the same conditions.
 not_shorter : (q group other : List Condition) (groups others : List (List Condition)) (c : Condition) (back : List Condition)
-    → IsCut q (group ∷ groups) → IsCut q (other ∷ others) → other ≡ group ++ c ∷ back → ⊥
+    → IsCutIntoGroups q (group ∷ groups) → IsCutIntoGroups q (other ∷ others) → other ≡ group ++ c ∷ back → ⊥
 not_shorter q group other [] others c back cut another e =
     omega (arith, ap length cut.joined, ap length another.joined, ap length e, length-append group [], length-append other (join others), length-append group (c ∷ back))
 not_shorter q group other (next ∷ groups) others c back cut another e =
@@ -113,23 +113,23 @@ not_shorter q group other (next ∷ groups) others c back cut another e =
     omega arith
 
 -- A cut into no groups and a cut into some are not of the same conditions.
-not_empty : (q group : List Condition) (groups : List (List Condition)) → IsCut q [] → IsCut q (group ∷ groups) → ⊥
+not_empty : (q group : List Condition) (groups : List (List Condition)) → IsCutIntoGroups q [] → IsCutIntoGroups q (group ∷ groups) → ⊥
 not_empty q group groups none cut =
     omega (arith, ap length none.joined, ap length cut.joined, length-append group (join groups), All-head (λ g. 1 ≤ length g) group groups cut.some)
 
 -- Two cuts of the same conditions are equal.
-cuts_same : (q : List Condition) (groups others : List (List Condition)) → IsCut q groups → IsCut q others → groups ≡ others
+cuts_same : (q : List Condition) (groups others : List (List Condition)) → IsCutIntoGroups q groups → IsCutIntoGroups q others → groups ≡ others
 cuts_same q [] [] cut another = refl
 cuts_same q [] (other ∷ others) cut another = absurd (not_empty q other others cut another)
 cuts_same q (group ∷ groups) [] cut another = absurd (not_empty q group groups another cut)
 cuts_same q (group ∷ groups) (other ∷ others) cut another =
     by (two_fronts group other (join groups) (join others) (cut.joined ∙ sym another.joined)) (cuts_same (join groups) groups others (cut_rest q group groups cut))
   where
-    by : Fronts group other → (IsCut (join groups) others → groups ≡ others) → group ∷ groups ≡ other ∷ others
+    by : Fronts group other → (IsCutIntoGroups (join groups) others → groups ≡ others) → group ∷ groups ≡ other ∷ others
     by (same e) rest_same =
         let whole : group ++ join groups ≡ group ++ join others = cut.joined ∙ sym another.joined ∙ ap (λ l. l ++ join others) (sym e) in
         let rest : join groups ≡ join others = append_cancel_left group (join groups) (join others) whole in
-        ap₂ (λ g gs. g ∷ gs) e (rest_same (subst (λ l. IsCut l others) (sym rest) (cut_rest q other others another)))
+        ap₂ (λ g gs. g ∷ gs) e (rest_same (subst (λ l. IsCutIntoGroups l others) (sym rest) (cut_rest q other others another)))
     by (shorter c back e) rest_same = absurd (not_shorter q group other groups others c back cut another e)
     by (longer c back e) rest_same = absurd (not_shorter q other group others groups c back another cut e)
 
@@ -141,7 +141,7 @@ groups_of-only q = record {
 }
 
 -- The groups of a cut but the last take as many instructions as the border or more each.
-cut_small : (q : List Condition) (groups : List (List Condition)) → IsCut q groups → greatest_offset * (length groups - 1) ≤ total_size q
+cut_small : (q : List Condition) (groups : List (List Condition)) → IsCutIntoGroups q groups → greatest_offset * (length groups - 1) ≤ total_size q
 cut_small q [] cut = omega arith
 cut_small q (group ∷ []) cut = omega arith
 cut_small q (group ∷ next ∷ groups) cut =

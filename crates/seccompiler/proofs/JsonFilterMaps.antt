@@ -9,7 +9,8 @@ use Rattle.serde_json.specs.Data.{Data, object, no_members}
 use Rattle.serde_json.specs.Find.{get_member}
 use Rattle.serde_json.specs.View.{view, members_view}
 use Rattle.serde_json.proofs.Views.{Entry, put_last, view-lookup, get_member-put, get_member-put_other}
-use Rattle.seccompiler.specs.JsonFilters.{AreFilters, IsLeastFault}
+use Rattle.seccompiler.specs.JsonFilters.{IsLeastFault}
+use Rattle.seccompiler.specs.JsonSteps.{AreFilters}
 use Rattle.seccompiler.specs.JsonShape.{IsFilter}
 use Rattle.seccompiler.specs.JsonTypes.{JsonFilter}
 use Rattle.seccompiler.specs.ByName.{under}

@@ -20,9 +20,9 @@ use Rattle.seccompiler.specs.declared.backend.TargetArch.{TargetArch}
 use Rattle.seccompiler.specs.declared.backend.BackendError.TheVariants.{IdenticalActions}
 use Rattle.seccompiler.specs.declared.json.policy.Gathered.{Gathered}
 use Rattle.seccompiler.specs.declared.json.types.JsonCondition.{JsonCondition}
-use Rattle.seccompiler.specs.JsonFault.{Fault, refused}
+use Rattle.seccompiler.specs.JsonPolicyOf.{Fault, refused, all_rules, chain_for, rules_of, chain_at, is_for, is_always, is_number, IsFor, IsFineEntry, IsMadeOf, IsPolicyOf, IsFirstFault, in_entries, in_actions}
 use Rattle.seccompiler.specs.JsonGathered.{added, chain_of, rules_at, AreGathered, HasChains}
-use Rattle.seccompiler.specs.JsonPolicyOf.{all_rules, chain_for, rules_of, chain_at, is_for, is_always, is_number, IsFor, IsFine, IsMadeOf, IsPolicyBefore, IsPolicyOf, IsFirstFault, in_entries, in_actions}
+use Rattle.seccompiler.specs.JsonWidened.{IsPolicyBefore}
 use Rattle.seccompiler.specs.JsonTypes.{JsonRule, JsonFilter}
 use Rattle.seccompiler.specs.Policy.{Rule, Chain, Filter, chains_of}
 use Rattle.seccompiler.specs.Refusal.{numbers_of}
@@ -105,7 +105,7 @@ module _ (arch : TargetArch) where
 
     -- Chains that have under each number what is meant for it, in ascending order, make the filter.
     made : (meant : ℤ → Chain) (chains : List (ℤ × Chain)) → ((number : ℤ) → chain_at chains number ≡ at_number meant number) → IsStrictlySortedBy int_cmp (numbers_of chains)
-        → All (IsFine arch) j.rules → j.mismatch_action ≢ j.match_action → IsMadeOf meant arch j (filter_of chains)
+        → All (IsFineEntry arch) j.rules → j.mismatch_action ≢ j.match_action → IsMadeOf meant arch j (filter_of chains)
     made meant chains each ascending fine apart = record {
       mismatch_action = refl;
       match_action = refl;
@@ -118,24 +118,24 @@ module _ (arch : TargetArch) where
     }
 
     -- There is such a filter, whatever is meant.
-    pub some_made : (meant : ℤ → Chain) → All (IsFine arch) j.rules → j.mismatch_action ≢ j.match_action → (f : Filter) × IsMadeOf meant arch j f
+    pub some_made : (meant : ℤ → Chain) → All (IsFineEntry arch) j.rules → j.mismatch_action ≢ j.match_action → (f : Filter) × IsMadeOf meant arch j f
     some_made meant fine apart =
         let all = numbered meant (numbers_of_entries j.rules) in
         (filter_of all.chains, made meant all.chains (λ number. all.each number ∙ ap (λ b. cond b (Some (meant number)) None) (any_number number j.rules)) all.ascending fine apart)
 
     -- There are both policies.
-    pub both_made : All (IsFine arch) j.rules × (j.mismatch_action ≢ j.match_action) → ((before : Filter) × IsPolicyBefore arch j before) × ((now : Filter) × IsPolicyOf arch j now)
+    pub both_made : All (IsFineEntry arch) j.rules × (j.mismatch_action ≢ j.match_action) → ((before : Filter) × IsPolicyBefore arch j before) × ((now : Filter) × IsPolicyOf arch j now)
     both_made faultless = (some_made (all_rules arch j.rules) faultless.0 faultless.1, some_made (chain_for arch j.rules) faultless.0 faultless.1)
 
     -- What was gathered of the entries makes the policy, where the actions differ.
-    pub policy_made : (entries : List JsonRule) (gathered : Gathered) (chains : BTreeMap ℤ (Vec Rule Global)) → entries ≡ j.rules → All (IsFine arch) entries → AreGathered arch entries gathered → HasChains gathered chains
+    pub policy_made : (entries : List JsonRule) (gathered : Gathered) (chains : BTreeMap ℤ (Vec Rule Global)) → entries ≡ j.rules → All (IsFineEntry arch) entries → AreGathered arch entries gathered → HasChains gathered chains
         → j.mismatch_action ≢ j.match_action → IsPolicyOf arch j (filter_of (chains_of chains.entries))
     policy_made entries gathered chains these fine is has apart =
         let all = subst (λ (es : List JsonRule). AreGathered arch es gathered) these is in
         made (chain_for arch j.rules) (chains_of chains.entries)
         (λ number. has.each number ∙ ap (λ b. chain_of b (rules_at gathered number)) (all.always number) ∙ ap (chain_of (list_any (is_always arch number) j.rules)) (all.rules number) ∙ gathered_chain number)
         (subst (IsStrictlySortedBy int_cmp) (sym (keys_of-map_values (λ (v : Vec Rule Global). v.items) chains.entries)) (has.ordered all.ordered))
-        (subst (All (IsFine arch)) these fine) apart
+        (subst (All (IsFineEntry arch)) these fine) apart
 
     -- What each number has in such a filter.
     pub found_in : (meant : ℤ → Chain) (f : Filter) → IsMadeOf meant arch j f → (number : ℤ) → chain_at f.chains number ≡ at_number meant number

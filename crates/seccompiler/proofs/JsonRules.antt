@@ -4,8 +4,7 @@ use Rattle.std.proofs.lemmas.Bool.{cases_lt}
 use Rattle.std.proofs.lemmas.List.Elements.{All-nil, All-cons, All-weaker}
 use Rattle.seccompiler.specs.declared.backend.BackendError.TheVariants.{EmptyRule, InvalidArgumentNumber}
 use Rattle.seccompiler.specs.declared.json.types.JsonCondition.{JsonCondition}
-use Rattle.seccompiler.specs.JsonFault.{Fault, refused}
-use Rattle.seccompiler.specs.JsonPolicyOf.{AreFine, IsFaultIn, index_above, empty_args}
+use Rattle.seccompiler.specs.JsonPolicyOf.{Fault, refused, AreFineArgs, IsFaultIn, index_above, empty_args}
 use Rattle.seccompiler.proofs.Searches.{none_is_any}
 
 -- Each item of a list has one property, or some item has the other.
@@ -20,7 +19,7 @@ all_or_any P Q either (x ∷ xs) = elim (either x) [
 ]
 
 -- Nothing is wrong with conditions, or some fault is their first.
-pub fine_or_fault_in : (cs : List JsonCondition) → AreFine cs ⊎ ((fault : Fault) × IsFaultIn cs fault)
+pub fine_or_fault_in : (cs : List JsonCondition) → AreFineArgs cs ⊎ ((fault : Fault) × IsFaultIn cs fault)
 fine_or_fault_in [] = inr (refused EmptyRule, empty_args refl refl)
 fine_or_fault_in (c ∷ cs) = elim (all_or_any (λ (c : JsonCondition). c.arg_index ≤ 5) (λ c. 5 < c.arg_index) (λ c. elim (cases_lt 5 c.arg_index) [ inl above ↦ inr above | inr small ↦ inl small ]) (c ∷ cs)) [
   | inl within ↦ inl (record { indices = within; some = λ e. cc })
@@ -28,7 +27,7 @@ fine_or_fault_in (c ∷ cs) = elim (all_or_any (λ (c : JsonCondition). c.arg_in
 ]
 
 -- No fault is in conditions with which nothing is wrong.
-pub not_both_in : (cs : List JsonCondition) (fault : Fault) → AreFine cs → IsFaultIn cs fault → ⊥
+pub not_both_in : (cs : List JsonCondition) (fault : Fault) → AreFineArgs cs → IsFaultIn cs fault → ⊥
 not_both_in cs fault fine (index_above above is) =
     let not_above : (c : JsonCondition) → c.arg_index ≤ 5 → 5 < c.arg_index → ⊥ = λ c small large. omega arith in
     none_is_any (λ (c : JsonCondition). 5 < c.arg_index) cs (All-weaker (λ (c : JsonCondition). c.arg_index ≤ 5) (λ c. 5 < c.arg_index → ⊥) not_above cs fine.indices) above

@@ -10,8 +10,8 @@ use Rattle.seccompiler.specs.declared.backend.TargetArch.{TargetArch}
 use Rattle.seccompiler.specs.declared.json.policy.Gathered.{Gathered}
 use Rattle.seccompiler.specs.declared.json.types.JsonCondition.{JsonCondition}
 use Rattle.seccompiler.specs.JsonGathered.{added, rules_at, AreGathered, numbers_of_both}
-use Rattle.seccompiler.specs.JsonPolicyOf.{all_rules, chain_for, rules_of, chain_at, is_for, is_always, IsFor, IsPolicyBefore, IsPolicyOf, IsWidened}
-use Rattle.seccompiler.specs.JsonWidened.{DecideAlikeOff, MatchesOn}
+use Rattle.seccompiler.specs.JsonPolicyOf.{all_rules, chain_for, rules_of, chain_at, is_for, is_always, IsFor, IsPolicyOf}
+use Rattle.seccompiler.specs.JsonWidened.{IsPolicyBefore, IsWidened, DecideAlikeOff, MatchesOn}
 use Rattle.seccompiler.specs.JsonTypes.{JsonRule, JsonFilter}
 use Rattle.seccompiler.specs.Policy.{Rule, Filter, Matches, IsDecision, other_architecture, policy_matches, policy_differs}
 use Rattle.seccompiler.specs.Action.{audit_word, word_of}

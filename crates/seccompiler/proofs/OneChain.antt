@@ -4,10 +4,9 @@ use Rattle.std.specs.Prelude.{slice_get, sum_by}
 use Rattle.seccompiler.specs.declared.bpf.sock_filter.{sock_filter}
 use Rattle.seccompiler.specs.Code.{give, jump, jump_equal}
 use Rattle.seccompiler.specs.Machine.{Step, Goes, stays, then_step, is_equal, is_not_equal}
-use Rattle.seccompiler.specs.Checked.{inside_jump, inside_equal}
+use Rattle.seccompiler.specs.Pieces.{inside_jump, inside_equal, Leads}
 use Rattle.seccompiler.specs.Policy.{Rule, Chain}
 use Rattle.seccompiler.specs.Layout.{rule_steps}
-use Rattle.seccompiler.specs.Pieces.{Leads}
 use Rattle.seccompiler.specs.ChainCode.{IsRulesCode, IsChainCode}
 use Rattle.seccompiler.proofs.Runs.{goes_shift, goes_on, goes_front, stands_second}
 use Rattle.seccompiler.proofs.Closed.{ranges_join, ranges_from, jump_in_range}

@@ -11,9 +11,9 @@ use Rattle.seccompiler.specs.Code.{give}
 use Rattle.seccompiler.specs.Machine.{Goes, stays}
 use Rattle.seccompiler.specs.Checked.{AreInRange}
 use Rattle.seccompiler.specs.Policy.{Rule, Chain, RuleHolds}
-use Rattle.seccompiler.specs.Layout.{rule_length, rule_steps}
+use Rattle.seccompiler.specs.Layout.{rule_length, rule_steps, rules_length}
 use Rattle.seccompiler.specs.Pieces.{Leads, IsRuleCode}
-use Rattle.seccompiler.specs.ChainCode.{Returns, IsBlock, rules_length, IsRulesCode}
+use Rattle.seccompiler.specs.ChainCode.{Returns, IsBlock, IsRulesCode}
 use Rattle.seccompiler.proofs.Blocks.{leads_join, leads_front, returns_front, returns_behind, returns_after, returns_here, block_join, block_from_closed, block_give, give_in_range}
 use Rattle.seccompiler.proofs.Runs.{goes_shift, goes_on, goes_front, stands_second, leads_to, leads_from, leads_second, stays_small}
 use Rattle.seccompiler.proofs.Parts.{around}

@@ -6,7 +6,7 @@ use Rattle.std.proofs.lemmas.List.{flat_map_more}
 use Rattle.std.proofs.lemmas.List.Sums.{sum_by-append}
 use Rattle.std.proofs.lemmas.Grind.{flat_map-append}
 use Rattle.seccompiler.specs.JsonRepeats.{HasColons}
-use Rattle.seccompiler.specs.TextPieces.{StringItem, plain, escaped, IsStringItem, item_bytes, items_bytes, Piece, byte, quoted, IsPiece, piece_bytes, Ending, closed, unclosed, unclosed_backslash, IsEnding, ending_bytes, IsCut, is_colon}
+use Rattle.seccompiler.specs.TextPieces.{StringItem, plain, escaped, IsStringItem, item_bytes, items_bytes, Piece, byte, quoted, IsPiece, piece_bytes, Ending, closed, unclosed, unclosed_backslash, IsEnding, ending_bytes, IsCutIntoPieces, is_colon}
 use Rattle.seccompiler.specs.declared.json.repeats.Place.{Place}
 use Rattle.seccompiler.specs.declared.json.repeats.Place.TheVariants.{Outside, Inside, Escaped}
 
@@ -20,7 +20,7 @@ ending_at Escaped string = unclosed_backslash string
 pub record IsWalked (text : List ℕ) (place : Place) (count : ℕ) : Type 0 where
   pub pieces : List Piece
   pub string : List StringItem
-  pub cut : IsCut text pieces (ending_at place string)
+  pub cut : IsCutIntoPieces text pieces (ending_at place string)
   pub counted : count ≡ count_by is_colon pieces
 
 -- What holds of each in two lists holds of each in both.

@@ -4,9 +4,8 @@ use Rattle.std.specs.BTreeMap.{get_by_text}
 use Rattle.serde_json.specs.Data.{Data}
 use Rattle.seccompiler.specs.ByName.{ByName, under, AreInOrder}
 use Rattle.seccompiler.specs.JsonAnswers.{IsValueOf, HasPolicy, HasSomePolicy, ArePoliciesOf, IsLeastRefused, TellsFrontendFault}
-use Rattle.seccompiler.specs.JsonFault.{Fault, refused, unknown_call}
-use Rattle.seccompiler.specs.JsonFilters.{AreFilters}
-use Rattle.seccompiler.specs.JsonPolicyOf.{IsPolicyOf, IsFirstFault, IsRefusalOf}
+use Rattle.seccompiler.specs.JsonPolicyOf.{Fault, refused, unknown_call, IsPolicyOf, IsFirstFault}
+use Rattle.seccompiler.specs.JsonSteps.{AreFilters, IsPolicyRefusal}
 use Rattle.seccompiler.specs.JsonShape.{IsFilter}
 use Rattle.seccompiler.specs.Policy.{Filter}
 use Rattle.seccompiler.specs.declared.backend.TargetArch.{TargetArch}
@@ -32,7 +31,7 @@ module _ (arch : TargetArch) (d : Data) (m : JsonFilterMap) (are : AreFilters d 
     )
 
     -- Its refusal is the text's first fault.
-    pub refused_told : (text : List ℕ) → IsValueOf text d → (e : JsonFrontendError) → IsRefusalOf arch entry.1 e → TellsFrontendFault arch text e
+    pub refused_told : (text : List ℕ) → IsValueOf text d → (e : JsonFrontendError) → IsPolicyRefusal arch entry.1 e → TellsFrontendFault arch text e
     refused_told text is (e.Backend x) h = (d, is, least_refused (refused x) h.0)
     refused_told text is (e.SyscallName name known) h = (d, is, least_refused (unknown_call (string_bytes name) known) h)
     refused_told text is e.OutOfMemory h = tt

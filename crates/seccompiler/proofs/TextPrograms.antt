@@ -20,9 +20,9 @@ use Rattle.seccompiler.proofs.ByName.{AreMade}
 use Rattle.seccompiler.proofs.TextFilters.{value_under, all_made, least}
 
 -- A number of a table is a call number.
-call_number : (z : ℤ) → IsTableNumber z → IsCallNumber z
-call_number (pos n) h = (n, refl, grind (arith, ints, h.1))
-call_number (negsuc n) h = absurd (grind (arith, ints, h.0))
+table_number_fits : (z : ℤ) → IsTableNumber z → IsCallNumber z
+table_number_fits (pos n) h = (n, refl, grind (arith, ints, h.1))
+table_number_fits (negsuc n) h = absurd (grind (arith, ints, h.0))
 
 -- What holds of the numbers of all policies holds of those of one.
 pub numbers_here : (front : ByName Filter) (entry : String Global × Filter) (back : ByName Filter) → All (λ e. All IsTableNumber (numbers_of e.1.chains)) (front ++ entry ∷ back) → All IsTableNumber (numbers_of entry.1.chains)
@@ -51,7 +51,7 @@ module _ (arch : TargetArch) (d : Data) (policies : ByName Filter) (are : ArePol
     -- Its refusal is the text's first fault, where its numbers are those of a table.
     pub refused_told : (text : List ℕ) → IsValueOf text d → All IsTableNumber (numbers_of entry.1.chains) → (e : BackendError) → IsRefusal entry.1 e → TellsFirstFault arch text (from_backend e)
     refused_told text is numbers (b.FilterTooLarge n) h = (d, is, least_too_large n h)
-    refused_told text is numbers (b.InvalidSyscallNumber n) h = absurd (h.unfit (call_number n (All-contains IsTableNumber (numbers_of entry.1.chains) n numbers h.among)))
+    refused_told text is numbers (b.InvalidSyscallNumber n) h = absurd (h.unfit (table_number_fits n (All-contains IsTableNumber (numbers_of entry.1.chains) n numbers h.among)))
     refused_told text is numbers b.OutOfMemory h = tt
     refused_told text is numbers e h = absurd h
 

@@ -4,7 +4,8 @@ use Rattle.std.proofs.lemmas.Bool.Decides.{nat_tests}
 use Rattle.seccompiler.specs.declared.bpf.sock_filter.{sock_filter}
 use Rattle.seccompiler.specs.Code.{give, jump, jump_at_least}
 use Rattle.seccompiler.specs.Machine.{Goes, stays, then_step}
-use Rattle.seccompiler.specs.Checked.{inside_jump, inside_at_least, IsInRange}
+use Rattle.seccompiler.specs.Checked.{IsInRange}
+use Rattle.seccompiler.specs.Pieces.{inside_jump, inside_at_least}
 use Rattle.seccompiler.specs.Policy.{Rule, Chain}
 use Rattle.seccompiler.specs.ChainCode.{Returns, IsRulesCode}
 use Rattle.seccompiler.specs.Ranges.{Range, found_in, Ascends, HasNoRules}

@@ -5,7 +5,7 @@ use Rattle.std.proofs.lemmas.List.{take_all}
 use Rattle.std.proofs.Math.ListN.{length-set}
 use Rattle.std.proofs.Math.Seq.{take-suc-set}
 use Rattle.seccompiler.specs.Policy.{Chain}
-use Rattle.seccompiler.specs.ChainCode.{rules_length}
+use Rattle.seccompiler.specs.Layout.{rules_length}
 use Rattle.seccompiler.specs.Ranges.{Range}
 use Rattle.seccompiler.specs.Tree.{leaf_length, test_length, tree_length}
 use Rattle.seccompiler.specs.TreeCode.{AreHalves}

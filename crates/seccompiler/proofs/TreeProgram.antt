@@ -5,7 +5,8 @@ use Rattle.seccompiler.specs.declared.bpf.sock_filter.{sock_filter}
 use Rattle.seccompiler.specs.Record.{IsRecord, word_at}
 use Rattle.seccompiler.specs.Code.{load, give, jump_equal}
 use Rattle.seccompiler.specs.Machine.{Goes, Ends}
-use Rattle.seccompiler.specs.Checked.{greatest_length, inside_load, IsChecked, AreInRange}
+use Rattle.seccompiler.specs.Checked.{greatest_length, IsChecked, AreInRange}
+use Rattle.seccompiler.specs.Pieces.{inside_load}
 use Rattle.seccompiler.specs.Action.{word_of, audit_word}
 use Rattle.seccompiler.specs.Policy.{Rule, Chain, Filter, chain_under, ChainMatches, IsDecision, other_architecture, policy_matches, policy_differs}
 use Rattle.seccompiler.specs.ChainCode.{IsBlock}

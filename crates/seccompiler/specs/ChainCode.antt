@@ -3,10 +3,10 @@ use Rattle.std.specs.Prelude.{◌≡◌, ◌≢◌, ℕ, ℤ, ◌+◌, ◌^◌, 
 use Rattle.seccompiler.specs.declared.bpf.sock_filter.{sock_filter}
 use Rattle.seccompiler.specs.Record.{IsRecord}
 use Rattle.seccompiler.specs.Machine.{Goes}
-use Rattle.seccompiler.specs.Checked.{IsInside, AreInRange}
+use Rattle.seccompiler.specs.Checked.{AreInRange}
+use Rattle.seccompiler.specs.Pieces.{IsInside, Leads}
 use Rattle.seccompiler.specs.Policy.{Chain, RuleHolds, ChainMatches, chain_under}
-use Rattle.seccompiler.specs.Layout.{rule_length, rule_steps, chain_length, chain_steps, chains_length, chains_steps}
-use Rattle.seccompiler.specs.Pieces.{Leads}
+use Rattle.seccompiler.specs.Layout.{rule_steps, chain_length, chain_steps, chains_length, chains_steps, rules_length}
 
 -- A run from a place and an accumulator returns this word, after so many steps and the return.
 pub record Returns (p : List sock_filter) (r : List ℕ) (place a w : ℕ) : Type 0 where
@@ -22,10 +22,6 @@ pub record Returns (p : List sock_filter) (r : List ℕ) (place a w : ℕ) : Typ
 -- Each instruction returns, or may stand in a piece whose jumps lead at most to m.
 pub record IsBlock (p : List sock_filter) (m : ℕ) : Type 0 where
   pub each : (place : ℕ) (i : sock_filter) → slice_get p place ≡ Some i → (IsInside i place m) ⊎ (i.code ≡ 0x06)
-
--- How many instructions the rules of a chain take, each with its return.
-abbrev pub rules_length : Chain → ℕ
-rules_length chain = sum_by (λ rule. rule_length rule + 1) chain
 
 -- The code of rules, each with its return: entered at its first place it returns where some rule holds, and leaves at
 -- its end where none does; entered at its second place it leaves one place behind its end, with the accumulator kept.

@@ -1,4 +1,4 @@
--- What a program must be before it is run, and what a piece of one must be to stand in a program.
+-- What a program must be before it is run.
 use Rattle.std.specs.Prelude.{◌≡◌, ℕ, ◌+◌, ◌-◌, ◌%◌, ◌^◌, ◌<◌, ◌≤◌, List, length, Some, slice_get}
 use Rattle.seccompiler.specs.declared.bpf.TheConstants.{BPF_MAX_LEN}
 use Rattle.seccompiler.specs.declared.bpf.sock_filter.{sock_filter}
@@ -36,16 +36,3 @@ pub record IsChecked (p : List sock_filter) : Type 0 where
   pub ranges : AreInRange p
   pub each : (place : ℕ) (i : sock_filter) → slice_get p place ≡ Some i → IsFine i place (length p)
   pub last : (i : sock_filter) → slice_get p (length p - 1) ≡ Some i → i.code ≡ 0x06
-
--- An instruction that may stand at this place of a piece whose jumps lead at most to m, and does not return.
-pub data IsInside (i : sock_filter) (place m : ℕ) : Type 0 where
-  inside_load : i.code ≡ 0x20 → i.k % 4 ≡ 0 → i.k ≤ 60 → IsInside i place m
-  inside_mask : i.code ≡ 0x54 → IsInside i place m
-  inside_jump : i.code ≡ 0x05 → place + 1 + i.k ≤ m → IsInside i place m
-  inside_equal : i.code ≡ 0x15 → place + 1 + i.jt ≤ m → place + 1 + i.jf ≤ m → IsInside i place m
-  inside_greater : i.code ≡ 0x25 → place + 1 + i.jt ≤ m → place + 1 + i.jf ≤ m → IsInside i place m
-  inside_at_least : i.code ≡ 0x35 → place + 1 + i.jt ≤ m → place + 1 + i.jf ≤ m → IsInside i place m
-
--- A piece of code without a return, whose jumps lead at most to m.
-pub record IsClosed (piece : List sock_filter) (m : ℕ) : Type 0 where
-  pub each : (place : ℕ) (i : sock_filter) → slice_get piece place ≡ Some i → IsInside i place m

@@ -1,17 +1,21 @@
--- The crate's error: how a refusal of one of its modules becomes one, its text, and where want of memory stands.
-use Rattle.std.specs.Prelude.{◌≢◌, ℕ, List, ◌++◌, Option, Some, option_map, codes}
+-- The errors: how a refusal of one module becomes one of another, the text of the crate's, and where want of memory stands.
+use Rattle.std.specs.Prelude.{◌≢◌, ℕ, List, ◌++◌, Option, Some, option_map, codes, ⊤}
 use Rattle.std.specs.Fmt.{signed_decimal}
 use Rattle.std.specs.IoError.{error_kind}
-use Rattle.std.specs.declared.io.ErrorKind.TheVariants as kind
 use Rattle.serde_json.specs.Errors.{IsMemory}
 use Rattle.seccompiler.specs.declared.backend.BackendError.{BackendError}
-use Rattle.seccompiler.specs.declared.backend.BackendError.TheVariants as backend
 use Rattle.seccompiler.specs.declared.error.Error.{Error}
-use Rattle.seccompiler.specs.declared.error.Error.TheVariants as whole
 use Rattle.seccompiler.specs.declared.json.error.JsonFrontendError.{JsonFrontendError}
+use Rattle.seccompiler.specs.Texts.{json_text, backend_text}
+use Rattle.std.specs.declared.io.ErrorKind.TheVariants as kind
+use Rattle.seccompiler.specs.declared.backend.BackendError.TheVariants as backend
+use Rattle.seccompiler.specs.declared.error.Error.TheVariants as whole
 use Rattle.seccompiler.specs.declared.json.error.JsonFrontendError.TheVariants as frontend
-use Rattle.seccompiler.specs.JsonTexts.{json_text}
-use Rattle.seccompiler.specs.Texts.{backend_text}
+
+-- A refusal of the backend as one of the front end; want of memory stays want of memory.
+abbrev pub frontend_refusal : BackendError → JsonFrontendError
+frontend_refusal backend.OutOfMemory = frontend.OutOfMemory
+frontend_refusal refusal = frontend.Backend refusal
 
 -- A refusal of the backend; want of memory stays want of memory.
 abbrev pub from_backend : BackendError → Error
@@ -38,10 +42,10 @@ abbrev pub IsNoMemoryInFrontend : JsonFrontendError → Type 0
 IsNoMemoryInFrontend (frontend.Backend e) = e ≢ backend.OutOfMemory
 IsNoMemoryInFrontend (frontend.SerdeJson e) = ¬ IsMemory e
 IsNoMemoryInFrontend (frontend.Read e) = error_kind e ≢ kind.OutOfMemory
-IsNoMemoryInFrontend e = Unit {0}
+IsNoMemoryInFrontend e = ⊤
 
 -- The same of the crate's error.
 abbrev pub IsNoMemoryInside : Error → Type 0
 IsNoMemoryInside (whole.Backend e) = e ≢ backend.OutOfMemory
 IsNoMemoryInside (whole.JsonFrontend e) = (e ≢ frontend.OutOfMemory) × IsNoMemoryInFrontend e
-IsNoMemoryInside e = Unit {0}
+IsNoMemoryInside e = ⊤

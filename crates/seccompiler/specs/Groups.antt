@@ -14,7 +14,7 @@ ClosesLate group = (front back : List Condition) (c : Condition) → group ≡ f
 
 -- The conditions, in order, cut into groups: none is empty, no proper front of a group has a size of the border or more,
 -- and every group but the last has.
-pub record IsCut (q : List Condition) (groups : List (List Condition)) : Type 0 where
+pub record IsCutIntoGroups (q : List Condition) (groups : List (List Condition)) : Type 0 where
   pub joined : flat_map (λ group. group) groups ≡ q
   pub some : All (λ group. 1 ≤ length group) groups
   pub late : All ClosesLate groups
@@ -33,8 +33,8 @@ groups_of (c ∷ q) = groups_from (c ∷ []) q
 
 -- These groups are a cut of the conditions, and the only one.
 pub record IsOnlyCut (q : List Condition) (groups : List (List Condition)) : Type 0 where
-  pub cut : IsCut q groups
-  pub only : (others : List (List Condition)) → IsCut q others → others ≡ groups
+  pub cut : IsCutIntoGroups q groups
+  pub only : (others : List (List Condition)) → IsCutIntoGroups q others → others ≡ groups
 
 -- How many relays a rule has: one between each two groups.
 abbrev pub relays : List Condition → ℕ

@@ -1,11 +1,10 @@
 -- What the policies of a JSON text are, and which of its faults is told.
-use Rattle.std.specs.Prelude.{◌≡◌, ℕ, List, Option, Some, string_bytes}
+use Rattle.std.specs.Prelude.{◌≡◌, ℕ, List, Option, Some, string_bytes, ⊤}
 use Rattle.std.specs.Str.{IsUtf8}
 use Rattle.serde_json.specs.Data.{Data}
 use Rattle.serde_json.specs.Read.{read}
-use Rattle.seccompiler.specs.JsonFault.{Fault, unknown_call, refused}
+use Rattle.seccompiler.specs.JsonPolicyOf.{Fault, unknown_call, refused, IsPolicyOf, IsFirstFault}
 use Rattle.seccompiler.specs.JsonFilters.{AreFound, AreAll, IsLeast, IsSomeFilter, IsLeastFault}
-use Rattle.seccompiler.specs.JsonPolicyOf.{IsPolicyOf, IsFirstFault}
 use Rattle.seccompiler.specs.JsonRepeats.{Repeats}
 use Rattle.seccompiler.specs.JsonShape.{IsObject, IsFilter}
 use Rattle.seccompiler.specs.Policy.{Filter}
@@ -52,8 +51,8 @@ abbrev pub TellsFrontendFault : TargetArch → List ℕ → JsonFrontendError �
 TellsFrontendFault arch text (Backend cause) = OfValue text (IsLeastRefused arch (refused cause))
 TellsFrontendFault arch text (SerdeJson cause) = (d : Data) → IsReadAs text d → ⊥
 TellsFrontendFault arch text (SyscallName name known) = OfValue text (IsLeastRefused arch (unknown_call (string_bytes name) known))
-TellsFrontendFault arch text (Read cause) = Unit {0}
+TellsFrontendFault arch text (Read cause) = ⊤
 TellsFrontendFault arch text RepeatedKey = (d : Data) × IsReadAs text d × Repeats text d
 TellsFrontendFault arch text NotAnObject = OfValue text (λ d. IsObject d → ⊥)
 TellsFrontendFault arch text (Shape name) = OfValue text (λ d. IsLeastFault d (string_bytes name))
-TellsFrontendFault arch text OutOfMemory = Unit {0}
+TellsFrontendFault arch text OutOfMemory = ⊤

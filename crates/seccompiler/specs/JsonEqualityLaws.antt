@@ -12,8 +12,7 @@ use Rattle.seccompiler.specs.contracts.json.types.JsonConditionEqualByParts.TheI
 use Rattle.seccompiler.specs.JsonTypes.{JsonRule, JsonFilter}
 use Rattle.seccompiler.specs.declared.json.types.JsonFilterMap.{JsonFilterMap}
 use Rattle.seccompiler.specs.EqualityLaws.{through}
-use Rattle.seccompiler.specs.JsonEquality.{rule_eq, filter_eq, filter_map_eq}
-use Rattle.seccompiler.specs.JsonFilters.{named, filters_of}
+use Rattle.seccompiler.specs.JsonEquality.{rule_eq, filter_eq, filter_map_eq, named, named_filters}
 
 -- of two `Option`s
 option_decides : {K : Type 0} {E : K → K → Bool} → ((x y : K) → Decides (E x y) (x ≡ y)) → (x y : Option K) → Decides (option_eq E x y) (x ≡ y)
@@ -46,7 +45,7 @@ entries_decide [] (q ∷ qs) = (λ t. absurd (true≢false (sym t)), λ e. cc)
 entries_decide (p ∷ ps) [] = (λ t. absurd (true≢false (sym t)), λ e. cc)
 entries_decide (p ∷ ps) (q ∷ qs) = through _ (λ e. λ i. e.0 i ∷ e.1 i) (λ e. (cc, cc)) (Decides-and _ _ (entry_decides p q) (entries_decide ps qs))
 
-pub filter_map_decides : (m n : JsonFilterMap) → Decides (filter_map_eq m n) (filters_of m ≡ filters_of n)
+pub filter_map_decides : (m n : JsonFilterMap) → Decides (filter_map_eq m n) (named_filters m ≡ named_filters n)
 filter_map_decides m n = entries_decide m.0.entries n.0.entries
 
 pub filter_map_eq_law : IsPartialEquivalence filter_map_eq

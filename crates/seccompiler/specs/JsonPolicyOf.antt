@@ -1,5 +1,5 @@
 -- Which filter is the policy of a JSON filter, and which fault is the first of one that has none.
-use Rattle.std.specs.Prelude.{◌≡◌, ◌≢◌, ◌≤◌, ◌<◌, ℤ, Bool, false, ◌&&◌, List, [], ◌∷◌, ◌++◌, Option, Some, None, All, Any, IfSome, map, if◌then◌else◌, Result, Ok, Err, string_bytes}
+use Rattle.std.specs.Prelude.{◌≡◌, ◌≢◌, ◌≤◌, ◌<◌, ℤ, Bool, false, ◌&&◌, List, [], ◌∷◌, ◌++◌, Option, Some, None, All, Any, IfSome, map, if◌then◌else◌, ℕ}
 use Rattle.std.specs.BTreeMap.{is_at}
 use Rattle.std.specs.List.{flat_map, list_any}
 use Rattle.std.specs.List.Sorted.{IsStrictlySortedBy}
@@ -8,25 +8,17 @@ use Rattle.std.specs.Option.{is_none}
 use Rattle.std.specs.Ordering.{int_cmp, int_eq}
 use Rattle.seccompiler.specs.declared.backend.TargetArch.{TargetArch}
 use Rattle.seccompiler.specs.declared.backend.BackendError.TheVariants.{EmptyRule, IdenticalActions, InvalidArgumentNumber}
-use Rattle.seccompiler.specs.declared.backend.BackendError.TheVariants as of_backend
-use Rattle.seccompiler.specs.declared.json.error.JsonFrontendError.{JsonFrontendError}
-use Rattle.seccompiler.specs.declared.json.error.JsonFrontendError.TheVariants.{Backend, SyscallName, OutOfMemory}
 use Rattle.seccompiler.specs.declared.json.types.JsonCondition.{JsonCondition}
 use Rattle.seccompiler.specs.JsonTypes.{JsonRule, JsonFilter}
 use Rattle.seccompiler.specs.Condition.{Condition}
 use Rattle.seccompiler.specs.Policy.{Rule, Chain, Filter}
 use Rattle.seccompiler.specs.Refusal.{numbers_of}
 use Rattle.seccompiler.specs.SyscallTable.{number_of, table_of}
-use Rattle.seccompiler.specs.JsonFault.{Fault, unknown_call, refused}
+use Rattle.seccompiler.specs.declared.backend.BackendError.{BackendError}
 
 -- The condition of the same four parts.
 abbrev pub condition_of : JsonCondition → Condition
 condition_of c = record { arg_index = c.arg_index; arg_len = c.arg_len; operator = c.operator; value = c.value }
-
--- A conversion gives the condition of the same four parts where the index is at most 5, and is refused where it is above.
-abbrev pub IsConditionOf : JsonCondition → Result Condition JsonFrontendError → Type 0
-IsConditionOf c (Ok made) = (c.arg_index ≤ 5) × (made ≡ condition_of c)
-IsConditionOf c (Err e) = (5 < c.arg_index) × (e ≡ Backend InvalidArgumentNumber)
 
 -- The rules that an entry's conditions stand for: one that has them all, in order, or no rule where there is no list of them.
 abbrev pub rules_of : Option (List JsonCondition) → List Rule
@@ -59,15 +51,15 @@ abbrev pub chain_at : List (ℤ × Chain) → ℤ → Option Chain
 chain_at chains number = lookup (is_at (int_cmp number)) chains
 
 -- Nothing is wrong with a list of conditions: each index is at most 5, and the list is not empty.
-pub record AreFine (conditions : List JsonCondition) : Type 0 where
+pub record AreFineArgs (conditions : List JsonCondition) : Type 0 where
   pub indices : All (λ c. c.arg_index ≤ 5) conditions
   pub some : conditions ≢ []
 
 -- Nothing is wrong with an entry: its call has a number; and nothing is wrong with its list of conditions, if there is one.
-pub record IsFine (arch : TargetArch) (entry : JsonRule) : Type 0 where
+pub record IsFineEntry (arch : TargetArch) (entry : JsonRule) : Type 0 where
   pub number : ℤ
   pub is_for : IsFor arch number entry
-  pub conditions : IfSome entry.conditions AreFine
+  pub conditions : IfSome entry.conditions AreFineArgs
 
 -- The filter is made of a JSON filter on an architecture, with the chains that are meant for the numbers. It has the JSON
 -- filter's actions, which differ. Nothing is wrong with any entry. The numbers that have a chain are those of the entries'
@@ -77,7 +69,7 @@ pub record IsMadeOf (meant : ℤ → Chain) (arch : TargetArch) (j : JsonFilter)
   pub match_action : f.match_action ≡ j.match_action
   pub target_arch : f.target_arch ≡ arch
   pub different : j.mismatch_action ≢ j.match_action
-  pub entries : All (IsFine arch) j.rules
+  pub entries : All (IsFineEntry arch) j.rules
   pub chain : (number : ℤ) → Any (IsFor arch number) j.rules → chain_at f.chains number ≡ Some (meant number)
   pub no_other : (number : ℤ) → (Any (IsFor arch number) j.rules → ⊥) → chain_at f.chains number ≡ None
   pub ascending : IsStrictlySortedBy int_cmp (numbers_of f.chains)
@@ -96,15 +88,10 @@ chain_for arch entries number = if list_any (is_always arch number) entries then
 abbrev pub IsPolicyOf : TargetArch → JsonFilter → Filter → Type 0
 IsPolicyOf arch j f = IsMadeOf (chain_for arch j.rules) arch j f
 
--- The filter is what the Rust crate makes of the JSON filter. It differs in this alone: an entry without conditions adds
--- nothing to its number, whose chain is all rules of its other entries.
-abbrev pub IsPolicyBefore : TargetArch → JsonFilter → Filter → Type 0
-IsPolicyBefore arch j f = IsMadeOf (all_rules arch j.rules) arch j f
-
--- The number has both an entry without conditions and one with conditions.
-pub record IsWidened (arch : TargetArch) (j : JsonFilter) (number : ℤ) : Type 0 where
-  pub without : Any (λ entry. IsFor arch number entry × (entry.conditions ≡ None)) j.rules
-  pub with_conditions : Any (λ entry. IsFor arch number entry × (entry.conditions ≢ None)) j.rules
+-- What can be wrong with a JSON filter on an architecture.
+pub data Fault : Type 0 where
+  unknown_call : List ℕ → TargetArch → Fault
+  refused : BackendError → Fault
 
 -- The first thing that is wrong with a list of conditions: an index is above 5; else the list is empty.
 pub data IsFaultIn (conditions : List JsonCondition) (fault : Fault) : Type 0 where
@@ -124,23 +111,11 @@ pub record IsFirstOf (arch : TargetArch) (entries : List JsonRule) (fault : Faul
   pub entry : JsonRule
   pub back : List JsonRule
   pub whole : entries ≡ front ++ entry ∷ back
-  pub fine : All (IsFine arch) front
+  pub fine : All (IsFineEntry arch) front
   pub wrong : IsFaultOf arch entry fault
 
 -- The first fault of a JSON filter on an architecture: that of its entries; or, where nothing is wrong with any entry,
 -- that its two actions are equal.
 pub data IsFirstFault (arch : TargetArch) (j : JsonFilter) (fault : Fault) : Type 0 where
   in_entries : IsFirstOf arch j.rules fault → IsFirstFault arch j fault
-  in_actions : All (IsFine arch) j.rules → j.mismatch_action ≡ j.match_action → fault ≡ refused IdenticalActions → IsFirstFault arch j fault
-
--- An error tells a fault of which P holds, and no want of memory stands in it. Want of memory may come in place of the
--- fault, and no other error comes.
-abbrev pub Tells : (Fault → Type 0) → JsonFrontendError → Type 0
-Tells P (Backend cause) = P (refused cause) × (cause ≢ of_backend.OutOfMemory)
-Tells P (SyscallName name arch) = P (unknown_call (string_bytes name) arch)
-Tells P OutOfMemory = Unit {0}
-Tells P _ = ⊥
-
--- Why a JSON filter has no policy, as an error tells it: its first fault.
-abbrev pub IsRefusalOf : TargetArch → JsonFilter → JsonFrontendError → Type 0
-IsRefusalOf arch j = Tells (IsFirstFault arch j)
+  in_actions : All (IsFineEntry arch) j.rules → j.mismatch_action ≡ j.match_action → fault ≡ refused IdenticalActions → IsFirstFault arch j fault

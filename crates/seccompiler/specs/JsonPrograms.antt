@@ -1,5 +1,5 @@
 -- What the programs of a JSON text are, and which of its faults is told.
-use Rattle.std.specs.Prelude.{ℕ, List, Option, Vec}
+use Rattle.std.specs.Prelude.{ℕ, List, Option, Vec, ⊤}
 use Rattle.std.specs.declared.alloc.Global.{Global}
 use Rattle.serde_json.specs.Data.{Data}
 use Rattle.seccompiler.specs.Compiled.{IsCompiled, Passes}
@@ -33,5 +33,5 @@ IsLeastTooLarge arch n d = AreAll (HasSomePolicy arch) d × (name : List ℕ)
 abbrev pub TellsFirstFault : TargetArch → List ℕ → Error → Type 0
 TellsFirstFault arch text (whole.JsonFrontend cause) = TellsFrontendFault arch text cause
 TellsFirstFault arch text (whole.Backend (FilterTooLarge n)) = OfValue text (IsLeastTooLarge arch n)
-TellsFirstFault arch text whole.OutOfMemory = Unit {0}
+TellsFirstFault arch text whole.OutOfMemory = ⊤
 TellsFirstFault arch text e = ⊥

@@ -1,7 +1,7 @@
 -- When a text has more colons outside strings than a value has names.
 use Rattle.std.specs.Prelude.{◌≡◌, ℕ, ◌+◌, ◌<◌, List, count_by}
 use Rattle.serde_json.specs.Data.{Data, null, boolean, number, string, array, object, Items, no_items, item, Members, no_members, member}
-use Rattle.seccompiler.specs.TextPieces.{Piece, Ending, IsCut, is_colon}
+use Rattle.seccompiler.specs.TextPieces.{Piece, Ending, IsCutIntoPieces, is_colon}
 
 -- How many names all objects in a value have, those inside others too.
 abbrev mutual
@@ -23,11 +23,11 @@ abbrev mutual
 
 -- The text has a cut into pieces of which so many are a colon.
 abbrev pub HasColons : List ℕ → ℕ → Type 0
-HasColons text count = (pieces : List Piece) × (ending : Ending) × IsCut text pieces ending × (count ≡ count_by is_colon pieces)
+HasColons text count = (pieces : List Piece) × (ending : Ending) × IsCutIntoPieces text pieces ending × (count ≡ count_by is_colon pieces)
 
 -- The text, cut into pieces, has more pieces that are a colon than the value has names.
 pub record Repeats (text : List ℕ) (value : Data) : Type 0 where
   pub pieces : List Piece
   pub ending : Ending
-  pub cut : IsCut text pieces ending
+  pub cut : IsCutIntoPieces text pieces ending
   pub more : names_in value < count_by is_colon pieces

@@ -1,5 +1,5 @@
 -- Which JSON values are which parts of a filter. Nothing but the forms given here is one.
-use Rattle.std.specs.Prelude.{◌≡◌, ℕ, ◌-◌, ◌^◌, ◌≤◌, List, [], ◌∷◌, Contains, Option, Some, None, codes}
+use Rattle.std.specs.Prelude.{◌≡◌, ℕ, ◌-◌, ◌^◌, ◌≤◌, List, [], ◌∷◌, Contains, Option, Some, None, codes, ⊤}
 use Rattle.serde_json.specs.Data.{Data, null, number, string, array, object, unsigned, Items, no_items, item, Members}
 use Rattle.serde_json.specs.Find.{get}
 use Rattle.seccompiler.specs.declared.backend.SeccompAction.{SeccompAction}
@@ -69,9 +69,9 @@ IsArgLen d Qword = d ≡ string (codes "qword")
 
 -- What stands under `comment`, if anything, is null or a text.
 abbrev pub IsComment : Option Data → Type 0
-IsComment None = Unit {0}
-IsComment (Some null) = Unit {0}
-IsComment (Some (string text)) = Unit {0}
+IsComment None = ⊤
+IsComment (Some null) = ⊤
+IsComment (Some (string text)) = ⊤
 IsComment (Some _) = ⊥
 
 -- The object's comment is so.
@@ -89,7 +89,7 @@ pub record IsCondition (d : Data) (c : JsonCondition) : Type 0 where
 
 -- The items are these, one by one and in order, as P says.
 abbrev pub OneByOne : {X : Type 0} → (Data → X → Type 0) → Items → List X → Type 0
-OneByOne P no_items [] = Unit {0}
+OneByOne P no_items [] = ⊤
 OneByOne P (item d items) (x ∷ xs) = P d x × OneByOne P items xs
 OneByOne P _ _ = ⊥
 

@@ -8,10 +8,14 @@ use Rattle.seccompiler.specs.Policy.{Rule, Chain, Filter}
 abbrev pub rule_length : Rule → ℕ
 rule_length q = entry_length + total_size q + relay_length * relays q
 
--- The instructions of a chain: those of its rules, each with a return, and its ends.
+-- How many instructions the rules of a chain take, each with its return.
+abbrev pub rules_length : Chain → ℕ
+rules_length chain = sum_by (λ rule. rule_length rule + 1) chain
+
+-- The instructions of a chain: those of its rules, and its ends.
 abbrev pub chain_length : Chain → ℕ
 chain_length [] = empty_chain_length
-chain_length (q ∷ chain) = chain_ends + sum_by (λ rule. rule_length rule + 1) (q ∷ chain)
+chain_length (q ∷ chain) = chain_ends + rules_length (q ∷ chain)
 
 -- The counted length of the chains.
 abbrev pub chains_length : List (ℤ × Chain) → ℕ

@@ -1,43 +1,53 @@
--- The definitions that the contracts cite, from the record of a call up to the program of a filter.
+-- The definitions that the contracts cite.
+
+-- What is promised. The headline for filters, in reading order: call records, the machine, checked programs; policies and
+-- what they decide; how long a program is; when one is compiled for a filter, and why a filter is refused.
 pub mod Record
-pub mod Code
 pub mod Machine
 pub mod Checked
 pub mod Action
-pub mod SyscallTable
-pub mod Texts
-pub mod Errors
-pub mod Install
 pub mod Condition
 pub mod Policy
 pub mod Sizes
 pub mod Groups
 pub mod Layout
-pub mod Relay
-pub mod Pieces
-pub mod ChainCode
 pub mod Compiled
 pub mod Refusal
+-- The headline for policies as JSON text: repeated names, the shapes of values, the policy of a filter or its first fault,
+-- and what is given for a whole text.
+pub mod TextPieces
+pub mod JsonRepeats
 pub mod JsonTypes
+pub mod JsonShape
+pub mod JsonFilters
+pub mod SyscallTable
 pub mod JsonPolicyOf
-pub mod JsonGathered
-pub mod JsonWidened
-pub mod ByName
-pub mod Reads
 pub mod JsonAnswers
 pub mod JsonPrograms
-pub mod Reorder
-pub mod LowHalf
-pub mod JsonEquality
-pub mod JsonEqualityLaws
-pub mod JsonFault
-pub mod JsonFilters
-pub mod JsonRepeats
-pub mod JsonShape
-pub mod JsonTexts
-pub mod TextPieces
-pub mod Equality
-pub mod EqualityLaws
+pub mod Reads
+-- What other calls promise: the code of conditions and rules; the second layout; each step from JSON to filters; entries
+-- without conditions; errors and their texts; installing; the order of rules; the low half of an argument; equality.
+pub mod Code
+pub mod ConditionCode
+pub mod Pieces
 pub mod Ranges
 pub mod Tree
+pub mod JsonSteps
+pub mod JsonWidened
+pub mod Texts
+pub mod Errors
+pub mod Install
+pub mod Reorder
+pub mod LowHalf
+pub mod Equality
+pub mod JsonEquality
+-- Between layers: what private functions promise each other, and laws that the tests of equality need. No promise rests
+-- on how these are worded.
+pub mod Relay
+pub mod ChainCode
 pub mod TreeCode
+pub mod BlankProgram
+pub mod JsonGathered
+pub mod ByName
+pub mod EqualityLaws
+pub mod JsonEqualityLaws

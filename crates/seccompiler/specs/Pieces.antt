@@ -1,13 +1,26 @@
 -- What the code of a condition and the code of a rule promise to the code around them.
-use Rattle.std.specs.Prelude.{◌≡◌, ℕ, ◌+◌, ◌^◌, ◌<◌, ◌⊎◌, List, length}
+use Rattle.std.specs.Prelude.{◌≡◌, ℕ, ◌+◌, ◌^◌, ◌<◌, ◌⊎◌, List, length, ◌%◌, ◌≤◌, Some, slice_get}
 use Rattle.seccompiler.specs.declared.bpf.sock_filter.{sock_filter}
 use Rattle.seccompiler.specs.Record.{IsRecord}
 use Rattle.seccompiler.specs.Machine.{Goes}
-use Rattle.seccompiler.specs.Checked.{AreInRange, IsClosed}
+use Rattle.seccompiler.specs.Checked.{AreInRange}
 use Rattle.seccompiler.specs.Condition.{Condition, Holds, size_of}
 use Rattle.seccompiler.specs.Policy.{Rule, RuleHolds}
 use Rattle.seccompiler.specs.Groups.{relays}
 use Rattle.seccompiler.specs.Layout.{rule_length}
+
+-- An instruction that may stand at this place of a piece whose jumps lead at most to m, and does not return.
+pub data IsInside (i : sock_filter) (place m : ℕ) : Type 0 where
+  inside_load : i.code ≡ 0x20 → i.k % 4 ≡ 0 → i.k ≤ 60 → IsInside i place m
+  inside_mask : i.code ≡ 0x54 → IsInside i place m
+  inside_jump : i.code ≡ 0x05 → place + 1 + i.k ≤ m → IsInside i place m
+  inside_equal : i.code ≡ 0x15 → place + 1 + i.jt ≤ m → place + 1 + i.jf ≤ m → IsInside i place m
+  inside_greater : i.code ≡ 0x25 → place + 1 + i.jt ≤ m → place + 1 + i.jf ≤ m → IsInside i place m
+  inside_at_least : i.code ≡ 0x35 → place + 1 + i.jt ≤ m → place + 1 + i.jf ≤ m → IsInside i place m
+
+-- A piece of code without a return, whose jumps lead at most to m.
+pub record IsClosed (piece : List sock_filter) (m : ℕ) : Type 0 where
+  pub each : (place : ℕ) (i : sock_filter) → slice_get piece place ≡ Some i → IsInside i place m
 
 -- A run leads from a place and an accumulator to a place.
 pub record Leads (piece : List sock_filter) (r : List ℕ) (place a place' : ℕ) : Type 0 where

@@ -1,5 +1,5 @@
 -- Ranges of call numbers: neighbouring numbers that have one chain, or none.
-use Rattle.std.specs.Prelude.{◌≡◌, ◌≢◌, ℕ, ℤ, ◌+◌, ◌*◌, ◌^◌, ◌<◌, ◌≤◌, List, [], ◌∷◌, Option, Some, None, length, nat_le, if◌then◌else◌}
+use Rattle.std.specs.Prelude.{◌≡◌, ◌≢◌, ℕ, ℤ, ◌+◌, ◌*◌, ◌^◌, ◌<◌, ◌≤◌, List, [], ◌∷◌, Option, Some, None, length, nat_le, if◌then◌else◌, ⊤}
 use Rattle.seccompiler.specs.Policy.{Chain, chain_under}
 
 -- A range: where it starts, and the chain of each of its numbers, if they have one. It goes up to the next one's start.
@@ -24,7 +24,7 @@ StartsAtZero (x ∷ ranges) = x.start ≡ 0
 
 -- The ranges start above a number, each above the one before it.
 abbrev pub AscendsFrom : ℕ → List Range → Type 0
-AscendsFrom start [] = Unit {0}
+AscendsFrom start [] = ⊤
 AscendsFrom start (x ∷ ranges) = (start < x.start) × AscendsFrom x.start ranges
 
 -- There is a range, and each starts above the one before it.
@@ -34,8 +34,8 @@ Ascends (x ∷ ranges) = AscendsFrom x.start ranges
 
 -- No chain, or one without rules: one word answers each call.
 abbrev pub HasNoRules : Option Chain → Type 0
-HasNoRules None = Unit {0}
-HasNoRules (Some []) = Unit {0}
+HasNoRules None = ⊤
+HasNoRules (Some []) = ⊤
 HasNoRules (Some (q ∷ chain)) = ⊥
 
 -- A range may stand right behind another: that one has no rules, and the other chain; or it has, and is of one number.
@@ -50,7 +50,7 @@ TightFrom x (y ∷ ranges) = Follows x y × ((y.start < 2 ^ 32) × TightFrom y r
 
 -- No range could be joined to its neighbour, and a chain with rules has a range of its own.
 abbrev pub AreTight : List Range → Type 0
-AreTight [] = Unit {0}
+AreTight [] = ⊤
 AreTight (x ∷ ranges) = (x.start < 2 ^ 32) × TightFrom x ranges
 
 -- The ranges of chains: they ascend from 0, each number's chain is that of its range, and they are as few as can be.

@@ -1,7 +1,7 @@
 -- Why a filter is not compiled.
 use Rattle.std.specs.Prelude.{◌≡◌, ◌<◌, ◌≤◌, ℕ, ℤ, ◌≤ℤ◌, ◌-◌, ◌^◌, List, Contains, All, map, min}
 use Rattle.seccompiler.specs.declared.backend.BackendError.{BackendError}
-use Rattle.seccompiler.specs.declared.backend.BackendError.TheVariants.{EmptyRule, FilterTooLarge, IdenticalActions, InvalidArgumentNumber, InvalidTargetArch, InvalidSyscallNumber, OutOfMemory}
+use Rattle.seccompiler.specs.declared.backend.BackendError.TheVariants.{FilterTooLarge, InvalidSyscallNumber, OutOfMemory}
 use Rattle.seccompiler.specs.Checked.{greatest_length}
 use Rattle.seccompiler.specs.Policy.{Chain, Filter, IsCallNumber}
 use Rattle.seccompiler.specs.Layout.{counted_length}
@@ -35,15 +35,7 @@ pub record IsTooLarge (f : Filter) (n : ℕ) : Type 0 where
 -- The refusal of a filter comes of its own cause alone: of the least number that is no call number; else of the
 -- length; and want of memory comes only where the filter may be compiled.
 abbrev pub IsRefusal : Filter → BackendError → Type 0
-IsRefusal f EmptyRule = ⊥
 IsRefusal f (FilterTooLarge n) = IsTooLarge f n
-IsRefusal f IdenticalActions = ⊥
-IsRefusal f InvalidArgumentNumber = ⊥
-IsRefusal f (InvalidTargetArch t) = ⊥
 IsRefusal f (InvalidSyscallNumber n) = IsLeastUnfit (numbers_of f.chains) n
 IsRefusal f OutOfMemory = IsCompilable f
-
--- The refusal of a program of n instructions: it is too large, or want of memory.
-pub data RefusesLength (n : ℕ) (e : BackendError) : Type 0 where
-  too_large : greatest_length < n → e ≡ FilterTooLarge n → RefusesLength n e
-  no_memory : n ≤ greatest_length → e ≡ OutOfMemory → RefusesLength n e
+IsRefusal f _ = ⊥

@@ -1,5 +1,5 @@
 -- A text as a sequence of pieces: bytes, and strings in quotes. It needs not be JSON.
-use Rattle.std.specs.Prelude.{◌≡◌, ◌≢◌, ℕ, ◌==◌, List, [], ◌∷◌, ◌++◌, Bool, false, flat_map}
+use Rattle.std.specs.Prelude.{◌≡◌, ◌≢◌, ℕ, ◌==◌, List, [], ◌∷◌, ◌++◌, Bool, false, flat_map, ⊤}
 use Rattle.std.specs.List.{AllByRecursion}
 
 -- What stands in a string: a byte other than a quote (34) or a backslash (92), or a backslash with
@@ -11,7 +11,7 @@ pub data StringItem : Type 0 where
 -- A plain item is no quote and no backslash.
 abbrev pub IsStringItem : StringItem → Type 0
 IsStringItem (plain b) = (b ≢ 34) × (b ≢ 92)
-IsStringItem (escaped b) = Unit {0}
+IsStringItem (escaped b) = ⊤
 
 -- The bytes of an item.
 abbrev pub item_bytes : StringItem → List ℕ
@@ -46,7 +46,7 @@ pub data Ending : Type 0 where
 
 -- The items of the string that is not closed are items.
 abbrev pub IsEnding : Ending → Type 0
-IsEnding closed = Unit {0}
+IsEnding closed = ⊤
 IsEnding (unclosed items) = AllByRecursion IsStringItem items
 IsEnding (unclosed_backslash items) = AllByRecursion IsStringItem items
 
@@ -57,7 +57,7 @@ ending_bytes (unclosed items) = 34 ∷ items_bytes items
 ending_bytes (unclosed_backslash items) = 34 ∷ (items_bytes items ++ 92 ∷ [])
 
 -- The text is these pieces and this ending, one behind the other.
-pub record IsCut (text : List ℕ) (pieces : List Piece) (ending : Ending) : Type 0 where
+pub record IsCutIntoPieces (text : List ℕ) (pieces : List Piece) (ending : Ending) : Type 0 where
   pub each : AllByRecursion IsPiece pieces
   pub last : IsEnding ending
   pub spelled : text ≡ flat_map piece_bytes pieces ++ ending_bytes ending

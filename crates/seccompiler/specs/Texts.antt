@@ -1,10 +1,12 @@
--- The texts of architectures and of the backend's errors, byte for byte.
-use Rattle.std.specs.Prelude.{◌≡◌, ℕ, List, ◌++◌, codes, decimal, string_bytes}
+-- The texts of architectures, and of the errors of the backend and of the front end, byte for byte.
+use Rattle.std.specs.Prelude.{◌≡◌, ℕ, List, ◌++◌, codes, decimal, string_bytes, Option, Some, None}
 use Rattle.std.specs.Fmt.{signed_decimal}
 use Rattle.seccompiler.specs.declared.backend.TargetArch.{TargetArch}
 use Rattle.seccompiler.specs.declared.backend.TargetArch.TheVariants.{x86_64, aarch64, riscv64}
 use Rattle.seccompiler.specs.declared.backend.BackendError.{BackendError}
 use Rattle.seccompiler.specs.declared.backend.BackendError.TheVariants.{EmptyRule, FilterTooLarge, IdenticalActions, InvalidArgumentNumber, InvalidTargetArch, InvalidSyscallNumber, OutOfMemory}
+use Rattle.seccompiler.specs.declared.json.error.JsonFrontendError.{JsonFrontendError}
+use Rattle.seccompiler.specs.declared.json.error.JsonFrontendError.TheVariants as frontend
 
 -- The name of an architecture.
 abbrev pub arch_text : TargetArch → List ℕ
@@ -24,10 +26,16 @@ backend_text OutOfMemory = codes "Out of memory."
 
 -- The refusal of an architecture's name, with the text as it was given.
 abbrev pub IsInvalidArch : BackendError → List ℕ → Type 0
-IsInvalidArch EmptyRule text = ⊥
-IsInvalidArch (FilterTooLarge n) text = ⊥
-IsInvalidArch IdenticalActions text = ⊥
-IsInvalidArch InvalidArgumentNumber text = ⊥
 IsInvalidArch (InvalidTargetArch t) text = string_bytes t ≡ text
-IsInvalidArch (InvalidSyscallNumber n) text = ⊥
-IsInvalidArch OutOfMemory text = ⊥
+IsInvalidArch _ text = ⊥
+
+-- The text of an error of the front end. That of `SerdeJson` ends in serde_json's own words, of which nothing is known.
+abbrev pub json_text : JsonFrontendError → Option (List ℕ)
+json_text (frontend.Backend e) = Some (backend_text e)
+json_text (frontend.SerdeJson e) = None
+json_text (frontend.SyscallName name arch) = Some (codes "Invalid syscall name: " ++ string_bytes name ++ codes " for given arch: " ++ arch_text arch ++ codes ".")
+json_text (frontend.Read e) = Some (codes "Error reading Json.")
+json_text frontend.RepeatedKey = Some (codes "Repeated key in Json.")
+json_text frontend.NotAnObject = Some (codes "Json is not an object of filters.")
+json_text (frontend.Shape name) = Some (codes "Json filter has a wrong shape: " ++ string_bytes name ++ codes ".")
+json_text frontend.OutOfMemory = Some (codes "Out of memory.")

@@ -2,13 +2,13 @@
 use Rattle.std.specs.Prelude.{◌≡◌, ℕ, zero, suc, ◌+◌, ◌-◌, ◌*◌, ◌/◌, ◌^◌, ◌<◌, ◌≤◌, List, [], ◌∷◌, Option, Some, None, length, take, drop, nat_le, if◌then◌else◌, min}
 use Rattle.seccompiler.specs.declared.bpf.sock_filter.{sock_filter}
 use Rattle.seccompiler.specs.declared.backend.BackendError.{BackendError}
-use Rattle.seccompiler.specs.declared.backend.BackendError.TheVariants.{EmptyRule, FilterTooLarge, IdenticalActions, InvalidArgumentNumber, InvalidTargetArch, InvalidSyscallNumber, OutOfMemory}
+use Rattle.seccompiler.specs.declared.backend.BackendError.TheVariants.{FilterTooLarge, InvalidSyscallNumber, OutOfMemory}
 use Rattle.seccompiler.specs.Record.{IsRecord, word_at}
 use Rattle.seccompiler.specs.Action.{audit_word}
 use Rattle.seccompiler.specs.Machine.{Ends}
 use Rattle.seccompiler.specs.Checked.{greatest_length, IsChecked}
 use Rattle.seccompiler.specs.Policy.{Filter, Chain, chain_under}
-use Rattle.seccompiler.specs.ChainCode.{rules_length}
+use Rattle.seccompiler.specs.Layout.{rules_length}
 use Rattle.seccompiler.specs.Compiled.{EndsAtDecision}
 use Rattle.seccompiler.specs.Refusal.{numbers_of, AreCallNumbers, IsLeastUnfit}
 use Rattle.seccompiler.specs.Sizes.{guard_length, program_ends}
@@ -81,13 +81,10 @@ pub record IsTreeTooLarge (f : Filter) (n : ℕ) : Type 0 where
 -- The refusal of a filter comes of its own cause alone: of the least number that is no call number; else of the
 -- length; and want of memory, which the ranges take too, comes only where all numbers are call numbers.
 abbrev pub IsTreeRefusal : Filter → BackendError → Type 0
-IsTreeRefusal f EmptyRule = ⊥
 IsTreeRefusal f (FilterTooLarge n) = IsTreeTooLarge f n
-IsTreeRefusal f IdenticalActions = ⊥
-IsTreeRefusal f InvalidArgumentNumber = ⊥
-IsTreeRefusal f (InvalidTargetArch t) = ⊥
 IsTreeRefusal f (InvalidSyscallNumber n) = IsLeastUnfit (numbers_of f.chains) n
 IsTreeRefusal f OutOfMemory = AreCallNumbers (numbers_of f.chains)
+IsTreeRefusal f _ = ⊥
 
 -- Two programs return one word for the record.
 pub record AnswerAlike (p q : List sock_filter) (r : List ℕ) : Type 0 where

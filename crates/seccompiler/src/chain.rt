@@ -5,9 +5,9 @@ ghost use Rattle.std.specs.BTreeMap.{keys};
 ghost use Rattle.seccompiler.specs.declared.backend.BackendError.TheVariants.{OutOfMemory};
 ghost use Rattle.seccompiler.specs.Checked.{greatest_length};
 ghost use Rattle.seccompiler.specs.Policy.{chains_of, IsCallNumber, ChainMatches};
-ghost use Rattle.seccompiler.specs.Layout.{chain_length, chains_length};
+ghost use Rattle.seccompiler.specs.Layout.{chain_length, chains_length, rules_length};
 ghost use Rattle.seccompiler.specs.Refusal.{AreCallNumbers, IsLeastUnfit};
-ghost use Rattle.seccompiler.specs.ChainCode.{rules_length, IsRulesCode, IsChainCode, IsChainsCode};
+ghost use Rattle.seccompiler.specs.ChainCode.{IsRulesCode, IsChainCode, IsChainsCode};
 
 use crate::backend::BackendError;
 use crate::bpf::{jump_if_equal, jump_over, return_word, sock_filter};

@@ -51,7 +51,8 @@ impl SeccompCondition {
     ghost use Rattle.seccompiler.specs.declared.backend.BackendError.TheVariants.{InvalidArgumentNumber, OutOfMemory};
     ghost use Rattle.seccompiler.specs.declared.backend.SeccompCmpArgLen.TheVariants.{Dword, Qword};
     ghost use Rattle.seccompiler.specs.Sizes.{greatest_offset};
-    ghost use Rattle.seccompiler.specs.Condition.{Condition, Holds, size_of, condition_code};
+    ghost use Rattle.seccompiler.specs.Condition.{Condition, Holds, size_of};
+    ghost use Rattle.seccompiler.specs.ConditionCode.{condition_code};
     ghost use Rattle.seccompiler.specs.LowHalf.{IsSameLowHalf, HasSameLowArgument};
     ghost use Rattle.seccompiler.specs.Checked.{AreInRange};
     ghost use Rattle.seccompiler.specs.Pieces.{IsConditionCode};

@@ -4,7 +4,7 @@ mod tree_layout;
 
 ghost use Rattle.std.specs.Prelude.{◌≡◌, ◌≤◌, vec_len, IfOk, IfErr};
 ghost use Rattle.seccompiler.specs.Checked.{greatest_length};
-ghost use Rattle.seccompiler.specs.Refusal.{RefusesLength};
+ghost use Rattle.seccompiler.specs.BlankProgram.{RefusesLength};
 
 use crate::backend::{BackendError, GUARD_LEN, SeccompAction, TargetArch, arch_guard};
 use crate::bpf::{

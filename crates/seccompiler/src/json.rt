@@ -6,16 +6,16 @@
 
 mod compiler;
 mod error;
-mod filters;
+mod filter_map;
 mod members;
+mod parts;
 mod policy;
-mod read;
 mod repeats;
 mod texts;
 mod types;
 
 pub use compiler::JsonCompiler;
 pub use error::JsonFrontendError;
-pub use filters::read_filters;
+pub use filter_map::read_filters;
 pub use repeats::repeats_key;
 pub use types::{JsonCondition, JsonFilter, JsonFilterMap, JsonRule};

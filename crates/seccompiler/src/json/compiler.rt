@@ -8,14 +8,13 @@ ghost use Rattle.serde_json.specs.Data.{Data};
 ghost use Rattle.seccompiler.specs.ByName.{under, AreInOrder};
 ghost use Rattle.seccompiler.specs.Errors.{IsNoMemoryInFrontend};
 ghost use Rattle.seccompiler.specs.JsonAnswers.{IsValueOf, OfValue, ArePoliciesOf, TellsFrontendFault};
-ghost use Rattle.seccompiler.specs.JsonFilters.{AreFilters};
+ghost use Rattle.seccompiler.specs.JsonSteps.{AreFilters, IsPolicyRefusal};
 ghost use Rattle.seccompiler.specs.Reads.{Reads};
 ghost use Rattle.seccompiler.specs.Policy.{Filter};
 ghost use Rattle.seccompiler.specs.Refusal.{numbers_of};
 ghost use Rattle.seccompiler.specs.SyscallTable.{IsTableNumber};
-ghost use Rattle.seccompiler.specs.JsonFault.{Fault};
-ghost use Rattle.seccompiler.specs.JsonWidened.{DecideAlikeOff, KeepsMatches, MatchesOn};
-ghost use Rattle.seccompiler.specs.JsonPolicyOf.{IsFirstFault, IsPolicyBefore, IsPolicyOf, IsRefusalOf, IsWidened};
+ghost use Rattle.seccompiler.specs.JsonPolicyOf.{Fault, IsFirstFault, IsPolicyOf};
+ghost use Rattle.seccompiler.specs.JsonWidened.{DecideAlikeOff, KeepsMatches, MatchesOn, IsPolicyBefore, IsWidened};
 
 use crate::backend::TargetArch;
 use crate::filter::SeccompFilter;
@@ -76,7 +75,7 @@ impl JsonCompiler {
         filter: &JsonFilter,
     ) -> Result<SeccompFilter, JsonFrontendError>
         ensures policy { IfOk result (IsPolicyOf self.now filter.now) }
-        ensures refusal { IfErr result (IsRefusalOf self.now filter.now) }
+        ensures refusal { IfErr result (IsPolicyRefusal self.now filter.now) }
         ensures numbers { IfOk result (λ f. All IsTableNumber (numbers_of f.chains)) }
 
         // Each JSON filter has one policy or one first fault, never both and never neither.
@@ -103,7 +102,7 @@ impl JsonCompiler {
         ensures numbers { IfOk result (λ numbers. (number : ℤ) → Contains numbers.items number ↔ IsWidened self.now filter.now number) }
         ensures ascending { IfOk result (λ numbers. IsStrictlySortedBy int_cmp numbers.items) }
         ensures policies { OnOk result (((before : Filter) × IsPolicyBefore self.now filter.now before) × ((now : Filter) × IsPolicyOf self.now filter.now now)) }
-        ensures refusal { IfErr result (IsRefusalOf self.now filter.now) }
+        ensures refusal { IfErr result (IsPolicyRefusal self.now filter.now) }
 
         // What the list says of every call record, by the Rust crate's policy and by this one.
         ensures same_elsewhere { IfOk result (λ numbers. DecideAlikeOff numbers.items self.now filter.now) }

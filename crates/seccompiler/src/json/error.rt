@@ -32,7 +32,7 @@ pub enum JsonFrontendError {
 
 /// The error's text.
 impl fmt::Display for JsonFrontendError {
-    ghost use Rattle.seccompiler.specs.JsonTexts.{json_text};
+    ghost use Rattle.seccompiler.specs.Texts.{json_text};
 
     ghost output = { json_text };
 
@@ -79,9 +79,9 @@ impl<T: Drop> From<AllocFailed<T>> for JsonFrontendError {
 /// Want of memory stays so; every other error of the backend is `Backend`.
 impl From<BackendError> for JsonFrontendError {
     ghost use Rattle.std.specs.Prelude.{◌≡◌};
-    ghost use Rattle.seccompiler.specs.JsonFault.{from_backend};
+    ghost use Rattle.seccompiler.specs.Errors.{frontend_refusal};
 
-    ghost from_gives = { λ cause e. e ≡ from_backend cause };
+    ghost from_gives = { λ cause e. e ≡ frontend_refusal cause };
 
     fn from(error: BackendError) -> JsonFrontendError {
         match error {

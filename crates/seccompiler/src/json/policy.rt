@@ -6,9 +6,10 @@ ghost use Rattle.std.specs.List.Sorted.{IsStrictlySortedBy};
 ghost use Rattle.std.specs.Ordering.{int_cmp, int_eq};
 ghost use Rattle.seccompiler.specs.Policy.{chains_of};
 ghost use Rattle.seccompiler.specs.SyscallTable.{number_of, table_of};
-ghost use Rattle.seccompiler.specs.JsonFault.{unknown_call};
+ghost use Rattle.seccompiler.specs.JsonPolicyOf.{unknown_call, chain_at, condition_of, AreFineArgs, IsFaultIn, IsFaultOf, IsFineEntry, IsFirstOf, IsPolicyOf};
 ghost use Rattle.seccompiler.specs.JsonGathered.{added, AreGathered, HasAdded, HasChains, numbers_of_both};
-ghost use Rattle.seccompiler.specs.JsonPolicyOf.{chain_at, condition_of, AreFine, IsConditionOf, IsFaultIn, IsFaultOf, IsFine, IsFirstOf, IsPolicyOf, IsRefusalOf, IsWidened, Tells};
+ghost use Rattle.seccompiler.specs.JsonWidened.{IsWidened};
+ghost use Rattle.seccompiler.specs.JsonSteps.{IsConditionOf, IsPolicyRefusal, Tells};
 
 use crate::backend::{BackendError, TargetArch};
 use crate::condition::SeccompCondition;
@@ -26,7 +27,7 @@ use std::collections::{BTreeMap, BTreeSet};
 ///
 /// `Backend(InvalidArgumentNumber)` where the index is above 5: a system call has six arguments.
 impl TryFrom<JsonCondition> for SeccompCondition {
-    ghost use Rattle.seccompiler.specs.JsonPolicyOf.{IsConditionOf};
+    ghost use Rattle.seccompiler.specs.JsonSteps.{IsConditionOf};
 
     type Error = JsonFrontendError;
 
@@ -61,7 +62,7 @@ fn condition_of(condition: &JsonCondition) -> Result<SeccompCondition, JsonFront
 // The rule of the conditions, in their order.
 fn rule_of(alloc: Global, conditions: &[JsonCondition]) -> Result<SeccompRule, JsonFrontendError>
     ensures made { IfOk result (λ rule. rule ≡ map condition_of conditions.now) }
-    ensures fine { OnOk result (AreFine conditions.now) }
+    ensures fine { OnOk result (AreFineArgs conditions.now) }
     ensures refused { IfErr result (Tells (IsFaultIn conditions.now)) }
 {
     let mut found = Vec::new(alloc);
@@ -72,7 +73,7 @@ fn rule_of(alloc: Global, conditions: &[JsonCondition]) -> Result<SeccompRule, J
 }
 
 // The number of the call of this name.
-fn call_number(alloc: Global, arch: TargetArch, name: &str) -> Result<i64, JsonFrontendError>
+fn number_of_call(alloc: Global, arch: TargetArch, name: &str) -> Result<i64, JsonFrontendError>
     ensures found { IfOk result (λ number. number_of (table_of arch) name.now ≡ Some number) }
     ensures unknown { IfErr result (Tells (λ fault. (number_of (table_of arch) name.now ≡ None) × (fault ≡ unknown_call name.now arch))) }
 {
@@ -108,11 +109,11 @@ fn add_entry(
     gathered: &mut Gathered,
     entry: &JsonRule,
 ) -> Result<(), JsonFrontendError>
-    ensures fine { OnOk result (IsFine arch entry.now) }
+    ensures fine { OnOk result (IsFineEntry arch entry.now) }
     ensures added { OnOk result (HasAdded arch entry.now gathered.old gathered.new) }
     ensures refused { IfErr result (Tells (IsFaultOf arch entry.now)) }
 {
-    let number = call_number(alloc, arch, entry.syscall.as_str())?;
+    let number = number_of_call(alloc, arch, entry.syscall.as_str())?;
     match &entry.conditions {
         Some(conditions) => {
             let rule = rule_of(alloc, conditions.as_slice())?;
@@ -132,7 +133,7 @@ fn gather(
     arch: TargetArch,
     entries: &[JsonRule],
 ) -> Result<Gathered, JsonFrontendError>
-    ensures fine { OnOk result (All (IsFine arch) entries.now) }
+    ensures fine { OnOk result (All (IsFineEntry arch) entries.now) }
     ensures gathered { IfOk result (AreGathered arch entries.now) }
     ensures refused { IfErr result (Tells (IsFirstOf arch entries.now)) }
 {
@@ -182,7 +183,7 @@ pub fn seccomp_filter(
     filter: &JsonFilter,
 ) -> Result<SeccompFilter, JsonFrontendError>
     ensures policy { IfOk result (IsPolicyOf arch filter.now) }
-    ensures refused { IfErr result (IsRefusalOf arch filter.now) }
+    ensures refused { IfErr result (IsPolicyRefusal arch filter.now) }
 {
     let gathered = gather(alloc, arch, filter.rules.as_slice())?;
     let chains = chains_of_numbers(alloc, gathered)?;
@@ -197,8 +198,8 @@ pub fn widened_numbers(
 ) -> Result<Vec<i64>, JsonFrontendError>
     ensures numbers { IfOk result (λ numbers. (number : ℤ) → Contains numbers.items number ↔ IsWidened arch filter.now number) }
     ensures ascending { IfOk result (λ numbers. IsStrictlySortedBy int_cmp numbers.items) }
-    ensures faultless { OnOk result (All (IsFine arch) filter.now.rules × (filter.now.mismatch_action ≢ filter.now.match_action)) }
-    ensures refused { IfErr result (IsRefusalOf arch filter.now) }
+    ensures faultless { OnOk result (All (IsFineEntry arch) filter.now.rules × (filter.now.mismatch_action ≢ filter.now.match_action)) }
+    ensures refused { IfErr result (IsPolicyRefusal arch filter.now) }
 {
     let gathered = gather(alloc, arch, filter.rules.as_slice())?;
     if filter.mismatch_action == filter.match_action {

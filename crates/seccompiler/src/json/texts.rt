@@ -4,12 +4,12 @@ ghost use Rattle.std.specs.Prelude.{IfOk, IfErr};
 ghost use Rattle.serde_json.specs.View.{view};
 ghost use Rattle.seccompiler.specs.Errors.{IsNoMemoryInFrontend};
 ghost use Rattle.seccompiler.specs.JsonAnswers.{IsValueOf, OfValue, TellsFrontendFault};
-ghost use Rattle.seccompiler.specs.JsonFilters.{AreFilters};
+ghost use Rattle.seccompiler.specs.JsonSteps.{AreFilters};
 ghost use Rattle.seccompiler.specs.Reads.{Reads};
 ghost use Rattle.seccompiler.specs.declared.backend.TargetArch.{TargetArch};
 
 use crate::json::error::JsonFrontendError;
-use crate::json::filters::read_filters;
+use crate::json::filter_map::read_filters;
 use crate::json::repeats::repeats_key;
 use crate::json::types::JsonFilterMap;
 use serde_json::Value;
@@ -27,14 +27,14 @@ pub(crate) fn filters_from<R: Read + Drop>(
 {
     let mut text = Vec::new(alloc);
     match reader.read_to_end(&mut text) {
-        Ok(_) => filters_of(alloc, text.as_slice()),
+        Ok(_) => filters_in_text(alloc, text.as_slice()),
         Err(error) if error.kind() == ErrorKind::OutOfMemory => Err(JsonFrontendError::OutOfMemory),
         Err(error) => Err(JsonFrontendError::Read(error)),
     }
 }
 
 // The filters of a text.
-fn filters_of(alloc: Global, text: &[u8]) -> Result<JsonFilterMap, JsonFrontendError>
+fn filters_in_text(alloc: Global, text: &[u8]) -> Result<JsonFilterMap, JsonFrontendError>
     ensures filters { IfOk result (λ filters. OfValue text.now (λ d. AreFilters d filters)) }
     ensures fault { IfErr result (λ e. (arch : TargetArch) → TellsFrontendFault arch text.now e) }
     ensures memory { IfErr result IsNoMemoryInFrontend }

@@ -143,9 +143,9 @@ impl PartialEq for JsonFilterMap {
 impl EqualByParts for JsonFilterMap {
     ghost use Rattle.std.specs.Prelude.{◌≡◌};
     ghost use Rattle.seccompiler.specs.JsonEqualityLaws.{filter_map_decides};
-    ghost use Rattle.seccompiler.specs.JsonFilters.{filters_of};
+    ghost use Rattle.seccompiler.specs.JsonEquality.{named_filters};
 
-    ghost has_same_parts = { λ m n. filters_of m ≡ filters_of n };
+    ghost has_same_parts = { λ m n. named_filters m ≡ named_filters n };
 
     ghost decides = { filter_map_decides };
 }

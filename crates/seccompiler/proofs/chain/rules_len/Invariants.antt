@@ -1,5 +1,5 @@
 use Rattle.std.proofs.Common.{◌≡◌, ◌-◌, ◌^◌, min, take}
-use Rattle.seccompiler.specs.ChainCode.{rules_length}
+use Rattle.seccompiler.specs.Layout.{rules_length}
 use Rattle.seccompiler.proofs.chain.rules_len.Given as goal
 
 -- the length of the rules so far, or the greatest number if that is less

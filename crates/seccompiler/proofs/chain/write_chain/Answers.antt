@@ -4,8 +4,7 @@ use Rattle.std.proofs.Math.ListN.{length-set}
 use lib.Seq.{take_at}
 use Rattle.seccompiler.specs.Code.{jump_equal}
 use Rattle.seccompiler.specs.Policy.{Chain}
-use Rattle.seccompiler.specs.Layout.{chain_length}
-use Rattle.seccompiler.specs.ChainCode.{rules_length}
+use Rattle.seccompiler.specs.Layout.{chain_length, rules_length}
 use Rattle.seccompiler.proofs.Parts.{framed, length-part}
 use Rattle.seccompiler.proofs.OneChain.{chain_without, chain_with}
 use Rattle.seccompiler.proofs.chain.write_chain.Goals as goal

@@ -6,8 +6,8 @@ use borrow.Rule.Slice.PartMut.{same_len_mid}
 use Rattle.seccompiler.specs.Checked.{greatest_length}
 use Rattle.seccompiler.specs.declared.bpf.sock_filter.{sock_filter}
 use Rattle.seccompiler.specs.Policy.{Rule, Chain}
-use Rattle.seccompiler.specs.Layout.{rule_length}
-use Rattle.seccompiler.specs.ChainCode.{rules_length, IsRulesCode}
+use Rattle.seccompiler.specs.Layout.{rule_length, rules_length}
+use Rattle.seccompiler.specs.ChainCode.{IsRulesCode}
 use Rattle.seccompiler.proofs.Parts.{take-written, length-part}
 use Rattle.seccompiler.proofs.RulesCode.{rules_empty, rules_step, rules_all, rules_room}
 use Rattle.seccompiler.proofs.chain.write_rules.Goals as goal

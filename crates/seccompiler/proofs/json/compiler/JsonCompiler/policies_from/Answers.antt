@@ -2,7 +2,7 @@ use Rattle.std.proofs.lemmas.Result.{IfOk-weaker, err_from_is_err_and}
 use Rattle.serde_json.specs.Data.{Data}
 use Rattle.seccompiler.specs.ByName.{under}
 use Rattle.seccompiler.specs.JsonAnswers.{OfValue, ArePoliciesOf}
-use Rattle.seccompiler.specs.JsonFilters.{AreFilters}
+use Rattle.seccompiler.specs.JsonSteps.{AreFilters}
 use Rattle.seccompiler.specs.Reads.{Reads}
 use Rattle.seccompiler.proofs.json.compiler.JsonCompiler.policies_from.Goals as goal
 

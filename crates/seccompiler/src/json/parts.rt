@@ -19,7 +19,7 @@ use crate::json::types::{JsonCondition, JsonFilter, JsonRule};
 use serde_json::Value;
 use std::alloc::{AllocError, Global};
 
-fn plain_action_of(text: &str) -> Option<SeccompAction>
+fn read_plain_action(text: &str) -> Option<SeccompAction>
     ensures found { IfSome result (IsAction (string text.now)) }
     ensures none { IfNone result ((a : SeccompAction) → IsAction (string text.now) a → ⊥) }
 {
@@ -33,12 +33,12 @@ fn plain_action_of(text: &str) -> Option<SeccompAction>
     }
 }
 
-fn action_of(value: &Value) -> Option<SeccompAction>
+fn read_action(value: &Value) -> Option<SeccompAction>
     ensures found { IfSome result (IsAction (view value.now)) }
     ensures none { IfNone result ((a : SeccompAction) → IsAction (view value.now) a → ⊥) }
 {
     match value {
-        Value::String(text) => plain_action_of(text),
+        Value::String(text) => read_plain_action(text),
         Value::Object(members) => {
             if has_only_names(members, &["errno"]) {
                 Some(SeccompAction::Errno(u32_of(value.get("errno")?)?))
@@ -52,7 +52,7 @@ fn action_of(value: &Value) -> Option<SeccompAction>
     }
 }
 
-fn arg_len_of(value: &Value) -> Option<SeccompCmpArgLen>
+fn read_arg_len(value: &Value) -> Option<SeccompCmpArgLen>
     ensures found { IfSome result (IsArgLen (view value.now)) }
     ensures none { IfNone result ((l : SeccompCmpArgLen) → IsArgLen (view value.now) l → ⊥) }
 {
@@ -63,7 +63,7 @@ fn arg_len_of(value: &Value) -> Option<SeccompCmpArgLen>
     }
 }
 
-fn plain_operator_of(text: &str) -> Option<SeccompCmpOp>
+fn read_plain_operator(text: &str) -> Option<SeccompCmpOp>
     ensures found { IfSome result (IsOperator (string text.now)) }
     ensures none { IfNone result ((op : SeccompCmpOp) → IsOperator (string text.now) op → ⊥) }
 {
@@ -78,12 +78,12 @@ fn plain_operator_of(text: &str) -> Option<SeccompCmpOp>
     }
 }
 
-fn operator_of(value: &Value) -> Option<SeccompCmpOp>
+fn read_operator(value: &Value) -> Option<SeccompCmpOp>
     ensures found { IfSome result (IsOperator (view value.now)) }
     ensures none { IfNone result ((op : SeccompCmpOp) → IsOperator (view value.now) op → ⊥) }
 {
     match value {
-        Value::String(text) => plain_operator_of(text),
+        Value::String(text) => read_plain_operator(text),
         Value::Object(members) => {
             if !has_only_names(members, &["masked_eq"]) {
                 return None;
@@ -94,7 +94,7 @@ fn operator_of(value: &Value) -> Option<SeccompCmpOp>
     }
 }
 
-fn condition_of(value: &Value) -> Option<JsonCondition>
+fn read_condition(value: &Value) -> Option<JsonCondition>
     ensures found { IfSome result (IsCondition (view value.now)) }
     ensures none { IfNone result ((c : JsonCondition) → IsCondition (view value.now) c → ⊥) }
 {
@@ -102,8 +102,8 @@ fn condition_of(value: &Value) -> Option<JsonCondition>
         return None;
     }
     let arg_index = u8_of(value.get("index")?)?;
-    let arg_len = arg_len_of(value.get("type")?)?;
-    let operator = operator_of(value.get("op")?)?;
+    let arg_len = read_arg_len(value.get("type")?)?;
+    let operator = read_operator(value.get("op")?)?;
     let value = u64_of(value.get("val")?)?;
     Some(JsonCondition {
         arg_index,
@@ -113,7 +113,7 @@ fn condition_of(value: &Value) -> Option<JsonCondition>
     })
 }
 
-fn conditions_of(
+fn read_conditions(
     alloc: Global,
     items: &Vec<Value>,
 ) -> Result<Option<Vec<JsonCondition>>, AllocError>
@@ -124,7 +124,7 @@ fn conditions_of(
 {
     let mut found = Vec::new(alloc);
     for item in items {
-        match condition_of(item) {
+        match read_condition(item) {
             Some(condition) => found.push(condition)?,
             None => return Ok(None),
         }
@@ -133,7 +133,7 @@ fn conditions_of(
 }
 
 // What stands under `args`: no conditions where it is absent or null.
-fn args_of(
+fn read_args(
     alloc: Global,
     args: Option<&Value>,
 ) -> Result<Option<Option<Vec<JsonCondition>>>, AllocError>
@@ -144,7 +144,7 @@ fn args_of(
 {
     match args {
         None | Some(Value::Null) => Ok(Some(None)),
-        Some(Value::Array(items)) => match conditions_of(alloc, items)? {
+        Some(Value::Array(items)) => match read_conditions(alloc, items)? {
             Some(conditions) => Ok(Some(Some(conditions))),
             None => Ok(None),
         },
@@ -152,7 +152,7 @@ fn args_of(
     }
 }
 
-fn entry_of(alloc: Global, value: &Value) -> Result<Option<JsonRule>, AllocError>
+fn read_entry(alloc: Global, value: &Value) -> Result<Option<JsonRule>, AllocError>
     ensures found { IfOk result (λ o. IfSome o (IsEntry (view value.now))) }
     ensures none { IfOk result
         (λ o. IfNone o ((r : JsonRule) → IsEntry (view value.now) r → ⊥)) }
@@ -163,7 +163,7 @@ fn entry_of(alloc: Global, value: &Value) -> Result<Option<JsonRule>, AllocError
     let Some(Value::String(syscall)) = value.get("syscall") else {
         return Ok(None);
     };
-    let Some(conditions) = args_of(alloc, value.get("args"))? else {
+    let Some(conditions) = read_args(alloc, value.get("args"))? else {
         return Ok(None);
     };
     let syscall = String::from_str(alloc, syscall.as_str())?;
@@ -173,7 +173,7 @@ fn entry_of(alloc: Global, value: &Value) -> Result<Option<JsonRule>, AllocError
     }))
 }
 
-fn entries_of(alloc: Global, items: &Vec<Value>) -> Result<Option<Vec<JsonRule>>, AllocError>
+fn read_entries(alloc: Global, items: &Vec<Value>) -> Result<Option<Vec<JsonRule>>, AllocError>
     ensures found { IfOk result
         (λ o. IfSome o (λ all. OneByOne IsEntry (items_view items.now.items) all.items)) }
     ensures none { IfOk result (λ o. IfNone o
@@ -181,7 +181,7 @@ fn entries_of(alloc: Global, items: &Vec<Value>) -> Result<Option<Vec<JsonRule>>
 {
     let mut found = Vec::new(alloc);
     for item in items {
-        match entry_of(alloc, item)? {
+        match read_entry(alloc, item)? {
             Some(rule) => found.push(rule)?,
             None => return Ok(None),
         }
@@ -189,20 +189,20 @@ fn entries_of(alloc: Global, items: &Vec<Value>) -> Result<Option<Vec<JsonRule>>
     Ok(Some(found))
 }
 
-fn rules_of(alloc: Global, value: &Value) -> Result<Option<Vec<JsonRule>>, AllocError>
+fn read_rules(alloc: Global, value: &Value) -> Result<Option<Vec<JsonRule>>, AllocError>
     ensures found { IfOk result
         (λ o. IfSome o (λ all. IsListOf IsEntry (view value.now) all.items)) }
     ensures none { IfOk result
         (λ o. IfNone o ((all : List JsonRule) → IsListOf IsEntry (view value.now) all → ⊥)) }
 {
     match value {
-        Value::Array(items) => entries_of(alloc, items),
+        Value::Array(items) => read_entries(alloc, items),
         _ => Ok(None),
     }
 }
 
 // The action under the one of two names that is there. Both together are a fault.
-fn one_action(first: Option<&Value>, second: Option<&Value>) -> Option<SeccompAction>
+fn read_one_action(first: Option<&Value>, second: Option<&Value>) -> Option<SeccompAction>
     ensures found { IfSome result (IsOneAction (option_map (λ v. view v.now) first.entry)
         (option_map (λ v. view v.now) second.entry)) }
     ensures none { IfNone result ((a : SeccompAction) →
@@ -210,13 +210,13 @@ fn one_action(first: Option<&Value>, second: Option<&Value>) -> Option<SeccompAc
         (option_map (λ v. view v.now) second.entry) a → ⊥) }
 {
     match (first, second) {
-        (Some(value), None) | (None, Some(value)) => action_of(value),
+        (Some(value), None) | (None, Some(value)) => read_action(value),
         _ => None,
     }
 }
 
 /// The filter that the value is, or `None` where it is none; an error only for want of memory.
-pub fn filter_of(alloc: Global, value: &Value) -> Result<Option<JsonFilter>, AllocError>
+pub fn read_filter(alloc: Global, value: &Value) -> Result<Option<JsonFilter>, AllocError>
     ensures found { IfOk result (λ o. IfSome o (IsFilter (view value.now))) }
     ensures none { IfOk result
         (λ o. IfNone o ((f : JsonFilter) → IsFilter (view value.now) f → ⊥)) }
@@ -231,20 +231,20 @@ pub fn filter_of(alloc: Global, value: &Value) -> Result<Option<JsonFilter>, All
     if !is_object_of(value, &names) {
         return Ok(None);
     }
-    let Some(mismatch_action) = one_action(
+    let Some(mismatch_action) = read_one_action(
         value.get("mismatch_action"),
         value.get("default_action"),
     ) else {
         return Ok(None);
     };
-    let Some(match_action) = one_action(value.get("match_action"), value.get("filter_action"))
+    let Some(match_action) = read_one_action(value.get("match_action"), value.get("filter_action"))
     else {
         return Ok(None);
     };
     let Some(filter) = value.get("filter") else {
         return Ok(None);
     };
-    let Some(rules) = rules_of(alloc, filter)? else {
+    let Some(rules) = read_rules(alloc, filter)? else {
         return Ok(None);
     };
     Ok(Some(JsonFilter {

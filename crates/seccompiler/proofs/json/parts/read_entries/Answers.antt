@@ -1,6 +1,6 @@
 use Rattle.seccompiler.specs.JsonShape.{IsEntry}
 use Rattle.seccompiler.proofs.JsonLists.{goes_on, fails, ends}
-use Rattle.seccompiler.proofs.json.read.entries_of.Goals as goal
+use Rattle.seccompiler.proofs.json.parts.read_entries.Goals as goal
 
 pub returns-in-None-clause-none : goal.returns-in-None-clause-none
 returns-in-None-clause-none c = rw (← c.deref-item-items.ensures.value) (fails IsEntry _ _ _ _ c.loop-item.invariant c.loop-item-test.true c.item-item.is (rw c.in-None.is at c.in_ok-rule.ensures.none))

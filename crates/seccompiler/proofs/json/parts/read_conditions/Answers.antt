@@ -1,6 +1,6 @@
 use Rattle.seccompiler.specs.JsonShape.{IsCondition}
 use Rattle.seccompiler.proofs.JsonLists.{goes_on, fails, ends}
-use Rattle.seccompiler.proofs.json.read.conditions_of.Goals as goal
+use Rattle.seccompiler.proofs.json.parts.read_conditions.Goals as goal
 
 pub returns-in-None-clause-none : goal.returns-in-None-clause-none
 returns-in-None-clause-none c = rw (← c.deref-item-items.ensures.value) (fails IsCondition _ _ _ _ c.loop-item.invariant c.loop-item-test.true c.item-item.is c.in-None.ensures.none)

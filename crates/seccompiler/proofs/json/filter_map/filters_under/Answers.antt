@@ -5,7 +5,7 @@ use Rattle.std.proofs.lemmas.List.{append-nil}
 use Rattle.std.proofs.lemmas.Map.Text.{btree_map_updates_text}
 use Rattle.serde_json.proofs.Views.{Entry}
 use Rattle.seccompiler.proofs.JsonFilterMaps.{begins, one_more, least_fault}
-use Rattle.seccompiler.proofs.json.filters.filters_under.Goals as goal
+use Rattle.seccompiler.proofs.json.filter_map.filters_under.Goals as goal
 
 pub loop-name-init : goal.loop-name-init
 loop-name-init c = ([], search rules, begins c.new-found.result c.new-found.ensures.empty)

@@ -5,12 +5,12 @@ ghost use Rattle.std.specs.BTreeMap.{IsOrdered};
 ghost use Rattle.std.specs.String.{string_cmp};
 ghost use Rattle.serde_json.specs.Data.{Data, object};
 ghost use Rattle.serde_json.specs.View.{view, members_view};
-ghost use Rattle.seccompiler.specs.JsonFilters.{AreFilters, IsRefusal};
+ghost use Rattle.seccompiler.specs.JsonSteps.{AreFilters, IsShapeRefusal};
 ghost use Rattle.seccompiler.specs.JsonShape.{IsFilter};
 ghost use Rattle.seccompiler.specs.JsonTypes.{JsonFilter};
 
 use crate::json::error::JsonFrontendError;
-use crate::json::read::filter_of;
+use crate::json::parts::read_filter;
 use crate::json::types::JsonFilterMap;
 use serde_json::Value;
 use serde_json::value::Map;
@@ -37,7 +37,7 @@ use std::collections::BTreeMap;
 /// ```
 pub fn read_filters(alloc: Global, value: &Value) -> Result<JsonFilterMap, JsonFrontendError>
     ensures filters { IfOk result (AreFilters (view value.now)) }
-    ensures refusal { IfErr result (IsRefusal (view value.now)) }
+    ensures refusal { IfErr result (IsShapeRefusal (view value.now)) }
 
     // A value is at most one filter.
     ensures one_filter { (d : Data) (f g : JsonFilter) → IsFilter d f → IsFilter d g → f ≡ g }
@@ -54,12 +54,12 @@ fn filters_under(
     members: &Map<String, Value>,
 ) -> Result<JsonFilterMap, JsonFrontendError>
     ensures filters { IfOk result (AreFilters (object (members_view members.now.entries))) }
-    ensures refusal { IfErr result (IsRefusal (object (members_view members.now.entries))) }
+    ensures refusal { IfErr result (IsShapeRefusal (object (members_view members.now.entries))) }
 {
     let mut found = BTreeMap::new(alloc);
     for (name, value) in members.iter() {
         let name = String::from_str(alloc, name.as_str())?;
-        match filter_of(alloc, value)? {
+        match read_filter(alloc, value)? {
             Some(filter) => drop(found.insert(name, filter)?),
             None => return Err(JsonFrontendError::Shape(name)),
         }

@@ -1,0 +1,45 @@
+-- What the calls answer that go one step of the way from a JSON value to a filter.
+use Rattle.std.specs.Prelude.{string_bytes, ⊤, ◌≡◌, ◌≢◌, ◌≤◌, ◌<◌, Result, Ok, Err}
+use Rattle.std.specs.BTreeMap.{get_by_text}
+use Rattle.serde_json.specs.Data.{Data}
+use Rattle.seccompiler.specs.JsonShape.{IsObject, IsFilter}
+use Rattle.seccompiler.specs.declared.json.error.JsonFrontendError.{JsonFrontendError}
+use Rattle.seccompiler.specs.declared.json.error.JsonFrontendError.TheVariants.{NotAnObject, Shape, OutOfMemory, Backend, SyscallName}
+use Rattle.seccompiler.specs.declared.json.types.JsonFilterMap.{JsonFilterMap}
+use Rattle.seccompiler.specs.JsonFilters.{AreFound, IsLeastFault}
+use Rattle.seccompiler.specs.declared.backend.TargetArch.{TargetArch}
+use Rattle.seccompiler.specs.declared.backend.BackendError.TheVariants.{InvalidArgumentNumber}
+use Rattle.seccompiler.specs.declared.json.types.JsonCondition.{JsonCondition}
+use Rattle.seccompiler.specs.JsonTypes.{JsonFilter}
+use Rattle.seccompiler.specs.Condition.{Condition}
+use Rattle.seccompiler.specs.JsonPolicyOf.{Fault, unknown_call, refused, condition_of, IsFirstFault}
+use Rattle.seccompiler.specs.declared.backend.BackendError.TheVariants as of_backend
+
+-- The value is an object, and the map has exactly its names, each with the filter that its value is.
+abbrev pub AreFilters : Data → JsonFilterMap → Type 0
+AreFilters d filters = AreFound IsFilter (get_by_text filters.0) d
+
+-- Why the value is refused: it is no object, or this is its least name whose value is no filter.
+-- Want of memory may come in place of both, and no other error comes.
+abbrev pub IsShapeRefusal : Data → JsonFrontendError → Type 0
+IsShapeRefusal d NotAnObject = IsObject d → ⊥
+IsShapeRefusal d (Shape name) = IsLeastFault d (string_bytes name)
+IsShapeRefusal d OutOfMemory = ⊤
+IsShapeRefusal d _ = ⊥
+
+-- A conversion gives the condition of the same four parts where the index is at most 5, and is refused where it is above.
+abbrev pub IsConditionOf : JsonCondition → Result Condition JsonFrontendError → Type 0
+IsConditionOf c (Ok made) = (c.arg_index ≤ 5) × (made ≡ condition_of c)
+IsConditionOf c (Err e) = (5 < c.arg_index) × (e ≡ Backend InvalidArgumentNumber)
+
+-- An error tells a fault of which P holds, and no want of memory stands in it. Want of memory may come in place of the
+-- fault, and no other error comes.
+abbrev pub Tells : (Fault → Type 0) → JsonFrontendError → Type 0
+Tells P (Backend cause) = P (refused cause) × (cause ≢ of_backend.OutOfMemory)
+Tells P (SyscallName name arch) = P (unknown_call (string_bytes name) arch)
+Tells P OutOfMemory = ⊤
+Tells P _ = ⊥
+
+-- Why a JSON filter has no policy, as an error tells it: its first fault.
+abbrev pub IsPolicyRefusal : TargetArch → JsonFilter → JsonFrontendError → Type 0
+IsPolicyRefusal arch j = Tells (IsFirstFault arch j)

@@ -10,7 +10,7 @@ use Rattle.seccompiler.specs.declared.backend.SeccompCmpArgLen.TheVariants.{Dwor
 use Rattle.seccompiler.specs.Record.{word_at}
 use Rattle.seccompiler.specs.Code.{load, jump_equal, jump_greater}
 use Rattle.seccompiler.specs.Machine.{Step, stays, then_step}
-use Rattle.seccompiler.specs.Condition.{part_of, Compares}
+use Rattle.seccompiler.specs.Condition.{part_of, operator_part, Compares}
 use Rattle.seccompiler.specs.ConditionCode.{comparison_code}
 use Rattle.seccompiler.specs.Pieces.{Exits}
 use Rattle.seccompiler.proofs.Words.{mask_halves}
@@ -174,7 +174,7 @@ module _ (low v d x X Y : ℕ) (r : List ℕ) (within : low + 8 ≤ length r) (f
       (λ t. inr (λ h. t.0 (omega arith), arrive p r (6 + d) (then_step g t.1) (omega arith)))
       (on_equal p r 2 (bit_and Y N) (bit_and W N) 0 (d + 3) refl small_Y)
 
-  pub comparison_exits : (len : SeccompCmpArgLen) (op : SeccompCmpOp) → Exits (comparison_code len op low v d) d r a (Compares op (part_of len) (part_of len x) (part_of len v))
+  pub comparison_exits : (len : SeccompCmpArgLen) (op : SeccompCmpOp) → Exits (comparison_code len op low v d) d r a (Compares (operator_part len op) (part_of len x) (part_of len v))
   comparison_exits Dword Eq = dword_eq
   comparison_exits Dword Ne = dword_ne
   comparison_exits Dword Ge = dword_ge

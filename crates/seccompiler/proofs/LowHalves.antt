@@ -1,31 +1,19 @@
 -- What a condition on the low half of an argument does not depend on.
 use Rattle.std.proofs.Common.{◌≡◌, ◌↔◌, IsTrue, ℕ, ◌%◌, ◌^◌, List, Bool, sym, ap, ◌∙◌, subst}
-use Rattle.seccompiler.specs.declared.backend.SeccompCmpOp.{SeccompCmpOp}
-use Rattle.seccompiler.specs.declared.backend.SeccompCmpOp.TheVariants.{MaskedEq}
-use Rattle.seccompiler.specs.declared.backend.SeccompCmpArgLen.TheVariants.{Dword, Qword}
+use Rattle.seccompiler.specs.declared.backend.SeccompCmpArgLen.TheVariants.{Dword}
 use Rattle.seccompiler.specs.Record.{argument_at}
-use Rattle.seccompiler.specs.Condition.{Condition, part_of, Compares, Holds}
-use Rattle.seccompiler.specs.LowHalf.{low_operator, IsSameLowHalf, HasSameLowArgument}
-
--- A comparison of low halves reads the low 32 bits of the mask alone.
-reads_low_mask : (o : SeccompCmpOp) (x v : ℕ) → Compares o (part_of Dword) x v ↔ Compares (low_operator o) (part_of Qword) x v
-reads_low_mask (MaskedEq m) x v = (λ h. h, λ h. h)
-reads_low_mask _ x v = (λ h. h, λ h. h)
-
--- Comparisons of low halves by operators with the same low mask agree.
-same_comparison : (o p : SeccompCmpOp) (x y v w : ℕ) → low_operator o ≡ low_operator p → x ≡ y → v ≡ w → Compares o (part_of Dword) x v → Compares p (part_of Dword) y w
-same_comparison o p x y v w operator argument value compares =
-    (reads_low_mask p y w).1 (rw (← operator, ← argument, ← value) ((reads_low_mask o x v).0 compares))
+use Rattle.seccompiler.specs.Condition.{Condition, part_of, operator_part, Compares, Holds}
+use Rattle.seccompiler.specs.LowHalf.{IsSameLowHalf, HasSameLowArgument}
 
 -- A condition on the low half of an argument depends on the low 32 bits of argument, value and mask alone.
 low_half_decides : (c d : Condition) (r s : List ℕ) → IsSameLowHalf c d → HasSameLowArgument c.arg_index r s → Holds c r → Holds d s
 low_half_decides c d r s same argument holds =
-    let low_holds = subst (λ l. Compares c.operator (part_of l) (part_of l (argument_at r c.arg_index)) (part_of l c.value)) same.first_length holds in
+    let low_holds = subst (λ l. Compares (operator_part l c.operator) (part_of l (argument_at r c.arg_index)) (part_of l c.value)) same.first_length holds in
     let low_argument = argument ∙ ap (λ i. argument_at s i % 2 ^ 32) same.index in
     subst
-    (λ l. Compares d.operator (part_of l) (part_of l (argument_at s d.arg_index)) (part_of l d.value))
+    (λ l. Compares (operator_part l d.operator) (part_of l (argument_at s d.arg_index)) (part_of l d.value))
     (sym same.second_length)
-    (same_comparison c.operator d.operator _ _ _ _ same.operator low_argument same.value low_holds)
+    (rw (← same.operator, ← low_argument, ← same.value) low_holds)
 
 -- Both ways: what decides a condition by low halves decides it alike.
 low_half_same : (c d : Condition) (r s : List ℕ) → IsSameLowHalf c d → HasSameLowArgument c.arg_index r s → Holds c r ↔ Holds d s

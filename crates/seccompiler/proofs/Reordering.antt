@@ -11,7 +11,7 @@ use Rattle.std.proofs.lemmas.List.Elements.{All-weaker, AllZip-get_or, length_al
 use Rattle.std.proofs.lemmas.List.Sorted.{All-permutation, Contains-permutation, IsPermutation-sym, length_permutation}
 use Rattle.seccompiler.specs.Record.{number_at, word_at, argument_at}
 use Rattle.seccompiler.specs.Action.{word_of, audit_word}
-use Rattle.seccompiler.specs.Condition.{Condition, part_of, Compares, Holds}
+use Rattle.seccompiler.specs.Condition.{Condition, part_of, operator_part, Compares, Holds}
 use Rattle.seccompiler.specs.Policy.{Rule, Chain, Filter, chain_under, RuleHolds, ChainMatches, Matches, IsDecision, other_architecture, policy_matches, policy_differs}
 use Rattle.seccompiler.specs.Reorder.{IsReorderedRule, IsReorderedChain, IsReorderedEntry, IsReordered, IsSameCall}
 
@@ -39,7 +39,7 @@ same_call_back r s same = record { bytes = λ k outside. sym (same.bytes k outsi
 same_condition : (c : Condition) (r s : List ℕ) → IsSameCall r s → Holds c r → Holds c s
 same_condition c r s same holds =
     subst
-    (λ (x : ℕ). Compares c.operator (part_of c.arg_len) (part_of c.arg_len x) (part_of c.arg_len c.value))
+    (λ (x : ℕ). Compares (operator_part c.arg_len c.operator) (part_of c.arg_len x) (part_of c.arg_len c.value))
     (same_argument r s c.arg_index same)
     holds
 

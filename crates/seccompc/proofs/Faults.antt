@@ -12,7 +12,8 @@ use Rattle.seccompiler.specs.Policy.{Filter, IsCallNumber}
 use Rattle.seccompiler.specs.Compiled.{IsCompiled}
 use Rattle.seccompiler.specs.Refusal.{IsRefusal, IsCompilable, numbers_of}
 use Rattle.seccompc.specs.Errors.{from_library}
-use Rattle.seccompc.specs.Probe.{IsNameOf, IsFilterFor, IsCompiledFor, IsRefusedProbe, no_architecture, no_argument, no_call_number}
+use Rattle.seccompc.specs.Probe.{IsNameOf, no_architecture, no_argument, no_call_number}
+use Rattle.seccompc.specs.EngineSteps.{IsFilterFor, IsCompiledFor, IsRefusedProbe}
 
 -- A name that is refused is no architecture's.
 pub name_refused : (arch : List ℕ) (nr : ℤ) (index : ℕ) (e : BackendError) → ((target : TargetArch) → IsNameOf arch target → Err e ≡ Ok target)

@@ -43,8 +43,8 @@ module _ (done : List Entry) (e : Entry) (more : List Entry) (m n : Map) (key : 
   one_more so_far is = record {
     is_object = (members_view (done ++ e ∷ []), refl);
     each = λ name v there. elim (one_of_two name) [
-      | inl own ↦ let value : view e.1 ≡ v = let h = sym own.0 ∙ there in cc in (f, own.1, subst (λ d. IsFilter d f) value is)
-      | inr other ↦ let before = so_far.each name v (sym other.0 ∙ there) in (before.0, other.1 ∙ before.1, before.2)
+      | inl own ↦ let value : view e.1 ≡ v = let h = sym own.0 ∙ there in cc in record { found = f; there = own.1; own = subst (λ d. IsFilter d f) value is }
+      | inr other ↦ let before = so_far.each name v (sym other.0 ∙ there) in record { found = before.found; there = other.1 ∙ before.there; own = before.own }
     ];
     no_other = λ name lacks. elim (one_of_two name) [
       | inl own ↦ let h = sym own.0 ∙ lacks in cc

@@ -25,7 +25,7 @@ module _ (arch : TargetArch) (d : Data) (m : JsonFilterMap) (are : AreFilters d 
     -- Behind filters that have policies, one that has none is that of the least name.
     least_refused : (fault : Fault) → IsFirstFault arch entry.1 fault → IsLeastRefused arch fault d
     least_refused fault first = (
-      record { is_object = are.is_object; each = λ name value there. let known = are.each name value there in (known.0, known.2) },
+      record { is_object = are.is_object; each = λ name value there. let known = are.each name value there in (known.found, known.own) },
       string_bytes entry.0,
       least IsFilter (IsPolicyOf arch) (get_by_text m.0) d are m.0.entries (λ name. by_text name m.0.entries) (λ f. IsFirstFault arch f fault) (HasSomePolicy arch) (λ value f policy is made. (policy, (f, is, made))) front entry back whole order made h first,
     )

@@ -8,7 +8,8 @@ use Rattle.seccompiler.specs.ByName.{ByName, under, AreInOrder}
 use Rattle.seccompiler.specs.Checked.{IsChecked}
 use Rattle.seccompiler.specs.Errors.{from_backend}
 use Rattle.seccompiler.specs.JsonAnswers.{IsValueOf, HasPolicy, ArePoliciesOf}
-use Rattle.seccompiler.specs.JsonPrograms.{IsProgramOf, AreProgramsOf, IsLeastTooLarge, TellsFirstFault}
+use Rattle.seccompiler.specs.Compiled.{IsCompiled, Passes}
+use Rattle.seccompiler.specs.JsonPrograms.{AreProgramsOf, IsLeastTooLarge, TellsFirstFault}
 use Rattle.seccompiler.specs.Policy.{Filter, IsCallNumber}
 use Rattle.seccompiler.specs.Refusal.{numbers_of, IsCompilable, IsRefusal, IsTooLarge}
 use Rattle.seccompiler.specs.SyscallTable.{IsTableNumber}
@@ -32,18 +33,19 @@ numbers_here (x ∷ front) entry back all = numbers_here front entry back (All-t
 -- The program stands for a policy that may be compiled.
 pub record Compiles (policy : Filter) (program : Vec sock_filter Global) : Type 0 where
   pub compilable : IsCompilable policy
-  pub is_program : IsProgramOf policy program
+  pub compiled : IsCompiled policy program.items
+  pub passes : Passes policy program.items
 
 module _ (arch : TargetArch) (d : Data) (policies : ByName Filter) (are : ArePoliciesOf arch (under policies) d) where
   -- The programs that are made of the value's policies are the value's.
   pub are_programs : (made : ByName (Vec sock_filter Global)) → AreMade Compiles policies made → AreProgramsOf arch (under made) d
-  are_programs = all_made (HasPolicy arch) Compiles (under policies) d are policies (λ name. refl) _ (λ value policy program has made. (policy, has, made.is_program))
+  are_programs = all_made (HasPolicy arch) Compiles (under policies) d are policies (λ name. refl) _ (λ value policy program has made. record { policy = policy; is_policy = has; compiled = made.compiled; passes = made.passes })
 
   module _ (front : ByName Filter) (entry : String Global × Filter) (back : ByName Filter) (whole : policies ≡ front ++ entry ∷ back) (order : AreInOrder policies) (made : ByName (Vec sock_filter Global)) (h : AreMade Compiles front made) where
     -- Behind policies that are compiled, one that is too large is that of the least name.
     least_too_large : (n : ℕ) → IsTooLarge entry.1 n → IsLeastTooLarge arch n d
     least_too_large n large = (
-      record { is_object = are.is_object; each = λ name value there. let policy = are.each name value there in (policy.0, policy.2) },
+      record { is_object = are.is_object; each = λ name value there. let policy = are.each name value there in (policy.found, policy.own) },
       string_bytes entry.0,
       least (HasPolicy arch) Compiles (under policies) d are policies (λ name. refl) (λ policy. IsTooLarge policy n) _ (λ value policy program has made. (policy, has, made.compilable)) front entry back whole (subst (λ xs. AreInOrder xs) whole order) made h large,
     )
@@ -61,4 +63,4 @@ all_checked arch find d are name = by (find name) refl
   where
     by : (o : Option (Vec sock_filter Global)) → find name ≡ o → IfSome o (λ program. IsChecked program.items)
     by None is = tt
-    by (Some program) is = let value = value_under _ find d are name program is in value.2.2.compiled.checked
+    by (Some program) is = let value = value_under _ find d are name program is in value.2.compiled.checked

@@ -32,7 +32,7 @@ loop-name-preserved c =
     record {
       all = l.invariant.all ∙ ap (λ es. l.yielded ++ es) c.in-Some.ensures.steps.0 ∙ sym (append_assoc l.yielded (e ∷ []) (into_iter_items c.next.new.self));
       made = subst (AreMade Compiles (l.yielded ++ e ∷ [])) (sym added)
-          (made_more Compiles l.yielded l.found.items e entry l.invariant.made refl (record { compilable = of.compilable; is_program = record { compiled = of.compiled; passes = of.passes } }));
+          (made_more Compiles l.yielded l.found.items e entry l.invariant.made refl (record { compilable = of.compilable; compiled = of.compiled; passes = of.passes }));
     }
 
 pub returns-in_err-to_bpf-clause-fault : goal.returns-in_err-to_bpf-clause-fault

@@ -2,12 +2,12 @@
 use Rattle.std.specs.Prelude.{◌≡◌, ◌≢◌, ℕ, List, ◌++◌, Option, Some, codes, decimal, string_bytes, ⊤}
 use Rattle.std.specs.IoError.{error_kind}
 use Rattle.std.specs.declared.io.Error.{Error}
-use Rattle.std.specs.declared.io.ErrorKind.TheVariants as kind
 use Rattle.seccompiler.specs.declared.error.Error.{Error as LibraryError}
-use Rattle.seccompiler.specs.declared.error.Error.TheVariants as library
 use Rattle.seccompiler.specs.Errors.{error_text}
 use Rattle.seccompc.specs.declared.error.ToolError.{ToolError}
 use Rattle.seccompc.specs.declared.error.ToolError.TheVariants.{Library, NoFilter, ShortRecord, Read, Write, OutOfMemory}
+use Rattle.std.specs.declared.io.ErrorKind.TheVariants as kind
+use Rattle.seccompiler.specs.declared.error.Error.TheVariants as library
 
 -- A refusal of the library; want of memory stays want of memory.
 abbrev pub from_library : LibraryError → ToolError
@@ -26,20 +26,6 @@ tool_text OutOfMemory = Some (codes "Out of memory.")
 -- A reader's fault of another kind than want of memory.
 abbrev pub IsReadFault : Error → Type 0
 IsReadFault e = error_kind e ≢ kind.OutOfMemory
-
--- An error of reading records.
-abbrev pub IsReadError : ToolError → Type 0
-IsReadError (Read e) = IsReadFault e
-IsReadError OutOfMemory = ⊤
-IsReadError e = ⊥
-
--- An error of tracing records.
-abbrev pub IsTraceError : ToolError → Type 0
-IsTraceError (Read e) = IsReadFault e
-IsTraceError (ShortRecord rest) = ⊤
-IsTraceError (Write e) = ⊤
-IsTraceError OutOfMemory = ⊤
-IsTraceError e = ⊥
 
 -- What is written is as it was, where the error comes before the writing.
 abbrev pub KeepsOutput : {W : Type 0} → ToolError → W → W → Type 0

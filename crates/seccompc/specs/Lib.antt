@@ -1,4 +1,7 @@
--- What the program's words mean, and what its engines answer and write.
+-- The definitions that the contracts cite.
+
+-- What is promised, in reading order: which words are which command, what goes wrong, and what each engine answers and
+-- writes: lines of runs, listings, and the first fault of a policy; and what the statuses tell.
 pub mod Words
 pub mod Errors
 pub mod Lines
@@ -7,3 +10,5 @@ pub mod Probe
 pub mod Listing
 pub mod Policies
 pub mod Statuses
+-- Between layers: what the private steps of the engines promise each other.
+pub mod EngineSteps

@@ -9,11 +9,9 @@ use Rattle.std.specs.declared.alloc.Global.{Global}
 use Rattle.serde_json.specs.Data.{Data}
 use Rattle.seccompiler.specs.declared.bpf.sock_filter.{sock_filter}
 use Rattle.seccompiler.specs.declared.backend.TargetArch.{TargetArch}
-use Rattle.seccompiler.specs.Compiled.{IsCompiled}
-use Rattle.seccompiler.specs.JsonAnswers.{HasPolicy}
 use Rattle.seccompiler.specs.JsonShape.{Has, Under}
-use Rattle.seccompiler.specs.Policy.{Filter}
 use Rattle.seccompc.specs.Lines.{hexadecimal}
+use Rattle.seccompiler.specs.JsonPrograms.{IsProgramOf}
 
 -- The bytes of a name that are written by their numbers: 00 to 1f, 7f and the backslash.
 abbrev pub is_escaped : ℕ → Bool
@@ -51,17 +49,11 @@ named_program entry = (string_bytes entry.0, entry.1.items)
 abbrev pub listing_of : NamedProgram → List ℕ
 listing_of p = header_of (length p.1) p.0 ++ instruction_lines p.1
 
--- The value's policy on this architecture is one that the program is compiled for.
-pub record HasProgram (target : TargetArch) (value : Data) (program : List sock_filter) : Type 0 where
-  pub policy : Filter
-  pub is_policy : HasPolicy target value policy
-  pub compiled : IsCompiled policy program
-
 -- The text is, for each name of the value in byte order, the listing of a program that is compiled for the name's
 -- policy.
 pub record Listed (target : TargetArch) (d : Data) (text : List ℕ) : Type 0 where
   pub programs : List NamedProgram
   pub ordered : IsStrictlySortedBy (slice_cmp nat_cmp) (map (λ p. p.0) programs)
-  pub each : All (λ p. Under d p.0 (λ value. HasProgram target value p.1)) programs
+  pub each : All (λ p. Under d p.0 (λ value. IsProgramOf target value p.1)) programs
   pub complete : (name : List ℕ) (value : Data) → Has d name value → Contains (map (λ p. p.0) programs) name
   pub listings : text ≡ concat (map listing_of programs)

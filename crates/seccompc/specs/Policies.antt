@@ -1,30 +1,27 @@
 -- What the engines that are given a policy answer and write, and which fault they tell.
 use Rattle.std.specs.Prelude.{◌≡◌, ◌≢◌, ℕ, ◌<◌, List, Option, Result, Ok, Err, String, string_bytes, ⊤}
 use Rattle.std.specs.Io.KnownBytes.{Appends}
+use Rattle.std.specs.declared.io.Error.{Error as IoError}
 use Rattle.std.specs.declared.alloc.Global.{Global}
 use Rattle.serde_json.specs.Data.{Data}
 use Rattle.seccompiler.specs.declared.backend.TargetArch.{TargetArch}
 use Rattle.seccompiler.specs.declared.backend.BackendError.TheVariants.{InvalidTargetArch}
 use Rattle.seccompiler.specs.declared.error.Error.{Error}
-use Rattle.seccompiler.specs.declared.error.Error.TheVariants as library
 use Rattle.seccompiler.specs.declared.bpf.sock_filter.{sock_filter}
 use Rattle.seccompiler.specs.Errors.{IsNoMemoryInside}
-use Rattle.seccompiler.specs.JsonAnswers.{HasPolicy, OfValue}
-use Rattle.seccompiler.specs.JsonPrograms.{TellsFirstFault}
-use Rattle.seccompiler.specs.JsonShape.{IsObject, Has, Under, Lacks}
+use Rattle.seccompiler.specs.JsonAnswers.{IsValueOf, HasPolicy}
+use Rattle.seccompiler.specs.JsonPrograms.{IsProgramOf, TellsFirstFault}
+use Rattle.seccompiler.specs.JsonShape.{IsObject, Has, Lacks}
 use Rattle.seccompiler.specs.Policy.{Filter}
 use Rattle.seccompiler.specs.Reads.{Reads}
 use Rattle.seccompc.specs.Answers.{WritesLines}
 use Rattle.seccompc.specs.Errors.{IsReadFault}
 use Rattle.seccompc.specs.Lines.{Traced}
-use Rattle.seccompc.specs.Listing.{HasProgram, Listed}
+use Rattle.seccompc.specs.Listing.{Listed}
 use Rattle.seccompc.specs.Probe.{IsNameOf}
 use Rattle.seccompc.specs.declared.error.ToolError.{ToolError}
 use Rattle.seccompc.specs.declared.error.ToolError.TheVariants.{Library, NoFilter, ShortRecord, Read, Write, OutOfMemory}
-
--- The text names an architecture, of which P holds.
-abbrev pub OfNamed : List ℕ → (TargetArch → Type 0) → Type 0
-OfNamed arch P = (target : TargetArch) × IsNameOf arch target × P target
+use Rattle.seccompiler.specs.declared.error.Error.TheVariants as library
 
 -- The first of these that is so: the text names no architecture; the policy's text has a fault, and this is its first.
 -- Want of memory is no fault.
@@ -34,65 +31,45 @@ pub data IsPolicyFault (arch : List ℕ) (known : Option (List ℕ)) (e : Error)
   of_policy : (target : TargetArch) → IsNameOf arch target → e ≢ library.OutOfMemory → IsNoMemoryInside e
       → Reads known (λ text. TellsFirstFault target text e) → IsPolicyFault arch known e
 
--- The error is the first fault, or want of memory.
-abbrev pub IsRefusedPolicy : List ℕ → Option (List ℕ) → ToolError → Type 0
-IsRefusedPolicy arch known (Library e) = IsPolicyFault arch known e
-IsRefusedPolicy arch known OutOfMemory = ⊤
-IsRefusedPolicy arch known e = ⊥
-
--- The value is an object, and each value in it has a program.
-pub record HaveAllPrograms (target : TargetArch) (d : Data) : Type 0 where
+-- Nothing is at fault: the text names this architecture, and the policy's text is of this value, an object each of whose
+-- values has a program.
+pub record IsFaultlessPolicy (arch : List ℕ) (known : Option (List ℕ)) (target : TargetArch) (d : Data) : Type 0 where
+  pub named : IsNameOf arch target
+  pub read : Reads known (λ text. IsValueOf text d)
   pub is_object : IsObject d
-  pub each : (name : List ℕ) (value : Data) → Has d name value → (program : List sock_filter) × HasProgram target value program
+  pub each : (name : List ℕ) (value : Data) → Has d name value → (program : List sock_filter) × IsProgramOf target value program
 
--- Nothing is at fault: the text names an architecture, and the policy's text is of a value all of whose filters have
--- programs. P holds of both.
-abbrev pub OfFaultlessPolicy : List ℕ → Option (List ℕ) → (TargetArch → Data → Type 0) → Type 0
-OfFaultlessPolicy arch known P = OfNamed arch (λ target. Reads known (λ text. OfValue text (λ d. HaveAllPrograms target d × P target d)))
+-- The answer of a listing. It is Ok only where nothing is at fault, and then the listing of the value's filters is written;
+-- a refusal of the library is the first fault; a writer's fault comes where nothing is at fault. Want of memory may come in
+-- place of all.
+pub data AnswersList (arch : List ℕ) (known : Option (List ℕ)) (answer : Result ⊤ ToolError) (old new : Option (List ℕ)) : Type 0 where
+  listing_written : (target : TargetArch) (d : Data) (text : List ℕ) → IsFaultlessPolicy arch known target d → Listed target d text → Appends old new text
+      → answer ≡ Ok tt → AnswersList arch known answer old new
+  listing_refused : (e : Error) → IsPolicyFault arch known e → answer ≡ Err (Library e) → AnswersList arch known answer old new
+  listing_unwritten : (target : TargetArch) (d : Data) (e : IoError) → IsFaultlessPolicy arch known target d → answer ≡ Err (Write e) → AnswersList arch known answer old new
+  no_memory_for_listing : answer ≡ Err OutOfMemory → AnswersList arch known answer old new
 
--- What is written grew by the listing of the value's filters.
-pub record WritesListing (old new : Option (List ℕ)) (target : TargetArch) (d : Data) : Type 0 where
-  pub text : List ℕ
-  pub listed : Listed target d text
-  pub appends : Appends old new text
-
--- The answer of a listing. It is Ok only where nothing is at fault, and the listing is written; a refusal of the
--- library is the first fault; a writer's fault comes where nothing is at fault. Want of memory may come in place of all.
-abbrev pub AnswersList : List ℕ → Option (List ℕ) → Result ⊤ ToolError → Option (List ℕ) → Option (List ℕ) → Type 0
-AnswersList arch known (Ok done) old new = OfFaultlessPolicy arch known (WritesListing old new)
-AnswersList arch known (Err (Library e)) old new = IsPolicyFault arch known e
-AnswersList arch known (Err (Write e)) old new = OfFaultlessPolicy arch known (λ target d. ⊤)
-AnswersList arch known (Err OutOfMemory) old new = ⊤
-AnswersList arch known (Err e) old new = ⊥
-
--- What is written grew by the lines of the whole records of these bytes, traced by the value's policy, and so many
--- bytes are left behind them.
-pub record WritesTrace (bytes : List ℕ) (rest : ℕ) (old new : Option (List ℕ)) (target : TargetArch) (value : Data) : Type 0 where
-  pub policy : Filter
+-- Nothing is at fault, and the value has this name, with a filter of this policy.
+pub record HasFilter (arch : List ℕ) (known : Option (List ℕ)) (name : List ℕ) (policy : Filter) : Type 0 where
+  pub target : TargetArch
+  pub d : Data
+  pub faultless : IsFaultlessPolicy arch known target d
+  pub value : Data
+  pub there : Has d name value
   pub is_policy : HasPolicy target value policy
-  pub writes : WritesLines (Traced policy) bytes rest old new
-
--- The value has this name, and what stands under it is as P says.
-abbrev pub UnderName : List ℕ → (TargetArch → Data → Type 0) → TargetArch → Data → Type 0
-UnderName name P target d = Under d name (P target)
-
--- The lines of the records are written, and none of their bytes is left.
-abbrev pub WritesAll : Option (List ℕ) → Option (List ℕ) → Option (List ℕ) → TargetArch → Data → Type 0
-WritesAll records old new target value = Reads records (λ bytes. WritesTrace bytes 0 old new target value)
-
--- The lines of the whole records are written, and so many bytes, one at least, are left.
-abbrev pub WritesShort : Option (List ℕ) → ℕ → Option (List ℕ) → Option (List ℕ) → TargetArch → Data → Type 0
-WritesShort records rest old new target value = Reads records (λ bytes. (0 < rest) × WritesTrace bytes rest old new target value)
 
 -- The answer of a run of the filter of this name on records. The first fault is told: of the architecture's name and of
 -- the policy's text; then that no filter has the name; then that reading the records, or writing, fails; and then, with
 -- the lines of the whole records written, that the records end inside one. It is Ok only where nothing is at fault, and
 -- the lines are written. Want of memory may come in place of all.
-abbrev pub AnswersRun : List ℕ → Option (List ℕ) → List ℕ → Option (List ℕ) → Result ⊤ ToolError → Option (List ℕ) → Option (List ℕ) → Type 0
-AnswersRun arch known name records (Ok done) old new = OfFaultlessPolicy arch known (UnderName name (WritesAll records old new))
-AnswersRun arch known name records (Err (Library e)) old new = IsPolicyFault arch known e
-AnswersRun arch known name records (Err (NoFilter text)) old new = (string_bytes text ≡ name) × OfFaultlessPolicy arch known (λ target d. Lacks d name)
-AnswersRun arch known name records (Err (ShortRecord rest)) old new = OfFaultlessPolicy arch known (UnderName name (WritesShort records rest old new))
-AnswersRun arch known name records (Err (Read e)) old new = IsReadFault e × OfFaultlessPolicy arch known (UnderName name (λ target value. ⊤))
-AnswersRun arch known name records (Err (Write e)) old new = OfFaultlessPolicy arch known (UnderName name (λ target value. ⊤))
-AnswersRun arch known name records (Err OutOfMemory) old new = ⊤
+pub data AnswersRun (arch : List ℕ) (known : Option (List ℕ)) (name : List ℕ) (records : Option (List ℕ)) (answer : Result ⊤ ToolError) (old new : Option (List ℕ)) : Type 0 where
+  trace_written : (policy : Filter) → HasFilter arch known name policy → Reads records (λ bytes. WritesLines (Traced policy) bytes 0 old new)
+      → answer ≡ Ok tt → AnswersRun arch known name records answer old new
+  run_refused : (e : Error) → IsPolicyFault arch known e → answer ≡ Err (Library e) → AnswersRun arch known name records answer old new
+  no_filter : (target : TargetArch) (d : Data) (text : String Global) → IsFaultlessPolicy arch known target d → Lacks d name → string_bytes text ≡ name
+      → answer ≡ Err (NoFilter text) → AnswersRun arch known name records answer old new
+  unread : (policy : Filter) (e : IoError) → HasFilter arch known name policy → IsReadFault e → answer ≡ Err (Read e) → AnswersRun arch known name records answer old new
+  trace_unwritten : (policy : Filter) (e : IoError) → HasFilter arch known name policy → answer ≡ Err (Write e) → AnswersRun arch known name records answer old new
+  cut_short : (policy : Filter) (rest : ℕ) → HasFilter arch known name policy → 0 < rest → Reads records (λ bytes. WritesLines (Traced policy) bytes rest old new)
+      → answer ≡ Err (ShortRecord rest) → AnswersRun arch known name records answer old new
+  no_memory : answer ≡ Err OutOfMemory → AnswersRun arch known name records answer old new

@@ -10,9 +10,7 @@ use Rattle.seccompiler.specs.declared.backend.BackendError.TheVariants.{InvalidA
 use Rattle.seccompiler.specs.declared.error.Error.{Error}
 use Rattle.seccompiler.specs.declared.error.Error.TheVariants.{Backend}
 use Rattle.seccompiler.specs.Texts.{arch_text}
-use Rattle.seccompiler.specs.declared.bpf.sock_filter.{sock_filter}
 use Rattle.seccompiler.specs.Policy.{Filter, IsCallNumber}
-use Rattle.seccompiler.specs.Compiled.{IsCompiled}
 use Rattle.seccompc.specs.Errors.{IsReadFault}
 use Rattle.seccompc.specs.declared.error.ToolError.{ToolError}
 use Rattle.seccompc.specs.declared.error.ToolError.TheVariants.{Library, NoFilter, ShortRecord, Read, Write, OutOfMemory}
@@ -52,26 +50,8 @@ pub data IsProbeFault (arch : List ℕ) (nr : ℤ) (index : ℕ) (e : Error) : T
 abbrev pub AnswersWords : List ℕ → ℤ → ℕ → Result ⊤ ToolError → Type 0
 AnswersWords arch nr index (Ok done) = IsProbeFaultless arch nr index
 AnswersWords arch nr index (Err (Library e)) = IsProbeFault arch nr index e
-AnswersWords arch nr index (Err (NoFilter name)) = ⊥
 AnswersWords arch nr index (Err (ShortRecord rest)) = IsProbeFaultless arch nr index
 AnswersWords arch nr index (Err (Read e)) = IsProbeFaultless arch nr index × IsReadFault e
 AnswersWords arch nr index (Err (Write e)) = IsProbeFaultless arch nr index
 AnswersWords arch nr index (Err OutOfMemory) = ⊤
-
--- The filter is the one that words without the first two faults ask for.
-pub record IsFilterFor (arch : List ℕ) (nr : ℤ) (index value : ℕ) (f : Filter) : Type 0 where
-  pub target : TargetArch
-  pub named : IsNameOf arch target
-  pub argument : index ≤ 5
-  pub filter : f ≡ probe_filter target nr index value
-
--- The program is compiled for the filter that words without a fault ask for.
-pub record IsCompiledFor (arch : List ℕ) (nr : ℤ) (index value : ℕ) (program : List sock_filter) : Type 0 where
-  pub faultless : IsProbeFaultless arch nr index
-  pub compiled : IsCompiled (probe_filter faultless.target nr index value) program
-
--- The error is the first fault, or want of memory.
-abbrev pub IsRefusedProbe : List ℕ → ℤ → ℕ → ToolError → Type 0
-IsRefusedProbe arch nr index (Library e) = IsProbeFault arch nr index e
-IsRefusedProbe arch nr index OutOfMemory = ⊤
-IsRefusedProbe arch nr index e = ⊥
+AnswersWords arch nr index (Err _) = ⊥

@@ -6,7 +6,7 @@ ghost use Rattle.seccompiler.specs.Checked.{IsChecked};
 ghost use Rattle.seccompiler.specs.JsonAnswers.{OfValue};
 ghost use Rattle.seccompiler.specs.JsonPrograms.{AreProgramsOf};
 ghost use Rattle.seccompiler.specs.Reads.{Reads};
-ghost use Rattle.seccompc.specs.Policies.{OfNamed, IsRefusedPolicy};
+ghost use Rattle.seccompc.specs.EngineSteps.{OfNamed, IsRefusedPolicy};
 
 use crate::error::ToolError;
 use seccompiler::{BpfProgram, TargetArch, compile_from_json_in_order};

@@ -6,7 +6,8 @@ ghost use Rattle.seccompiler.specs.declared.backend.TargetArch.{TargetArch};
 ghost use Rattle.seccompc.specs.Lines.{Traced};
 ghost use Rattle.seccompc.specs.Errors.{KeepsOutput};
 ghost use Rattle.seccompc.specs.Answers.{AnswersRecords};
-ghost use Rattle.seccompc.specs.Probe.{probe_filter, IsNameOf, AnswersWords, IsFilterFor, IsCompiledFor, IsRefusedProbe};
+ghost use Rattle.seccompc.specs.Probe.{probe_filter, IsNameOf, AnswersWords};
+ghost use Rattle.seccompc.specs.EngineSteps.{IsFilterFor, IsCompiledFor, IsRefusedProbe};
 
 use crate::error::ToolError;
 use crate::trace::trace;

@@ -4,7 +4,8 @@ ghost use Rattle.std.specs.Prelude.{◌≡◌, IfOk, IfErr, IfSome};
 ghost use Rattle.seccompiler.specs.Checked.{IsChecked};
 ghost use Rattle.seccompiler.specs.Reads.{Reads};
 ghost use Rattle.seccompc.specs.Lines.{AreLines};
-ghost use Rattle.seccompc.specs.Errors.{IsReadError, IsTraceError, KeepsOutput};
+ghost use Rattle.seccompc.specs.Errors.{KeepsOutput};
+ghost use Rattle.seccompc.specs.EngineSteps.{IsReadError, IsTraceError};
 ghost use Rattle.seccompc.specs.Answers.{AnswersRecords};
 
 use crate::error::ToolError;

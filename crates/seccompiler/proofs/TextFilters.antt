@@ -21,8 +21,8 @@ value_under {X} P find d are name x there = by (get name d) refl
     by None lacks = let none : Some x ≡ None = sym there ∙ are.no_other name lacks in cc
     by (Some value) has =
         let own = are.each name value has in
-        let same : own.0 ≡ x = let both : Some own.0 ≡ Some x = sym own.1 ∙ there in cc in
-        (value, has, subst (P value) same own.2)
+        let same : own.found ≡ x = let both : Some own.found ≡ Some x = sym own.there ∙ there in cc in
+        (value, has, subst (P value) same own.own)
 
 module _ {X Y : Type 0} (P : Data → X → Type 0) (R : X → Y → Type 0) (find : List ℕ → Option X) (d : Data) (are : AreFound P find d) (xs : ByName X) (listed : (name : List ℕ) → find name ≡ under xs name) where
   -- What is made of all that is found is the value's, where it is so of one.
@@ -32,8 +32,8 @@ module _ {X Y : Type 0} (P : Data → X → Type 0) (R : X → Y → Type 0) (fi
     each = λ name value there.
         let known = are.each name value there in
         let made = made_under R xs ys h name in
-        let made = rw (sym (listed name) ∙ known.1) at made in
-        (made.0, made.1, one value known.0 made.0 known.2 made.2);
+        let made = rw (sym (listed name) ∙ known.there) at made in
+        record { found = made.0; there = made.1; own = one value known.found made.0 known.own made.2 };
     no_other = λ name none. let made = made_under R xs ys h name in rw (sym (listed name) ∙ are.no_other name none) at made;
   }
 
@@ -51,6 +51,6 @@ module _ {X Y : Type 0} (P : Data → X → Type 0) (R : X → Y → Type 0) (fi
         below = λ other value there less.
             let known = are.each other value there in
             let made = made_under R front ys h other in
-            let made = rw (found_in_front front entry back order other known.0 (sym (found other) ∙ known.1) less) at made in
-            one value known.0 made.0 known.2 made.2;
+            let made = rw (found_in_front front entry back order other known.found (sym (found other) ∙ known.there) less) at made in
+            one value known.found made.0 known.own made.2;
       }

@@ -18,19 +18,24 @@ abbrev pub part_of : SeccompCmpArgLen → ℕ → ℕ
 part_of Dword n = n % 2 ^ 32
 part_of Qword n = n
 
--- The argument x compares with the value v as the operator says, and under a mask of which this part counts.
-abbrev pub Compares : SeccompCmpOp → (ℕ → ℕ) → ℕ → ℕ → Type 0
-Compares Eq part x v = x ≡ v
-Compares Ne part x v = x ≢ v
-Compares Ge part x v = v ≤ x
-Compares Gt part x v = v < x
-Compares Le part x v = x ≤ v
-Compares Lt part x v = x < v
-Compares (MaskedEq m) part x v = bit_and x (part m) ≡ bit_and v (part m)
+-- The operator, with what counts of its mask.
+abbrev pub operator_part : SeccompCmpArgLen → SeccompCmpOp → SeccompCmpOp
+operator_part length (MaskedEq m) = MaskedEq (part_of length m)
+operator_part length operator = operator
 
--- The condition holds on a call record.
+-- The number x compares with the number v as the operator says.
+abbrev pub Compares : SeccompCmpOp → ℕ → ℕ → Type 0
+Compares Eq x v = x ≡ v
+Compares Ne x v = x ≢ v
+Compares Ge x v = v ≤ x
+Compares Gt x v = v < x
+Compares Le x v = x ≤ v
+Compares Lt x v = x < v
+Compares (MaskedEq m) x v = bit_and x m ≡ bit_and v m
+
+-- The condition holds on a call record: what counts of the argument compares with what counts of the value.
 abbrev pub Holds : Condition → List ℕ → Type 0
-Holds c r = Compares c.operator (part_of c.arg_len) (part_of c.arg_len (argument_at r c.arg_index)) (part_of c.arg_len c.value)
+Holds c r = Compares (operator_part c.arg_len c.operator) (part_of c.arg_len (argument_at r c.arg_index)) (part_of c.arg_len c.value)
 
 -- How many instructions a comparison takes.
 abbrev pub size_by : SeccompCmpArgLen → SeccompCmpOp → ℕ

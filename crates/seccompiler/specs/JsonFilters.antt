@@ -7,11 +7,17 @@ use Rattle.serde_json.specs.Data.{Data}
 use Rattle.seccompiler.specs.JsonShape.{IsObject, Has, Lacks, IsFilter}
 use Rattle.seccompiler.specs.JsonTypes.{JsonFilter}
 
+-- What is found under the name is, as P says, what the value is.
+pub record IsFound {X : Type 0} (P : Data → X → Type 0) (find : List ℕ → Option X) (name : List ℕ) (value : Data) : Type 0 where
+  pub found : X
+  pub there : find name ≡ Some found
+  pub own : P value found
+
 -- The value is an object, and what is found under each of its names is, as P says, what the name's value is; under no
 -- other name there is anything.
 pub record AreFound {X : Type 0} (P : Data → X → Type 0) (find : List ℕ → Option X) (d : Data) : Type 0 where
   pub is_object : IsObject d
-  pub each : (name : List ℕ) (value : Data) → Has d name value → (x : X) × (find name ≡ Some x) × P value x
+  pub each : (name : List ℕ) (value : Data) → Has d name value → IsFound P find name value
   pub no_other : (name : List ℕ) → Lacks d name → find name ≡ None
 
 -- The value is an object, and each value in it is as P says.

@@ -13,15 +13,17 @@ use Rattle.seccompiler.specs.declared.bpf.sock_filter.{sock_filter}
 use Rattle.seccompiler.specs.declared.error.Error.{Error}
 use Rattle.seccompiler.specs.declared.error.Error.TheVariants as whole
 
--- The program stands for the policy.
-pub record IsProgramOf (policy : Filter) (program : Vec sock_filter Global) : Type 0 where
-  pub compiled : IsCompiled policy program.items
-  pub passes : Passes policy program.items
+-- The value has a policy on this architecture, for which the program stands.
+pub record IsProgramOf (arch : TargetArch) (value : Data) (program : List sock_filter) : Type 0 where
+  pub policy : Filter
+  pub is_policy : HasPolicy arch value policy
+  pub compiled : IsCompiled policy program
+  pub passes : Passes policy program
 
 -- The value is an object, and what is found under a name is a program for the policy of the name's value; under no
 -- other name there is anything.
 abbrev pub AreProgramsOf : TargetArch → (List ℕ → Option (Vec sock_filter Global)) → Data → Type 0
-AreProgramsOf arch = AreFound (λ value program. (policy : Filter) × HasPolicy arch value policy × IsProgramOf policy program)
+AreProgramsOf arch = AreFound (λ value program. IsProgramOf arch value program.items)
 
 -- All values have policies; one policy is too large, n telling its length, and no policy of a name below its name is.
 abbrev pub IsLeastTooLarge : TargetArch → ℕ → Data → Type 0

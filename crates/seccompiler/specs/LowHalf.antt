@@ -1,20 +1,8 @@
 -- Conditions on the low half of an argument that differ in high halves alone.
 use Rattle.std.specs.Prelude.{◌≡◌, ℕ, ◌%◌, ◌^◌, List}
-use Rattle.seccompiler.specs.declared.backend.SeccompCmpOp.{SeccompCmpOp}
-use Rattle.seccompiler.specs.declared.backend.SeccompCmpOp.TheVariants.{Eq, Ge, Gt, Le, Lt, MaskedEq, Ne}
 use Rattle.seccompiler.specs.declared.backend.SeccompCmpArgLen.TheVariants.{Dword}
 use Rattle.seccompiler.specs.Record.{argument_at}
-use Rattle.seccompiler.specs.Condition.{Condition}
-
--- The operator, with the low 32 bits of its mask.
-abbrev pub low_operator : SeccompCmpOp → SeccompCmpOp
-low_operator Eq = Eq
-low_operator Ne = Ne
-low_operator Ge = Ge
-low_operator Gt = Gt
-low_operator Le = Le
-low_operator Lt = Lt
-low_operator (MaskedEq m) = MaskedEq (m % 2 ^ 32)
+use Rattle.seccompiler.specs.Condition.{Condition, operator_part}
 
 -- Two conditions on the low half of one argument have the same operator, and agree in the low 32 bits of the value and
 -- of the mask.
@@ -22,7 +10,7 @@ pub record IsSameLowHalf (c d : Condition) : Type 0 where
   pub first_length : c.arg_len ≡ Dword
   pub second_length : d.arg_len ≡ Dword
   pub index : c.arg_index ≡ d.arg_index
-  pub operator : low_operator c.operator ≡ low_operator d.operator
+  pub operator : operator_part Dword c.operator ≡ operator_part Dword d.operator
   pub value : c.value % 2 ^ 32 ≡ d.value % 2 ^ 32
 
 -- Two records agree in the low 32 bits of argument i.

@@ -244,7 +244,7 @@ impl SeccompCondition {
 }
 
 ghost use Rattle.std.specs.Prelude.{◌≡◌, ◌/◌, ◌%◌, ◌^◌, ◌↔◌, IsTrue};
-ghost use Rattle.seccompiler.specs.Condition.{part_of, Compares};
+ghost use Rattle.seccompiler.specs.Condition.{part_of, operator_part, Compares};
 
 // What is compared of a number.
 fn part_of(length: SeccompCmpArgLen, number: u64) -> u64
@@ -258,7 +258,7 @@ fn part_of(length: SeccompCmpArgLen, number: u64) -> u64
 
 // Whether the argument compares with the value as the operator says.
 fn compares(operator: SeccompCmpOp, length: SeccompCmpArgLen, argument: u64, value: u64) -> bool
-    ensures { IsTrue result ↔ Compares operator (part_of length) argument value }
+    ensures { IsTrue result ↔ Compares (operator_part length operator) argument value }
 {
     match operator {
         SeccompCmpOp::Eq => argument == value,

@@ -4,7 +4,8 @@ use Rattle.std.proofs.lemmas.Result.{err_from_is_err_and}
 use Rattle.seccompiler.specs.declared.backend.TargetArch.{TargetArch}
 use Rattle.seccompc.specs.Answers.{AnswersRecords}
 use Rattle.seccompc.specs.Lines.{Traced}
-use Rattle.seccompc.specs.Probe.{probe_filter, IsNameOf, IsRefusedProbe}
+use Rattle.seccompc.specs.Probe.{probe_filter, IsNameOf}
+use Rattle.seccompc.specs.EngineSteps.{IsRefusedProbe}
 use Rattle.seccompc.proofs.Records.{reads_some, answers_none}
 use Rattle.seccompc.proofs.probe.probe.Goals as goal
 

@@ -1,7 +1,7 @@
 use Rattle.std.proofs.Common.{◌<◌, length, refl, subst, arith}
 use Rattle.std.proofs.lemmas.Result.{err_from_is_err_and}
 use Rattle.seccompc.specs.Lines.{AreLines}
-use Rattle.seccompc.specs.Errors.{IsReadError}
+use Rattle.seccompc.specs.EngineSteps.{IsReadError}
 use Rattle.seccompc.proofs.Records.{lines_sent, reads_some, answers_none}
 use Rattle.seccompc.proofs.trace.trace.Goals as goal
 

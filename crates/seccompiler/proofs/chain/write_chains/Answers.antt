@@ -7,7 +7,8 @@ use Rattle.seccompiler.specs.Policy.{Chain, chains_of}
 use Rattle.seccompiler.specs.Layout.{chain_length, chains_length}
 use Rattle.seccompiler.specs.ChainCode.{IsChainsCode}
 use Rattle.seccompiler.proofs.Parts.{length-part, take-front}
-use Rattle.seccompiler.proofs.AllChains.{MapEntry, chains_empty, chains_step, key_fits, rest_step, chains_room}
+use Rattle.seccompiler.proofs.chain.AllChains.{chains_empty, chains_step, chains_room}
+use Rattle.seccompiler.proofs.FoundChains.{MapEntry, key_fits, rest_step}
 use Rattle.seccompiler.proofs.chain.write_chains.Goals as goal
 
 -- there is room for a further chain

@@ -9,7 +9,7 @@ use Rattle.seccompiler.specs.Refusal.{numbers_of}
 use Rattle.seccompiler.specs.SyscallTable.{IsTableNumber}
 use Rattle.seccompiler.specs.declared.bpf.sock_filter.{sock_filter}
 use Rattle.seccompiler.proofs.ByName.{AreMade, made_more, made_in_order}
-use Rattle.seccompiler.proofs.TextPrograms.{Compiles, are_programs, refused_told, numbers_here}
+use Rattle.seccompiler.proofs.compile.TextPrograms.{Compiles, are_programs, refused_told, numbers_here}
 use Rattle.seccompiler.proofs.compile.programs.Goals as goal
 
 -- Where nothing is left, all is yielded.
@@ -32,7 +32,7 @@ loop-name-preserved c =
     record {
       all = l.invariant.all ∙ ap (λ es. l.yielded ++ es) c.in-Some.ensures.steps.0 ∙ sym (append_assoc l.yielded (e ∷ []) (into_iter_items c.next.new.self));
       made = subst (AreMade Compiles (l.yielded ++ e ∷ [])) (sym added)
-          (made_more Compiles l.yielded l.found.items e entry l.invariant.made refl (record { compilable = of.compilable; is_program = record { compiled = of.compiled; passes = of.passes } }));
+          (made_more Compiles l.yielded l.found.items e entry l.invariant.made refl (record { compilable = of.compilable; compiled = of.compiled; passes = of.passes }));
     }
 
 pub returns-in_err-to_bpf-clause-fault : goal.returns-in_err-to_bpf-clause-fault

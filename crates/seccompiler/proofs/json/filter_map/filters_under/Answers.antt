@@ -4,7 +4,7 @@ use Rattle.std.specs.Map.{keys_of}
 use Rattle.std.proofs.lemmas.List.{append-nil}
 use Rattle.std.proofs.lemmas.Map.Text.{btree_map_updates_text}
 use Rattle.serde_json.proofs.Views.{Entry}
-use Rattle.seccompiler.proofs.JsonFilterMaps.{begins, one_more, least_fault}
+use Rattle.seccompiler.proofs.json.filter_map.FilterMaps.{begins, one_more, least_fault}
 use Rattle.seccompiler.proofs.json.filter_map.filters_under.Goals as goal
 
 pub loop-name-init : goal.loop-name-init
@@ -31,7 +31,7 @@ returns-in-None-2-clause-refusal c =
     let sorted : IsStrictlySortedBy string_cmp (keys_of (done ++ e ∷ left)) = subst (λ es. IsStrictlySortedBy string_cmp (keys_of es)) all c.iter-name-items.ensures.ordered in
     let same : string_bytes c.in_ok-name.name ≡ string_bytes e.0 = c.in_ok-name.ensures.ok ∙ c.as_str.ensures.value in
     let none = rw c.in-None-2.is at c.in_ok-filter.ensures.none in
-    rw (all, same) (least_fault done e left sorted (λ name v there. let f = c.loop-name.invariant.2.each name v there in (f.0, f.2)) none)
+    rw (all, same) (least_fault done e left sorted (λ name v there. let f = c.loop-name.invariant.2.each name v there in (f.found, f.own)) none)
 
 pub returns-clause-filters : goal.returns-clause-filters
 returns-clause-filters c =

@@ -1,0 +1,62 @@
+-- What the refusals of the library mean for a probe's words.
+use Rattle.std.proofs.Common.{◌≡◌, ℕ, zero, suc, ℤ, ◌<◌, ◌⊎◌, List, [], ◌∷◌, Ok, Err, All, Contains, refl, sym, subst, ap, ⊎_elim, arith}
+use Rattle.std.proofs.lemmas.List.Elements.{All-head}
+use Rattle.seccompiler.specs.declared.bpf.sock_filter.{sock_filter}
+use Rattle.seccompiler.specs.declared.backend.TargetArch.{TargetArch}
+use Rattle.seccompiler.specs.declared.backend.BackendError.{BackendError}
+use Rattle.seccompiler.specs.declared.backend.BackendError.TheVariants.{EmptyRule, FilterTooLarge, IdenticalActions, InvalidArgumentNumber, InvalidTargetArch, InvalidSyscallNumber, OutOfMemory}
+use Rattle.seccompiler.specs.Errors.{from_backend}
+use Rattle.seccompiler.specs.Texts.{IsInvalidArch}
+use Rattle.seccompiler.specs.Layout.{counted_length}
+use Rattle.seccompiler.specs.Policy.{Filter, IsCallNumber}
+use Rattle.seccompiler.specs.Compiled.{IsCompiled}
+use Rattle.seccompiler.specs.Refusal.{IsRefusal, IsCompilable, numbers_of}
+use Rattle.seccompc.specs.Errors.{from_library}
+use Rattle.seccompc.specs.Probe.{IsNameOf, no_architecture, no_argument, no_call_number}
+use Rattle.seccompc.specs.EngineSteps.{IsFilterFor, IsCompiledFor, IsRefusedProbe}
+
+-- A name that is refused is no architecture's.
+pub name_refused : (arch : List ℕ) (nr : ℤ) (index : ℕ) (e : BackendError) → ((target : TargetArch) → IsNameOf arch target → Err e ≡ Ok target)
+    → IsInvalidArch e arch ⊎ (e ≡ OutOfMemory) → IsRefusedProbe arch nr index (from_library (from_backend e))
+name_refused arch nr index EmptyRule none cause = ⊎_elim (λ no. absurd no) (λ no. absurd cc) cause
+name_refused arch nr index (FilterTooLarge n) none cause = ⊎_elim (λ no. absurd no) (λ no. absurd cc) cause
+name_refused arch nr index IdenticalActions none cause = ⊎_elim (λ no. absurd no) (λ no. absurd cc) cause
+name_refused arch nr index InvalidArgumentNumber none cause = ⊎_elim (λ no. absurd no) (λ no. absurd cc) cause
+name_refused arch nr index (InvalidTargetArch text) none cause =
+    ⊎_elim (λ given. no_architecture text (λ target named. let no = none target named in cc) given refl) (λ no. absurd cc) cause
+name_refused arch nr index (InvalidSyscallNumber n) none cause = ⊎_elim (λ no. absurd no) (λ no. absurd cc) cause
+name_refused arch nr index OutOfMemory none cause = tt
+
+-- An index that is refused is no argument's.
+pub index_refused : (arch : List ℕ) (nr : ℤ) (index : ℕ) (target : TargetArch) → IsNameOf arch target → 5 < index
+    → IsRefusedProbe arch nr index (from_library (from_backend InvalidArgumentNumber))
+index_refused arch nr index target named above = no_argument target named above refl
+
+-- One number alone is among the numbers of a probe's filter.
+only_number : (nr n : ℤ) → Contains (nr ∷ []) n → n ≡ nr
+only_number nr n (zero, room, at) = sym at
+only_number nr n (suc k, room, at) = absurd (omega arith)
+
+-- A filter of a probe that is refused has no call number.
+pub filter_refused : (arch : List ℕ) (nr : ℤ) (index value : ℕ) (f : Filter) (e : BackendError) → IsFilterFor arch nr index value f → IsRefusal f e
+    → IsRefusedProbe arch nr index (from_library (from_backend e))
+filter_refused arch nr index value f EmptyRule for cause = absurd cause
+filter_refused arch nr index value f (FilterTooLarge n) for cause = absurd (omega (arith, ap counted_length for.filter, cause.large))
+filter_refused arch nr index value f IdenticalActions for cause = absurd cause
+filter_refused arch nr index value f InvalidArgumentNumber for cause = absurd cause
+filter_refused arch nr index value f (InvalidTargetArch text) for cause = absurd cause
+filter_refused arch nr index value f (InvalidSyscallNumber n) for cause =
+    let among : Contains (nr ∷ []) n = subst (λ (g : Filter). Contains (numbers_of g.chains) n) for.filter cause.among in
+    let same = only_number nr n among in
+    no_call_number for.target for.named for.argument (λ fits. cause.unfit (subst IsCallNumber (sym same) fits)) (ap (λ m. from_backend (InvalidSyscallNumber m)) same)
+filter_refused arch nr index value f OutOfMemory for cause = tt
+
+-- A filter of a probe that is compiled has one.
+pub filter_compiled : (arch : List ℕ) (nr : ℤ) (index value : ℕ) (f : Filter) (program : List sock_filter) → IsFilterFor arch nr index value f
+    → IsCompilable f → IsCompiled f program → IsCompiledFor arch nr index value program
+filter_compiled arch nr index value f program for fits compiled =
+    let numbers = subst (λ (g : Filter). All IsCallNumber (numbers_of g.chains)) for.filter fits.numbers in
+    record {
+      faultless = record { target = for.target; named = for.named; argument = for.argument; number = All-head IsCallNumber nr [] numbers };
+      compiled = subst (λ g. IsCompiled g program) for.filter compiled;
+    }

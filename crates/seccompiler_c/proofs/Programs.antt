@@ -1,0 +1,53 @@
+-- Why a request is refused, from why its parts are.
+use Rattle.std.proofs.Common.{◌≡◌, ◌<◌, ◌≤◌, ◌^◌, ◌++◌, ℕ, pos, List, drop, length, w64, to_z, refl, sym, ap, ◌∙◌, subst}
+use Rattle.std.proofs.lemmas.Int.{to_z_pos}
+use Rattle.seccompiler.specs.Policy.{Filter}
+use Rattle.seccompiler.specs.declared.backend.TargetArch.{TargetArch}
+use Rattle.seccompiler.specs.declared.bpf.sock_filter.{sock_filter}
+use Rattle.seccompiler_c.specs.Arguments.{IsArchitecture, IsLayout}
+use Rattle.seccompiler_c.specs.Policies.{NamesPolicy, IsPolicyFault}
+use Rattle.seccompiler_c.specs.Programs.{Request, OfProgram, Holds, IsRefusal, IsUncompiledIn}
+use Rattle.seccompiler_c.specs.declared.arguments.ProgramLayout.{ProgramLayout}
+use Rattle.seccompiler_c.specs.declared.fault.Fault.{Fault}
+use Rattle.seccompiler_c.specs.declared.fault.Fault.TheVariants as fault
+
+-- What holds of the policy that is found holds of the policy of the name.
+pub named_so : (target : TargetArch) (text name : List ℕ) (policy : Filter) (P : Filter → Type 0) → NamesPolicy target text name (λ p. p ≡ policy) → P policy → NamesPolicy target text name P
+named_so target text name policy P (d, is, (all, (value, has, (p, own, same)))) holds = (d, is, (all, (value, has, (p, own, subst P (sym same) holds))))
+
+module _ (r : Request) (target : TargetArch) (layout : ProgramLayout) (architecture : IsArchitecture r.architecture target) (number : IsLayout r.layout layout) where
+  -- A request without a policy is refused for that.
+  pub no_policy : (f : Fault) → IsPolicyFault target r.text r.name f → IsRefusal r f
+  no_policy fault.OutOfMemory why = tt
+  no_policy fault.UnknownArchitecture why = absurd why
+  no_policy fault.UnknownLayout why = absurd why
+  no_policy fault.NotARecord why = absurd why
+  no_policy (fault.Text e) why = (target, architecture, (layout, number, why))
+  no_policy fault.NoFilter why = (target, architecture, (layout, number, why))
+  no_policy (fault.Filter e) why = absurd why
+  no_policy (fault.NoRoom n) why = absurd why
+
+  -- A request whose policy has no program is refused for that.
+  pub no_program : (policy : Filter) → NamesPolicy target r.text r.name (λ p. p ≡ policy) → (f : Fault) → IsUncompiledIn layout policy f → IsRefusal r f
+  no_program policy named fault.OutOfMemory why = tt
+  no_program policy named fault.UnknownArchitecture why = absurd why
+  no_program policy named fault.UnknownLayout why = absurd why
+  no_program policy named fault.NotARecord why = absurd why
+  no_program policy named (fault.Text e) why = absurd why
+  no_program policy named fault.NoFilter why = absurd why
+  no_program policy named (fault.Filter e) why = (target, architecture, (layout, number, named_so target r.text r.name policy _ named why))
+  no_program policy named (fault.NoRoom n) why = absurd why
+
+-- What holds of a request's program is so of it.
+pub programs_so : (r : Request) (P Q : List sock_filter → Type 0) → ((program : List sock_filter) → P program → Q program) → OfProgram r P → OfProgram r Q
+programs_so r P Q so (target, architecture, (layout, number, (d, is, (all, (value, has, (policy, own, (program, compiled, holds))))))) =
+    (target, architecture, (layout, number, (d, is, (all, (value, has, (policy, own, (program, compiled, so program holds)))))))
+
+-- An array holds the program that is copied to its front.
+pub holds : (old items front : List sock_filter) (n : ℕ) → n ≡ length items → front ≡ items → length items ≤ length old → n < 2 ^ 63
+    → (program : List sock_filter) → program ≡ items → Holds old (front ++ drop n old) (to_z w64 n) program
+holds old items front n count same room small program is = record {
+  room = rw is room;
+  written = rw (is, same, count) refl;
+  told = to_z_pos w64 n small ∙ ap pos (count ∙ ap length (sym is));
+}

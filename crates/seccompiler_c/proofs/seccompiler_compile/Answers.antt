@@ -1,0 +1,22 @@
+use Rattle.std.proofs.Common.{◌≡◌, ◌<◌, ◌^◌, length, w64, refl, arith}
+use Rattle.std.proofs.lemmas.Int.{to_z-of_z}
+use Rattle.seccompiler_c.specs.Programs.{Request, compiled, refused, Holds}
+use Rattle.seccompiler_c.proofs.Programs.{programs_so, holds}
+use Rattle.seccompiler_c.proofs.seccompiler_compile.Goals as goal
+
+pub returns-in-Ok : goal.returns-in-Ok
+returns-in-Ok c =
+    let old = c.args.program.now in
+    let items = c.in-Ok.compiled.items in
+    let n = c.len-count.result in
+    let front = c.copy_from_slice.new.self in
+    let count : n ≡ length items = cc in
+    let same : front ≡ items = cc in
+    let long : length c.deref.result.now ≡ n = cc in
+    let small : n < 2 ^ 63 = omega (arith, long, c.deref.type_inv.1) in
+    let request : Request = record { text = c.args.text.now; architecture = c.args.architecture; name = c.args.name.now; layout = c.args.layout; room = length old } in
+    let written = holds old items front n count same c.in-Ok.ensures.fits small in
+    record { answers = compiled (programs_so request (λ program. program ≡ items) (Holds old _ _) written c.in-Ok.ensures.program) }
+
+pub returns-in-Err : goal.returns-in-Err
+returns-in-Err c = rw (to_z-of_z w64 c.code.result (record { sfits = c.code.type_inv })) (record { answers = refused c.in-Err.fault c.in-Err.ensures.refused c.code.ensures refl })

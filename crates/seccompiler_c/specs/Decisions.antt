@@ -1,0 +1,48 @@
+-- What a run and a decision answer for a record.
+use Rattle.std.specs.Prelude.{◌≡◌, ◌≢◌, ℕ, ℤ, pos, ◌≤◌, List, length, ⊤}
+use Rattle.seccompiler.specs.Checked.{IsChecked}
+use Rattle.seccompiler.specs.Machine.{Ends}
+use Rattle.seccompiler.specs.Policy.{Filter, IsDecision}
+use Rattle.seccompiler.specs.Reorder.{IsReordered, IsSameCall}
+use Rattle.seccompiler.specs.declared.bpf.sock_filter.{sock_filter}
+use Rattle.seccompiler_c.specs.Arguments.{IsNoArchitecture, OfArchitecture}
+use Rattle.seccompiler_c.specs.Codes.{code_of}
+use Rattle.seccompiler_c.specs.Policies.{NamesPolicy, IsPolicyFault}
+use Rattle.seccompiler_c.specs.declared.codes.TheConstants.{SECCOMPILER_NOT_CHECKED, SECCOMPILER_NOT_A_RECORD}
+use Rattle.seccompiler_c.specs.declared.fault.Fault.{Fault}
+use Rattle.seccompiler_c.specs.declared.fault.Fault.TheVariants.{OutOfMemory, UnknownArchitecture, NotARecord}
+
+-- A run of the program on the record returns this word, within as many steps as the program has instructions, and no
+-- run of it returns another.
+pub record Returns (program : List sock_filter) (call : List ℕ) (word : ℕ) : Type 0 where
+  pub steps : ℕ
+  pub ends : Ends program call steps word
+  pub few : steps ≤ length program
+  pub only : (n w : ℕ) → Ends program call n w → (n ≡ steps) × (w ≡ word)
+
+-- What seccompiler_run answers: the first of these that is so.
+pub data AnswersRun (program : List sock_filter) (call : List ℕ) (answer : ℤ) : Type 0 where
+  not_checked : (IsChecked program → ⊥) → answer ≡ SECCOMPILER_NOT_CHECKED → AnswersRun program call answer
+  not_a_record : IsChecked program → length call ≢ 64 → answer ≡ SECCOMPILER_NOT_A_RECORD → AnswersRun program call answer
+  returned : (word : ℕ) → IsChecked program → length call ≡ 64 → Returns program call word → answer ≡ pos word → AnswersRun program call answer
+
+-- The policy names this word for the record, and no other; it names it as well where the rules of a chain or the
+-- conditions of a rule stand in another order, and for every record that differs in the instruction pointer alone.
+pub record Decides (call : List ℕ) (answer : ℤ) (policy : Filter) : Type 0 where
+  pub word : ℕ
+  pub told : answer ≡ pos word
+  pub decision : IsDecision policy call word
+  pub only : (w : ℕ) → IsDecision policy call w → w ≡ word
+  pub order : (g : Filter) (s : List ℕ) → IsReordered policy g → IsSameCall call s → IsDecision g s word
+
+-- Why there is no decision: for the first of these that is so. Want of memory may come in place of all.
+abbrev pub IsUndecided : List ℕ → ℕ → List ℕ → List ℕ → Fault → Type 0
+IsUndecided text architecture name call OutOfMemory = ⊤
+IsUndecided text architecture name call UnknownArchitecture = IsNoArchitecture architecture
+IsUndecided text architecture name call NotARecord = OfArchitecture architecture (λ target. length call ≢ 64)
+IsUndecided text architecture name call f = OfArchitecture architecture (λ target. (length call ≡ 64) × IsPolicyFault target text name f)
+
+-- What seccompiler_decide answers: the word, or the code of why there is none.
+pub data AnswersDecide (text : List ℕ) (architecture : ℕ) (name call : List ℕ) (answer : ℤ) : Type 0 where
+  decided : length call ≡ 64 → OfArchitecture architecture (λ target. NamesPolicy target text name (Decides call answer)) → AnswersDecide text architecture name call answer
+  undecided : (fault : Fault) → IsUndecided text architecture name call fault → answer ≡ code_of fault → AnswersDecide text architecture name call answer

@@ -1,0 +1,83 @@
+-- The program that a caller asks for, and why it is not given.
+use Rattle.std.specs.Prelude.{◌≡◌, ℕ, ℤ, pos, ◌<◌, ◌≤◌, List, ◌++◌, drop, length, ⊤}
+use Rattle.seccompiler.specs.Compiled.{IsCompiled, Passes}
+use Rattle.seccompiler.specs.Policy.{Filter}
+use Rattle.seccompiler.specs.Refusal.{IsTooLarge}
+use Rattle.seccompiler.specs.Tree.{IsTreeCompiled, IsTreeTooLarge}
+use Rattle.seccompiler.specs.declared.backend.BackendError.{BackendError}
+use Rattle.seccompiler.specs.declared.backend.BackendError.TheVariants.{FilterTooLarge}
+use Rattle.seccompiler.specs.declared.backend.TargetArch.{TargetArch}
+use Rattle.seccompiler.specs.declared.bpf.sock_filter.{sock_filter}
+use Rattle.seccompiler_c.specs.Arguments.{IsNoArchitecture, OfArchitecture, IsNoLayout, OfLayout}
+use Rattle.seccompiler_c.specs.Codes.{code_of}
+use Rattle.seccompiler_c.specs.Policies.{NamesPolicy, NamesNone, TellsTextFault}
+use Rattle.seccompiler_c.specs.declared.arguments.ProgramLayout.{ProgramLayout}
+use Rattle.seccompiler_c.specs.declared.arguments.ProgramLayout.TheVariants.{Chains, Tree}
+use Rattle.seccompiler_c.specs.declared.fault.Fault.{Fault}
+use Rattle.seccompiler_c.specs.declared.fault.Fault.TheVariants.{OutOfMemory, UnknownArchitecture, UnknownLayout, NotARecord, Text, NoFilter, Filter as TooLarge, NoRoom}
+
+-- What a caller asks for: the filter of a name in a JSON text, compiled for the architecture of a word in the layout of
+-- a number, where the program has at most so many instructions.
+pub record Request : Type 0 where
+  pub text : List ℕ
+  pub architecture : ℕ
+  pub name : List ℕ
+  pub layout : ℕ
+  pub room : ℕ
+
+-- The program is compiled for the policy, in the layout, and passes every call that the policy has no chain for.
+pub record IsInChains (policy : Filter) (program : List sock_filter) : Type 0 where
+  pub compiled : IsCompiled policy program
+  pub passes : Passes policy program
+
+-- The program is compiled for the policy in this layout.
+abbrev pub IsProgramIn : ProgramLayout → Filter → List sock_filter → Type 0
+IsProgramIn Chains policy program = IsInChains policy program
+IsProgramIn Tree policy program = IsTreeCompiled policy program
+
+-- The error tells that the policy's program would be too long in this layout.
+abbrev pub IsTooLargeIn : ProgramLayout → Filter → BackendError → Type 0
+IsTooLargeIn Chains policy (FilterTooLarge n) = IsTooLarge policy n
+IsTooLargeIn Tree policy (FilterTooLarge n) = IsTreeTooLarge policy n
+IsTooLargeIn layout policy e = ⊥
+
+-- Why the policy has no program in this layout: it would be too long, or memory is wanted.
+abbrev pub IsUncompiledIn : ProgramLayout → Filter → Fault → Type 0
+IsUncompiledIn layout policy OutOfMemory = ⊤
+IsUncompiledIn layout policy (TooLarge e) = IsTooLargeIn layout policy e
+IsUncompiledIn layout policy f = ⊥
+
+-- The words name an architecture and a layout, of which P holds.
+abbrev pub OfWords : Request → (TargetArch → ProgramLayout → Type 0) → Type 0
+OfWords r P = OfArchitecture r.architecture (λ target. OfLayout r.layout (λ layout. P target layout))
+
+-- The words name an architecture and a layout, the text has no fault, and P holds of the filter of the name.
+abbrev pub OfPolicy : Request → (ProgramLayout → Filter → Type 0) → Type 0
+OfPolicy r P = OfWords r (λ target layout. NamesPolicy target r.text r.name (P layout))
+
+-- The filter of the name has a program in the layout, of which P holds.
+abbrev pub OfProgram : Request → (List sock_filter → Type 0) → Type 0
+OfProgram r P = OfPolicy r (λ layout policy. (program : List sock_filter) × IsProgramIn layout policy program × P program)
+
+-- Why a request is refused: for the first of these that is so. Want of memory may come in place of all.
+abbrev pub IsRefusal : Request → Fault → Type 0
+IsRefusal r OutOfMemory = ⊤
+IsRefusal r UnknownArchitecture = IsNoArchitecture r.architecture
+IsRefusal r UnknownLayout = OfArchitecture r.architecture (λ target. IsNoLayout r.layout)
+IsRefusal r NotARecord = ⊥
+IsRefusal r (Text e) = OfWords r (λ target layout. TellsTextFault target r.text e)
+IsRefusal r NoFilter = OfWords r (λ target layout. NamesNone target r.text r.name)
+IsRefusal r (TooLarge e) = OfPolicy r (λ layout policy. IsTooLargeIn layout policy e)
+IsRefusal r (NoRoom n) = OfProgram r (λ program. (n ≡ length program) × (r.room < length program))
+
+-- The array holds the program, and behind it what it held; the answer is the program's length.
+pub record Holds (old new : List sock_filter) (answer : ℤ) (program : List sock_filter) : Type 0 where
+  pub room : length program ≤ length old
+  pub written : new ≡ program ++ drop (length program) old
+  pub told : answer ≡ pos (length program)
+
+-- What seccompiler_compile answers, and what the array then holds: the program; or what it held before, where the
+-- request is refused, and the answer is the refusal's code.
+pub data AnswersCompile (r : Request) (old new : List sock_filter) (answer : ℤ) : Type 0 where
+  compiled : OfProgram r (Holds old new answer) → AnswersCompile r old new answer
+  refused : (fault : Fault) → IsRefusal r fault → answer ≡ code_of fault → new ≡ old → AnswersCompile r old new answer

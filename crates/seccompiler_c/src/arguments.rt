@@ -1,0 +1,42 @@
+// What the words of a caller in C name.
+
+ghost use Rattle.std.specs.Prelude.{◌≡◌, IfSome, IfNone};
+ghost use Rattle.seccompiler_c.specs.Arguments.{IsArchitecture, IsNoArchitecture, IsLayout, IsNoLayout};
+
+use crate::codes::{SECCOMPILER_LAYOUT_CHAINS, SECCOMPILER_LAYOUT_TREE};
+use seccompiler::TargetArch;
+use seccompiler::bpf::{AUDIT_ARCH_AARCH64, AUDIT_ARCH_RISCV64, AUDIT_ARCH_X86_64};
+
+/// How a program finds the rules of a call.
+#[derive(Clone, Copy, Debug, PartialEq, Eq)]
+pub(crate) enum ProgramLayout {
+    /// It tests one call number after the other, as the Rust crate's programs do.
+    Chains,
+    /// It halves the call numbers with each test.
+    Tree,
+}
+
+// The architecture of this word.
+pub(crate) fn architecture_of(word: u32) -> Option<TargetArch>
+    ensures found { IfSome result (IsArchitecture word) }
+    ensures not_found { IfNone result (IsNoArchitecture word) }
+{
+    match word {
+        AUDIT_ARCH_X86_64 => Some(TargetArch::x86_64),
+        AUDIT_ARCH_AARCH64 => Some(TargetArch::aarch64),
+        AUDIT_ARCH_RISCV64 => Some(TargetArch::riscv64),
+        _ => None,
+    }
+}
+
+// The layout of this number.
+pub(crate) fn layout_of(number: u32) -> Option<ProgramLayout>
+    ensures found { IfSome result (IsLayout number) }
+    ensures not_found { IfNone result (IsNoLayout number) }
+{
+    match number {
+        SECCOMPILER_LAYOUT_CHAINS => Some(ProgramLayout::Chains),
+        SECCOMPILER_LAYOUT_TREE => Some(ProgramLayout::Tree),
+        _ => None,
+    }
+}

@@ -1,0 +1,105 @@
+// Why an exported function has no other answer, its code and its text.
+
+ghost use Rattle.std.specs.Prelude.{◌≡◌};
+ghost use Rattle.seccompiler_c.specs.Codes.{code_of};
+
+use crate::codes::{
+    SECCOMPILER_NO_FILTER, SECCOMPILER_NO_ROOM, SECCOMPILER_NOT_A_RECORD,
+    SECCOMPILER_OUT_OF_MEMORY, SECCOMPILER_REFUSED, SECCOMPILER_TOO_LARGE,
+    SECCOMPILER_UNKNOWN_ARCHITECTURE, SECCOMPILER_UNKNOWN_LAYOUT,
+};
+use seccompiler::{BackendError, JsonFrontendError};
+use std::fmt;
+
+/// Why a policy, a program of it or a decision of it is not given.
+#[derive(Debug, Drop)]
+pub(crate) enum Fault {
+    /// A growth of memory was refused.
+    OutOfMemory,
+    /// The word is no architecture's.
+    UnknownArchitecture,
+    /// The number names no layout.
+    UnknownLayout,
+    /// The record doesn't have 64 bytes.
+    NotARecord,
+    /// The text has this fault, which is neither want of memory nor a reader's.
+    Text(JsonFrontendError),
+    /// No filter of the text has the name.
+    NoFilter,
+    /// The filter is refused so, and not for want of memory.
+    Filter(BackendError),
+    /// The program has so many instructions, and there is room for less.
+    NoRoom(usize),
+}
+
+impl Fault {
+    /// The code that the exported functions answer.
+    pub fn code(&self) -> i64
+        ensures { result ≡ code_of self.now }
+    {
+        match self {
+            Fault::OutOfMemory => SECCOMPILER_OUT_OF_MEMORY,
+            Fault::UnknownArchitecture => SECCOMPILER_UNKNOWN_ARCHITECTURE,
+            Fault::UnknownLayout => SECCOMPILER_UNKNOWN_LAYOUT,
+            Fault::NotARecord => SECCOMPILER_NOT_A_RECORD,
+            Fault::Text(_) => SECCOMPILER_REFUSED,
+            Fault::NoFilter => SECCOMPILER_NO_FILTER,
+            Fault::Filter(_) => SECCOMPILER_TOO_LARGE,
+            Fault::NoRoom(_) => SECCOMPILER_NO_ROOM,
+        }
+    }
+}
+
+/// The fault's text: the library's own where the library refuses.
+impl fmt::Display for Fault {
+    ghost use Rattle.seccompiler_c.specs.Refusals.{fault_text};
+
+    ghost output = { fault_text };
+
+    fn fmt<W: fmt::Write>(&self, f: &mut fmt::Formatter<W>) -> fmt::Result {
+        match self {
+            Fault::OutOfMemory => f.write_str("Out of memory."),
+            Fault::UnknownArchitecture => f.write_str("Unknown architecture."),
+            Fault::UnknownLayout => f.write_str("Unknown layout."),
+            Fault::NotARecord => f.write_str("A call record has 64 bytes."),
+            Fault::Text(error) => write!(f, "{error}"),
+            Fault::NoFilter => f.write_str("No filter has this name."),
+            Fault::Filter(error) => write!(f, "{error}"),
+            Fault::NoRoom(length) => write!(
+                f,
+                "The array has too little room for the program: it has {length} instructions."
+            ),
+        }
+    }
+}
+
+/// A text in memory is read without a fault of its reader but want of memory.
+impl From<JsonFrontendError> for Fault {
+    ghost use Rattle.std.specs.Prelude.{◌≡◌};
+    ghost use Rattle.seccompiler_c.specs.Policies.{from_frontend};
+
+    ghost from_gives = { λ refusal fault. fault ≡ from_frontend refusal };
+
+    fn from(refusal: JsonFrontendError) -> Fault {
+        match refusal {
+            JsonFrontendError::OutOfMemory => Fault::OutOfMemory,
+            JsonFrontendError::Read(_) => Fault::OutOfMemory,
+            refusal => Fault::Text(refusal),
+        }
+    }
+}
+
+/// The backend's want of memory stays so; any other refusal is the filter's.
+impl From<BackendError> for Fault {
+    ghost use Rattle.std.specs.Prelude.{◌≡◌};
+    ghost use Rattle.seccompiler_c.specs.Policies.{from_backend};
+
+    ghost from_gives = { λ refusal fault. fault ≡ from_backend refusal };
+
+    fn from(refusal: BackendError) -> Fault {
+        match refusal {
+            BackendError::OutOfMemory => Fault::OutOfMemory,
+            refusal => Fault::Filter(refusal),
+        }
+    }
+}

@@ -1,0 +1,56 @@
+// The program that a caller asks for.
+
+ghost use Rattle.std.specs.Prelude.{◌≡◌, ◌≤◌, All, length, IfOk, IfErr};
+ghost use Rattle.seccompiler.specs.Refusal.{numbers_of};
+ghost use Rattle.seccompiler.specs.SyscallTable.{IsTableNumber};
+ghost use Rattle.seccompiler_c.specs.Programs.{IsProgramIn, IsUncompiledIn, OfProgram, IsRefusal};
+
+use crate::arguments::{ProgramLayout, architecture_of, layout_of};
+use crate::fault::Fault;
+use crate::policy::policy_of;
+use seccompiler::{BpfProgram, SeccompFilter};
+use std::alloc::Global;
+
+// The program of the filter of a name in a text, for the architecture of a word, in the layout of a
+// number, where it has at most so many instructions.
+pub(crate) fn program_of(
+    alloc: Global,
+    text: &[u8],
+    architecture: u32,
+    name: &[u8],
+    layout: u32,
+    room: usize,
+) -> Result<BpfProgram, Fault>
+    ensures program { IfOk result (λ found. OfProgram (record { text = text.now; architecture = architecture; name = name.now; layout = layout; room = room }) (λ program. program ≡ found.items)) }
+    ensures fits { IfOk result (λ found. length found.items ≤ room) }
+    ensures refused { IfErr result (IsRefusal (record { text = text.now; architecture = architecture; name = name.now; layout = layout; room = room })) }
+{
+    let Some(target) = architecture_of(architecture) else {
+        return Err(Fault::UnknownArchitecture);
+    };
+    let Some(layout) = layout_of(layout) else {
+        return Err(Fault::UnknownLayout);
+    };
+    let policy = policy_of(alloc, text, target, name)?;
+    let program = program_in(alloc, layout, &policy)?;
+    if program.len() > room {
+        return Err(Fault::NoRoom(program.len()));
+    }
+    Ok(program)
+}
+
+// A policy's program in a layout.
+fn program_in(
+    alloc: Global,
+    layout: ProgramLayout,
+    policy: &SeccompFilter,
+) -> Result<BpfProgram, Fault>
+    requires numbers { All IsTableNumber (numbers_of policy.now.chains) }
+    ensures program { IfOk result (λ found. IsProgramIn layout policy.now found.items) }
+    ensures refused { IfErr result (IsUncompiledIn layout policy.now) }
+{
+    match layout {
+        ProgramLayout::Chains => Ok(policy.to_bpf(alloc)?),
+        ProgramLayout::Tree => Ok(policy.to_tree_bpf(alloc)?),
+    }
+}

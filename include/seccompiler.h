@@ -1,0 +1,180 @@
+/*
+ * seccompiler: seccomp filters, compiled from JSON policies to classic BPF programs.
+ *
+ * The functions of the static library libseccompiler_c.a. Each is proved to answer as it is described
+ * here; docs/C.md says how the library is built and linked.
+ *
+ * EXAMPLE
+ *
+ *     #include <linux/audit.h>
+ *     #include <seccompiler.h>
+ *
+ *     // Writes the program of a text's filter "main_thread" into the array, or why there is none
+ *     // onto standard error. Returns the number of instructions, or -1.
+ *     static int program_of(const char *text, size_t length, struct sock_filter program[4096])
+ *     {
+ *         int64_t count = seccompiler_compile(text, length, AUDIT_ARCH_X86_64, "main_thread", 11,
+ *                                             SECCOMPILER_LAYOUT_CHAINS, program, 4096);
+ *         if (count < 0) {
+ *             char why[256];
+ *             int64_t bytes = seccompiler_refusal(text, length, AUDIT_ARCH_X86_64, "main_thread",
+ *                                                 11, SECCOMPILER_LAYOUT_CHAINS, 4096, why,
+ *                                                 sizeof why);
+ *             fprintf(stderr, "%.*s\n", (int)bytes, why);
+ *             return -1;
+ *         }
+ *         return (int)count;
+ *     }
+ *
+ * ARGUMENTS
+ *
+ * text, text_length
+ *     A JSON text that names filters, as docs/JSON.md describes it, and its length in bytes. It needs
+ *     no byte 0 behind it, and it may be any bytes: what is no JSON in UTF-8 is refused.
+ *
+ * architecture
+ *     The architecture's word, as <linux/audit.h> has it: AUDIT_ARCH_X86_64 (0xc000003e),
+ *     AUDIT_ARCH_AARCH64 (0xc00000b7) or AUDIT_ARCH_RISCV64 (0xc00000f3).
+ *
+ * name, name_length
+ *     The name of a filter of the text, or of a system call, and its length in bytes. It needs no
+ *     byte 0 behind it. A name that is no UTF-8 is no filter's and no call's.
+ *
+ * layout
+ *     SECCOMPILER_LAYOUT_CHAINS or SECCOMPILER_LAYOUT_TREE. The programs of both answer each call
+ *     alike; docs/LAYOUTS.md says when to take which.
+ *
+ * program, count or room
+ *     An array of instructions, and how many it has. A program has at most 4096.
+ *
+ * record, record_length
+ *     A call record, which is a `struct seccomp_data` of <linux/seccomp.h> in little-endian bytes, and
+ *     its length in bytes, which has to be 64.
+ *
+ * Where a function takes a pointer and a length, the pointer isn't null, even for a length of 0, it is
+ * aligned for its type, and what it points to has that length, all of it written before. The array or
+ * buffer that a function writes overlaps no other argument, and no other thread reads or writes it
+ * during the call. Nothing else is required of any argument.
+ *
+ * ANSWERS
+ *
+ * A negative answer is one of the codes below. Where several apply, the answer is that of the first of
+ * a function's list, in the order in which it is given there. A function that gives a code has written
+ * nothing.
+ *
+ * MEMORY, THREADS
+ *
+ * The functions that are given a text take memory from malloc, give all of it back before they return,
+ * and answer SECCOMPILER_OUT_OF_MEMORY where malloc refuses; the others take none. Nothing is kept
+ * between calls, no system call is made but those of malloc, and no file is opened. So the functions may
+ * be called from several threads at once. They mustn't be called from a signal handler, nor in the child
+ * that a process with several threads forked. A text may nest 127 deep, for which a call takes about
+ * 150 KB of stack.
+ */
+#ifndef SECCOMPILER_H
+#define SECCOMPILER_H
+
+#include <linux/filter.h>
+#include <stddef.h>
+#include <stdint.h>
+
+#ifdef __cplusplus
+extern "C" {
+#endif
+
+/* Memory was refused. It may come in place of any answer of a function that takes memory. */
+#define SECCOMPILER_OUT_OF_MEMORY (-1)
+/* The architecture word is none of the three. */
+#define SECCOMPILER_UNKNOWN_ARCHITECTURE (-2)
+/* The number names no layout. */
+#define SECCOMPILER_UNKNOWN_LAYOUT (-3)
+/* The bytes are no JSON text of filters, or one of its filters has no policy on the architecture. */
+#define SECCOMPILER_REFUSED (-4)
+/* No filter of the text has the name. */
+#define SECCOMPILER_NO_FILTER (-5)
+/* The filter's program would have more than 4096 instructions. */
+#define SECCOMPILER_TOO_LARGE (-6)
+/* The program has more instructions than the array. */
+#define SECCOMPILER_NO_ROOM (-7)
+/* The instructions are no program that passes seccompiler_check. */
+#define SECCOMPILER_NOT_CHECKED (-8)
+/* The record doesn't have 64 bytes. */
+#define SECCOMPILER_NOT_A_RECORD (-9)
+/* No system call of the architecture has the name. */
+#define SECCOMPILER_UNKNOWN_CALL (-10)
+
+/* The layout that tests one call number after the other, as the Rust crate seccompiler does. */
+#define SECCOMPILER_LAYOUT_CHAINS 0
+/* The layout that halves the call numbers with each test. */
+#define SECCOMPILER_LAYOUT_TREE 1
+
+/*
+ * Compiles the filter of this name, and writes its program into the front of the array `program`, which
+ * has room for `room` instructions.
+ *
+ * Returns the number of instructions, 1 to 4096. The program passes seccompiler_check, and returns for
+ * every call record, within as many steps as it has instructions, the word that the filter's policy
+ * names. The rest of the array is as it was.
+ *
+ * Returns a code, and leaves the whole array as it was, where it is refused: UNKNOWN_ARCHITECTURE,
+ * UNKNOWN_LAYOUT, REFUSED, NO_FILTER, TOO_LARGE, NO_ROOM; or OUT_OF_MEMORY in place of any but the first
+ * two. All filters of the text are read, so a fault of another filter is REFUSED too; but whether another
+ * filter's program is too large plays no part.
+ */
+int64_t seccompiler_compile(const char *text, size_t text_length, uint32_t architecture,
+                            const char *name, size_t name_length, uint32_t layout,
+                            struct sock_filter *program, size_t room);
+
+/*
+ * Writes why seccompiler_compile refuses these arguments into the front of `buffer`, which has room for
+ * `size` bytes: a sentence in UTF-8, with no line feed and no byte 0 behind it. Where the buffer is too
+ * short, the sentence is cut behind the last character that fits. 256 bytes are enough for every sentence
+ * but those that tell a name of the text.
+ *
+ * Returns how many bytes it has written, which is 0 where seccompiler_compile doesn't refuse. Where memory
+ * is refused, the sentence is "Out of memory.", in place of any other but the first two reasons' and of none.
+ */
+int64_t seccompiler_refusal(const char *text, size_t text_length, uint32_t architecture,
+                            const char *name, size_t name_length, uint32_t layout, size_t room,
+                            char *buffer, size_t size);
+
+/*
+ * Tells whether a program may be run: it has 1 to 4096 instructions, each is one of the seven kinds that
+ * compiled programs are made of, loads aligned words of a record and jumps to places of the program, and
+ * the last one returns. Returns 1 where it passes, 0 where it doesn't.
+ */
+int32_t seccompiler_check(const struct sock_filter *program, size_t count);
+
+/*
+ * Runs a program on a call record.
+ *
+ * Returns the word that the program returns, 0 to 4294967295, as SECCOMP_RET_ALLOW; or a code:
+ * NOT_CHECKED, NOT_A_RECORD.
+ */
+int64_t seccompiler_run(const struct sock_filter *program, size_t count, const void *record,
+                        size_t record_length);
+
+/*
+ * Tells what the policy of the filter of this name decides for a call record, without making a program.
+ *
+ * Returns the word, 0 to 4294967295, as SECCOMP_RET_ALLOW: that of the filter's match action where the
+ * policy matches the call, that of its mismatch action where it doesn't, and SECCOMP_RET_KILL_PROCESS for
+ * a record of another architecture. Or returns a code: UNKNOWN_ARCHITECTURE, NOT_A_RECORD, REFUSED,
+ * NO_FILTER; or OUT_OF_MEMORY in place of any but the first two.
+ */
+int64_t seccompiler_decide(const char *text, size_t text_length, uint32_t architecture,
+                           const char *name, size_t name_length, const void *record,
+                           size_t record_length);
+
+/*
+ * Looks up a system call by its name, which is compared case included.
+ *
+ * Returns its number, 0 to 462, or a code: UNKNOWN_ARCHITECTURE, UNKNOWN_CALL.
+ */
+int64_t seccompiler_call_number(uint32_t architecture, const char *name, size_t name_length);
+
+#ifdef __cplusplus
+}
+#endif
+
+#endif

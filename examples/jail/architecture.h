@@ -1,0 +1,18 @@
+/* The word of the architecture that a program is built for, as the kernel gives it to a filter. */
+
+#ifndef ARCHITECTURE_H
+#define ARCHITECTURE_H
+
+#include <linux/audit.h>
+
+#if defined(__x86_64__) && !defined(__ILP32__)
+#define ARCHITECTURE AUDIT_ARCH_X86_64
+#elif defined(__aarch64__)
+#define ARCHITECTURE AUDIT_ARCH_AARCH64
+#elif defined(__riscv) && __riscv_xlen == 64
+#define ARCHITECTURE AUDIT_ARCH_RISCV64
+#else
+#error "filters are compiled for x86_64, aarch64 and riscv64"
+#endif
+
+#endif

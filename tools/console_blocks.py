@@ -1,0 +1,35 @@
+"""The console blocks of a page in Markdown: commands, and what is shown of them."""
+
+
+def blocks_of(page):
+    """Returns the console blocks of a page, each with the number of its first line, and its lines."""
+    blocks, block = [], None
+    for number, line in enumerate(page.read_text(encoding="utf-8").splitlines(), 1):
+        if block is not None and line.strip() == "```":
+            blocks.append(block)
+            block = None
+        elif block is not None:
+            block[1].append(line)
+        elif line.strip() == "```console":
+            block = (number + 1, [])
+    return blocks
+
+
+def commands_of(lines):
+    """Returns the commands of a block, each with what is shown below it."""
+    commands = []
+    for line in lines:
+        if line.startswith("$ "):
+            commands.append([line[2:], ""])
+        elif not commands:
+            commands.append(["false", line + "\n"])
+        elif commands[-1][0].endswith("\\"):
+            commands[-1][0] += "\n" + line
+        else:
+            commands[-1][1] += line + "\n"
+    return commands
+
+
+def is_jailed(lines):
+    """Returns whether a block is one of a jailer's: tools/try-jail runs it, where the kernel takes filters."""
+    return bool(lines) and lines[0].startswith("$ jail ")

@@ -1,0 +1,179 @@
+"""What tools/try-jail runs: policies, commands, and what they have to answer."""
+
+import signal
+
+KILLED = -signal.SIGSYS
+
+
+def filter_of(match, mismatch, *entries):
+    """Returns a filter with these entries, each a call's name or an entry."""
+    entries = [{"syscall": it} if isinstance(it, str) else it for it in entries]
+    return {"match_action": match, "mismatch_action": mismatch, "filter": entries}
+
+
+def when(call, *conditions):
+    """Returns the entry of a call with conditions."""
+    names = ("index", "type", "op", "val")
+    return {"syscall": call, "args": [dict(zip(names, it)) for it in conditions]}
+
+
+def denying(*entries):
+    """Returns the filter that answers these entries with error number 1000 and allows the rest."""
+    return filter_of({"errno": 1000}, "allow", *entries)
+
+
+WIDE = 4294967298  # 2 to the 32, and 2: its low half is 2.
+CALLS = denying("sched_yield")
+
+# The policies of the cases. A text or bytes stand as they are, anything else as JSON.
+POLICIES = {
+    "actions.json": {
+        "errno": filter_of({"errno": 1}, "allow", "sched_yield"),
+        "large errno": CALLS,
+        "errno 0": filter_of({"errno": 0}, "allow", "getpid"),
+        "kill_process": filter_of("kill_process", "allow", "sched_yield"),
+        "kill_thread": filter_of("kill_thread", "allow", "sched_yield"),
+        "trap": filter_of("trap", "allow", "sched_yield"),
+        "trace": filter_of({"trace": 5}, "allow", "sched_yield"),
+        "log": filter_of("log", "allow", "sched_yield"),
+        "low half": denying(when("sched_yield", (1, "dword", "eq", 2))),
+        "both halves": denying(when("sched_yield", (1, "qword", "eq", WIDE))),
+        "two rules": denying(
+            when("sched_yield", (0, "dword", "le", 9), (5, "dword", "gt", 4)),
+            when("sched_yield", (0, "dword", {"masked_eq": 255}, 16)),
+        ),
+        "no execve": filter_of({"errno": 13}, "allow", "execve"),
+    },
+    "empty": "",
+    "no-json.json": "{1}",
+    "no-text.json": b'{"\xff": 1}',
+    "list.json": [],
+    "repeated.json": '{"a":{"x":1,"x":1}}',
+    "shape.json": {"a": {}},
+    "unknown-call.json": {"a": denying("nosyscall")},
+    "no-conditions.json": {"a": denying({"syscall": "read", "args": []})},
+    "index.json": {"a": denying(when("read", (6, "dword", "eq", 5)))},
+    "equal-actions.json": {"a": filter_of("log", "log")},
+    "too-large.json": {"a": denying(when("read", *[(0, "dword", "eq", 5)] * 5000))},
+    "no-filters.json": {},
+}
+
+INDEX = "The seccomp rule contains an invalid argument index. Maximum index value: 5"
+PARSING = "Error parsing Json: .."
+LARGE = "The seccomp filter contains too many BPF instructions: {}. Max length is 4096."
+
+# The policy, the filter, and why the jailer refuses it: the library's text, or an error number.
+REFUSED = [
+    ("missing.json", "a", 2),
+    (".", "a", 21),
+    ("empty", "a", PARSING),
+    ("no-json.json", "a", PARSING),
+    ("no-text.json", "a", PARSING),
+    ("list.json", "a", "Json is not an object of filters."),
+    ("repeated.json", "a", "Repeated key in Json."),
+    ("shape.json", "a", "Json filter has a wrong shape: a."),
+    ("unknown-call.json", "a", "Invalid syscall name: nosyscall for given arch: {arch}."),
+    ("no-conditions.json", "a", "The condition vector of a rule cannot be empty."),
+    ("index.json", "a", INDEX),
+    ("equal-actions.json", "a", "`match_action` and `mismatch_action` are equal."),
+    ("no-filters.json", "a", "No filter has this name."),
+    ("no-filters.json", "", "No filter has this name."),
+    ("actions.json", b"\xff", "No filter has this name."),
+    ("too-large.json", "a", LARGE),
+]
+
+# The words of `call` under a filter of actions.json, what it writes, and its status.
+CALLED = [
+    ("errno", "sched_yield", "errno 1: Operation not permitted\n", 0),
+    ("large errno", "sched_yield", "errno 1000: Unknown error 1000\n", 0),
+    ("errno 0", "getpid", "0\n", 0),
+    ("kill_process", "sched_yield", "", KILLED),
+    ("kill_thread", "sched_yield", "", KILLED),
+    ("trap", "sched_yield", "", KILLED),
+    ("trace", "sched_yield", "errno 38: Function not implemented\n", 0),
+    ("log", "sched_yield", "0\n", 0),
+    ("kill_process", "getpgid 4194304", "errno 3: No such process\n", 0),
+    ("low half", f"sched_yield 0 {WIDE}", "errno 1000: Unknown error 1000\n", 0),
+    ("low half", "sched_yield 0 3", "0\n", 0),
+    ("both halves", f"sched_yield 0 {WIDE}", "errno 1000: Unknown error 1000\n", 0),
+    ("both halves", "sched_yield 0 2", "0\n", 0),
+    ("two rules", "sched_yield 9 0 0 0 0 5", "errno 1000: Unknown error 1000\n", 0),
+    ("two rules", "sched_yield 10 0 0 0 0 5", "0\n", 0),
+    ("two rules", "sched_yield 0x110", "errno 1000: Unknown error 1000\n", 0),
+    ("two rules", "sched_yield 0x111", "0\n", 0),
+]
+
+# Other commands under a filter of actions.json: standard output, and the status.
+PASSED = [
+    ("errno", ["cat"], "given\n", 0),
+    ("errno", ["sh", "-c", "exit 7"], "", 7),
+    ("errno", ["sh", "-c", 'printf "%s|" "$@"', "sh", "a b", "", "--tree"], "a b||--tree|", 0),
+    ("errno", ["sh", "-c", "kill -TERM $$"], "", -signal.SIGTERM),
+    ("large errno", ["sh", "-c", "{call} sched_yield; exec {call} sched_yield"],
+     "errno 1000: Unknown error 1000\n" * 2, 0),
+    ("log", ["grep", "-E", "^(NoNewPrivs|Seccomp):", "/proc/self/status"],
+     "NoNewPrivs:\t1\nSeccomp:\t2\n", 0),
+]
+
+# Commands that can't be run: the filter, the command, the status, and the error number.
+UNRUN = [
+    ("errno", "no-such-command", 127, 2),
+    ("errno", "./no-such-command", 127, 2),
+    ("errno", "", 127, 2),
+    ("errno", "./list.json", 126, 13),
+    ("errno", "/", 126, 13),
+    ("no execve", "{call}", 126, 13),
+]
+
+# Under examples/cat-policy.json: what gives the same as without a filter, and calls with their answers.
+CAT_COMMANDS = [
+    "cat numbers", "cat", "head -n 3 numbers", "tail -n 3 numbers", "wc numbers", "sort -r numbers",
+    "grep 7 numbers", "cut -c 1 numbers", "uniq numbers", "tr 1 2", "od numbers", "sha256sum numbers",
+    "sed s/1/2/ numbers", "ls",
+]
+CAT_CALLS = [
+    ("openat 0 0 0", 14),
+    ("openat 0 0 0x80000", 14),
+    ("openat 0 0 1", 1),
+    ("openat 0 0 2", 1),
+    ("openat 0 0 0100", 1),
+    ("openat 0 0 01000", 1),
+    ("mprotect 0 0 7", 1),
+    ("mprotect 0 0 5", None),
+    ("mprotect 0 0 3", None),
+    ("fcntl 99 2", 9),
+    ("fcntl 99 4", 1),
+    ("prlimit64 0 99 1", 1),
+    ("socket 2 1", 1),
+    ("clone 17", 1),
+    ("kill 0 0", 1),
+    ("unlink", 1),
+]
+
+# Under examples/web-server-policy.json, whose refusal is error number 38.
+WEB_CALLS = [
+    ("socket 1 1", 38),
+    ("socket 2 2", 38),
+    ("socket 16 3", 38),
+    ("connect 99", 38),
+    ("sendto 99 0 0 0", 9),
+    ("sendto 99 0 0 0x20000000", 38),
+    ("sendmsg 99 0 0", 9),
+    ("sendmsg 99 0 0x20000000", 38),
+    ("clone 17", 38),
+    ("clone 0x40010000", 38),
+    ("clone3", 38),
+    ("openat 0 0 1", 38),
+    ("openat 0 0 0", 14),
+    ("bind 99", 9),
+    ("kill 0 0", 38),
+]
+
+# Under examples/deny-policy.json: a program for Python with a thread and a child.
+BUSY = """
+import subprocess, threading
+thread = threading.Thread(target=print, args=("a thread",))
+thread.start()
+thread.join()
+print(subprocess.run(["echo", "a child"], capture_output=True, text=True).stdout, end="")
+"""

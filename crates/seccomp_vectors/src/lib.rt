@@ -10,6 +10,8 @@ mod builders;
 #[cfg(test)]
 mod conditions;
 #[cfg(test)]
+mod examples;
+#[cfg(test)]
 mod faults;
 #[cfg(test)]
 mod filters;

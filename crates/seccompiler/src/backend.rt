@@ -64,6 +64,13 @@ impl TargetArch {
     ///
     /// `InvalidTargetArch` with the text as it was given where it is none of the three names;
     /// `OutOfMemory` where there is no memory to keep that text.
+    ///
+    /// # Examples
+    ///
+    /// ```
+    /// let arch = TargetArch::from_text(alloc, "X86_64")?;
+    /// assert!(rt; arch == TargetArch::x86_64);
+    /// ```
     pub fn from_text(alloc: Global, text: &str) -> Result<Self, BackendError>
         ensures named { (arch : TargetArch) → str_to_ascii_lowercase text.now ≡ arch_text arch → result ≡ Ok arch }
         ensures read { IfOk result (λ arch. str_to_ascii_lowercase text.now ≡ arch_text arch) }

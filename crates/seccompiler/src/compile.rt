@@ -43,6 +43,15 @@ pub type BpfMap = HashMap<String, BpfProgram>;
 ///
 /// `OutOfMemory` may come in place of both, where memory is refused or the reader fails for want of
 /// it.
+///
+/// # Examples
+///
+/// ```
+/// let text = r#"{"main": {"mismatch_action": "trap", "match_action": "allow", "filter": []}}"#;
+/// let programs = compile_from_json(alloc, text.as_bytes(), TargetArch::x86_64)?;
+/// let program = programs.get("main").ok_or("no filter has this name")?;
+/// assert!(rt; program.len() == 4);
+/// ```
 pub fn compile_from_json<R: Read + Drop>(
     alloc: Global,
     reader: R,

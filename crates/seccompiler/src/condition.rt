@@ -62,6 +62,16 @@ impl SeccompCondition {
     /// # Errors
     ///
     /// `InvalidArgumentNumber` where `arg_index` is above 5: a system call has six arguments.
+    ///
+    /// # Examples
+    ///
+    /// ```
+    /// // The low half of the second argument equals 2.
+    /// let condition = SeccompCondition::new(1, SeccompCmpArgLen::Dword, SeccompCmpOp::Eq, 2)?;
+    /// let mut call = [0; 64];
+    /// call[24] = 2;
+    /// assert!(rt; condition.holds(&call));
+    /// ```
     pub fn new(
         arg_index: u8,
         arg_len: SeccompCmpArgLen,

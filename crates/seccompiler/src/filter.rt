@@ -62,6 +62,17 @@ impl SeccompFilter {
     /// # Errors
     ///
     /// `IdenticalActions` where the two actions are equal, as values.
+    ///
+    /// # Examples
+    ///
+    /// ```
+    /// // Allow `getpid`, with no rule that its arguments must meet, and trap any other call.
+    /// let mut rules = BTreeMap::new(alloc);
+    /// drop(rules.insert(39, Vec::new(alloc))?);
+    /// let (trap, allow) = (SeccompAction::Trap, SeccompAction::Allow);
+    /// let filter = SeccompFilter::new(rules, trap, allow, TargetArch::x86_64)?;
+    /// assert!(rt; filter.program_len() == 10);
+    /// ```
     pub fn new(
         rules: BTreeMap<i64, Vec<SeccompRule>>,
         mismatch_action: SeccompAction,
@@ -95,6 +106,14 @@ impl SeccompFilter {
     /// `InvalidSyscallNumber` with the least key that lies outside 0 to 4294967295, where there is
     /// one; else `FilterTooLarge` with `program_len` where that is more than 4096; both take
     /// no memory. `OutOfMemory` where memory for the program is refused.
+    ///
+    /// # Examples
+    ///
+    /// ```
+    /// let program = filter.to_bpf(alloc)?;
+    /// assert!(rt; program.len() == filter.program_len());
+    /// assert!(rt; check(&program));
+    /// ```
     pub fn to_bpf(&self, alloc: Global) -> Result<BpfProgram, BackendError>
         ensures compiled { IfOk result (λ program. IsCompiled self.now program.items) }
         ensures passes { IfOk result (λ program. Passes self.now program.items) }
@@ -134,6 +153,13 @@ impl SeccompFilter {
     ///
     /// It depends on neither the order of rules in a chain nor that of conditions in a rule, nor on
     /// the record's instruction pointer. The policy names no other word for the call.
+    ///
+    /// ```
+    /// // Call 39 of x86_64, with each argument 0.
+    /// let mut call = [0; 64];
+    /// call[..8].copy_from_slice(&[39, 0, 0, 0, 0x3e, 0, 0, 0xc0]);
+    /// assert!(rt; filter.decide(&call) == u32::from(SeccompAction::Log));
+    /// ```
     pub fn decide(&self, call: &[u8; 64]) -> u32
         ensures decision { IsDecision self.now call.now result }
         ensures only { (w : ℕ) → IsDecision self.now call.now w → w ≡ result }

@@ -21,6 +21,28 @@ const SECCOMP_FILTER_FLAG_TSYNC: u64 = 1;
 /// leave the error number in `errno`. For each call the trait names a relation between the kernel
 /// before it, its arguments, its answer and the kernel after it; what installing does is said in
 /// terms of these two alone.
+///
+/// ```
+/// /// A kernel whose calls all succeed, and of whose calls no more is known.
+/// #[derive(Drop)]
+/// struct WillingKernel;
+///
+/// impl Kernel for WillingKernel {
+///     ghost use Rattle.std.specs.Prelude.{⊤};
+///
+///     ghost no_new_privs = { λ before code number after. ⊤ };
+///
+///     ghost mode_filter = { λ before flags program code number after. ⊤ };
+///
+///     fn set_no_new_privs(&mut self) -> (i32, i32) {
+///         (0, 0)
+///     }
+///
+///     fn set_mode_filter(&mut self, _flags: u64, _prog: BpfProgramRef<'_>) -> (i64, i32) {
+///         (0, 0)
+///     }
+/// }
+/// ```
 pub trait Kernel {
     ghost use Rattle.std.specs.Prelude.{◌≤◌, ℕ, ℤ, List, length};
     ghost use Rattle.seccompiler.specs.declared.bpf.sock_filter.{sock_filter};
@@ -64,6 +86,16 @@ pub trait Kernel {
 /// error number where setting `no_new_privs` answers another code than 0, and then the filter is not
 /// asked for. Else as the code for the filter says: `Seccomp` with the error number where it is
 /// negative, `ThreadSync` with the code where it is positive.
+///
+/// # Examples
+///
+/// ```
+/// let mut kernel = WillingKernel;
+/// let program = [bpf_stmt(BPF_RET | BPF_K, SeccompAction::Allow.into())];
+/// assert!(rt; apply_filter(&mut kernel, &program).is_ok());
+/// // An empty program is refused, and the kernel is not asked.
+/// assert!(rt; apply_filter(&mut kernel, &[]).is_err());
+/// ```
 pub fn apply_filter<K: Kernel>(kernel: &mut K, prog: BpfProgramRef<'_>) -> Result<()>
     requires { length prog.now ≤ 65535 }
     ensures applied { Applied K.no_new_privs K.mode_filter kernel.old 0 prog.now kernel.new result }
@@ -76,6 +108,12 @@ pub fn apply_filter<K: Kernel>(kernel: &mut K, prog: BpfProgramRef<'_>) -> Resul
 ///
 /// As [`apply_filter`], with the flag `SECCOMP_FILTER_FLAG_TSYNC` of `seccomp(2)`. Where some thread
 /// cannot take the filter, no thread has it, and `ThreadSync` holds that thread's id.
+///
+/// ```
+/// let mut kernel = WillingKernel;
+/// let program = [bpf_stmt(BPF_RET | BPF_K, SeccompAction::Allow.into())];
+/// assert!(rt; apply_filter_all_threads(&mut kernel, &program).is_ok());
+/// ```
 pub fn apply_filter_all_threads<K: Kernel>(kernel: &mut K, prog: BpfProgramRef<'_>) -> Result<()>
     requires { length prog.now ≤ 65535 }
     ensures applied { Applied K.no_new_privs K.mode_filter kernel.old 1 prog.now kernel.new result }

@@ -38,6 +38,15 @@ impl EqualByParts for Outcome {
 ///
 /// Fields that an instruction ignores may hold any number. A kernel also takes programs of other
 /// instructions than these seven, which don't pass here.
+///
+/// ```
+/// let program = [
+///     bpf_stmt(BPF_LD | BPF_W | BPF_ABS, 62),
+///     bpf_stmt(BPF_RET | BPF_K, 1),
+/// ];
+/// // Its load reads past the end of the record.
+/// assert!(rt; !check(&program));
+/// ```
 pub fn check(prog: BpfProgramRef<'_>) -> bool
     ensures { IsTrue result ↔ IsChecked prog.now }
 {
@@ -66,9 +75,10 @@ pub fn check(prog: BpfProgramRef<'_>) -> bool
 ///     bpf_stmt(BPF_RET | BPF_K, 1),
 ///     bpf_stmt(BPF_RET | BPF_K, 0),
 /// ];
-/// if check(&program) {
-///     let Outcome { word, steps } = run(&program, &call);
-/// }
+/// let mut call = [0; 64];
+/// call[0] = 39;
+/// assert!(rt; check(&program));
+/// assert!(rt; run(&program, &call) == Outcome { word: 1, steps: 3 });
 /// ```
 pub fn run(prog: BpfProgramRef<'_>, call: &[u8; 64]) -> Outcome
     requires { IsChecked prog.now }

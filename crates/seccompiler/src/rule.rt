@@ -44,6 +44,18 @@ impl SeccompRule {
     /// # Errors
     ///
     /// `EmptyRule` where there is no condition.
+    ///
+    /// # Examples
+    ///
+    /// ```
+    /// // The first argument is from 16 to 31.
+    /// let least = SeccompCondition::new(0, SeccompCmpArgLen::Qword, SeccompCmpOp::Ge, 16)?;
+    /// let most = SeccompCondition::new(0, SeccompCmpArgLen::Qword, SeccompCmpOp::Le, 31)?;
+    /// let rule = SeccompRule::new(vec![in alloc; least, most]?)?;
+    /// let mut call = [0; 64];
+    /// call[16] = 32;
+    /// assert!(rt; !rule.holds(&call));
+    /// ```
     pub fn new(conditions: Vec<SeccompCondition>) -> Result<Self, BackendError>
         ensures made { IfOk result (λ rule. rule ≡ conditions.items) }
         ensures refused { IfErr result (λ e. e ≡ EmptyRule) }
@@ -135,13 +147,12 @@ impl SeccompRule {
     /// it is written over, and nothing outside it. Takes no memory.
     ///
     /// ```
-    /// // The rules of a chain, each with a return behind it, in one buffer.
-    /// let mut start = 0;
-    /// for rule in &rules {
-    ///     let end = start + rule.code_len();
-    ///     rule.write(&mut buffer[start..end]);
+    /// // The rule and a return behind it, in a buffer of the caller's.
+    /// let mut buffer = [bpf_stmt(BPF_RET | BPF_K, 0); 16];
+    /// let end = rule.code_len();
+    /// if end < buffer.len() {
+    ///     rule.write(&mut buffer[..end]);
     ///     buffer[end] = bpf_stmt(BPF_RET | BPF_K, word);
-    ///     start = end + 1;
     /// }
     /// ```
     pub fn write(&self, part: &mut [sock_filter])

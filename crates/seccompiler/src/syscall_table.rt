@@ -50,6 +50,10 @@ impl SyscallTable {
     /// Gives the table of an architecture.
     ///
     /// It takes no memory. Every table has fewer than 512 names, in byte order and each once.
+    ///
+    /// ```
+    /// let table = SyscallTable::new(TargetArch::aarch64);
+    /// ```
     #[tactic(auto, using(crate::proofs::TableFacts::is_call_table))]
     pub fn new(arch: TargetArch) -> Self
         ensures arch { result ≡ arch }
@@ -98,6 +102,13 @@ impl SyscallTable {
     ///
     /// It is `None` where the table has no such name, and otherwise lies within 0 to 462. It takes
     /// no memory. `SyscallTable::new(TargetArch::aarch64).get_syscall_nr("close")` is `Some(57)`.
+    ///
+    /// ```
+    /// // An aarch64 kernel has `close`, and no `open`.
+    /// let table = SyscallTable::new(TargetArch::aarch64);
+    /// assert!(rt; table.get_syscall_nr("close") == Some(57));
+    /// assert!(rt; table.get_syscall_nr("open") == None);
+    /// ```
     pub fn get_syscall_nr(&self, name: &str) -> Option<i64>
         ensures number { result ≡ number_of (table_of self.now) name.now }
         ensures found { IfSome result (IsFirstNumber (table_of self.now) name.now) }

@@ -38,6 +38,13 @@ impl SeccompFilter {
     /// is more than 4096, or `usize::MAX` if that is less. `OutOfMemory` where memory for the ranges or
     /// for the program is refused; since the ranges are made before the number of instructions is
     /// known, it may come in place of `FilterTooLarge`.
+    ///
+    /// # Examples
+    ///
+    /// ```
+    /// let program = filter.to_tree_bpf(alloc)?;
+    /// assert!(rt; check(&program));
+    /// ```
     pub fn to_tree_bpf(&self, alloc: Global) -> Result<BpfProgram, BackendError>
         ensures compiled { IfOk result (λ program. IsTreeCompiled self.now program.items) }
         ensures compilable { OnOk result (IsTreeCompilable self.now) }

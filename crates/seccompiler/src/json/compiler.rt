@@ -45,6 +45,10 @@ impl Model for JsonCompiler {
 
 impl JsonCompiler {
     /// A compiler for an architecture.
+    ///
+    /// ```
+    /// let compiler = JsonCompiler::new(TargetArch::aarch64);
+    /// ```
     pub fn new(arch: TargetArch) -> Self
         ensures { result ≡ arch }
     {
@@ -169,6 +173,15 @@ impl JsonCompiler {
     ///
     /// `OutOfMemory` may come in place of each, where memory is refused or the reader fails for want
     /// of it.
+    ///
+    /// # Examples
+    ///
+    /// ```
+    /// let text = r#"{"main": {"mismatch_action": "trap", "match_action": "allow", "filter": []}}"#;
+    /// let compiler = JsonCompiler::new(TargetArch::aarch64);
+    /// let filters = compiler.compile(alloc, text.as_bytes())?;
+    /// assert!(rt; filters.get("main").is_some());
+    /// ```
     pub fn compile<R: Read + Drop>(
         &self,
         alloc: Global,

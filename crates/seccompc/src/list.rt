@@ -39,7 +39,7 @@ pub fn list<R: Read + Drop, W: Write>(
 {
     let programs = compiled(alloc, arch, policy)?;
     let text = listing(alloc, &programs)?;
-    match out.write_all(text.as_bytes()) {
+    match out.write_all(text.as_slice()) {
         Ok(()) => Ok(()),
         Err(error) => Err(ToolError::Write(error)),
     }

@@ -3,6 +3,7 @@
 
 mod arguments;
 mod error;
+mod hexadecimal;
 mod lines;
 mod list;
 mod listing;

@@ -1,10 +1,12 @@
 // The listing of programs under their names.
 
-ghost use Rattle.std.specs.Prelude.{◌≡◌, ◌++◌, map, IfOk, OnOk, string_bytes, string_cmp, encode_utf8};
+ghost use Rattle.std.specs.Prelude.{◌≡◌, ◌++◌, map, IfOk, OnOk, string_cmp};
 ghost use Rattle.std.specs.List.{concat};
 ghost use Rattle.std.specs.BTreeMap as tree;
-ghost use Rattle.seccompc.specs.Listing.{is_escaped, escaped, header_of, instruction_line, instruction_lines, named_program, listing_of};
+ghost use Rattle.seccompc.specs.Listing.{is_escaped, escaped_byte, escaped, header_of, instruction_line, instruction_lines, named_program, listing_of};
 
+use crate::hexadecimal::{eight_digits, four_digits, two_digits};
+use itoa::Buffer;
 use seccompiler::{BpfProgram, BpfProgramRef, sock_filter};
 use std::alloc::{AllocError, Global};
 use std::collections::BTreeMap;
@@ -13,11 +15,11 @@ use std::collections::BTreeMap;
 pub(crate) fn listing(
     alloc: Global,
     programs: &BTreeMap<String, BpfProgram>,
-) -> Result<String, AllocError>
-    ensures listings { IfOk result (λ text. string_bytes text ≡ concat (map listing_of (map named_program programs.now.entries))) }
+) -> Result<Vec<u8>, AllocError>
+    ensures listings { IfOk result (λ text. text.items ≡ concat (map listing_of (map named_program programs.now.entries))) }
     ensures ordered { tree.IsOrdered string_cmp programs.now }
 {
-    let mut text = String::new(alloc);
+    let mut text = Vec::with_capacity(alloc, room(programs))?;
     for (name, program) in programs {
         push_header(&mut text, program.len(), name.as_str())?;
         push_instructions(&mut text, program)?;
@@ -25,58 +27,87 @@ pub(crate) fn listing(
     Ok(text)
 }
 
-// Adds the line in front of a program.
-fn push_header(text: &mut String, count: usize, name: &str) -> Result<(), AllocError>
-    ensures { OnOk result (string_bytes text.new ≡ string_bytes text.old ++ header_of count name.now) }
+// The bytes of a line in front of a program of 4096 instructions, without its name.
+const HEADER: usize = 13;
+
+// The bytes of an instruction's line.
+const LINE: usize = 20;
+
+// The bytes that the listings take where no byte of a name is written by its number.
+fn room(programs: &BTreeMap<String, BpfProgram>) -> usize
+    // As each walk over a map tells.
+    ensures ordered { tree.IsOrdered string_cmp programs.now }
 {
-    write!(text, "filter {count} ")?;
-    push_escaped(text, name)?;
-    text.push('\n')
+    let mut bytes = 0usize;
+    for (name, program) in programs {
+        bytes = bytes
+            .saturating_add(HEADER)
+            .saturating_add(name.len())
+            .saturating_add(program.len().saturating_mul(LINE));
+    }
+    bytes
 }
 
-// Adds a name, the characters that steer a terminal and the backslash by their numbers.
-fn push_escaped(text: &mut String, name: &str) -> Result<(), AllocError>
-    ensures { OnOk result (string_bytes text.new ≡ string_bytes text.old ++ escaped name.now) }
+// Adds the line in front of a program.
+fn push_header(text: &mut Vec<u8>, count: usize, name: &str) -> Result<(), AllocError>
+    ensures { OnOk result (text.new.items ≡ text.old.items ++ header_of count name.now) }
 {
-    for character in name.chars() {
-        push_character(text, character)?;
+    text.extend_from_slice(b"filter ")?;
+    text.extend_from_slice(Buffer::new().format(count).as_bytes())?;
+    text.extend_from_slice(b" ")?;
+    push_escaped(text, name.as_bytes())?;
+    text.extend_from_slice(b"\n")
+}
+
+// Adds a name, the bytes that steer a terminal and the backslash by their numbers.
+fn push_escaped(text: &mut Vec<u8>, name: &[u8]) -> Result<(), AllocError>
+    ensures { OnOk result (text.new.items ≡ text.old.items ++ escaped name.now) }
+{
+    for byte in name {
+        push_byte(text, *byte)?;
     }
     Ok(())
 }
 
-// Whether a character is written by its number.
-fn is_escaped(character: char) -> bool
-    ensures { result ≡ is_escaped character }
+// Whether a byte is written by its number.
+fn is_escaped(byte: u8) -> bool
+    ensures { result ≡ is_escaped byte }
 {
-    character.is_ascii_control() || character == '\\'
+    byte.is_ascii_control() || byte == b'\\'
 }
 
-// Adds a character of a name.
-fn push_character(text: &mut String, character: char) -> Result<(), AllocError>
-    ensures { OnOk result (string_bytes text.new ≡ string_bytes text.old ++ escaped (encode_utf8 character)) }
+// Adds a byte of a name.
+fn push_byte(text: &mut Vec<u8>, byte: u8) -> Result<(), AllocError>
+    ensures { OnOk result (text.new.items ≡ text.old.items ++ escaped_byte byte) }
 {
-    if is_escaped(character) {
-        let number = u32::from(character);
-        write!(text, "\\x{number:02x}")
+    if is_escaped(byte) {
+        let [high, low] = two_digits(byte);
+        text.extend_from_slice(&[b'\\', b'x', high, low])
     } else {
-        text.push(character)
+        text.extend_from_slice(&[byte])
     }
 }
 
 // Adds the lines of a program's instructions.
-fn push_instructions(text: &mut String, program: BpfProgramRef<'_>) -> Result<(), AllocError>
-    ensures { OnOk result (string_bytes text.new ≡ string_bytes text.old ++ instruction_lines program.now) }
+fn push_instructions(text: &mut Vec<u8>, program: BpfProgramRef<'_>) -> Result<(), AllocError>
+    ensures { OnOk result (text.new.items ≡ text.old.items ++ instruction_lines program.now) }
 {
     for instruction in program {
-        push_instruction(text, instruction)?;
+        text.extend_from_slice(&line(instruction))?;
     }
     Ok(())
 }
 
-// Adds the line of an instruction.
-fn push_instruction(text: &mut String, instruction: &sock_filter) -> Result<(), AllocError>
-    ensures { OnOk result (string_bytes text.new ≡ string_bytes text.old ++ instruction_line instruction.now) }
+// The line of an instruction.
+fn line(instruction: &sock_filter) -> [u8; LINE]
+    ensures { result ≡ instruction_line instruction.now }
 {
     let sock_filter { code, jt, jf, k } = *instruction;
-    writeln!(text, "{code:04x} {jt:02x} {jf:02x} {k:08x}")
+    let [c0, c1, c2, c3] = four_digits(code);
+    let [t0, t1] = two_digits(jt);
+    let [f0, f1] = two_digits(jf);
+    let [k0, k1, k2, k3, k4, k5, k6, k7] = eight_digits(k);
+    [
+        c0, c1, c2, c3, b' ', t0, t1, b' ', f0, f1, b' ', k0, k1, k2, k3, k4, k5, k6, k7, b'\n',
+    ]
 }

@@ -1,9 +1,11 @@
 // The lines of records.
 
-ghost use Rattle.std.specs.Prelude.{◌≡◌, ◌++◌, IfOk, OnOk, string_bytes};
+ghost use Rattle.std.specs.Prelude.{◌≡◌, ◌++◌, IfOk, OnOk};
 ghost use Rattle.seccompiler.specs.Checked.{IsChecked};
 ghost use Rattle.seccompc.specs.Lines.{AreLines, line_of};
 
+use crate::hexadecimal::eight_digits;
+use itoa::Buffer;
 use seccompiler::BpfProgramRef;
 use seccompiler::machine::{Outcome, run};
 use std::alloc::{AllocError, Global};
@@ -13,11 +15,11 @@ pub(crate) fn lines(
     alloc: Global,
     program: BpfProgramRef<'_>,
     records: &[[u8; 64]],
-) -> Result<String, AllocError>
+) -> Result<Vec<u8>, AllocError>
     requires { IsChecked program.now }
-    ensures { IfOk result (λ text. AreLines program.now records.now (string_bytes text)) }
+    ensures { IfOk result (λ text. AreLines program.now records.now text.items) }
 {
-    let mut text = String::new(alloc);
+    let mut text = Vec::new(alloc);
     'records: for record in records {
         push_line(&mut text, run(program, record))?;
     }
@@ -25,9 +27,12 @@ pub(crate) fn lines(
 }
 
 // Adds the line of a run.
-fn push_line(text: &mut String, outcome: Outcome) -> Result<(), AllocError>
-    ensures { OnOk result (string_bytes text.new ≡ string_bytes text.old ++ line_of outcome.word outcome.steps) }
+fn push_line(text: &mut Vec<u8>, outcome: Outcome) -> Result<(), AllocError>
+    ensures { OnOk result (text.new.items ≡ text.old.items ++ line_of outcome.word outcome.steps) }
 {
     let Outcome { word, steps } = outcome;
-    writeln!(text, "{word:08x} {steps}")
+    text.extend_from_slice(&eight_digits(word))?;
+    text.extend_from_slice(b" ")?;
+    text.extend_from_slice(Buffer::new().format(steps).as_bytes())?;
+    text.extend_from_slice(b"\n")
 }

@@ -31,7 +31,7 @@ pub(crate) fn trace<R: Read + Drop, W: Write>(
     let bytes = read_whole(alloc, records)?;
     let (records, rest) = bytes.as_slice().as_chunks::<64>();
     let text = lines(alloc, program, records)?;
-    match out.write_all(text.as_bytes()) {
+    match out.write_all(text.as_slice()) {
         Ok(()) => {}
         Err(error) => return Err(ToolError::Write(error)),
     }

@@ -1,39 +1,26 @@
 -- Lines of instructions and listings of programs, one after the other.
-use Rattle.std.proofs.Common.{◌≡◌, ℕ, ◌+◌, ◌-◌, ◌^◌, ◌<◌, false, List, [], ◌∷◌, ◌++◌, length, take, get_or, map, codes, string_bytes, refl, sym, ap, ◌∙◌, append_assoc, append-nil, arith}
-use Rattle.std.specs.Fmt.{digits, padded_integral, format_spec}
+use Rattle.std.proofs.Common.{◌≡◌, ℕ, ◌+◌, ◌<◌, List, [], ◌∷◌, ◌++◌, length, take, get_or, map, string_bytes, sym, ap, ◌∙◌, append_assoc, append-nil}
 use Rattle.std.specs.List.{concat}
 use Rattle.std.proofs.lemmas.List.{take_more}
 use Rattle.seccompiler.specs.declared.bpf.sock_filter.{sock_filter}
-use Rattle.seccompc.specs.Lines.{hexadecimal}
-use Rattle.seccompc.specs.Listing.{header_of, instruction_line, instruction_lines, named_program, listing_of}
-use Rattle.seccompc.proofs.Hexadecimal.{hexadecimal_written}
+use Rattle.seccompc.specs.Listing.{header_of, instruction_lines, named_program, listing_of}
 use Rattle.seccompc.proofs.Names.{Entry}
 
--- A number as a hole such as `{n:04x}` writes it.
-abbrev hole : ℕ → ℕ → List ℕ
-hole width n = padded_integral (format_spec 32 0 4 width (2 ^ 64 - 1)) false [] (digits 16 false n)
+module _ {X : Type 0} (written : X → List ℕ) where
+  -- What is written of a list, piece by piece.
+  abbrev pieces : List X → List ℕ
+  pieces xs = concat (map written xs)
 
--- Texts between spaces, and a line feed behind them.
-spaced : (a b c d : List ℕ) → a ++ (32 ∷ (b ++ (32 ∷ (c ++ (32 ∷ (d ++ 10 ∷ [])))))) ≡ a ++ codes " " ++ b ++ codes " " ++ c ++ codes " " ++ d ++ codes "\n"
-spaced a b c d = simp append_assoc refl
+  -- One piece more at the end.
+  pub pieces_push : (xs : List X) (x : X) → pieces (xs ++ x ∷ []) ≡ pieces xs ++ written x
+  pieces_push [] x = append-nil (written x)
+  pieces_push (y ∷ xs) x = ap (λ l. written y ++ l) (pieces_push xs x) ∙ sym (append_assoc (written y) (pieces xs) (written x))
 
--- The pieces of the format are the line.
-pub instruction_written : (i : sock_filter) → i.code < 2 ^ 16 → i.jt < 2 ^ 8 → i.jf < 2 ^ 8 → i.k < 2 ^ 32
-    → hole 4 i.code ++ (32 ∷ (hole 2 i.jt ++ (32 ∷ (hole 2 i.jf ++ (32 ∷ (hole 8 i.k ++ 10 ∷ [])))))) ≡ instruction_line i
-instruction_written i code jt jf k =
-    rw (hexadecimal_written 4 i.code (omega arith) (omega arith) (omega (arith, code)), hexadecimal_written 2 i.jt (omega arith) (omega arith) (omega (arith, jt)), hexadecimal_written 2 i.jf (omega arith) (omega arith) (omega (arith, jf)), hexadecimal_written 8 i.k (omega arith) (omega arith) (omega (arith, k)))
-    (spaced (hexadecimal 4 i.code) (hexadecimal 2 i.jt) (hexadecimal 2 i.jf) (hexadecimal 8 i.k))
-
--- One instruction more at the end.
-lines_push : (program : List sock_filter) (i : sock_filter) → instruction_lines (program ++ i ∷ []) ≡ instruction_lines program ++ instruction_line i
-lines_push [] i = append-nil (instruction_line i)
-lines_push (x ∷ program) i = ap (λ l. instruction_line x ++ l) (lines_push program i) ∙ sym (append_assoc (instruction_line x) (instruction_lines program) (instruction_line i))
-
-pub lines_more : (program : List sock_filter) (at : ℕ) (i : sock_filter) (begun old new : List ℕ) → at < length program → i ≡ get_or program at i
-    → old ≡ begun ++ instruction_lines (take at program) → new ≡ old ++ instruction_line i → new ≡ begun ++ instruction_lines (take (at + 1) program)
-lines_more program at i begun old new room is so_far more =
-    more ∙ ap (λ l. l ++ instruction_line i) so_far ∙ append_assoc begun (instruction_lines (take at program)) (instruction_line i)
-    ∙ ap (λ l. begun ++ l) (sym (lines_push (take at program) i) ∙ ap (λ j. instruction_lines (take at program ++ j ∷ [])) is ∙ ap instruction_lines (sym (take_more program at i room)))
+  pub pieces_more : (xs : List X) (at : ℕ) (x : X) (begun old new : List ℕ) → at < length xs → x ≡ get_or xs at x
+      → old ≡ begun ++ pieces (take at xs) → new ≡ old ++ written x → new ≡ begun ++ pieces (take (at + 1) xs)
+  pieces_more xs at x begun old new room is so_far more =
+      more ∙ ap (λ l. l ++ written x) so_far ∙ append_assoc begun (pieces (take at xs)) (written x)
+      ∙ ap (λ l. begun ++ l) (sym (pieces_push (take at xs) x) ∙ ap (λ y. pieces (take at xs ++ y ∷ [])) is ∙ ap pieces (sym (take_more xs at x room)))
 
 -- The listings of programs.
 abbrev pub listings : List Entry → List ℕ

@@ -1,7 +1,7 @@
-use Rattle.std.proofs.Common.{◌≡◌, ◌∷◌, ◌++◌, [], length, string_bytes, sym, ap, ◌∙◌, append_assoc}
+use Rattle.std.proofs.Common.{◌≡◌, ◌∷◌, ◌++◌, [], length, sym, ap, ◌∙◌, append_assoc}
 use Rattle.seccompc.proofs.Names.{Entry}
 use Rattle.seccompc.proofs.Listings.{listing_more}
-use Rattle.seccompc.proofs.listing.listing.Goals as goal
+use Rattle.seccompc.proofs.program_text.listing.Goals as goal
 
 pub loop-name-preserved : goal.loop-name-preserved
 loop-name-preserved c =
@@ -14,6 +14,6 @@ loop-name-preserved c =
       done ++ e ∷ [],
       all ∙ sym (append_assoc done (e ∷ []) left),
       listing_more done e c.len.result c.as_str.result.now c.deref.result.now
-          (string_bytes l.text) (string_bytes c.push_header.new.text) (string_bytes c.push_instructions.new.text) l.invariant.2
+          l.text.items c.push_header.new.text.items c.push_instructions.new.text.items l.invariant.2
           c.in_ok-push_header.ensures c.in_ok-push_instructions.ensures count c.as_str.ensures.value c.deref.ensures.value,
     )

@@ -1,9 +1,13 @@
-use Rattle.std.proofs.Common.{◌++◌, encode_utf8, string_bytes}
-use Rattle.seccompc.specs.Listing.{escaped}
-use Rattle.seccompc.proofs.Escapes.{character_moved}
-use Rattle.seccompc.proofs.listing.push_escaped.Goals as goal
+use Rattle.std.proofs.Common.{get_or}
+use Rattle.std.proofs.lemmas.List.{get_or_default}
+use Rattle.seccompc.specs.Listing.{escaped_byte}
+use Rattle.seccompc.proofs.Listings.{pieces_more}
+use Rattle.seccompc.proofs.program_text.push_escaped.Goals as goal
 
-pub loop-character-preserved : goal.loop-character-preserved
-loop-character-preserved c =
-    character_moved (string_bytes c.loop-character.text) (string_bytes c.push_character.new.text) c.loop-character.character-iterator.rest.now c.next.new.self.rest.now
-    (encode_utf8 c.in-Some.character) (string_bytes c.args.text.now ++ escaped c.args.name.now) c.in_ok-push_character.ensures c.in-Some.ensures.steps.0 c.loop-character.invariant
+pub loop-byte-preserved : goal.loop-byte-preserved
+loop-byte-preserved c =
+    let name = c.args.name.now in
+    let at = c.loop-byte.byte-index in
+    let byte = get_or name at 0 in
+    pieces_more escaped_byte name at byte c.args.text.now.items c.loop-byte.text.items c.push_byte.new.text.items c.loop-byte-test.true
+    (get_or_default name at 0 byte c.loop-byte-test.true) c.loop-byte.invariant c.in_ok-push_byte.ensures

@@ -18,8 +18,8 @@ returns-in-0-clause-lines g c =
     let contents = g.W.Write.contents in
     let old = contents c.args.out.now in
     let new = contents c.write_all.new.self in
-    let written = lines_sent program items c.as_slice.result.now c.as_chunks.result.1.now _ c.as_bytes.result.now c.as_chunks.result.0.now 0 old new
-    c.as_slice.ensures.value c.as_chunks.ensures.front c.as_chunks.ensures.back c.in-0.is c.in_ok-text.ensures c.as_bytes.ensures.value c.in-Ok.ensures.bytes in
+    let written = lines_sent program items c.as_slice.result.now c.as_chunks.result.1.now _ c.as_slice-2.result.now c.as_chunks.result.0.now 0 old new
+    c.as_slice.ensures.value c.as_chunks.ensures.front c.as_chunks.ensures.back c.in-0.is c.in_ok-text.ensures c.as_slice-2.ensures.value c.in-Ok.ensures.bytes in
     (items, c.in_ok-bytes.ensures.bytes, written)
 
 pub returns-clause-lines : goal.returns-clause-lines
@@ -30,7 +30,7 @@ returns-clause-lines g c =
     let old = contents c.args.out.now in
     let new = contents c.write_all.new.self in
     let rest = length c.as_chunks.result.1.now in
-    let written = lines_sent program items c.as_slice.result.now c.as_chunks.result.1.now _ c.as_bytes.result.now c.as_chunks.result.0.now rest old new
-    c.as_slice.ensures.value c.as_chunks.ensures.front c.as_chunks.ensures.back refl c.in_ok-text.ensures c.as_bytes.ensures.value c.in-Ok.ensures.bytes in
+    let written = lines_sent program items c.as_slice.result.now c.as_chunks.result.1.now _ c.as_slice-2.result.now c.as_chunks.result.0.now rest old new
+    c.as_slice.ensures.value c.as_chunks.ensures.front c.as_chunks.ensures.back refl c.in_ok-text.ensures c.as_slice-2.ensures.value c.in-Ok.ensures.bytes in
     let some : 0 < rest = let d = c.in_default in omega arith in
     (items, c.in_ok-bytes.ensures.bytes, (some, written))

@@ -5,7 +5,7 @@ ghost use Rattle.seccompc.specs.Errors.{KeepsOutput};
 ghost use Rattle.seccompc.specs.Policies.{AnswersList};
 
 use crate::error::ToolError;
-use crate::listing::listing;
+use crate::program_text::listing;
 use crate::policy::compiled;
 use std::alloc::Global;
 use std::io::{Read, Write};

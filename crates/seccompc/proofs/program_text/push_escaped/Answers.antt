@@ -1,7 +1,7 @@
 use Rattle.std.proofs.Common.{get_or}
 use Rattle.std.proofs.lemmas.List.{get_or_default}
 use Rattle.seccompc.specs.Listing.{escaped_byte}
-use Rattle.seccompc.proofs.Listings.{pieces_more}
+use Rattle.seccompc.proofs.program_text.Listings.{pieces_more}
 use Rattle.seccompc.proofs.program_text.push_escaped.Goals as goal
 
 pub loop-byte-preserved : goal.loop-byte-preserved

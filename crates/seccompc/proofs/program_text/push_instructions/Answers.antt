@@ -1,7 +1,7 @@
 use Rattle.std.proofs.Common.{get_or, ap, ◌∙◌, ◌++◌}
 use Rattle.std.proofs.lemmas.List.{get_or_default}
 use Rattle.seccompc.specs.Listing.{instruction_line}
-use Rattle.seccompc.proofs.Listings.{pieces_more}
+use Rattle.seccompc.proofs.program_text.Listings.{pieces_more}
 use Rattle.seccompc.proofs.program_text.push_instructions.Goals as goal
 
 pub loop-instruction-preserved : goal.loop-instruction-preserved

@@ -1,0 +1,2 @@
+-- Lemmas for the functions of `program_text`.
+pub mod Listings

@@ -3,12 +3,13 @@ use Rattle.std.proofs.Common.{◌≡◌, ℕ, zero, suc, ◌+◌, ◌<◌, ◌�
 use Rattle.std.specs.Prelude.{slice_get}
 use Rattle.seccompiler.specs.declared.bpf.sock_filter.{sock_filter}
 use Rattle.seccompiler.specs.Code.{give, jump_equal}
-use Rattle.seccompiler.specs.Machine.{stays}
+use Rattle.seccompiler.specs.Machine.{stays, Goes}
 use Rattle.seccompiler.specs.Checked.{IsInRange}
 use Rattle.seccompiler.specs.Pieces.{IsInside, IsClosed, Leads}
 use Rattle.seccompiler.specs.ChainCode.{Returns, IsBlock}
 use Rattle.seccompiler.proofs.Runs.{get_before, get_behind, goes_shift, goes_on, goes_front, stands_second}
 use Rattle.seccompiler.proofs.Closed.{inside_shift, get_split}
+use Rattle.seccompiler.specs.TreeCode.{ReturnsAfter}
 
 -- a return of the first of two pieces, or of the second, is one of both
 pub returns_front : (a b : List sock_filter) (r : List ℕ) (x s w : ℕ) → Returns a r x s w → Returns (a ++ b) r x s w
@@ -80,3 +81,14 @@ block_one x m h = record { each = go }
 -- the range of a test of equality
 pub test_in_range : (n jt jf : ℕ) → n < 2 ^ 32 → jt < 2 ^ 8 → jf < 2 ^ 8 → IsInRange (jump_equal n jt jf)
 test_in_range n jt jf small t f = record { code = omega arith; jt = t; jf = f; k = small }
+
+-- a return of the first of two pieces
+pub front_returns : (a b : List sock_filter) (r : List ℕ) (x s n w : ℕ) → ReturnsAfter a r x s n w → ReturnsAfter (a ++ b) r x s n w
+front_returns a b r x s n w h = record { to = h.to; accumulator = h.accumulator; instruction = h.instruction; goes = goes_front a b r h.goes; here = get_before a b h.to h.instruction h.here; returns = h.returns; value = h.value }
+
+-- a run to the end of the first piece, and then a return of the second
+pub back_returns : (a b : List sock_filter) (r : List ℕ) (s s' m n w : ℕ) → Goes (a ++ b) r 0 s m (length a) s' → ReturnsAfter b r 0 s' n w → ReturnsAfter (a ++ b) r 0 s (m + n) w
+back_returns a b r s s' m n w g h =
+    let z : length a + 0 ≡ length a = omega arith in
+    let second = subst (λ y. Goes (a ++ b) r y s' n (length a + h.to) h.accumulator) z (goes_shift (a ++ b) b r (length a) (stands_second a b) h.goes) in
+    record { to = length a + h.to; accumulator = h.accumulator; instruction = h.instruction; goes = goes_on (a ++ b) r g second; here = get_behind a b h.to h.instruction h.here; returns = h.returns; value = h.value }

@@ -1,53 +1,17 @@
--- Lemmas that several proofs cite: of records, lists and the machine; of conditions, rules, chains and programs; of the
--- policies that they decide.
+-- Laws of the definitions, which the proofs of several modules cite: of records, lists, the machine and pieces of code; of
+-- chains, ranges, tables and what stands under names. The lemmas of one module lie in that module's folder, and the file
+-- beside the folder lists them.
 pub mod Words
 pub mod Parts
-pub mod Runs
-pub mod Closed
-pub mod Steps
-pub mod Blocks
-pub mod CheckedLemmas
-pub mod Determinism
-pub mod Comparisons
-pub mod ConditionCode
-pub mod GroupCuts
-pub mod RuleCode
-pub mod RelayCount
-pub mod RuleLoops
-pub mod RulesCode
-pub mod OneChain
-pub mod AllChains
-pub mod WholeProgram
-pub mod CappedLengths
-pub mod CallNumbers
-pub mod Chains
 pub mod Searches
-pub mod FilterEquality
-pub mod LowHalves
-pub mod Reordering
-pub mod RangesFound
-pub mod RangesMade
+pub mod Runs
+pub mod Steps
+pub mod Closed
+pub mod Blocks
+pub mod CappedLengths
+pub mod FoundChains
 pub mod RangesOnly
-pub mod RangesExist
-pub mod TreeLengths
-pub mod TreeCode
-pub mod TreeProgram
-pub mod TableNames
 pub mod TableFacts
-pub mod Halving
-pub mod TextCuts
-pub mod JsonNames
-pub mod JsonLists
-pub mod JsonUnique
-pub mod JsonFilterMaps
-pub mod JsonRules
-pub mod JsonChains
-pub mod JsonGathered
-pub mod JsonEntries
-pub mod NumberedChains
-pub mod JsonPolicies
-pub mod JsonWidened
+pub mod TableNames
 pub mod ByName
 pub mod TextFilters
-pub mod TextPolicies
-pub mod TextPrograms

@@ -23,14 +23,23 @@ pub record Returns (p : List sock_filter) (r : List ℕ) (place a w : ℕ) : Typ
 pub record IsBlock (p : List sock_filter) (m : ℕ) : Type 0 where
   pub each : (place : ℕ) (i : sock_filter) → slice_get p place ≡ Some i → (IsInside i place m) ⊎ (i.code ≡ 0x06)
 
+-- Entered at its first place the code returns the first word where the fact holds, and the second where it does not; one of
+-- the two is so.
+abbrev pub ReturnsBy : List sock_filter → ℕ → ℕ → List ℕ → ℕ → Type 0 → Type 0
+ReturnsBy code matched mismatch r a fact = (fact × Returns code r 0 a matched) ⊎ ((fact → ⊥) × Returns code r 0 a mismatch)
+
+-- Entered at its first place the code returns the word where the fact holds, and leaves at its end where it does not; one of
+-- the two is so.
+abbrev pub ReturnsOrLeaves : List sock_filter → ℕ → List ℕ → ℕ → Type 0 → Type 0
+ReturnsOrLeaves code w r a fact = (fact × Returns code r 0 a w) ⊎ ((fact → ⊥) × Leads code r 0 a (length code))
+
 -- The code of rules, each with its return: entered at its first place it returns where some rule holds, and leaves at
 -- its end where none does; entered at its second place it leaves one place behind its end, with the accumulator kept.
 pub record IsRulesCode (chain : Chain) (w : ℕ) (code : List sock_filter) : Type 0 where
   pub long : length code ≡ rules_length chain
   pub ranges : AreInRange code
   pub block : IsBlock code (length code + 1)
-  pub enters : (r : List ℕ) → IsRecord r → (a : ℕ) → a < 2 ^ 32
-      → (Any (λ q. RuleHolds q r) chain × Returns code r 0 a w) ⊎ ((Any (λ q. RuleHolds q r) chain → ⊥) × Leads code r 0 a (length code))
+  pub enters : (r : List ℕ) → IsRecord r → (a : ℕ) → a < 2 ^ 32 → ReturnsOrLeaves code w r a (Any (λ q. RuleHolds q r) chain)
   pub skips : (r : List ℕ) (a : ℕ) → a < 2 ^ 32 → Goes code r 1 a (sum_by rule_steps chain) (length code + 1) a
 
 -- The code of a chain: entered with its call number it returns one of the two words; with another number it leaves at
@@ -39,15 +48,13 @@ pub record IsChainCode (number : ℕ) (chain : Chain) (mismatch matched : ℕ) (
   pub long : length code ≡ chain_length chain
   pub ranges : AreInRange code
   pub block : IsBlock code (length code)
-  pub enters : (r : List ℕ) → IsRecord r
-      → (ChainMatches chain r × Returns code r 0 number matched) ⊎ ((ChainMatches chain r → ⊥) × Returns code r 0 number mismatch)
+  pub enters : (r : List ℕ) → IsRecord r → ReturnsBy code matched mismatch r number (ChainMatches chain r)
   pub passes : (r : List ℕ) (a : ℕ) → a < 2 ^ 32 → a ≢ number → Goes code r 0 a (chain_steps chain) (length code) a
 
 -- What the code of chains does with a call number: it returns a word where there is a chain, and leaves at its end where
 -- there is none.
 pub data Dispatches (chains : List (ℤ × Chain)) (mismatch matched : ℕ) (code : List sock_filter) (r : List ℕ) (a : ℕ) : Type 0 where
-  chain_matches : (chain : Chain) → chain_under chains a ≡ Some chain → ChainMatches chain r → Returns code r 0 a matched → Dispatches chains mismatch matched code r a
-  chain_differs : (chain : Chain) → chain_under chains a ≡ Some chain → (ChainMatches chain r → ⊥) → Returns code r 0 a mismatch → Dispatches chains mismatch matched code r a
+  in_chain : (chain : Chain) → chain_under chains a ≡ Some chain → ReturnsBy code matched mismatch r a (ChainMatches chain r) → Dispatches chains mismatch matched code r a
   no_chain : chain_under chains a ≡ None → Goes code r 0 a (chains_steps chains) (length code) a → Dispatches chains mismatch matched code r a
 
 -- The code of the chains of a filter, entered with the call number in the accumulator.

@@ -12,7 +12,6 @@ pub mod Groups
 pub mod Layout
 pub mod Compiled
 pub mod Refusal
-
 -- The headline for policies as JSON text: repeated names, the shapes of values, the policy of a filter or its first fault,
 -- and what is given for a whole text.
 pub mod TextPieces
@@ -25,7 +24,6 @@ pub mod JsonPolicyOf
 pub mod JsonAnswers
 pub mod JsonPrograms
 pub mod Reads
-
 -- What other calls promise: the code of conditions and rules; the second layout; each step from JSON to filters; entries
 -- without conditions; errors and their texts; installing; the order of rules; the low half of an argument; equality.
 pub mod Code
@@ -42,7 +40,6 @@ pub mod Reorder
 pub mod LowHalf
 pub mod Equality
 pub mod JsonEquality
-
 -- Between layers: what private functions promise each other, and laws that the tests of equality need. No promise rests
 -- on how these are worded.
 pub mod Relay

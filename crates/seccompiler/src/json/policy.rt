@@ -102,7 +102,7 @@ fn add_rule(
 }
 
 // Adds what the entry stands for: its rule at the end of those of its call's number, or that number.
-#[tactic(auto, using(crate::proofs::JsonEntries::wrong_entry))]
+#[tactic(auto, using(crate::proofs::json::policy::EntryFaults::wrong_entry))]
 fn add_entry(
     alloc: Global,
     arch: TargetArch,
@@ -127,7 +127,7 @@ fn add_entry(
 }
 
 // What the entries stand for.
-#[tactic(auto, using(crate::proofs::JsonEntries::first_wrong))]
+#[tactic(auto, using(crate::proofs::json::policy::EntryFaults::first_wrong))]
 fn gather(
     alloc: Global,
     arch: TargetArch,

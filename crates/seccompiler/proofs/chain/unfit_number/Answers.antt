@@ -5,7 +5,7 @@ use Rattle.std.proofs.lemmas.List.Elements.{All-push, All-map, All-same, All-con
 use Rattle.std.proofs.lemmas.Map.Iter.{iter_end, rest_so_far}
 use Rattle.std.specs.Map.Iter.{deref}
 use Rattle.seccompiler.specs.Policy.{IsCallNumber}
-use Rattle.seccompiler.proofs.CallNumbers.{call_number_if_ok, no_call_number_if_err, first_unfit_is_least}
+use Rattle.seccompiler.proofs.chain.CallNumbers.{call_number_if_ok, no_call_number_if_err, first_unfit_is_least}
 use Rattle.std.specs.BTreeMap.{keys}
 use Rattle.std.proofs.lemmas.Bool.{true≢false}
 use Rattle.seccompiler.proofs.chain.unfit_number.Goals as goal

@@ -5,7 +5,7 @@ use Rattle.seccompiler.specs.Code.{jump_equal}
 use Rattle.seccompiler.specs.Policy.{Chain}
 use Rattle.seccompiler.specs.Layout.{chain_length, rules_length}
 use Rattle.seccompiler.proofs.Parts.{framed, length-part}
-use Rattle.seccompiler.proofs.OneChain.{chain_without, chain_with}
+use Rattle.seccompiler.proofs.chain.OneChain.{chain_without, chain_with}
 use Rattle.seccompiler.proofs.chain.write_chain.Goals as goal
 
 -- a chain that has rules is two instructions longer than they are

@@ -8,7 +8,8 @@ use Rattle.seccompiler.specs.Policy.{Chain, chains_of}
 use Rattle.seccompiler.specs.Layout.{chain_length, chains_length}
 use Rattle.seccompiler.specs.ChainCode.{IsChainsCode}
 use Rattle.seccompiler.proofs.Parts.{length-part}
-use Rattle.seccompiler.proofs.AllChains.{MapEntry, chains_empty, chains_step, key_fits, rest_step, chains_room}
+use Rattle.seccompiler.proofs.chain.AllChains.{chains_empty, chains_step, chains_room}
+use Rattle.seccompiler.proofs.FoundChains.{MapEntry, key_fits, rest_step}
 use Rattle.seccompiler.proofs.chain.write_chains.Goals as goal
 
 -- what a step of the loop needs: the length of the chain exactly, and room for it

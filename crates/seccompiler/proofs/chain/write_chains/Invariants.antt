@@ -1,7 +1,7 @@
 use Rattle.std.proofs.Common.{◌≡◌, ◌≤◌, ◌++◌, List, length, take}
 use Rattle.seccompiler.specs.Policy.{chains_of}
 use Rattle.seccompiler.specs.ChainCode.{IsChainsCode}
-use Rattle.seccompiler.proofs.AllChains.{MapEntry}
+use Rattle.seccompiler.proofs.FoundChains.{MapEntry}
 use Rattle.seccompiler.proofs.chain.write_chains.Given as goal
 
 abbrev pub invariant-loop-number : goal.invariant-loop-number

@@ -9,7 +9,7 @@ use Rattle.seccompiler.specs.Policy.{Rule, Chain}
 use Rattle.seccompiler.specs.Layout.{rule_length, rules_length}
 use Rattle.seccompiler.specs.ChainCode.{IsRulesCode}
 use Rattle.seccompiler.proofs.Parts.{take-written, length-part}
-use Rattle.seccompiler.proofs.RulesCode.{rules_empty, rules_step, rules_all, rules_room}
+use Rattle.seccompiler.proofs.chain.RulesCode.{rules_empty, rules_step, rules_all, rules_room}
 use Rattle.seccompiler.proofs.chain.write_rules.Goals as goal
 
 -- what a step of the loop needs: the length of the rule exactly, and room for it and its return

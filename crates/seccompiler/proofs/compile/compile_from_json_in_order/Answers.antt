@@ -5,7 +5,7 @@ use Rattle.seccompiler.specs.JsonPrograms.{AreProgramsOf}
 use Rattle.seccompiler.specs.Reads.{Reads}
 use Rattle.seccompiler.specs.declared.bpf.sock_filter.{sock_filter}
 use Rattle.seccompiler.proofs.ByName.{ordered}
-use Rattle.seccompiler.proofs.TextPrograms.{all_checked}
+use Rattle.seccompiler.proofs.compile.TextPrograms.{all_checked}
 use Rattle.seccompiler.proofs.compile.compile_from_json_in_order.Goals as goal
 
 pub returns-clause-programs : goal.returns-clause-programs

@@ -9,7 +9,7 @@ use Rattle.seccompiler.specs.Refusal.{numbers_of}
 use Rattle.seccompiler.specs.SyscallTable.{IsTableNumber}
 use Rattle.seccompiler.specs.declared.bpf.sock_filter.{sock_filter}
 use Rattle.seccompiler.proofs.ByName.{AreMade, made_more, made_in_order}
-use Rattle.seccompiler.proofs.TextPrograms.{Compiles, are_programs, refused_told, numbers_here}
+use Rattle.seccompiler.proofs.compile.TextPrograms.{Compiles, are_programs, refused_told, numbers_here}
 use Rattle.seccompiler.proofs.compile.programs.Goals as goal
 
 -- Where nothing is left, all is yielded.

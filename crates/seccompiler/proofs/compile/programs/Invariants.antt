@@ -1,7 +1,7 @@
 use Rattle.std.proofs.Common.{◌≡◌, ◌++◌}
 use Rattle.std.specs.Vec.Iter.{into_iter_items}
 use Rattle.seccompiler.proofs.ByName.{AreMade}
-use Rattle.seccompiler.proofs.TextPrograms.{Compiles}
+use Rattle.seccompiler.proofs.compile.TextPrograms.{Compiles}
 use Rattle.seccompiler.proofs.compile.programs.Given as goal
 
 abbrev pub invariant-loop-name : goal.invariant-loop-name

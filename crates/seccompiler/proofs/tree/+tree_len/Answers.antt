@@ -1,8 +1,8 @@
 use Rattle.std.proofs.Common.{◌≡◌, ◌-◌, ◌^◌, length, min, ap, sym, ◌∙◌, arith}
 use Rattle.std.proofs.lemmas.Bool.Decides.{nat_tests}
 use Rattle.seccompiler.specs.Tree.{tree_length}
-use Rattle.seccompiler.proofs.RangesFound.{only_one, length_one}
-use Rattle.seccompiler.proofs.TreeLengths.{capped_cut}
+use Rattle.seccompiler.proofs.tree.RangesFound.{only_one, length_one}
+use Rattle.seccompiler.proofs.tree.TreeLengths.{capped_cut}
 use Rattle.seccompiler.proofs.tree.+tree_len.Goals as goal
 
 pub returns-then-ranges-eq1 : goal.returns-then-ranges-eq1

@@ -1,8 +1,8 @@
 use Rattle.std.proofs.Common.{◌≡◌, ◌<◌, ◌≤◌, length, ap, ◌∙◌, arith}
 use Rattle.std.proofs.lemmas.Bool.Decides.{nat_tests}
 use Rattle.seccompiler.specs.Tree.{test_length, tree_length}
-use Rattle.seccompiler.proofs.RangesFound.{only_one, some_ranges, length_one, halves_ascend, shorter}
-use Rattle.seccompiler.proofs.TreeCode.{tree_cut}
+use Rattle.seccompiler.proofs.tree.RangesFound.{only_one, some_ranges, length_one, halves_ascend, shorter}
+use Rattle.seccompiler.proofs.tree.TreeCode.{tree_cut}
 use Rattle.seccompiler.proofs.tree.+write_tree.Goals as goal
 
 pub write_leaf-requires-clause-room : goal.write_leaf-requires-clause-room

@@ -1,6 +1,6 @@
 use Rattle.std.proofs.Common.{◌≡◌, sym, ◌∙◌}
 use Rattle.seccompiler.specs.TreeCode.{last_chain}
-use Rattle.seccompiler.proofs.RangesMade.{last_get}
+use Rattle.seccompiler.proofs.tree.RangesMade.{last_get}
 use Rattle.seccompiler.proofs.tree.ends_matched.Goals as goal
 
 pub returns-in-Some : goal.returns-in-Some

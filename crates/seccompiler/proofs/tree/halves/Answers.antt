@@ -1,4 +1,4 @@
-use Rattle.seccompiler.proofs.RangesFound.{are_halves}
+use Rattle.seccompiler.proofs.tree.RangesFound.{are_halves}
 use Rattle.seccompiler.proofs.tree.halves.Goals as goal
 
 pub returns : goal.returns

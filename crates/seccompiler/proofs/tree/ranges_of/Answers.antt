@@ -3,9 +3,9 @@ use Rattle.std.specs.Map.{keys_of}
 use Rattle.std.specs.List.Sorted.{IsStrictlySortedBy}
 use Rattle.std.specs.Ordering.{int_cmp}
 use Rattle.seccompiler.specs.Ranges.{Range}
-use Rattle.seccompiler.proofs.AllChains.{MapEntry, key_fits, rest_step}
-use Rattle.seccompiler.proofs.RangesMade.{Covers, covers_none, from_zero, next_of, made_step, made_all}
-use Rattle.seccompiler.proofs.RangesExist.{ranges_exist}
+use Rattle.seccompiler.proofs.FoundChains.{MapEntry, key_fits, rest_step}
+use Rattle.seccompiler.proofs.tree.RangesMade.{Covers, covers_none, from_zero, next_of, made_step, made_all}
+use Rattle.seccompiler.proofs.tree.RangesExist.{ranges_exist}
 use Rattle.seccompiler.proofs.tree.ranges_of.Goals as goal
 
 pub loop-number-init : goal.loop-number-init

@@ -1,7 +1,7 @@
 use Rattle.std.proofs.Common.{◌<◌, ◌≤◌, [], ◌∷◌, ap, ap₂, ◌∙◌, arith}
 use Rattle.std.proofs.lemmas.Bool.Decides.{nat_tests}
 use Rattle.seccompiler.specs.declared.bpf.sock_filter.{sock_filter}
-use Rattle.seccompiler.proofs.TreeCode.{near_test, far_test}
+use Rattle.seccompiler.proofs.tree.TreeCode.{near_test, far_test}
 use Rattle.seccompiler.proofs.tree.write_test.Goals as goal
 
 pub returns-then-distance-le255 : goal.returns-then-distance-le255

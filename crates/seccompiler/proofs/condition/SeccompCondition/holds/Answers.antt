@@ -1,6 +1,6 @@
 use Rattle.std.proofs.Common.{rules, ◌↔◌, IsTrue}
 use Rattle.seccompiler.specs.Condition.{Holds}
-use Rattle.seccompiler.proofs.LowHalves.{low_half_test}
+use Rattle.seccompiler.proofs.condition.LowHalves.{low_half_test}
 use Rattle.seccompiler.proofs.condition.SeccompCondition.holds.Goals as goal
 
 pub returns-clause-low_half : goal.returns-clause-low_half

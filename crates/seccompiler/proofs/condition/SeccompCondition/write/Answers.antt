@@ -1,6 +1,6 @@
 use Rattle.std.proofs.Common.{ap}
 use Rattle.seccompiler.specs.Condition.{Condition}
-use Rattle.seccompiler.proofs.ConditionCode.{written_meets}
+use Rattle.seccompiler.proofs.condition.ConditionCode.{written_meets}
 use Rattle.seccompiler.proofs.condition.SeccompCondition.write.Goals as goal
 
 pub returns-in-Dword-clause-meets : goal.returns-in-Dword-clause-meets

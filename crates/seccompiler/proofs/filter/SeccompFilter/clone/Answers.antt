@@ -4,7 +4,7 @@ use Rattle.std.specs.Ordering.{int_cmp}
 use Rattle.std.specs.BTreeMap.{insert_entry}
 use Rattle.std.proofs.lemmas.Int.{to_z-of_z}
 use Rattle.seccompiler.specs.Policy.{chains_of}
-use Rattle.seccompiler.proofs.Chains.{insert_next}
+use Rattle.seccompiler.proofs.filter.Chains.{insert_next}
 use Rattle.seccompiler.proofs.filter.SeccompFilter.clone.Goals as goal
 
 pub loop-number-init : goal.loop-number-init

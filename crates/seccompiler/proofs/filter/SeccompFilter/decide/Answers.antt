@@ -1,6 +1,6 @@
 use Rattle.std.proofs.Common.{rules}
 use Rattle.seccompiler.specs.Policy.{IsDecision}
-use Rattle.seccompiler.proofs.Reordering.{same_decision}
+use Rattle.seccompiler.proofs.filter.Reordering.{same_decision}
 use Rattle.seccompiler.proofs.filter.SeccompFilter.decide.Goals as goal
 
 pub returns-then-matches-clause-order : goal.returns-then-matches-clause-order

@@ -7,7 +7,7 @@ use Rattle.seccompiler.specs.Refusal.{numbers_of, AreCallNumbers}
 use Rattle.seccompiler.specs.BlankProgram.{RefusesLength, too_large, no_memory}
 use Rattle.seccompiler.specs.Ranges.{Range, AreRanges}
 use Rattle.seccompiler.specs.Tree.{tree_length, IsTreeRefusal}
-use Rattle.seccompiler.proofs.Chains.{numbers_are_keys}
+use Rattle.seccompiler.proofs.filter.Chains.{numbers_are_keys}
 use Rattle.seccompiler.proofs.filter.SeccompFilter.to_tree_bpf.Goals as goal
 
 pub returns-in_err-check_numbers-clause-ranges : goal.returns-in_err-check_numbers-clause-ranges

@@ -5,8 +5,8 @@ use Rattle.seccompiler.specs.Code.{jump_equal, guard_code}
 use Rattle.seccompiler.specs.Policy.{Filter, IsCallNumber}
 use Rattle.seccompiler.specs.Refusal.{numbers_of}
 use Rattle.seccompiler.proofs.Parts.{four-written, headed}
-use Rattle.seccompiler.proofs.Chains.{numbers_are_keys}
-use Rattle.seccompiler.proofs.WholeProgram.{words_of, written_full, written_empty, counted_full, counted_empty}
+use Rattle.seccompiler.proofs.filter.Chains.{numbers_are_keys}
+use Rattle.seccompiler.proofs.filter.WholeProgram.{words_of, written_full, written_empty, counted_full, counted_empty}
 use Rattle.seccompiler.proofs.filter.SeccompFilter.write.Goals as goal
 
 pub returns-then-is_empty : goal.returns-then-is_empty

@@ -3,8 +3,8 @@ use Rattle.seccompiler.specs.Action.{audit_word}
 use Rattle.seccompiler.specs.Code.{jump_equal, guard_code}
 use Rattle.seccompiler.specs.Policy.{Filter}
 use Rattle.seccompiler.proofs.Parts.{headed}
-use Rattle.seccompiler.proofs.WholeProgram.{words_of}
-use Rattle.seccompiler.proofs.TreeProgram.{written_tree}
+use Rattle.seccompiler.proofs.filter.WholeProgram.{words_of}
+use Rattle.seccompiler.proofs.filter.TreeProgram.{written_tree}
 use Rattle.seccompiler.proofs.filter.SeccompFilter.write_by_ranges.Goals as goal
 
 pub returns : goal.returns

@@ -1,6 +1,6 @@
 use Rattle.std.proofs.Common.{◌∙◌, inl, inr}
 use Rattle.seccompiler.specs.contracts.filter.SeccompFilter.{the_view}
-use Rattle.seccompiler.proofs.FilterEquality.{maps_equal, filters_tested}
+use Rattle.seccompiler.proofs.filter.FilterEquality.{maps_equal, filters_tested}
 use Rattle.seccompiler.proofs.filter.SeccompFilterPartialEq.eq.Goals.{then-eq, else-eq, then-eq-2, else-eq-2}
 use Rattle.seccompiler.proofs.filter.SeccompFilterPartialEq.eq.Goals as goal
 

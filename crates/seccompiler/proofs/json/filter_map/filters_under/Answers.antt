@@ -4,7 +4,7 @@ use Rattle.std.specs.Map.{keys_of}
 use Rattle.std.proofs.lemmas.List.{append-nil}
 use Rattle.std.proofs.lemmas.Map.Text.{btree_map_updates_text}
 use Rattle.serde_json.proofs.Views.{Entry}
-use Rattle.seccompiler.proofs.JsonFilterMaps.{begins, one_more, least_fault}
+use Rattle.seccompiler.proofs.json.filter_map.FilterMaps.{begins, one_more, least_fault}
 use Rattle.seccompiler.proofs.json.filter_map.filters_under.Goals as goal
 
 pub loop-name-init : goal.loop-name-init

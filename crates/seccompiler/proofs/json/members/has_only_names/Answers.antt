@@ -2,7 +2,7 @@ use Rattle.std.proofs.Common.{◌↔◌, map, subst}
 use Rattle.serde_json.specs.Data.{object}
 use Rattle.serde_json.specs.View.{members_view}
 use Rattle.seccompiler.specs.JsonShape.{HasOnly}
-use Rattle.seccompiler.proofs.JsonNames.{only_left, only_fails}
+use Rattle.seccompiler.proofs.json.members.ObjectNames.{only_left, only_fails}
 use Rattle.seccompiler.proofs.json.members.has_only_names.Goals as goal
 
 pub returns-then-not-is_among : goal.returns-then-not-is_among

@@ -1,5 +1,5 @@
 use Rattle.seccompiler.specs.JsonShape.{IsCondition}
-use Rattle.seccompiler.proofs.JsonLists.{goes_on, fails, ends}
+use Rattle.seccompiler.proofs.json.parts.ReadLists.{goes_on, fails, ends}
 use Rattle.seccompiler.proofs.json.parts.read_conditions.Goals as goal
 
 pub returns-in-None-clause-none : goal.returns-in-None-clause-none

@@ -1,5 +1,5 @@
 use Rattle.seccompiler.specs.JsonShape.{IsEntry}
-use Rattle.seccompiler.proofs.JsonLists.{goes_on, fails, ends}
+use Rattle.seccompiler.proofs.json.parts.ReadLists.{goes_on, fails, ends}
 use Rattle.seccompiler.proofs.json.parts.read_entries.Goals as goal
 
 pub returns-in-None-clause-none : goal.returns-in-None-clause-none

@@ -1,7 +1,7 @@
 use Rattle.std.proofs.Common.{rules, w64, ap, ◌∙◌, unwrap_or}
 use mir.Val.{SFits}
 use Rattle.std.proofs.lemmas.Int.{to_z-of_z}
-use Rattle.seccompiler.proofs.JsonChains.{chain_with_rule}
+use Rattle.seccompiler.proofs.json.policy.EntryChains.{chain_with_rule}
 use Rattle.seccompiler.proofs.json.policy.add_rule.Goals as goal
 
 pub returns-clause-chains : goal.returns-clause-chains

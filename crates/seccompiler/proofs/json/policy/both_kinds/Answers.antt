@@ -7,7 +7,7 @@ use Rattle.std.specs.Ordering.{int_cmp}
 use Rattle.std.proofs.lemmas.Int.{to_z-of_z}
 use Rattle.std.proofs.lemmas.List.Kept.{IsStrictlySortedBy-filter}
 use Rattle.seccompiler.specs.JsonGathered.{rules_at}
-use Rattle.seccompiler.proofs.JsonChains.{some_held, filter_more}
+use Rattle.seccompiler.proofs.json.policy.EntryChains.{some_held, filter_more}
 use Rattle.seccompiler.proofs.json.policy.both_kinds.Goals as goal
 
 pub loop-number-preserved-in-Continue-1 : goal.loop-number-preserved-in-Continue-1

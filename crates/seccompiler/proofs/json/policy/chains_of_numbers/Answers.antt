@@ -3,7 +3,7 @@ use mir.Val.{SFits}
 use Rattle.std.specs.Ordering.{int_eq}
 use Rattle.std.proofs.lemmas.Int.{to_z-of_z}
 use Rattle.seccompiler.specs.JsonGathered.{chain_of, rules_at}
-use Rattle.seccompiler.proofs.JsonChains.{chain_emptied, chain_of_more}
+use Rattle.seccompiler.proofs.json.policy.EntryChains.{chain_emptied, chain_of_more}
 use Rattle.seccompiler.proofs.json.policy.chains_of_numbers.Goals as goal
 
 pub loop-number-preserved : goal.loop-number-preserved

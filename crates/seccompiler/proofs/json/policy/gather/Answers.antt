@@ -1,5 +1,5 @@
 use Rattle.seccompiler.specs.JsonPolicyOf.{IsFineEntry}
-use Rattle.seccompiler.proofs.JsonGathered.{gathered_more}
+use Rattle.seccompiler.proofs.json.policy.GatheredEntries.{gathered_more}
 use Rattle.seccompiler.proofs.Searches.{All-one_more}
 use Rattle.seccompiler.proofs.json.policy.gather.Goals as goal
 

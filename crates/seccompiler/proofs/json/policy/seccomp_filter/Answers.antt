@@ -1,5 +1,5 @@
 use Rattle.std.proofs.Common.{rules}
-use Rattle.seccompiler.proofs.JsonPolicies.{policy_made}
+use Rattle.seccompiler.proofs.json.policy.Policies.{policy_made}
 use Rattle.seccompiler.proofs.json.policy.seccomp_filter.Goals as goal
 
 pub returns-clause-policy : goal.returns-clause-policy

@@ -1,5 +1,5 @@
 use Rattle.std.proofs.Common.{rules}
-use Rattle.seccompiler.proofs.JsonWidened.{both_gathered}
+use Rattle.seccompiler.proofs.json.policy.WidenedNumbers.{both_gathered}
 use Rattle.seccompiler.proofs.json.policy.widened_numbers.Goals as goal
 
 pub returns-clause-numbers : goal.returns-clause-numbers

@@ -1,7 +1,7 @@
 use Rattle.std.proofs.Common.{◌≡◌, ◌+◌, ◌++◌, ◌∷◌, [], take, get_or, arith, add-zero}
 use Rattle.std.proofs.lemmas.Bool.{ne_eqb}
 use Rattle.std.proofs.lemmas.List.{take_more}
-use Rattle.seccompiler.proofs.TextCuts.{begins, opens, stands_alone, closes, waits, is_plain, is_escaped}
+use Rattle.seccompiler.proofs.json.repeats.TextCuts.{begins, opens, stands_alone, closes, waits, is_plain, is_escaped}
 use Rattle.seccompiler.proofs.json.repeats.colons.Goals as goal
 use Rattle.seccompiler.proofs.json.repeats.colons.Goals.{in-Outside-eq34, in-Outside-eq58, in-Outside-default, in-Inside-eq34, in-Inside-eq92, in-Inside-default, in-Escaped-default}
 

@@ -1,5 +1,5 @@
 use Rattle.std.proofs.Common.{◌≤◌, take}
-use Rattle.seccompiler.proofs.TextCuts.{IsWalked}
+use Rattle.seccompiler.proofs.json.repeats.TextCuts.{IsWalked}
 use Rattle.seccompiler.proofs.json.repeats.colons.Given as goal
 
 abbrev pub invariant-loop-byte : goal.invariant-loop-byte

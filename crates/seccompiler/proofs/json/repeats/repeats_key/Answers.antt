@@ -1,7 +1,7 @@
 use Rattle.std.proofs.Common.{◌<◌, refl, subst, arith}
 use Rattle.serde_json.specs.View.{view}
 use Rattle.seccompiler.specs.JsonRepeats.{names_in}
-use Rattle.seccompiler.proofs.TextCuts.{same_count}
+use Rattle.seccompiler.proofs.json.repeats.TextCuts.{same_count}
 use Rattle.seccompiler.proofs.json.repeats.repeats_key.Goals as goal
 
 pub returns-clause-each_cut : goal.returns-clause-each_cut

@@ -1,5 +1,5 @@
 use Rattle.std.proofs.Common.{take}
-use Rattle.seccompiler.proofs.RuleLoops.{Counted}
+use Rattle.seccompiler.proofs.rule.RuleLoops.{Counted}
 use Rattle.seccompiler.proofs.rule.SeccompRule.code_len.Given as goal
 
 abbrev pub invariant-loop-condition : goal.invariant-loop-condition

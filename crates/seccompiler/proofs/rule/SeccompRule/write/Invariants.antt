@@ -1,6 +1,6 @@
 use Rattle.std.proofs.Common.{◌≡◌, ◌+◌, length, take, drop}
 use Rattle.seccompiler.specs.Layout.{rule_length}
-use Rattle.seccompiler.proofs.RuleLoops.{Built}
+use Rattle.seccompiler.proofs.rule.RuleLoops.{Built}
 use Rattle.seccompiler.proofs.rule.SeccompRule.write.Given as goal
 
 abbrev pub invariant-loop-condition : goal.invariant-loop-condition

@@ -5,7 +5,7 @@ use Rattle.std.specs.Cmp.Lexicographic.{slice_cmp}
 use Rattle.seccompiler.specs.SyscallTable.{IsTableNumber, pairs_of, table_of}
 use Rattle.seccompiler.proofs.TableFacts.{is_call_table}
 use Rattle.seccompiler.proofs.TableNames.{found_first, found_among, found_nowhere}
-use Rattle.seccompiler.proofs.Halving.{IsHalf, lower, upper, found, missed, absent, whole, as_short, compared_with, nothing}
+use Rattle.seccompiler.proofs.syscall_table.Halving.{IsHalf, lower, upper, found, missed, absent, whole, as_short, compared_with, nothing}
 use Rattle.seccompiler.proofs.syscall_table.SyscallTable.lookup.Goals as goal
 
 pub loop-part-init : goal.loop-part-init

@@ -3,8 +3,8 @@ use Rattle.std.proofs.lemmas.Bool.Decides.{nat_tests}
 use Rattle.seccompiler.specs.Policy.{Chain}
 use Rattle.seccompiler.specs.Ranges.{Range}
 use Rattle.seccompiler.specs.Tree.{leaf_length}
-use Rattle.seccompiler.proofs.TreeCode.{leaf_of_none, leaf_of_empty, leaf_of_rules}
-use Rattle.seccompiler.proofs.TreeLengths.{last_written, leaf_some}
+use Rattle.seccompiler.proofs.tree.TreeCode.{leaf_of_none, leaf_of_empty, leaf_of_rules}
+use Rattle.seccompiler.proofs.tree.TreeLengths.{last_written, leaf_some}
 use Rattle.seccompiler.proofs.tree.CallRange.write_leaf.Goals as goal
 
 pub returns-then-is_empty : goal.returns-then-is_empty

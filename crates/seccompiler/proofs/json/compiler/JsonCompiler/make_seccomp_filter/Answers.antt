@@ -4,7 +4,7 @@ use Rattle.seccompiler.specs.JsonPolicyOf.{IsPolicyOf}
 use Rattle.seccompiler.specs.Policy.{Filter}
 use Rattle.seccompiler.specs.Refusal.{numbers_of}
 use Rattle.seccompiler.specs.SyscallTable.{IsTableNumber}
-use Rattle.seccompiler.proofs.JsonPolicies.{one_policy, one_fault, not_both, policy_or_fault, numbers_in_range}
+use Rattle.seccompiler.proofs.json.policy.Policies.{one_policy, one_fault, not_both, policy_or_fault, numbers_in_range}
 use Rattle.seccompiler.proofs.json.compiler.JsonCompiler.make_seccomp_filter.Goals as goal
 
 pub returns-clause-only_policy : goal.returns-clause-only_policy

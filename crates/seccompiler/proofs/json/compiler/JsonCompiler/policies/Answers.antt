@@ -9,7 +9,7 @@ use Rattle.seccompiler.specs.Policy.{Filter}
 use Rattle.seccompiler.specs.Refusal.{numbers_of}
 use Rattle.seccompiler.specs.SyscallTable.{IsTableNumber}
 use Rattle.seccompiler.proofs.ByName.{AreMade, made_more, made_in_order}
-use Rattle.seccompiler.proofs.TextPolicies.{are_policies, refused_told}
+use Rattle.seccompiler.proofs.json.compiler.TextPolicies.{are_policies, refused_told}
 use Rattle.seccompiler.proofs.json.compiler.JsonCompiler.policies.Goals as goal
 
 abbrev HasTableNumbers : String Global × Filter → Type 0

@@ -1,0 +1,5 @@
+-- Lemmas for the functions of `chain`.
+pub mod RulesCode
+pub mod OneChain
+pub mod AllChains
+pub mod CallNumbers

@@ -1,0 +1,4 @@
+-- Lemmas for the functions of `condition`.
+pub mod Comparisons
+pub mod ConditionCode
+pub mod LowHalves

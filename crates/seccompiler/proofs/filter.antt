@@ -1,0 +1,6 @@
+-- Lemmas for the functions of `filter`.
+pub mod WholeProgram
+pub mod Chains
+pub mod FilterEquality
+pub mod Reordering
+pub mod TreeProgram

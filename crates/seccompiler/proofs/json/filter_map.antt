@@ -1,0 +1,2 @@
+-- Lemmas for the functions of `json::filter_map`.
+pub mod FilterMaps

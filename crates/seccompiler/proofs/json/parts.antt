@@ -1,0 +1,3 @@
+-- Lemmas for the functions of `json::parts`.
+pub mod ReadLists
+pub mod OneFilter

@@ -1,0 +1,3 @@
+-- Lemmas for the functions of `machine`.
+pub mod CheckedLemmas
+pub mod Determinism

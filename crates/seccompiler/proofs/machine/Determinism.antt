@@ -1,0 +1,112 @@
+-- For `run`: a program that ends on a record does so with one word and one number of steps.
+use Rattle.std.proofs.Common.{◌≡◌, ◌≢◌, ℕ, ◌+◌, ◌-◌, ◌<◌, List, nat_lt, nat_le, bit_and, sym, ◌∙◌, refl, arith, ⊎_elim}
+use Rattle.std.proofs.lemmas.Bool.{cases_lt}
+use Rattle.std.specs.Prelude.{◌==◌, if◌then◌else◌}
+use Rattle.std.proofs.lemmas.Bool.Decides.{nat_tests}
+use Rattle.seccompiler.specs.declared.bpf.sock_filter.{sock_filter}
+use Rattle.seccompiler.specs.Record.{word_at}
+use Rattle.seccompiler.specs.Machine.{Does, loads, masks, jumps, is_equal, is_not_equal, is_greater, is_not_greater, is_at_least, is_less, Step, Goes, stays, then_step, Ends}
+
+-- Where an instruction leads.
+abbrev place_after : sock_filter → ℕ → ℕ → ℕ
+place_after i place a =
+    if i.code == 0x05 then place + 1 + i.k
+    else (if i.code == 0x15 then (if a == i.k then place + 1 + i.jt else (place + 1 + i.jf))
+    else (if i.code == 0x25 then (if nat_lt i.k a then place + 1 + i.jt else (place + 1 + i.jf))
+    else (if i.code == 0x35 then (if nat_le i.k a then place + 1 + i.jt else (place + 1 + i.jf))
+    else (place + 1))))
+
+-- What an instruction leaves in the accumulator.
+abbrev accumulator_after : sock_filter → List ℕ → ℕ → ℕ
+accumulator_after i r a = if i.code == 0x20 then word_at r i.k else (if i.code == 0x54 then bit_and a i.k else a)
+
+-- An instruction leads to the place that its fields and the accumulator name.
+place_after-does : (i : sock_filter) (r : List ℕ) (place a place' a' : ℕ) → Does i r place a place' a' → place' ≡ place_after i place a
+place_after-does i r place a place' a' (loads code _ to _) = grind (arith, nat_tests)
+place_after-does i r place a place' a' (masks code to _) = grind (arith, nat_tests)
+place_after-does i r place a place' a' (jumps code to _) = grind (arith, nat_tests)
+place_after-does i r place a place' a' (is_equal code test to _) = grind (arith, nat_tests)
+place_after-does i r place a place' a' (is_not_equal code test to _) = grind (arith, nat_tests)
+place_after-does i r place a place' a' (is_greater code test to _) = grind (arith, nat_tests)
+place_after-does i r place a place' a' (is_not_greater code test to _) = grind (arith, nat_tests)
+place_after-does i r place a place' a' (is_at_least code test to _) = grind (arith, nat_tests)
+place_after-does i r place a place' a' (is_less code test to _) = grind (arith, nat_tests)
+
+-- So it is with the accumulator.
+accumulator_after-does : (i : sock_filter) (r : List ℕ) (place a place' a' : ℕ) → Does i r place a place' a' → a' ≡ accumulator_after i r a
+accumulator_after-does i r place a place' a' (loads code _ _ to) = grind (arith, nat_tests)
+accumulator_after-does i r place a place' a' (masks code _ to) = grind (arith, nat_tests)
+accumulator_after-does i r place a place' a' (jumps code _ to) = grind (arith, nat_tests)
+accumulator_after-does i r place a place' a' (is_equal code _ _ to) = grind (arith, nat_tests)
+accumulator_after-does i r place a place' a' (is_not_equal code _ _ to) = grind (arith, nat_tests)
+accumulator_after-does i r place a place' a' (is_greater code _ _ to) = grind (arith, nat_tests)
+accumulator_after-does i r place a place' a' (is_not_greater code _ _ to) = grind (arith, nat_tests)
+accumulator_after-does i r place a place' a' (is_at_least code _ _ to) = grind (arith, nat_tests)
+accumulator_after-does i r place a place' a' (is_less code _ _ to) = grind (arith, nat_tests)
+
+-- A return does nothing.
+does_not_return : (i : sock_filter) (r : List ℕ) (place a place' a' : ℕ) → Does i r place a place' a' → i.code ≢ 0x06
+does_not_return i r place a place' a' (loads code _ _ _) = λ returns. omega arith
+does_not_return i r place a place' a' (masks code _ _) = λ returns. omega arith
+does_not_return i r place a place' a' (jumps code _ _) = λ returns. omega arith
+does_not_return i r place a place' a' (is_equal code _ _ _) = λ returns. omega arith
+does_not_return i r place a place' a' (is_not_equal code _ _ _) = λ returns. omega arith
+does_not_return i r place a place' a' (is_greater code _ _ _) = λ returns. omega arith
+does_not_return i r place a place' a' (is_not_greater code _ _ _) = λ returns. omega arith
+does_not_return i r place a place' a' (is_at_least code _ _ _) = λ returns. omega arith
+does_not_return i r place a place' a' (is_less code _ _ _) = λ returns. omega arith
+
+-- A step from one place and accumulator leads to one place and accumulator.
+step_only : (p : List sock_filter) (r : List ℕ) {place a place' a' at b at' b' : ℕ} → Step p r place a place' a' → Step p r at b at' b' → place ≡ at → a ≡ b → (place' ≡ at') × (a' ≡ b')
+step_only p r {place} {a} {place'} {a'} {at} {b} {at'} {b'} s t here with_same =
+    let same : s.instruction ≡ t.instruction = cc (s.here, t.here) in
+    let places = place_after-does s.instruction r place a place' a' s.does in
+    let accumulators = accumulator_after-does s.instruction r place a place' a' s.does in
+    let other_places = place_after-does t.instruction r at b at' b' t.does in
+    let other_accumulators = accumulator_after-does t.instruction r at b at' b' t.does in
+    ((rw (same, here, with_same) at places) ∙ sym other_places, (rw (same, with_same) at accumulators) ∙ sym other_accumulators)
+
+-- So do equally many steps.
+goes_only : (p : List sock_filter) (r : List ℕ) {place a n place' a' m place'' a'' : ℕ} → Goes p r place a n place' a' → Goes p r place a m place'' a'' → n ≡ m → (place' ≡ place'') × (a' ≡ a'')
+goes_only p r stays stays equally_many = (refl, refl)
+goes_only p r stays (then_step g s) equally_many = absurd (omega arith)
+goes_only p r (then_step g s) stays equally_many = absurd (omega arith)
+goes_only p r (then_step g s) (then_step h t) equally_many =
+    let before = goes_only p r g h (omega arith) in
+    step_only p r s t before.0 before.1
+
+-- So many steps of a program, and then one more.
+record GoesOn (p : List sock_filter) (r : List ℕ) (place a n : ℕ) : Type 0 where
+  place' : ℕ
+  a' : ℕ
+  place'' : ℕ
+  a'' : ℕ
+  goes : Goes p r place a n place' a'
+  step : Step p r place' a' place'' a''
+
+-- A run goes on after each lesser number of steps.
+goes_on_before : (p : List sock_filter) (r : List ℕ) {place a m place' a' : ℕ} (n : ℕ) → Goes p r place a m place' a' → n < m → GoesOn p r place a n
+goes_on_before p r n stays fewer = absurd (omega arith)
+goes_on_before p r n (then_step {n = m} g s) fewer =
+    ⊎_elim
+    (λ before. goes_on_before p r n g before)
+    (λ after. let here : m ≡ n = omega arith in record { place' = _; a' = _; place'' = _; a'' = _; goes = rw here at g; step = s })
+    (cases_lt n m)
+
+-- A run that returns does not go on.
+ends_no_later : (p : List sock_filter) (r : List ℕ) {n w m v : ℕ} → Ends p r n w → Ends p r m v → n < m → ⊥
+ends_no_later p r {n} {w} {m} {v} e f fewer =
+    let on = goes_on_before p r (n - 1) f.goes (omega arith) in
+    let same = goes_only p r e.goes on.goes refl in
+    let found : e.instruction ≡ on.step.instruction = cc (e.here, on.step.here, same.0) in
+    does_not_return on.step.instruction r _ _ _ _ on.step.does (cc (found, e.returns))
+
+-- A program that ends on a record does so with one word and one number of steps.
+pub ends_only : (p : List sock_filter) (r : List ℕ) {n w m v : ℕ} → Ends p r n w → Ends p r m v → (n ≡ m) × (w ≡ v)
+ends_only p r {n} {w} {m} {v} e f =
+    let no_later : n < m → ⊥ = ends_no_later p r e f in
+    let no_sooner : m < n → ⊥ = ends_no_later p r f e in
+    let as_many : n ≡ m = omega arith in
+    let fewer : n - 1 ≡ m - 1 = omega arith in
+    let same = goes_only p r e.goes f.goes fewer in
+    (as_many, cc (e.here, f.here, e.value, f.value, same.0))

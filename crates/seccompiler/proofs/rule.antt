@@ -1,0 +1,5 @@
+-- Lemmas for the functions of `rule`.
+pub mod GroupCuts
+pub mod RuleCode
+pub mod RelayCount
+pub mod RuleLoops

@@ -1,0 +1,71 @@
+-- For `SeccompRule::code_len` and `SeccompRule::write`: how the running offset of the code follows the groups of a
+-- rule's conditions.
+use Rattle.std.proofs.Common.{◌≡◌, ℕ, suc, ◌+◌, ◌<◌, ◌≤◌, List, [], ◌∷◌, ◌++◌, length, sym, ap, ◌∙◌, arith, length-append, append_assoc, append-nil, Bool, true, false, nat_le}
+use Rattle.std.specs.Prelude.{if◌then◌else◌}
+use Rattle.std.proofs.lemmas.Bool.Decides.{nat_tests}
+use Rattle.seccompiler.specs.Condition.{Condition, size_of}
+use Rattle.seccompiler.specs.Groups.{total_size, groups_from, groups_of, relays}
+use Rattle.seccompiler.proofs.rule.RuleCode.{total_more}
+
+-- The cut of the conditions so far: k groups are closed, and the one that is begun has offset o.
+pub data Cutting (q : List Condition) (o k : ℕ) : Type 0 where
+  none : q ≡ [] → o ≡ 1 → k ≡ 0 → Cutting q o k
+  begun : (groups : List (List Condition)) (group : List Condition) → ((rest : List Condition) → groups_of (q ++ rest) ≡ groups ++ groups_from group rest) → o ≡ 1 + total_size group → k ≡ length groups → Cutting q o k
+
+-- a group goes on
+goes_into : (group rest : List Condition) (c : Condition) → total_size group < 248 → groups_from group (c ∷ rest) ≡ groups_from (group ++ c ∷ []) rest
+goes_into group rest c few =
+    let not_full : nat_le 248 (total_size group) ≡ false = grind (arith, nat_tests) in
+    ap (λ b. if b then group ∷ groups_from (c ∷ []) rest else groups_from (group ++ c ∷ []) rest) not_full
+
+-- a group closes
+closes_at : (group rest : List Condition) (c : Condition) → 248 ≤ total_size group → groups_from group (c ∷ rest) ≡ group ∷ groups_from (c ∷ []) rest
+closes_at group rest c many =
+    let is_full : nat_le 248 (total_size group) ≡ true = grind (arith, nat_tests) in
+    ap (λ b. if b then group ∷ groups_from (c ∷ []) rest else groups_from (group ++ c ∷ []) rest) is_full
+
+-- one condition more, in the group that is begun
+pub cutting_more : (q : List Condition) (o k : ℕ) (c : Condition) → o ≤ 248 → Cutting q o k → Cutting (q ++ c ∷ []) (o + size_of c) k
+cutting_more q o k c room (none e eo ek) =
+    begun [] (c ∷ []) (λ rest. ap (λ l. groups_of ((l ++ c ∷ []) ++ rest)) e) (omega (arith, total_more [] c)) ek
+cutting_more q o k c room (begun groups group f eo ek) =
+    begun groups (group ++ c ∷ [])
+    (λ rest. ap groups_of (append_assoc q (c ∷ []) rest) ∙ f (c ∷ rest) ∙ ap (λ l. groups ++ l) (goes_into group rest c (omega arith)))
+    (omega (arith, total_more group c)) ek
+
+-- one condition more, in a group of its own
+pub cutting_relay : (q : List Condition) (o k : ℕ) (c : Condition) → 249 ≤ o → Cutting q o k → Cutting (q ++ c ∷ []) (1 + size_of c) (suc k)
+cutting_relay q o k c full (none e eo ek) = absurd (omega arith)
+cutting_relay q o k c full (begun groups group f eo ek) =
+    begun (groups ++ group ∷ []) (c ∷ [])
+    (λ rest. ap groups_of (append_assoc q (c ∷ []) rest) ∙ f (c ∷ rest) ∙ ap (λ l. groups ++ l) (closes_at group rest c (omega arith)) ∙ sym (append_assoc groups (group ∷ []) (groups_from (c ∷ []) rest)))
+    (omega (arith, total_more [] c)) (omega (arith, length-append groups (group ∷ [])))
+
+-- the relays at the end
+pub relays_are : (q : List Condition) (o k : ℕ) → 1 ≤ length q → Cutting q o k → k ≡ relays q
+relays_are q o k some (none e eo ek) = absurd (let l : length q ≡ 0 = ap length e in omega arith)
+relays_are q o k some (begun groups group f eo ek) =
+    let all : groups_of q ≡ groups ++ group ∷ [] = ap groups_of (sym (append-nil q)) ∙ f [] in
+    omega (arith, ap length all, length-append groups (group ∷ []))
+
+-- behind a group that is begun there is a group
+some_groups : (group rest : List Condition) → 1 ≤ length (groups_from group rest)
+some_groups group [] = omega arith
+some_groups group (c ∷ rest) = by (nat_le 248 (total_size group)) (some_groups (c ∷ []) rest) (some_groups (group ++ c ∷ []) rest)
+  where
+    by : (b : Bool) → 1 ≤ length (groups_from (c ∷ []) rest) → 1 ≤ length (groups_from (group ++ c ∷ []) rest) → 1 ≤ length (if b then group ∷ groups_from (c ∷ []) rest else groups_from (group ++ c ∷ []) rest)
+    by true h k = omega arith
+    by false h k = k
+
+-- no more relays stand so far than the whole rule has
+pub relays_so_far : (q rest : List Condition) (o k : ℕ) → Cutting q o k → k ≤ relays (q ++ rest)
+relays_so_far q rest o k (none e eo ek) = omega arith
+relays_so_far q rest o k (begun groups group f eo ek) =
+    omega (arith, ap length (f rest), length-append groups (groups_from group rest), some_groups group rest)
+
+-- nor with the one that comes in front of a further condition
+pub relays_so_far_full : (q rest : List Condition) (o k : ℕ) (c : Condition) → 249 ≤ o → Cutting q o k → suc k ≤ relays (q ++ c ∷ rest)
+relays_so_far_full q rest o k c full (none e eo ek) = absurd (omega arith)
+relays_so_far_full q rest o k c full (begun groups group f eo ek) =
+    let closed = closes_at group rest c (omega arith) in
+    omega (arith, ap length (f (c ∷ rest) ∙ ap (λ l. groups ++ l) closed), length-append groups (group ∷ groups_from (c ∷ []) rest), some_groups (c ∷ []) rest)

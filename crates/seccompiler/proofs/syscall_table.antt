@@ -1,0 +1,2 @@
+-- Lemmas for the functions of `syscall_table`.
+pub mod Halving

@@ -1,0 +1,228 @@
+-- For `SyscallTable::lookup`: what one comparison with the middle of a part of a table tells of the look-up in it.
+use Rattle.std.proofs.Common.{◌≡◌, ◌≢◌, ℕ, zero, suc, ◌+◌, ◌-◌, ◌*◌, ◌/◌, ◌^◌, ◌<◌, ◌≤◌, ℤ, pos, List, [], ◌∷◌, true, false, Option, Some, None, Ordering, Less, Equal, Greater, nat_cmp, length, take, drop, get_or, AllPairs, bytes_eq, if◌then◌else◌, inl, inr, refl, sym, ap, ◌∙◌, subst, arith}
+use Rattle.std.specs.Borrow.{Bor}
+use Rattle.std.specs.Cmp.Lexicographic.{slice_cmp}
+use Rattle.std.specs.Ordering.{is_eq}
+use Rattle.std.proofs.Math.Nat.{pow-succ'}
+use Rattle.std.proofs.Math.Seq.{drop-cons}
+use Rattle.std.proofs.lemmas.Bool.{cases_lt}
+use Rattle.std.proofs.lemmas.Cmp.{nat_list_cmp_total, tied_itself}
+use Rattle.std.proofs.lemmas.List.{get_or-take, get_or-drop, get_or-map, take-map, drop-map, length-take-le, length-drop, length-map}
+use Rattle.std.proofs.lemmas.Map.Text.{is_eq-slice_cmp}
+use Rattle.std.proofs.lemmas.Nat.{pow_pos}
+use Rattle.std.proofs.lemmas.Slice.Eq.{bytes_eq-Decides}
+use Rattle.seccompiler.specs.SyscallTable.{Pair, IsCallTable, StandsBefore, number_of, pairs_of}
+
+-- These places of a table have other names.
+abbrev HasNot : List Pair → List ℕ → (ℕ → Type 0) → Type 0
+HasNot table name Place = (k : ℕ) (d : Pair) → Place k → k < length table → (get_or table k d).0 ≢ name
+
+-- names that differ are told apart
+apart : (pair : Pair) (name : List ℕ) → pair.0 ≢ name → bytes_eq pair.0 name ≡ false
+apart pair name other = elim (bytes_eq pair.0 name) as (λ same. bytes_eq pair.0 name ≡ same → same ≡ false) [
+  | true ↦ λ same. absurd (other ((bytes_eq-Decides pair.0 name).0 same))
+  | false ↦ λ _. refl
+] refl
+
+-- a table without the name has no number for it
+number_of-none : (table : List Pair) (name : List ℕ) → HasNot table name (λ k. 0 ≤ k) → number_of table name ≡ None
+number_of-none [] name none = refl
+number_of-none (pair ∷ table) name none = rw (apart pair name (none 0 pair (omega arith) (omega arith))) (number_of-none table name (λ k d at within. none (suc k) d (omega arith) (omega arith)))
+
+-- pairs at the end with other names may be left out
+number_of-take : (table : List Pair) (name : List ℕ) (i : ℕ) → HasNot table name (λ k. i ≤ k) → number_of (take i table) name ≡ number_of table name
+number_of-take [] name zero none = refl
+number_of-take [] name (suc i) none = refl
+number_of-take (pair ∷ table) name zero none = sym (number_of-none (pair ∷ table) name (λ k d at within. none k d (omega arith) within))
+number_of-take (pair ∷ table) name (suc i) none = ap (λ (rest : Option ℤ). if bytes_eq pair.0 name then Some pair.1 else rest) (number_of-take table name i (λ k d at within. none (suc k) d (omega arith) (omega arith)))
+
+-- pairs at the front with other names may be left out
+number_of-drop : (table : List Pair) (name : List ℕ) (i : ℕ) → HasNot table name (λ k. k < i) → number_of (drop i table) name ≡ number_of table name
+number_of-drop [] name zero none = refl
+number_of-drop [] name (suc i) none = refl
+number_of-drop (pair ∷ table) name zero none = refl
+number_of-drop (pair ∷ table) name (suc i) none = rw (apart pair name (none 0 pair (omega arith) (omega arith))) (number_of-drop table name i (λ k d at within. none (suc k) d (omega arith) (omega arith)))
+
+-- the number of a name that stands at a place, where no earlier one is it
+number_of-at : (table : List Pair) (name : List ℕ) (i : ℕ) (d : Pair) → i < length table → HasNot table name (λ k. k < i) → (get_or table i d).0 ≡ name → number_of table name ≡ Some (get_or table i d).1
+number_of-at table name i d within none here =
+    let cut : drop i table ≡ get_or table i d ∷ drop (suc i) table = drop-cons table i d within in
+    let same : bytes_eq (get_or table i d).0 name ≡ true = (bytes_eq-Decides (get_or table i d).0 name).1 here in
+    let found : number_of (get_or table i d ∷ drop (suc i) table) name ≡ Some (get_or table i d).1 = rw same refl in
+    sym (number_of-drop table name i none) ∙ ap (λ pairs. number_of pairs name) cut ∙ found
+
+-- one name comes before another
+abbrev Before : List ℕ → List ℕ → Type 0
+Before first second = slice_cmp nat_cmp first second ≡ Less
+
+-- a name that comes before another isn't that
+differs : (first second : List ℕ) → Before first second → first ≢ second
+differs first second before same =
+    let itself : slice_cmp nat_cmp first first ≡ Less = ap (slice_cmp nat_cmp first) same ∙ before in
+    let tied = tied_itself nat_list_cmp_total first in
+    cc
+
+-- what compares as greater comes after
+turned : (first second : List ℕ) → slice_cmp nat_cmp first second ≡ Greater → Before second first
+turned first second greater =
+    let mirrored = nat_list_cmp_total.antisymm second first in
+    rw greater at mirrored
+
+-- names that compare as equal are one name
+tied : (first second : List ℕ) → slice_cmp nat_cmp first second ≡ Equal → first ≡ second
+tied first second equal =
+    let same : bytes_eq first second ≡ true = sym (is_eq-slice_cmp first second) ∙ ap is_eq equal in
+    (bytes_eq-Decides first second).0 same
+
+-- behind a name that the asked one comes before, and at it, no name is the asked one
+none_from : (table : List Pair) (name : List ℕ) (i : ℕ) → AllPairs StandsBefore table → ((d : Pair) → Before name (get_or table i d).0) → i < length table → HasNot table name (λ k. i ≤ k)
+none_from table name i ascends before inside k d at within same =
+    let later : Before name (get_or table k d).0 = elim (cases_lt i k) [
+      | inl behind ↦ nat_list_cmp_total.trans name (get_or table i d).0 (get_or table k d).0 (before d) (ascends i k d behind within)
+      | inr until ↦ let here : i ≡ k = omega arith in subst (λ j. Before name (get_or table j d).0) here (before d)
+    ] in
+    differs name (get_or table k d).0 later (sym same)
+
+-- up to a name that comes before the asked one, and at it, no name is the asked one
+none_to : (table : List Pair) (name : List ℕ) (i : ℕ) → AllPairs StandsBefore table → ((d : Pair) → Before (get_or table i d).0 name) → i < length table → HasNot table name (λ k. k < suc i)
+none_to table name i ascends before inside k d at within same =
+    let earlier : Before (get_or table k d).0 name = elim (cases_lt k i) [
+      | inl ahead ↦ nat_list_cmp_total.trans (get_or table k d).0 (get_or table i d).0 name (ascends k i d ahead inside) (before d)
+      | inr from ↦ let here : i ≡ k = omega arith in subst (λ j. Before (get_or table j d).0 name) here (before d)
+    ] in
+    differs (get_or table k d).0 name earlier same
+
+-- a part of a table in which so many comparisons left the asked name, if the table has it
+pub record IsHalf (table : List Pair) (name : List ℕ) (compared : ℕ) (part : List Pair) : Type 0 where
+  pub same : number_of part name ≡ number_of table name
+  pub ascending : AllPairs StandsBefore part
+  pub few : compared ≤ 9
+  pub most : length part < 2 ^ (9 - compared)
+  pub least : 2 ^ (8 - compared) ≤ length part + 1
+
+-- the whole table before any comparison
+pub whole : (table : List Pair) (name : List ℕ) → IsCallTable table → IsHalf table name 0 table
+whole table name is = record {
+  same = refl;
+  ascending = is.ascending;
+  few = omega arith;
+  most = is.short;
+  least = omega (arith, is.long);
+}
+
+-- half of fewer than a power of two are fewer than the power below
+fewer : (k n half : ℕ) → 0 < n → n < 2 ^ k → half ≤ n / 2 → half < 2 ^ (k - 1)
+fewer zero n half some few halved = absurd (omega arith)
+fewer (suc k) n half some few halved =
+    let below : suc k - 1 ≡ k = omega arith in
+    let double : n < 2 * 2 ^ k = rw pow-succ' at few in
+    rw below (omega arith)
+
+-- half of a power of two less one, or of more, are the power below less one, or more
+enough : (k n half : ℕ) → 2 ^ k ≤ n + 1 → (n + 1) / 2 ≤ half + 1 → 2 ^ (k - 1) ≤ half + 1
+enough zero n half many halved = omega arith
+enough (suc k) n half many halved =
+    let below : suc k - 1 ≡ k = omega arith in
+    let double : 2 * 2 ^ k ≤ n + 1 = rw pow-succ' at many in
+    rw below (omega arith)
+
+-- a part that isn't empty is left by fewer than nine comparisons
+below_nine : (compared n : ℕ) → compared ≤ 9 → 0 < n → n < 2 ^ (9 - compared) → compared < 9
+below_nine compared n few some most = elim (cases_lt compared 9) [
+  | inl below ↦ below
+  | inr from ↦
+      let none : 9 - compared ≡ 0 = omega arith in
+      let one : n < 2 ^ 0 = subst (λ k. n < 2 ^ k) none most in
+      absurd (omega arith)
+]
+
+-- one more comparison leaves this half of the part
+pub halved : (table : List Pair) (name : List ℕ) (compared : ℕ) (part half : List Pair) → IsHalf table name compared part → 0 < length part → number_of half name ≡ number_of part name → AllPairs StandsBefore half → length half ≤ length part / 2 → (length part + 1) / 2 ≤ length half + 1 → IsHalf table name (compared + 1) half
+halved table name compared part half is some same ascends most least = record {
+  same = same ∙ is.same;
+  ascending = ascends;
+  few = omega (arith, below_nine compared (length part) is.few some is.most);
+  most = let next : 9 - (compared + 1) ≡ 9 - compared - 1 = omega arith in rw next (fewer (9 - compared) (length part) (length half) some is.most most);
+  least = let next : 8 - (compared + 1) ≡ 8 - compared - 1 = omega arith in rw next (enough (8 - compared) (length part) (length half) is.least least);
+}
+
+-- A part as the program holds it, its names behind references.
+abbrev Slice : Type 0
+Slice = List (Bor (List ℕ) × ℤ)
+
+-- a table is as short as its slice
+pub as_short : (table : List Pair) (part : Slice) → length table < 512 → pairs_of part ≡ table → length part < 512
+as_short table part short same =
+    let long : length (pairs_of part) ≡ length part = length-map part _ in
+    omega (arith, ap length same)
+
+-- what a read past the end would give
+abbrev pub nothing : Bor (List ℕ) × ℤ
+nothing = (record { ref_ptr = (0, 0); now = [] }, pos 0)
+
+-- the comparison of the asked name with the one in the middle of a part, of two or more names or one
+pub record IsCompared (part : Slice) (name : List ℕ) (middle : ℕ) (answer : Ordering) : Type 0 where
+  pub here : middle < length (pairs_of part)
+  pub half : middle ≡ length (pairs_of part) / 2
+  pub order : (d : Pair) → slice_cmp nat_cmp name (get_or (pairs_of part) middle d).0 ≡ answer
+
+-- the comparison, of a pair of the program
+pub compared_with : (part : Slice) (name : List ℕ) (e : Bor (List ℕ) × ℤ) (order : Ordering) → 0 < length part → slice_cmp nat_cmp name (get_or part (length part / 2) e).0.now ≡ order → IsCompared part name (length part / 2) order
+compared_with part name e order some is =
+    let same : length (pairs_of part) ≡ length part = length-map part _ in
+    let inside : length part / 2 < length part = omega arith in
+    record {
+      here = omega arith;
+      half = rw same refl;
+      order = λ d. rw (get_or-map (λ (pair : Bor (List ℕ) × ℤ). (pair.0.now, pair.1)) part (length part / 2) e d inside) is;
+    }
+
+-- what is left where the asked name comes before the middle one
+pub lower : (table : List Pair) (name : List ℕ) (compared middle : ℕ) (part : Slice) → IsHalf table name compared (pairs_of part) → IsCompared part name middle Less → IsHalf table name (compared + 1) (pairs_of (take middle part))
+lower table name compared middle part is less =
+    let pairs : List Pair = pairs_of part in
+    let cut : take middle pairs ≡ pairs_of (take middle part) = take-map _ middle part in
+    let long : length (take middle pairs) ≡ middle = length-take-le middle pairs (omega (arith, less.here)) in
+    let same = number_of-take pairs name middle (none_from pairs name middle is.ascending less.order less.here) in
+    let ascending : AllPairs StandsBefore (take middle pairs) = λ i j d i<j inside.
+    rw (get_or-take middle pairs i d (omega arith), get_or-take middle pairs j d (omega arith)) (is.ascending i j d i<j (omega (arith, less.here))) in
+    subst (IsHalf table name (compared + 1)) cut (halved table name compared pairs (take middle pairs) is (omega (arith, less.here)) same ascending (omega (arith, less.half)) (omega (arith, less.half)))
+
+-- what is left where the asked name comes after the middle one
+pub upper : (table : List Pair) (name : List ℕ) (compared middle : ℕ) (part : Slice) → IsHalf table name compared (pairs_of part) → IsCompared part name middle Greater → IsHalf table name (compared + 1) (pairs_of (drop (middle + 1) part))
+upper table name compared middle part is greater =
+    let pairs : List Pair = pairs_of part in
+    let cut : drop (middle + 1) pairs ≡ pairs_of (drop (middle + 1) part) = drop-map _ (middle + 1) part in
+    let long : length (drop (middle + 1) pairs) ≡ length pairs - (middle + 1) = length-drop (middle + 1) pairs in
+    let passed : HasNot pairs name (λ k. k < suc middle) = none_to pairs name middle is.ascending (λ d. turned name (get_or pairs middle d).0 (greater.order d)) greater.here in
+    let same = number_of-drop pairs name (middle + 1) (λ k d before inside. passed k d (omega arith) inside) in
+    let ascending : AllPairs StandsBefore (drop (middle + 1) pairs) = λ i j d i<j inside.
+    rw (get_or-drop (middle + 1) pairs i d, get_or-drop (middle + 1) pairs j d) (is.ascending (middle + 1 + i) (middle + 1 + j) d (omega arith) (omega arith)) in
+    subst (IsHalf table name (compared + 1)) cut (halved table name compared pairs (drop (middle + 1) pairs) is (omega (arith, greater.here)) same ascending (omega (arith, greater.half)) (omega (arith, greater.half)))
+
+-- the number where the asked name is the middle one
+pub found : (table : List Pair) (name : List ℕ) (compared middle : ℕ) (part : Slice) (e : Bor (List ℕ) × ℤ) → IsHalf table name compared (pairs_of part) → middle < length part → IsCompared part name middle Equal → number_of table name ≡ Some (get_or part middle e).1
+found table name compared middle part e is inside equal =
+    let pairs : List Pair = pairs_of part in
+    let d : Pair = ([], (get_or part middle e).1) in
+    let read : get_or pairs middle d ≡ ((get_or part middle e).0.now, (get_or part middle e).1) = get_or-map (λ (pair : Bor (List ℕ) × ℤ). (pair.0.now, pair.1)) part middle e d inside in
+    let before : HasNot pairs name (λ k. k < middle) = λ k f ahead within same.
+    differs (get_or pairs k f).0 (get_or pairs middle f).0 (is.ascending k middle f ahead equal.here) (same ∙ tied name (get_or pairs middle f).0 (equal.order f)) in
+    sym is.same ∙ number_of-at pairs name middle d equal.here before (sym (tied name (get_or pairs middle d).0 (equal.order d))) ∙ ap (λ (pair : Pair). Some pair.1) read
+
+-- an empty part is left where the table has no such name
+pub absent : (table : List Pair) (name : List ℕ) (compared : ℕ) (part : Slice) → IsHalf table name compared (pairs_of part) → length part ≡ 0 → None ≡ number_of table name
+absent table name compared [] is none = is.same
+absent table name compared (pair ∷ part) is none = absurd (omega arith)
+
+-- an empty part is left by eight comparisons at least
+pub missed : (table : List Pair) (name : List ℕ) (compared : ℕ) (part : Slice) → IsHalf table name compared (pairs_of part) → length part ≡ 0 → 8 ≤ compared
+missed table name compared part is none = elim (cases_lt compared 8) [
+  | inl below ↦
+      let same : length (pairs_of part) ≡ length part = length-map part _ in
+      let some : 8 - compared ≡ suc (7 - compared) = omega arith in
+      let power : 2 ^ suc (7 - compared) ≤ length (pairs_of part) + 1 = subst (λ k. 2 ^ k ≤ length (pairs_of part) + 1) some is.least in
+      let double : 2 * 2 ^ (7 - compared) ≤ length (pairs_of part) + 1 = rw pow-succ' at power in
+      absurd (omega (arith, pow_pos (7 - compared)))
+  | inr from ↦ from
+]

@@ -1,0 +1,139 @@
+-- For `CallRange::write_leaf`, `ends_matched`, `halves`, `ranges_of`, `tree_len` and others: the chains that ranges
+-- have for numbers, and the instructions that ranges take, where the ranges are cut in two.
+use Rattle.std.proofs.Common.{◌≡◌, ℕ, zero, suc, ◌+◌, ◌-◌, ◌*◌, ◌/◌, ◌^◌, ◌<◌, ◌≤◌, List, [], ◌∷◌, ◌++◌, length, Option, true, false, refl, sym, ap, ap₂, ◌∙◌, subst, take, drop, get_or, take-append-drop, length-drop, length-append, nat_le, if◌then◌else◌, arith}
+use Rattle.std.proofs.lemmas.Bool.Decides.{nat_tests}
+use Rattle.std.proofs.Math.Nat.{pow-succ'}
+use lib.Seq.{length-take-le}
+use Rattle.seccompiler.specs.Policy.{Chain}
+use Rattle.seccompiler.specs.Ranges.{Range, found_from, found_in, AscendsFrom, Ascends}
+use Rattle.seccompiler.specs.Tree.{leaf_length, test_length, halved_length, tree_length}
+use Rattle.seccompiler.specs.TreeCode.{AreHalves}
+
+-- a number below the border has the chain that it has in the lower ranges
+from_low : (found : Option Chain) (low high : List Range) (y : Range) (a : ℕ) → a < y.start → found_from found (low ++ y ∷ high) a ≡ found_from found low a
+from_low found [] high y a below = let no : nat_le y.start a ≡ false = grind (arith, nat_tests) in rw no
+from_low found (x ∷ low) high y a below = ap (λ v. if nat_le x.start a then v else found) (from_low x.chain low high y a below)
+
+-- what stands further behind starts higher
+pub above_start : (start : ℕ) (low high : List Range) (y : Range) → AscendsFrom start (low ++ y ∷ high) → start < y.start
+above_start start [] high y h = h.0
+above_start start (x ∷ low) high y h = let k = above_start x.start low high y h.1 in omega (arith, h.0)
+
+-- a number from the border on has the chain that it has in the upper ranges
+from_high : (found : Option Chain) (start : ℕ) (low high : List Range) (y : Range) (a : ℕ) → AscendsFrom start (low ++ y ∷ high) → y.start ≤ a → found_from found (low ++ y ∷ high) a ≡ found_from y.chain high a
+from_high found start [] high y a h above = let yes : nat_le y.start a ≡ true = grind (arith, nat_tests) in rw yes
+from_high found start (x ∷ low) high y a h above =
+    let below = above_start x.start low high y h.1 in
+    let yes : nat_le x.start a ≡ true = grind (arith, nat_tests) in
+    rw yes (from_high x.chain x.start low high y a h.1 above)
+
+pub found_low : (low high : List Range) (y : Range) (a : ℕ) → 1 ≤ length low → a < y.start → found_in (low ++ y ∷ high) a ≡ found_in low a
+found_low [] high y a some below = absurd (omega arith)
+found_low (x ∷ low) high y a some below = from_low x.chain low high y a below
+
+pub found_high : (low high : List Range) (y : Range) (a : ℕ) → Ascends (low ++ y ∷ high) → y.start ≤ a → found_in (low ++ y ∷ high) a ≡ found_in (y ∷ high) a
+found_high [] high y a h above = refl
+found_high (x ∷ low) high y a h above = from_high x.chain x.start low high y a h above
+
+-- both halves ascend
+from_front : (start : ℕ) (low high : List Range) → AscendsFrom start (low ++ high) → AscendsFrom start low
+from_front start [] high h = tt
+from_front start (x ∷ low) high h = (h.0, from_front x.start low high h.1)
+
+ascends_low : (low high : List Range) → 1 ≤ length low → Ascends (low ++ high) → Ascends low
+ascends_low [] high some h = absurd (omega arith)
+ascends_low (x ∷ low) high some h = from_front x.start low high h
+
+from_back : (start : ℕ) (low high : List Range) (y : Range) → AscendsFrom start (low ++ y ∷ high) → AscendsFrom y.start high
+from_back start [] high y h = h.1
+from_back start (x ∷ low) high y h = from_back x.start low high y h.1
+
+ascends_high : (low high : List Range) (y : Range) → Ascends (low ++ y ∷ high) → Ascends (y ∷ high)
+ascends_high [] high y h = h
+ascends_high (x ∷ low) high y h = from_back x.start low high y h
+
+-- how long the two halves of a list are
+half_low : (ranges : List Range) → length (take (length ranges / 2) ranges) ≡ length ranges / 2
+half_low ranges = length-take-le (length ranges / 2) ranges (omega arith)
+
+half_high : (ranges : List Range) → length (drop (length ranges / 2) ranges) ≡ length ranges - length ranges / 2
+half_high ranges = length-drop (length ranges / 2) ranges
+
+-- the instructions do not depend on how many halvings are allowed, where those suffice
+halved_same : (j k : ℕ) (ranges : List Range) → length ranges ≤ j → length ranges ≤ k → halved_length j ranges ≡ halved_length k ranges
+unfolding halved_length
+halved_same j k [] le_j le_k = refl
+halved_same j k (x ∷ []) le_j le_k = refl
+halved_same zero k (x ∷ y ∷ ranges) le_j le_k = absurd (omega arith)
+halved_same (suc j) zero (x ∷ y ∷ ranges) le_j le_k = absurd (omega arith)
+halved_same (suc j) (suc k) (x ∷ y ∷ ranges) le_j le_k =
+    let whole = x ∷ y ∷ ranges in
+    let low = half_low whole in
+    let high = half_high whole in
+    ap₂ (λ (m n : ℕ). test_length m + m + n)
+    (halved_same j k (take (length whole / 2) whole) (omega arith) (omega arith))
+    (halved_same j k (drop (length whole / 2) whole) (omega arith) (omega arith))
+
+-- the instructions of one range, and of more, by their halves
+pub length_one : (x : Range) → tree_length (x ∷ []) ≡ leaf_length x.chain
+unfolding tree_length halved_length
+length_one x = refl
+
+pub length_cut : (ranges : List Range) → 2 ≤ length ranges
+    → tree_length ranges ≡ test_length (tree_length (take (length ranges / 2) ranges)) + tree_length (take (length ranges / 2) ranges) + tree_length (drop (length ranges / 2) ranges)
+unfolding tree_length halved_length
+length_cut [] some = absurd (omega arith)
+length_cut (x ∷ []) some = absurd (omega arith)
+length_cut (x ∷ y ∷ ranges) some =
+    let whole = x ∷ y ∷ ranges in
+    let low = half_low whole in
+    let high = half_high whole in
+    ap₂ (λ (m n : ℕ). test_length m + m + n)
+    (halved_same (suc (length ranges)) (length (take (length whole / 2) whole)) (take (length whole / 2) whole) (omega arith) (omega arith))
+    (halved_same (suc (length ranges)) (length (drop (length whole / 2) whole)) (drop (length whole / 2) whole) (omega arith) (omega arith))
+
+-- the number of halvings of a half is one less
+pub halves_of : (n m k : ℕ) → 2 ≤ n → n ≤ 2 ^ k → m ≤ n - n / 2 → (j : ℕ) × (k ≡ suc j) × (m ≤ 2 ^ j)
+halves_of n m zero some le half = absurd (omega arith)
+halves_of n m (suc k) some le half = let two : 2 ^ suc k ≡ 2 * 2 ^ k = pow-succ' 2 k in (k, refl, omega arith)
+
+-- a list of one element, and the first element of a list
+pub only_one : (ranges : List Range) (x : Range) → length ranges ≡ 1 → x ≡ get_or ranges 0 x → ranges ≡ x ∷ []
+only_one [] x one is = absurd (omega arith)
+only_one (y ∷ []) x one is = ap (λ (z : Range). z ∷ []) (sym is)
+only_one (y ∷ z ∷ ranges) x one is = absurd (omega arith)
+
+pub first_of : (ranges : List Range) (x : Range) → 0 < length ranges → x ≡ get_or ranges 0 x → ranges ≡ x ∷ drop 1 ranges
+first_of [] x some is = absurd (omega arith)
+first_of (y ∷ ranges) x some is = ap (λ (z : Range). z ∷ ranges) (sym is)
+
+-- both halves of ranges ascend
+pub halves_ascend : (ranges low high : List Range) → Ascends ranges → 2 ≤ length ranges → AreHalves ranges low high → Ascends low × Ascends high
+halves_ascend ranges low high ascends some h =
+    let all : Ascends (low ++ high) = subst Ascends (sym h.whole) ascends in
+    let long : length (low ++ high) ≡ length low + length high = length-append low high in
+    let same = ap length h.whole in
+    (ascends_low low high (omega (arith, h.half)) all, upper low high (omega (arith, h.half)) all)
+  where
+    upper : (low high : List Range) → 1 ≤ length high → Ascends (low ++ high) → Ascends high
+    upper low [] some h = absurd (omega arith)
+    upper low (y ∷ high) some h = ascends_high low high y h
+
+-- the two parts at the middle are halves
+pub are_halves : (ranges low high : List Range) → 2 ≤ length ranges → low ≡ take (length ranges / 2) ranges → high ≡ drop (length ranges / 2) ranges → AreHalves ranges low high
+are_halves ranges low high some is_low is_high = record {
+  whole = ap₂ (λ (a b : List Range). a ++ b) is_low is_high ∙ take-append-drop (length ranges / 2) ranges;
+  half = ap length is_low ∙ half_low ranges;
+  long = length_cut ranges some ∙ ap₂ (λ (l h : List Range). test_length (tree_length l) + tree_length l + tree_length h) (sym is_low) (sym is_high);
+}
+
+-- each half is shorter
+pub shorter : (ranges low high : List Range) → 2 ≤ length ranges → AreHalves ranges low high → (length low < length ranges) × (length high < length ranges)
+shorter ranges low high some h =
+    let long : length (low ++ high) ≡ length low + length high = length-append low high in
+    let same = ap length h.whole in
+    (omega (arith, h.half), omega (arith, h.half))
+
+pub some_ranges : (ranges : List Range) → Ascends ranges → 1 ≤ length ranges
+some_ranges [] h = absurd h
+some_ranges (x ∷ ranges) h = omega arith

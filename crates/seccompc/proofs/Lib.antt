@@ -1,10 +1,7 @@
--- Lemmas that several proofs cite.
-pub mod Numbers
+-- Laws of the definitions, which the proofs of several modules cite, and what `carry_out` needs. The lemmas of one module
+-- lie in that module's folder, and the file beside the folder lists them.
 pub mod Hexadecimal
 pub mod Records
-pub mod Faults
-pub mod Escapes
 pub mod Names
 pub mod Policies
-pub mod Listings
 pub mod Statuses

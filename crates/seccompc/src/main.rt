@@ -3,11 +3,11 @@
 
 mod arguments;
 mod error;
-mod lines;
 mod list;
-mod listing;
 mod policy;
 mod probe;
+mod program_text;
+mod record_text;
 mod run;
 #[cfg(test)]
 mod tests;

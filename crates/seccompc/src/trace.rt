@@ -9,7 +9,7 @@ ghost use Rattle.seccompc.specs.EngineSteps.{IsReadError, IsTraceError};
 ghost use Rattle.seccompc.specs.Answers.{AnswersRecords};
 
 use crate::error::ToolError;
-use crate::lines::lines;
+use crate::record_text::lines;
 use seccompiler::BpfProgramRef;
 use std::alloc::Global;
 use std::io::{ErrorKind, Read, Write};

@@ -1,7 +1,7 @@
 use Rattle.std.proofs.Common.{◌<◌, ◌≤◌, arith}
 use Rattle.std.proofs.lemmas.Bool.{false≢true}
 use Rattle.std.proofs.lemmas.Result.{err_from_is_err_and}
-use Rattle.seccompc.proofs.Faults.{name_refused, index_refused}
+use Rattle.seccompc.proofs.probe.Faults.{name_refused, index_refused}
 use Rattle.seccompc.proofs.probe.probe_filter.Goals as goal
 
 pub returns-in_err-arch-clause-refused : goal.returns-in_err-arch-clause-refused

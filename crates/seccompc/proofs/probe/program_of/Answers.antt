@@ -1,7 +1,7 @@
 use Rattle.std.proofs.Common.{w64}
 use Rattle.std.proofs.lemmas.Int.{to_z-of_z}
 use Rattle.std.proofs.lemmas.Result.{err_from_is_err_and}
-use Rattle.seccompc.proofs.Faults.{filter_refused, filter_compiled}
+use Rattle.seccompc.proofs.probe.Faults.{filter_refused, filter_compiled}
 use Rattle.seccompc.proofs.probe.program_of.Goals as goal
 
 pub returns-in_err-to_bpf-clause-refused : goal.returns-in_err-to_bpf-clause-refused

@@ -1,6 +1,6 @@
 use Rattle.std.proofs.Common.{◌≢◌, slice_index, arith, lit<}
 use Rattle.std.proofs.lemmas.Bool.Decides.{nat_tests}
-use Rattle.seccompc.proofs.Numbers.{number_read}
+use Rattle.seccompc.proofs.words.Numbers.{number_read}
 use Rattle.seccompc.proofs.words.read_number.Goals as goal
 
 pub returns : goal.returns

@@ -1,6 +1,6 @@
 use Rattle.std.proofs.Common.{◌≢◌, slice_index, arith, lit<}
 use Rattle.std.proofs.lemmas.Bool.Decides.{nat_tests}
-use Rattle.seccompc.proofs.Numbers.{signed_read}
+use Rattle.seccompc.proofs.words.Numbers.{signed_read}
 use Rattle.seccompc.proofs.words.read_signed.Goals as goal
 
 pub returns : goal.returns

@@ -1,7 +1,7 @@
 use Rattle.std.proofs.Common.{◌≡◌, ◌∷◌, ◌++◌, [], length, string_bytes, sym, ap, ◌∙◌, append_assoc}
 use Rattle.seccompc.proofs.Names.{Entry}
-use Rattle.seccompc.proofs.Listings.{listing_more}
-use Rattle.seccompc.proofs.listing.listing.Goals as goal
+use Rattle.seccompc.proofs.program_text.Listings.{listing_more}
+use Rattle.seccompc.proofs.program_text.listing.Goals as goal
 
 pub loop-name-preserved : goal.loop-name-preserved
 loop-name-preserved c =

@@ -1,7 +1,7 @@
 use Rattle.std.proofs.Common.{◌++◌, encode_utf8, string_bytes}
 use Rattle.seccompc.specs.Listing.{escaped}
-use Rattle.seccompc.proofs.Escapes.{character_moved}
-use Rattle.seccompc.proofs.listing.push_escaped.Goals as goal
+use Rattle.seccompc.proofs.program_text.Escapes.{character_moved}
+use Rattle.seccompc.proofs.program_text.push_escaped.Goals as goal
 
 pub loop-character-preserved : goal.loop-character-preserved
 loop-character-preserved c =

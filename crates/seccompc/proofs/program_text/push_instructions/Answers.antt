@@ -1,7 +1,7 @@
 use Rattle.std.proofs.Common.{string_bytes, get_or}
 use Rattle.std.proofs.lemmas.List.{get_or_default}
-use Rattle.seccompc.proofs.Listings.{lines_more}
-use Rattle.seccompc.proofs.listing.push_instructions.Goals as goal
+use Rattle.seccompc.proofs.program_text.Listings.{lines_more}
+use Rattle.seccompc.proofs.program_text.push_instructions.Goals as goal
 
 pub loop-instruction-preserved : goal.loop-instruction-preserved
 loop-instruction-preserved c =

@@ -1,7 +1,7 @@
 use Rattle.std.proofs.Common.{◌≡◌, true, false, sym, ◌∙◌, rules}
 use Rattle.seccompc.specs.Listing.{is_escaped}
-use Rattle.seccompc.proofs.Escapes.{character_plain, number_written}
-use Rattle.seccompc.proofs.listing.push_character.Goals as goal
+use Rattle.seccompc.proofs.program_text.Escapes.{character_plain, number_written}
+use Rattle.seccompc.proofs.program_text.push_character.Goals as goal
 
 pub returns-then-is_escaped : goal.returns-then-is_escaped
 returns-then-is_escaped c =

@@ -1,4 +1,4 @@
--- Names as they are written, character by character.
+-- For `push_character` and `push_escaped`: names as they are written, character by character.
 use Rattle.std.proofs.Common.{◌≡◌, ℕ, suc, ◌<◌, ◌≤◌, true, false, List, [], ◌∷◌, ◌++◌, length, get_or, codes, encode_utf8, inl, inr, refl, sym, ap, ◌∙◌, append_assoc, append-nil, arith, ◌-◌, ◌^◌}
 use Rattle.std.specs.Fmt.{digits, padded_integral, format_spec}
 use Rattle.std.proofs.lemmas.Bool.{cases_lt}

@@ -4,7 +4,7 @@ use Rattle.std.proofs.lemmas.List.{get_or_default}
 use Rattle.std.proofs.lemmas.List.Elements.{all_zip_more}
 use Rattle.std.proofs.lemmas.List.Folds.{concat-append}
 use Rattle.seccompc.specs.Lines.{IsLine, line_of}
-use Rattle.seccompc.proofs.lines.lines.Goals as goal
+use Rattle.seccompc.proofs.record_text.lines.Goals as goal
 
 -- One line more at the end.
 concat_push : (lines : List (List ℕ)) (line : List ℕ) → concat (lines ++ line ∷ []) ≡ concat lines ++ line

@@ -1,6 +1,6 @@
 use Rattle.std.proofs.Common.{rules}
-use Rattle.seccompc.proofs.Listings.{instruction_written}
-use Rattle.seccompc.proofs.listing.push_instruction.Goals as goal
+use Rattle.seccompc.proofs.program_text.Listings.{instruction_written}
+use Rattle.seccompc.proofs.program_text.push_instruction.Goals as goal
 
 pub returns : goal.returns
 returns c =

@@ -1,4 +1,4 @@
--- Lines of instructions and listings of programs, one after the other.
+-- For `listing`, `push_instruction` and `push_instructions`: lines of instructions and listings of programs, one after the other.
 use Rattle.std.proofs.Common.{◌≡◌, ℕ, ◌+◌, ◌-◌, ◌^◌, ◌<◌, false, List, [], ◌∷◌, ◌++◌, length, take, get_or, map, codes, string_bytes, refl, sym, ap, ◌∙◌, append_assoc, append-nil, arith}
 use Rattle.std.specs.Fmt.{digits, padded_integral, format_spec}
 use Rattle.std.specs.List.{concat}

@@ -2,7 +2,7 @@ use Rattle.std.proofs.Common.{◌≡◌, ℕ, ◌^◌, ◌<◌, ◌-◌, false, 
 use Rattle.std.specs.Fmt.{digits, padded_integral, format_spec}
 use Rattle.seccompc.specs.Lines.{hexadecimal, line_of}
 use Rattle.seccompc.proofs.Hexadecimal.{hexadecimal_written}
-use Rattle.seccompc.proofs.lines.push_line.Goals as goal
+use Rattle.seccompc.proofs.record_text.push_line.Goals as goal
 
 -- The pieces of the format are the line.
 line_written : (word steps : ℕ) → word < 2 ^ 32

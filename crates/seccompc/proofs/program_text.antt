@@ -1,0 +1,3 @@
+-- Lemmas for the functions of `program_text`.
+pub mod Escapes
+pub mod Listings

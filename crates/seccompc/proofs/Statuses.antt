@@ -1,5 +1,5 @@
--- What an engine's answer says of the command's own words where the program ends with status 0, since each error ends it
--- with 1.
+-- For `carry_out`: what an engine's answer says of the command's own words where the program ends with status 0, since
+-- each error ends it with 1.
 use Rattle.std.proofs.Common.{◌≡◌, ℕ, ℤ, List, Option, Result, Ok, Err, subst, arith}
 use Rattle.std.specs.Prelude.{OnErr, ⊤}
 use Rattle.seccompc.specs.Policies.{AnswersList, listing_written, listing_refused, listing_unwritten, no_memory_for_listing, AnswersRun, trace_written, run_refused, no_filter, unread, trace_unwritten, cut_short, no_memory}

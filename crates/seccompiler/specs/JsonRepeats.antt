@@ -27,7 +27,6 @@ HasColons text count = (pieces : List Piece) × (ending : Ending) × IsCutIntoPi
 
 -- The text, cut into pieces, has more pieces that are a colon than the value has names.
 pub record Repeats (text : List ℕ) (value : Data) : Type 0 where
-  pub pieces : List Piece
-  pub ending : Ending
-  pub cut : IsCutIntoPieces text pieces ending
-  pub more : names_in value < count_by is_colon pieces
+  pub count : ℕ
+  pub colons : HasColons text count
+  pub more : names_in value < count

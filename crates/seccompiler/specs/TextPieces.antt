@@ -1,40 +1,29 @@
 -- A text as a sequence of pieces: bytes, and strings in quotes. It needs not be JSON.
-use Rattle.std.specs.Prelude.{◌≡◌, ◌≢◌, ℕ, ◌==◌, List, [], ◌∷◌, ◌++◌, Bool, false, flat_map, ⊤}
-use Rattle.std.specs.List.{AllByRecursion}
+use Rattle.std.specs.Prelude.{◌≡◌, ◌≢◌, ℕ, ◌==◌, List, [], ◌∷◌, ◌++◌, Bool, false, flat_map}
 
 -- What stands in a string: a byte other than a quote (34) or a backslash (92), or a backslash with
 -- the byte behind it, whichever that is.
 pub data StringItem : Type 0 where
-  plain : ℕ → StringItem
+  plain : (b : ℕ) → b ≢ 34 → b ≢ 92 → StringItem
   escaped : ℕ → StringItem
-
--- A plain item is no quote and no backslash.
-abbrev pub IsStringItem : StringItem → Type 0
-IsStringItem (plain b) = (b ≢ 34) × (b ≢ 92)
-IsStringItem (escaped b) = ⊤
 
 -- The bytes of an item.
 abbrev pub item_bytes : StringItem → List ℕ
-item_bytes (plain b) = b ∷ []
+item_bytes (plain b no_quote no_backslash) = b ∷ []
 item_bytes (escaped b) = 92 ∷ b ∷ []
 
 -- The bytes of a string's items.
 abbrev pub items_bytes : List StringItem → List ℕ
 items_bytes = flat_map item_bytes
 
--- A piece of a text: a byte outside strings, or a string with its two quotes.
+-- A piece of a text: a byte outside strings, which is no quote, or a string with its two quotes.
 pub data Piece : Type 0 where
-  byte : ℕ → Piece
+  byte : (b : ℕ) → b ≢ 34 → Piece
   quoted : List StringItem → Piece
-
--- A byte outside strings is no quote.
-abbrev pub IsPiece : Piece → Type 0
-IsPiece (byte b) = b ≢ 34
-IsPiece (quoted items) = AllByRecursion IsStringItem items
 
 -- The bytes of a piece.
 abbrev pub piece_bytes : Piece → List ℕ
-piece_bytes (byte b) = b ∷ []
+piece_bytes (byte b no_quote) = b ∷ []
 piece_bytes (quoted items) = 34 ∷ (items_bytes items ++ 34 ∷ [])
 
 -- How a text ends: behind a whole piece, or in a string that is not closed, whose last byte may be
@@ -44,12 +33,6 @@ pub data Ending : Type 0 where
   unclosed : List StringItem → Ending
   unclosed_backslash : List StringItem → Ending
 
--- The items of the string that is not closed are items.
-abbrev pub IsEnding : Ending → Type 0
-IsEnding closed = ⊤
-IsEnding (unclosed items) = AllByRecursion IsStringItem items
-IsEnding (unclosed_backslash items) = AllByRecursion IsStringItem items
-
 -- The bytes of an ending.
 abbrev pub ending_bytes : Ending → List ℕ
 ending_bytes closed = []
@@ -57,12 +40,10 @@ ending_bytes (unclosed items) = 34 ∷ items_bytes items
 ending_bytes (unclosed_backslash items) = 34 ∷ (items_bytes items ++ 92 ∷ [])
 
 -- The text is these pieces and this ending, one behind the other.
-pub record IsCutIntoPieces (text : List ℕ) (pieces : List Piece) (ending : Ending) : Type 0 where
-  pub each : AllByRecursion IsPiece pieces
-  pub last : IsEnding ending
-  pub spelled : text ≡ flat_map piece_bytes pieces ++ ending_bytes ending
+abbrev pub IsCutIntoPieces : List ℕ → List Piece → Ending → Type 0
+IsCutIntoPieces text pieces ending = text ≡ flat_map piece_bytes pieces ++ ending_bytes ending
 
 -- The piece is the one byte `:` (58).
 abbrev pub is_colon : Piece → Bool
-is_colon (byte b) = b == 58
+is_colon (byte b no_quote) = b == 58
 is_colon (quoted items) = false

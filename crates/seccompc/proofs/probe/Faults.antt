@@ -1,4 +1,4 @@
--- What the refusals of the library mean for a probe's words.
+-- For `program_of` and `probe_filter`: what the refusals of the library mean for a probe's words.
 use Rattle.std.proofs.Common.{◌≡◌, ℕ, zero, suc, ℤ, ◌<◌, ◌⊎◌, List, [], ◌∷◌, Ok, Err, All, Contains, refl, sym, subst, ap, ⊎_elim, arith}
 use Rattle.std.proofs.lemmas.List.Elements.{All-head}
 use Rattle.seccompiler.specs.declared.bpf.sock_filter.{sock_filter}

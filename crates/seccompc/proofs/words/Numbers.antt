@@ -1,4 +1,4 @@
--- What std's `parse` reads, in the words of `specs/Words.antt`.
+-- For `read_number` and `read_signed`: what std's `parse` reads, in the words of `specs/Words.antt`.
 use Rattle.std.proofs.Common.{◌≡◌, ◌≢◌, ℕ, ℤ, pos, neg_ℤ, ◌<◌, ◌≤◌, ◌^◌, List, [], ◌∷◌, length, All, Option, Result, Ok, Err, IfSome, IfNone, slice_index, refl, sym, subst, ap, ⊎_elim, arith}
 use Rattle.std.proofs.lemmas.Int.{ints}
 use Rattle.std.proofs.lemmas.Bool.{cases_eq}

@@ -1,7 +1,8 @@
-use Rattle.std.proofs.lemmas.Result.{IfOk-weaker, err_from_is_err_and}
+use Rattle.std.proofs.Common.{ℕ, List}
+use Rattle.std.proofs.lemmas.Result.{IfOk-weaker, IfErr-weaker, err_from_is_err_and}
 use Rattle.serde_json.specs.Data.{Data}
 use Rattle.seccompiler.specs.ByName.{under}
-use Rattle.seccompiler.specs.JsonAnswers.{OfValue, ArePoliciesOf}
+use Rattle.seccompiler.specs.JsonAnswers.{IsValueOf, OfValue, ArePoliciesOf, TellsFrontendFault}
 use Rattle.seccompiler.specs.JsonSteps.{AreFilters}
 use Rattle.seccompiler.specs.Reads.{Reads}
 use Rattle.seccompiler.proofs.json.compiler.JsonCompiler.policies_from.Goals as goal
@@ -19,3 +20,11 @@ returns-clause-policies g c =
     IfOk-weaker c.policies.result (λ found. (d : Data) → AreFilters d c.in_ok-filters.filters → ArePoliciesOf arch (under found.items) d)
     (λ found. Reads (g.R.Read.remaining c.args.reader) (λ text. OfValue text (ArePoliciesOf arch (under found.items))))
     (λ found h. (read.0, read.1, (read.2.0, read.2.1, h read.2.0 read.2.2))) c.policies.ensures.policies
+
+pub returns-clause-fault : goal.returns-clause-fault
+returns-clause-fault g c =
+    let arch = c.args.self.now in
+    let read = c.in_ok-filters.ensures.filters in
+    IfErr-weaker c.policies.result (λ e. (text : List ℕ) (d : Data) → IsValueOf text d → AreFilters d c.in_ok-filters.filters → TellsFrontendFault arch text e)
+    (λ e. Reads (g.R.Read.remaining c.args.reader) (λ text. TellsFrontendFault arch text e))
+    (λ e h. (read.0, read.1, h read.0 read.2.0 read.2.1 read.2.2)) c.policies.ensures.fault

@@ -138,6 +138,9 @@ CAT_CALLS = [
     ("openat 0 0 2", 1),
     ("openat 0 0 0100", 1),
     ("openat 0 0 01000", 1),
+    ("mmap 0 4096 7 0x22 -1", 1),
+    ("mmap 0 4096 3 0x22 -1", None),
+    ("mmap 0 4096 5 0x22 -1", None),
     ("mprotect 0 0 7", 1),
     ("mprotect 0 0 5", None),
     ("mprotect 0 0 3", None),
@@ -169,7 +172,18 @@ WEB_CALLS = [
     ("kill 0 0", 38),
 ]
 
-# Under examples/deny-policy.json: a program for Python with a thread and a child.
+# Under the filter `deny` of examples/deny-policy.json: what is refused, where the first argument is 0 or a
+# flag of a namespace; and what isn't.
+DENIED = [
+    "unshare", "setns", "clone 0x00020000", "clone 0x02000000", "clone 0x04000000", "clone 0x08000000",
+    "clone 0x10000000", "clone 0x20000000", "clone 0x40000000", "clone 0x7e020011",
+    "mount", "umount2", "pivot_root", "move_mount", "open_tree", "mount_setattr", "fsopen", "fsconfig", "fsmount",
+    "fspick", "init_module", "finit_module", "delete_module", "kexec_load", "kexec_file_load", "ptrace",
+    "process_vm_readv", "process_vm_writev", "pidfd_getfd", "kcmp", "keyctl", "add_key", "request_key",
+]
+NOT_DENIED = [("openat 0 0 1", 14), ("socket 99", 97), ("kill 0x7fffffff", 3)]
+
+# Under both filters of examples/deny-policy.json: a program for Python with a thread and a child.
 BUSY = """
 import subprocess, threading
 thread = threading.Thread(target=print, args=("a thread",))

@@ -1,8 +1,8 @@
-"""The console blocks of a page in Markdown: commands, and what is shown of them."""
+"""The blocks of a page in Markdown: commands and what is shown of them, and code."""
 
 
-def blocks_of(page):
-    """Returns the console blocks of a page, each with the number of its first line, and its lines."""
+def blocks_of(page, kind="console"):
+    """Returns the blocks of a kind of a page, each with the number of its first line, and its lines."""
     blocks, block = [], None
     for number, line in enumerate(page.read_text(encoding="utf-8").splitlines(), 1):
         if block is not None and line.strip() == "```":
@@ -10,7 +10,7 @@ def blocks_of(page):
             block = None
         elif block is not None:
             block[1].append(line)
-        elif line.strip() == "```console":
+        elif line.strip() == f"```{kind}":
             block = (number + 1, [])
     return blocks
 

@@ -138,6 +138,9 @@ CAT_CALLS = [
     ("openat 0 0 2", 1),
     ("openat 0 0 0100", 1),
     ("openat 0 0 01000", 1),
+    ("mmap 0 4096 7 0x22 -1", 1),
+    ("mmap 0 4096 3 0x22 -1", None),
+    ("mmap 0 4096 5 0x22 -1", None),
     ("mprotect 0 0 7", 1),
     ("mprotect 0 0 5", None),
     ("mprotect 0 0 3", None),
@@ -169,11 +172,45 @@ WEB_CALLS = [
     ("kill 0 0", 38),
 ]
 
-# Under examples/deny-policy.json: a program for Python with a thread and a child.
+# Under the filter `deny` of examples/deny-policy.json: what is refused, where the first argument is 0 or a
+# flag of a namespace; and what isn't.
+DENIED = [
+    "unshare", "setns", "clone 0x00020000", "clone 0x02000000", "clone 0x04000000", "clone 0x08000000",
+    "clone 0x10000000", "clone 0x20000000", "clone 0x40000000", "clone 0x7e020011",
+    "mount", "umount2", "pivot_root", "move_mount", "open_tree", "mount_setattr",
+    "fsopen", "fsconfig", "fsmount", "fspick", "init_module", "finit_module", "delete_module", "kexec_load", "kexec_file_load", "ptrace",
+    "process_vm_readv", "process_vm_writev", "pidfd_getfd", "kcmp", "keyctl", "add_key", "request_key",
+]
+NOT_DENIED = [("openat 0 0 1", 14), ("socket 99", 97), ("kill 0x7fffffff", 3)]
+
+# Under both filters of examples/deny-policy.json: a program for Python with a thread and a child.
 BUSY = """
 import subprocess, threading
 thread = threading.Thread(target=print, args=("a thread",))
 thread.start()
 thread.join()
 print(subprocess.run(["echo", "a child"], capture_output=True, text=True).stdout, end="")
+"""
+
+# What stands around the lines of C that the pages show: they are handed a policy as text.
+AROUND = """
+#define _GNU_SOURCE
+#include <linux/audit.h>
+#include <linux/seccomp.h>
+#include <stdio.h>
+#include <sys/prctl.h>
+#include <sys/syscall.h>
+#include <unistd.h>
+#include "seccompiler.h"
+
+int main(int argc, char **argv)
+{
+    static char text[65536];
+    FILE *file = argc > 2 ? fopen(argv[1], "rb") : NULL;
+    size_t length = file != NULL ? fread(text, 1, sizeof text, file) : 0;
+
+LINES
+    execvp(argv[2], argv + 2);
+    return 126;
+}
 """

@@ -82,7 +82,7 @@
 extern "C" {
 #endif
 
-/* Memory was refused. It may come in place of any answer of a function that takes memory. */
+/* Memory was refused. Each function says in place of which answers it may come. */
 #define SECCOMPILER_OUT_OF_MEMORY (-1)
 /* The architecture word is none of the three. */
 #define SECCOMPILER_UNKNOWN_ARCHITECTURE (-2)
@@ -127,12 +127,12 @@ int64_t seccompiler_compile(const char *text, size_t text_length, uint32_t archi
 
 /*
  * Writes why seccompiler_compile refuses these arguments into the front of `buffer`, which has room for
- * `size` bytes: a sentence in UTF-8, with no line feed and no byte 0 behind it. Where the buffer is too
- * short, the sentence is cut behind the last character that fits. 256 bytes are enough for every sentence
- * but those that tell a name of the text.
+ * `size` bytes: a sentence in UTF-8, with neither a line feed nor a byte 0 behind it. Where the buffer is
+ * too short, the sentence is cut behind the last character that fits. 256 bytes are enough for every
+ * sentence but those that tell a name of the text.
  *
  * Returns how many bytes it has written, which is 0 where seccompiler_compile doesn't refuse. Where memory
- * is refused, the sentence is "Out of memory.", in place of any other but the first two reasons' and of none.
+ * is refused, the sentence is "Out of memory." in place of any other, or of none.
  */
 int64_t seccompiler_refusal(const char *text, size_t text_length, uint32_t architecture,
                             const char *name, size_t name_length, uint32_t layout, size_t room,

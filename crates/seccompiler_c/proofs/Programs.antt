@@ -18,7 +18,7 @@ named_so target text name policy P (d, is, (all, (value, has, (p, own, same)))) 
 module _ (r : Request) (target : TargetArch) (layout : ProgramLayout) (architecture : IsArchitecture r.architecture target) (number : IsLayout r.layout layout) where
   -- A request without a policy is refused for that.
   pub no_policy : (f : Fault) → IsPolicyFault target r.text r.name f → IsRefusal r f
-  no_policy fault.OutOfMemory why = tt
+  no_policy fault.OutOfMemory why = (target, architecture, (layout, number, tt))
   no_policy fault.UnknownArchitecture why = absurd why
   no_policy fault.UnknownLayout why = absurd why
   no_policy fault.NotARecord why = absurd why
@@ -29,7 +29,7 @@ module _ (r : Request) (target : TargetArch) (layout : ProgramLayout) (architect
 
   -- A request whose policy has no program is refused for that.
   pub no_program : (policy : Filter) → NamesPolicy target r.text r.name (λ p. p ≡ policy) → (f : Fault) → IsUncompiledIn layout policy f → IsRefusal r f
-  no_program policy named fault.OutOfMemory why = tt
+  no_program policy named fault.OutOfMemory why = (target, architecture, (layout, number, tt))
   no_program policy named fault.UnknownArchitecture why = absurd why
   no_program policy named fault.UnknownLayout why = absurd why
   no_program policy named fault.NotARecord why = absurd why

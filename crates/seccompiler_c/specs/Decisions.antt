@@ -35,9 +35,10 @@ pub record Decides (call : List ℕ) (answer : ℤ) (policy : Filter) : Type 0 w
   pub only : (w : ℕ) → IsDecision policy call w → w ≡ word
   pub order : (g : Filter) (s : List ℕ) → IsReordered policy g → IsSameCall call s → IsDecision g s word
 
--- Why there is no decision: for the first of these that is so. Want of memory may come in place of all.
+-- Why there is no decision: for the first of these that is so. Want of memory may come in place of all but the first
+-- two.
 abbrev pub IsUndecided : List ℕ → ℕ → List ℕ → List ℕ → Fault → Type 0
-IsUndecided text architecture name call OutOfMemory = ⊤
+IsUndecided text architecture name call OutOfMemory = OfArchitecture architecture (λ target. length call ≡ 64)
 IsUndecided text architecture name call UnknownArchitecture = IsNoArchitecture architecture
 IsUndecided text architecture name call NotARecord = OfArchitecture architecture (λ target. length call ≢ 64)
 IsUndecided text architecture name call f = OfArchitecture architecture (λ target. (length call ≡ 64) × IsPolicyFault target text name f)

@@ -59,9 +59,10 @@ OfPolicy r P = OfWords r (λ target layout. NamesPolicy target r.text r.name (P 
 abbrev pub OfProgram : Request → (List sock_filter → Type 0) → Type 0
 OfProgram r P = OfPolicy r (λ layout policy. (program : List sock_filter) × IsProgramIn layout policy program × P program)
 
--- Why a request is refused: for the first of these that is so. Want of memory may come in place of all.
+-- Why a request is refused: for the first of these that is so. Want of memory may come in place of all but the first
+-- two.
 abbrev pub IsRefusal : Request → Fault → Type 0
-IsRefusal r OutOfMemory = ⊤
+IsRefusal r OutOfMemory = OfWords r (λ target layout. ⊤)
 IsRefusal r UnknownArchitecture = IsNoArchitecture r.architecture
 IsRefusal r UnknownLayout = OfArchitecture r.architecture (λ target. IsNoLayout r.layout)
 IsRefusal r NotARecord = ⊥

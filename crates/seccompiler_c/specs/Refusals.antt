@@ -18,9 +18,11 @@ fault_text NoFilter = Some (codes "No filter has this name.")
 fault_text (Filter e) = Some (backend_text e)
 fault_text (NoRoom n) = Some (codes "The array has too little room for the program: it has " ++ decimal n ++ codes " instructions.")
 
--- What is to be said of a request: the text of its refusal, or nothing where it isn't refused.
+-- What is to be said of a request: the text of its refusal, or that of want of memory in its place; or nothing where it
+-- isn't refused.
 pub data Says (r : Request) (said : List ℕ) : Type 0 where
   refused : (fault : Fault) → IsRefusal r fault → IfSome (fault_text fault) (λ text. said ≡ text) → Says r said
+  out_of_memory : (fault : Fault) → IsRefusal r fault → said ≡ codes "Out of memory." → Says r said
   compiled : OfProgram r (λ program. length program ≤ r.room) → said ≡ [] → Says r said
 
 -- The buffer holds the front of a text, as many whole characters of it as there is room for, and behind them what it

@@ -1,6 +1,6 @@
 // What the exported functions answer where they have no other answer.
 
-/// Memory was refused. It may come in place of any other answer of a function that takes memory.
+/// Memory was refused. Each function says in place of which answers it may come.
 pub const SECCOMPILER_OUT_OF_MEMORY: i64 = -1;
 
 /// The architecture word is none of the three that filters are compiled for.

@@ -65,7 +65,7 @@ pub extern "C" fn seccompiler_compile(
             program[..count].copy_from_slice(&compiled);
             count as i64
         }
-        Err(fault) => fault.code(),
+        Err(refusal) => refusal.code(),
     }
 }
 
@@ -89,7 +89,7 @@ pub extern "C" fn seccompiler_refusal(
 {
     match program_of(alloc, text, architecture, name, layout, room) {
         Ok(_) => write_front("", buffer),
-        Err(fault) => write_refusal(alloc, &fault, buffer),
+        Err(refusal) => write_refusal(alloc, &refusal, buffer),
     }
 }
 

@@ -20,5 +20,5 @@ pub returns : goal.returns
 returns c =
     let request : Request = record { text = c.args.text.now; architecture = c.args.architecture; name = c.args.name.now; layout = c.args.layout; room = c.args.room } in
     let wrote = c.write_refusal.ensures in
-    let said = says request c.in-Err.fault wrote.said c.in-Err.ensures.refused wrote.text in
+    let said = says request c.in-Err.refusal wrote.said c.in-Err.ensures.refused wrote.text in
     rw (to_z-of_z w64 c.write_refusal.result (record { sfits = c.write_refusal.type_inv })) (record { answers = record { said = wrote.said; utf8 = wrote.utf8; says = said; holds = wrote.holds } })

@@ -1,0 +1,374 @@
+/*
+ * Calls the library for C as a program in C does: each function, each code, each text, with the figures
+ * of the README and of docs/LAYOUTS.md; and each call that takes memory with each of its requests for
+ * memory refused in turn. tools/check-library builds and runs it. Prints each answer that is another
+ * than it should be, and as its last line 'N passed, M failed'.
+ */
+#include <seccompiler.h>
+
+#include <inttypes.h>
+#include <linux/audit.h>
+#include <linux/seccomp.h>
+#include <stddef.h>
+#include <stdio.h>
+#include <stdlib.h>
+#include <string.h>
+
+static const char README[] =
+    "{\"main_thread\":{\"mismatch_action\":\"kill_process\",\"match_action\":\"allow\",\"filter\":["
+    "{\"syscall\":\"accept4\"},"
+    "{\"syscall\":\"fcntl\",\"args\":["
+    "{\"index\":1,\"type\":\"dword\",\"op\":\"eq\",\"val\":2},"
+    "{\"index\":2,\"type\":\"dword\",\"op\":\"eq\",\"val\":1}]},"
+    "{\"syscall\":\"fcntl\",\"args\":[{\"index\":1,\"type\":\"dword\",\"op\":\"eq\",\"val\":1}]}]}}";
+static const char NAME[] = "main_thread";
+static const char SHAPELESS[] = "{\"\xc2\xb5\":{}}";
+static const char ENTRY[] =
+    "{\"syscall\":\"read\",\"args\":[{\"index\":0,\"type\":\"dword\",\"op\":\"eq\",\"val\":5}]}";
+
+/* The listing of the README's policy. */
+static const struct sock_filter LISTING[24] = {
+    {0x20, 0, 0, 4},    {0x15, 1, 0, 0xc000003e}, {0x06, 0, 0, 0x80000000}, {0x20, 0, 0, 0},
+    {0x15, 0, 1, 0x48}, {0x05, 0, 0, 1},          {0x05, 0, 0, 6},          {0x20, 0, 0, 0x20},
+    {0x15, 0, 3, 1},    {0x20, 0, 0, 0x18},       {0x15, 0, 1, 2},          {0x06, 0, 0, 0x7fff0000},
+    {0x05, 0, 0, 1},    {0x05, 0, 0, 4},          {0x20, 0, 0, 0x18},       {0x15, 0, 1, 1},
+    {0x06, 0, 0, 0x7fff0000}, {0x06, 0, 0, 0x80000000}, {0x15, 0, 1, 0x120}, {0x05, 0, 0, 1},
+    {0x05, 0, 0, 2},    {0x06, 0, 0, 0x7fff0000}, {0x06, 0, 0, 0x80000000}, {0x06, 0, 0, 0x80000000},
+};
+
+static int passed, failed;
+
+static void check(int well, const char *what)
+{
+    passed += well;
+    failed += !well;
+    if (!well)
+        printf("%s\n", what);
+}
+
+static void equal(int64_t answer, int64_t wanted, const char *what)
+{
+    passed += answer == wanted;
+    failed += answer != wanted;
+    if (answer != wanted)
+        printf("%s: %" PRId64 " and not %" PRId64 "\n", what, answer, wanted);
+}
+
+/* ---- memory: the linker hands requests to these (--wrap) */
+
+void *__real_malloc(size_t size);
+void *__real_realloc(void *block, size_t size);
+void __real_free(void *block);
+
+static long requests, refused_at, held;
+
+static int is_refused(void)
+{
+    return ++requests == refused_at;
+}
+
+void *__wrap_malloc(size_t size)
+{
+    void *block = is_refused() ? NULL : __real_malloc(size);
+    held += block != NULL;
+    return block;
+}
+
+void *__wrap_realloc(void *block, size_t size)
+{
+    void *moved = is_refused() ? NULL : __real_realloc(block, size);
+    held += block == NULL && moved != NULL;
+    return moved;
+}
+
+void __wrap_free(void *block)
+{
+    held -= block != NULL;
+    __real_free(block);
+}
+
+/* From here on the request of this number is refused, counted from 1; none at 0. */
+static void refuse(long number)
+{
+    requests = 0;
+    refused_at = number;
+}
+
+/* ---- arrays that are as they were */
+
+static struct sock_filter program[4100];
+
+static void mark(void)
+{
+    memset(program, 0xa5, sizeof program);
+}
+
+static int is_marked(size_t from)
+{
+    const unsigned char *bytes = (const unsigned char *)program;
+    for (size_t place = from * sizeof *program; place < sizeof program; place++)
+        if (bytes[place] != 0xa5)
+            return 0;
+    return 1;
+}
+
+/* ---- records */
+
+static struct seccomp_data call_of(uint32_t arch, int number, uint64_t second, uint64_t third)
+{
+    struct seccomp_data call;
+    memset(&call, 0, sizeof call);
+    call.nr = number;
+    call.arch = arch;
+    call.args[1] = second;
+    call.args[2] = third;
+    return call;
+}
+
+/* ---- programs */
+
+static int64_t compile(const char *text, size_t length, uint32_t arch, const char *name, size_t name_length,
+                       uint32_t layout, size_t room)
+{
+    mark();
+    return seccompiler_compile(text, length, arch, name, name_length, layout, program, room);
+}
+
+static int64_t compile_readme(uint32_t layout, size_t room)
+{
+    return compile(README, strlen(README), AUDIT_ARCH_X86_64, NAME, strlen(NAME), layout, room);
+}
+
+static const struct {
+    uint32_t arch;
+    int number;
+    uint64_t second, third;
+    int64_t word;
+} CALLS[] = {
+    {AUDIT_ARCH_X86_64, 288, 0, 0, SECCOMP_RET_ALLOW},
+    {AUDIT_ARCH_X86_64, 72, 2, 1, SECCOMP_RET_ALLOW},
+    {AUDIT_ARCH_X86_64, 72, 2, 2, SECCOMP_RET_KILL_PROCESS},
+    {AUDIT_ARCH_X86_64, 72, 0x100000001, 7, SECCOMP_RET_ALLOW},
+    {AUDIT_ARCH_X86_64, 72, 3, 1, SECCOMP_RET_KILL_PROCESS},
+    {AUDIT_ARCH_X86_64, 0, 0, 0, SECCOMP_RET_KILL_PROCESS},
+    {AUDIT_ARCH_AARCH64, 288, 0, 0, SECCOMP_RET_KILL_PROCESS},
+};
+
+static void check_calls(int64_t count)
+{
+    for (size_t i = 0; i < sizeof CALLS / sizeof *CALLS; i++) {
+        struct seccomp_data call = call_of(CALLS[i].arch, CALLS[i].number, CALLS[i].second, CALLS[i].third);
+        equal(seccompiler_run(program, count, &call, sizeof call), CALLS[i].word, "a run");
+        equal(seccompiler_decide(README, strlen(README), AUDIT_ARCH_X86_64, NAME, strlen(NAME), &call,
+                                 sizeof call),
+              CALLS[i].word, "a decision");
+    }
+}
+
+static void check_programs(void)
+{
+    equal(compile_readme(SECCOMPILER_LAYOUT_CHAINS, 4100), 24, "the README's policy");
+    check(memcmp(program, LISTING, sizeof LISTING) == 0, "the listing of the README's policy");
+    check(is_marked(24), "behind the program");
+    equal(seccompiler_check(program, 24), 1, "a check of the program");
+    equal(seccompiler_check(program, 23), 0, "a check without the last return, to which a jump leads");
+    equal(seccompiler_check(program, 25), 0, "a check of one instruction more");
+    check_calls(24);
+    equal(compile_readme(SECCOMPILER_LAYOUT_TREE, 26), 26, "the README's policy as a tree");
+    check(is_marked(26), "behind the tree");
+    equal(seccompiler_check(program, 26), 1, "a check of the tree");
+    check_calls(26);
+}
+
+/* ---- codes and texts */
+
+static const struct {
+    const char *text, *name;
+    uint32_t arch, layout;
+    size_t room;
+    int64_t code;
+    const char *said;
+} REFUSED[] = {
+    {"", "b", 0, 2, 0, SECCOMPILER_UNKNOWN_ARCHITECTURE, "Unknown architecture."},
+    {"", "b", AUDIT_ARCH_I386, 0, 0, SECCOMPILER_UNKNOWN_ARCHITECTURE, "Unknown architecture."},
+    {"", "b", AUDIT_ARCH_X86_64, 2, 0, SECCOMPILER_UNKNOWN_LAYOUT, "Unknown layout."},
+    {"[]", "b", AUDIT_ARCH_X86_64, 0, 0, SECCOMPILER_REFUSED, "Json is not an object of filters."},
+    {"{\"a\":{\"x\":1,\"x\":1}}", "b", AUDIT_ARCH_X86_64, 0, 0, SECCOMPILER_REFUSED, "Repeated key in Json."},
+    {SHAPELESS, "b", AUDIT_ARCH_X86_64, 1, 0, SECCOMPILER_REFUSED, "Json filter has a wrong shape: \xc2\xb5."},
+    {"{\"a\":{\"mismatch_action\":\"trap\",\"match_action\":\"allow\",\"filter\":[{\"syscall\":\"nosyscall\"}]}}",
+     "b", AUDIT_ARCH_AARCH64, 0, 0, SECCOMPILER_REFUSED,
+     "Invalid syscall name: nosyscall for given arch: aarch64."},
+    {README, "b", AUDIT_ARCH_X86_64, 0, 0, SECCOMPILER_NO_FILTER, "No filter has this name."},
+    {README, "\xff", AUDIT_ARCH_X86_64, 0, 0, SECCOMPILER_NO_FILTER, "No filter has this name."},
+    {README, NAME, AUDIT_ARCH_X86_64, 0, 23, SECCOMPILER_NO_ROOM,
+     "The array has too little room for the program: it has 24 instructions."},
+    {README, NAME, AUDIT_ARCH_X86_64, 1, 25, SECCOMPILER_NO_ROOM,
+     "The array has too little room for the program: it has 26 instructions."},
+};
+
+static void check_refusals(void)
+{
+    for (size_t i = 0; i < sizeof REFUSED / sizeof *REFUSED; i++) {
+        const char *text = REFUSED[i].text, *name = REFUSED[i].name, *said = REFUSED[i].said;
+        char buffer[256];
+        memset(buffer, '#', sizeof buffer);
+        equal(compile(text, strlen(text), REFUSED[i].arch, name, strlen(name), REFUSED[i].layout,
+                      REFUSED[i].room),
+              REFUSED[i].code, said);
+        check(is_marked(0), "an array after a refusal");
+        equal(seccompiler_refusal(text, strlen(text), REFUSED[i].arch, name, strlen(name), REFUSED[i].layout,
+                                  REFUSED[i].room, buffer, sizeof buffer),
+              strlen(said), said);
+        check(memcmp(buffer, said, strlen(said)) == 0, said);
+        check(buffer[strlen(said)] == '#', "behind the text of a refusal");
+    }
+    char buffer[64];
+    equal(seccompiler_refusal(README, strlen(README), AUDIT_ARCH_X86_64, NAME, strlen(NAME), 0, 24, buffer,
+                              sizeof buffer),
+          0, "no refusal");
+}
+
+static void check_cuts(void)
+{
+    static const int64_t CUTS[][2] = {{0, 0}, {1, 1}, {31, 31}, {32, 31}, {33, 33}, {34, 34}, {35, 34}};
+    for (size_t i = 0; i < sizeof CUTS / sizeof *CUTS; i++) {
+        char buffer[64];
+        memset(buffer, '#', sizeof buffer);
+        equal(seccompiler_refusal(SHAPELESS, strlen(SHAPELESS), AUDIT_ARCH_X86_64, "b", 1, 0, 0, buffer,
+                                  CUTS[i][0]),
+              CUTS[i][1], "a text that is cut");
+        check(buffer[CUTS[i][1]] == '#', "behind a text that is cut");
+    }
+}
+
+static void check_codes(void)
+{
+    struct seccomp_data call = call_of(AUDIT_ARCH_X86_64, 0, 0, 0);
+    const struct sock_filter returns = {6, 0, 0, 7};
+    const struct sock_filter jumps = {5, 0, 0, 0};
+    equal(seccompiler_run(&returns, 1, &call, 64), 7, "a run of one return");
+    equal(seccompiler_run(&jumps, 1, &call, 63), SECCOMPILER_NOT_CHECKED, "a run of a jump past the end");
+    equal(seccompiler_run(&returns, 0, &call, 64), SECCOMPILER_NOT_CHECKED, "a run of nothing");
+    equal(seccompiler_run(&returns, 1, &call, 63), SECCOMPILER_NOT_A_RECORD, "a run on 63 bytes");
+    equal(seccompiler_decide("", 0, 0, "b", 1, &call, 63), SECCOMPILER_UNKNOWN_ARCHITECTURE, "no architecture");
+    equal(seccompiler_decide("", 0, AUDIT_ARCH_X86_64, "b", 1, &call, 63), SECCOMPILER_NOT_A_RECORD, "63 bytes");
+    equal(seccompiler_decide("", 0, AUDIT_ARCH_X86_64, "b", 1, &call, 64), SECCOMPILER_REFUSED, "no text");
+    equal(seccompiler_decide("{}", 2, AUDIT_ARCH_X86_64, "b", 1, &call, 64), SECCOMPILER_NO_FILTER, "no filter");
+    equal(seccompiler_call_number(AUDIT_ARCH_X86_64, "accept4", 7), 288, "accept4");
+    equal(seccompiler_call_number(AUDIT_ARCH_AARCH64, "close", 5), 57, "close");
+    equal(seccompiler_call_number(AUDIT_ARCH_RISCV64, "riscv_flush_icache", 18), 259, "riscv_flush_icache");
+    equal(seccompiler_call_number(AUDIT_ARCH_X86_64, "accept4", 6), 43, "accept");
+    equal(seccompiler_call_number(AUDIT_ARCH_AARCH64, "open", 4), SECCOMPILER_UNKNOWN_CALL, "open");
+    equal(seccompiler_call_number(AUDIT_ARCH_AARCH64, "open\xff", 5), SECCOMPILER_UNKNOWN_CALL, "no text");
+    equal(seccompiler_call_number(0, "read", 4), SECCOMPILER_UNKNOWN_ARCHITECTURE, "no architecture");
+}
+
+/* The filter `a` of so many entries, and a filter `b` of none. Its program has 5 n + 7 instructions. */
+static char *long_text(size_t count)
+{
+    char *text = malloc(300 + count * sizeof ENTRY), *end = text;
+    if (text == NULL)
+        exit(2);
+    end += sprintf(end, "{\"a\":{\"mismatch_action\":\"trap\",\"match_action\":\"allow\",\"filter\":[");
+    for (size_t i = 0; i < count; i++)
+        end += sprintf(end, "%s%s", i == 0 ? "" : ",", ENTRY);
+    sprintf(end, "]},\"b\":{\"mismatch_action\":\"trap\",\"match_action\":\"allow\",\"filter\":[]}}");
+    return text;
+}
+
+static void check_lengths(void)
+{
+    char *fits = long_text(817), *large = long_text(818);
+    equal(compile(fits, strlen(fits), AUDIT_ARCH_X86_64, "a", 1, 0, 4092), 4092, "the longest program");
+    check(is_marked(4092), "behind the longest program");
+    equal(seccompiler_check(program, 4092), 1, "a check of the longest program");
+    equal(compile(fits, strlen(fits), AUDIT_ARCH_X86_64, "a", 1, 0, 4091), SECCOMPILER_NO_ROOM, "no room");
+    equal(compile(large, strlen(large), AUDIT_ARCH_X86_64, "a", 1, 0, 0), SECCOMPILER_TOO_LARGE, "too large");
+    check(is_marked(0), "an array after a filter that is too large");
+    equal(compile(large, strlen(large), AUDIT_ARCH_X86_64, "b", 1, 0, 4), 4, "beside a filter that is too large");
+    free(fits);
+    free(large);
+}
+
+/* ---- each request for memory refused in turn */
+
+/* Makes a call once for each of its requests, that one refused. Each answer is want of memory or the
+ * ample one, which comes where the call goes on without what was refused, and at the end. */
+static void sweep(int64_t (*call)(void), int64_t ample, int64_t refused)
+{
+    long number = 0, scarce = 0;
+    do {
+        refuse(++number);
+        int64_t answer = call();
+        scarce += answer != ample;
+        check(answer == ample || answer == refused, "an answer with a refused request");
+        if (answer != ample)
+            check(requests >= number, "want of memory with none refused");
+        equal(held, 0, "memory that is kept");
+    } while (requests >= number && number < 10000);
+    check(scarce > 0 && requests < number, "answers once no request is refused");
+    refuse(0);
+}
+
+static int64_t in_chains(void)
+{
+    int64_t answer = compile_readme(SECCOMPILER_LAYOUT_CHAINS, 30);
+    check(is_marked(answer < 0 ? 0 : 24), "an array with a refused request");
+    return answer;
+}
+
+static int64_t as_tree(void)
+{
+    int64_t answer = compile_readme(SECCOMPILER_LAYOUT_TREE, 30);
+    check(is_marked(answer < 0 ? 0 : 26), "an array with a refused request");
+    return answer;
+}
+
+static int64_t decided(void)
+{
+    struct seccomp_data call = call_of(AUDIT_ARCH_X86_64, 288, 0, 0);
+    return seccompiler_decide(README, strlen(README), AUDIT_ARCH_X86_64, NAME, strlen(NAME), &call, 64);
+}
+
+/* The refusal of a shape, whose text has 34 bytes; that of want of memory has 14. */
+static int64_t refusal(void)
+{
+    static const char SAID[] = "Json filter has a wrong shape: \xc2\xb5.", OUT[] = "Out of memory.";
+    char buffer[64];
+    int64_t bytes = seccompiler_refusal(SHAPELESS, strlen(SHAPELESS), AUDIT_ARCH_X86_64, "b", 1, 0, 0, buffer,
+                                        sizeof buffer);
+    check(memcmp(buffer, bytes == 34 ? SAID : OUT, bytes == 34 ? 34 : 14) == 0, "the text of a refusal");
+    return bytes;
+}
+
+/* The functions that take no memory make no request for any. */
+static void without_memory(void)
+{
+    struct seccomp_data call = call_of(AUDIT_ARCH_X86_64, 288, 0, 0);
+    equal(compile_readme(SECCOMPILER_LAYOUT_CHAINS, 24), 24, "the README's policy");
+    refuse(0);
+    equal(seccompiler_check(program, 24), 1, "a check");
+    equal(seccompiler_run(program, 24, &call, 64), SECCOMP_RET_ALLOW, "a run");
+    equal(seccompiler_call_number(AUDIT_ARCH_X86_64, "accept4", 7), 288, "a call's number");
+    equal(requests, 0, "requests of the functions that take no memory");
+}
+
+int main(void)
+{
+    check(sizeof(struct sock_filter) == 8 && offsetof(struct sock_filter, jt) == 2
+              && offsetof(struct sock_filter, jf) == 3 && offsetof(struct sock_filter, k) == 4,
+          "the layout of an instruction");
+    check_programs();
+    check_refusals();
+    check_cuts();
+    check_codes();
+    check_lengths();
+    held = 0;
+    sweep(in_chains, 24, SECCOMPILER_OUT_OF_MEMORY);
+    sweep(as_tree, 26, SECCOMPILER_OUT_OF_MEMORY);
+    sweep(decided, SECCOMP_RET_ALLOW, SECCOMPILER_OUT_OF_MEMORY);
+    sweep(refusal, 34, 14);
+    without_memory();
+    printf("%d passed, %d failed\n", passed, failed);
+    return failed != 0;
+}

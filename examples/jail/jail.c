@@ -97,7 +97,7 @@ static struct text read_whole(const char *path)
 /* Says why the filter is refused, and ends. */
 static _Noreturn void refuse(const char *path, struct text text, const char *name, uint32_t layout)
 {
-    char reason[4096] = {0};
+    char reason[4097] = {0};
     int64_t length = seccompiler_refusal(text.bytes, text.length, ARCHITECTURE, name, strlen(name),
                                          layout, BPF_MAXINSNS, reason, sizeof reason - 1);
 

@@ -185,6 +185,20 @@ impl Call for FilterProgram<'_> {
 }
 
 #[derive(Clone, Copy)]
+struct FilterTree<'a> {
+    filter: &'a SeccompFilter,
+    copy: &'a SeccompFilter,
+    ample: &'a [sock_filter],
+}
+
+impl Call for FilterTree<'_> {
+    fn call(&self, alloc: Global) -> Answer {
+        let made = self.filter.to_tree_bpf(alloc);
+        answer_of_code(&made, self.ample, *self.filter == *self.copy)
+    }
+}
+
+#[derive(Clone, Copy)]
 struct FilterClone<'a> {
     filter: &'a SeccompFilter,
     copy: &'a SeccompFilter,
@@ -221,6 +235,24 @@ fn programs_of_filters(rt: HostRuntime) -> Result<(), Fail> {
     assert_program(&rt, alloc, &three_calls(alloc, Dword)?)?;
     let filter = one_rule(alloc, long_rule(alloc, &FIVE_GROUPS)?)?;
     assert_program(&rt, alloc, &filter)
+}
+
+fn assert_tree(rt: &impl Abort, alloc: Global, filter: &SeccompFilter) -> Result<(), Fail> {
+    let copy = filter.clone(alloc)?;
+    let ample = filter.to_tree_bpf(alloc)?;
+    let call = FilterTree {
+        filter,
+        copy: &copy,
+        ample: &ample,
+    };
+    assert_refusals(rt, alloc, "a filter's program of the second layout", &call)
+}
+
+#[test]
+fn trees_of_filters(rt: HostRuntime) -> Result<(), Fail> {
+    let alloc = rt.alloc();
+    assert_tree(&rt, alloc, &empty_policy(alloc)?)?;
+    assert_tree(&rt, alloc, &three_calls(alloc, Dword)?)
 }
 
 #[test]

@@ -39,20 +39,20 @@ Find = List ℕ → Option Filter
 module _ (target : TargetArch) (find : Find) (d : Data) (are : ArePoliciesOf target find d) where
   -- Each value has a policy.
   all_policies : AreAll (HasSomePolicy target) d
-  all_policies = record { is_object = are.is_object; each = λ name value has. let own = are.each name value has in (own.0, own.2) }
+  all_policies = record { is_object = are.is_object; each = λ name value has. let own = are.each name value has in (own.found, own.own) }
 
   -- A policy that is found is that of the value of its name.
   found_value : (name : List ℕ) (policy : Filter) → find name ≡ Some policy → (o : Option Data) → get name d ≡ o → Under d name (λ value. (p : Filter) × HasPolicy target value p × (p ≡ policy))
   found_value name policy found None lacks = let none : Some policy ≡ None = sym found ∙ are.no_other name lacks in cc
   found_value name policy found (Some value) has =
       let own = are.each name value has in
-      let same : own.0 ≡ policy = let e : Some own.0 ≡ Some policy = sym own.1 ∙ found in cc in
-      (value, has, (own.0, own.2, same))
+      let same : own.found ≡ policy = let e : Some own.found ≡ Some policy = sym own.there ∙ found in cc in
+      (value, has, (own.found, own.own, same))
 
   -- Where no policy is found, the name is not there.
   found_nowhere : (name : List ℕ) → ((policy : Filter) → find name ≡ Some policy → ⊥) → (o : Option Data) → get name d ≡ o → Lacks d name
   found_nowhere name none None lacks = lacks
-  found_nowhere name none (Some value) has = let own = are.each name value has in absurd (none own.0 own.1)
+  found_nowhere name none (Some value) has = let own = are.each name value has in absurd (none own.found own.there)
 
 -- The policy that is found is the text's.
 pub names_policy : (target : TargetArch) (text name : List ℕ) (find : Find) (policy : Filter) → OfValue text (ArePoliciesOf target find) → find name ≡ Some policy → NamesPolicy target text name (λ p. p ≡ policy)

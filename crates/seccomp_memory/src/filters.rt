@@ -1,0 +1,165 @@
+// Calls on conditions, rules and filters.
+
+use crate::answers::{Ending, Row, ensure, ensure_code, ensure_rows};
+use crate::lent::{Lent, MASKED, condition, too_large, two_calls, two_conditions};
+use seccompiler::backend::build_arch_validation_sequence;
+use seccompiler::{BackendError, SeccompFilter, SeccompRule, TargetArch};
+use std::alloc::Global;
+
+const GUARD: [Row; 3] = [
+    (0x20, 0, 0, 4),
+    (0x15, 1, 0, 0xc000_00b7),
+    (0x06, 0, 0, 0x8000_0000),
+];
+
+const MASKED_CODE: [Row; 6] = [
+    (0x20, 0, 0, 36),
+    (0x54, 0, 0, 0),
+    (0x15, 0, 6, 0),
+    (0x20, 0, 0, 32),
+    (0x54, 0, 0, 10),
+    (0x15, 0, 3, 10),
+];
+
+const RULE_CODE: [Row; 10] = [
+    (0x05, 0, 0, 1),
+    (0x05, 0, 0, 10),
+    (0x20, 0, 0, 36),
+    (0x54, 0, 0, 0),
+    (0x15, 0, 6, 0),
+    (0x20, 0, 0, 32),
+    (0x54, 0, 0, 10),
+    (0x15, 0, 3, 10),
+    (0x20, 0, 0, 16),
+    (0x15, 0, 1, 1),
+];
+
+/// The program of two calls.
+pub const PROGRAM: [Row; 24] = [
+    (0x20, 0, 0, 4),
+    (0x15, 1, 0, 0xc000_003e),
+    (0x06, 0, 0, 0x8000_0000),
+    (0x20, 0, 0, 0),
+    (0x15, 0, 1, 72),
+    (0x05, 0, 0, 1),
+    (0x05, 0, 0, 6),
+    (0x20, 0, 0, 32),
+    (0x15, 0, 3, 1),
+    (0x20, 0, 0, 24),
+    (0x15, 0, 1, 2),
+    (0x06, 0, 0, 0x7fff_0000),
+    (0x05, 0, 0, 1),
+    (0x05, 0, 0, 4),
+    (0x20, 0, 0, 24),
+    (0x15, 0, 1, 1),
+    (0x06, 0, 0, 0x7fff_0000),
+    (0x06, 0, 0, 0x8000_0000),
+    (0x15, 0, 1, 288),
+    (0x05, 0, 0, 1),
+    (0x05, 0, 0, 2),
+    (0x06, 0, 0, 0x7fff_0000),
+    (0x06, 0, 0, 0x8000_0000),
+    (0x06, 0, 0, 0x8000_0000),
+];
+
+// The program of two calls in the second layout: the ranges begin at 0, 72, 73, 288 and 289.
+const TREE: [Row; 26] = [
+    (0x20, 0, 0, 4),
+    (0x15, 1, 0, 0xc000_003e),
+    (0x06, 0, 0, 0x8000_0000),
+    (0x20, 0, 0, 0),
+    (0x35, 15, 0, 73),
+    (0x35, 1, 0, 72),
+    (0x06, 0, 0, 0x8000_0000),
+    (0x05, 0, 0, 1),
+    (0x05, 0, 0, 6),
+    (0x20, 0, 0, 32),
+    (0x15, 0, 3, 1),
+    (0x20, 0, 0, 24),
+    (0x15, 0, 1, 2),
+    (0x06, 0, 0, 0x7fff_0000),
+    (0x05, 0, 0, 1),
+    (0x05, 0, 0, 4),
+    (0x20, 0, 0, 24),
+    (0x15, 0, 1, 1),
+    (0x06, 0, 0, 0x7fff_0000),
+    (0x06, 0, 0, 0x8000_0000),
+    (0x35, 1, 0, 288),
+    (0x06, 0, 0, 0x8000_0000),
+    (0x35, 1, 0, 289),
+    (0x06, 0, 0, 0x7fff_0000),
+    (0x06, 0, 0, 0x8000_0000),
+    (0x06, 0, 0, 0x8000_0000),
+];
+
+fn ask_for_an_architecture(alloc: Global) -> Result<(), Ending> {
+    match TargetArch::from_text(alloc, "x8664") {
+        Ok(_) => Err(Ending::Wrong("x8664")),
+        Err(BackendError::InvalidTargetArch(text)) => ensure(text.as_str() == "x8664", "x8664"),
+        Err(refusal) => Err(Ending::from(refusal)),
+    }
+}
+
+fn ask_for_parts(alloc: Global) -> Result<(), Ending> {
+    ask_for_an_architecture(alloc)?;
+    let guard = build_arch_validation_sequence(alloc, TargetArch::aarch64);
+    ensure_code("a guard", guard, &GUARD)?;
+    let masked = condition(MASKED)?;
+    ensure_code("a condition", masked.to_bpf(alloc, 3), &MASKED_CODE)
+}
+
+fn ask_of_rule(alloc: Global, rule: &SeccompRule) -> Result<(), Ending> {
+    ensure_code("a rule", rule.to_bpf(alloc), &RULE_CODE)?;
+    ensure(rule.clone(alloc)? == *rule, "a rule's copy")
+}
+
+fn ask_of_filter(alloc: Global, filter: &SeccompFilter) -> Result<(), Ending> {
+    ensure(filter.clone(alloc)? == *filter, "a filter's copy")?;
+    let program = filter.to_bpf(alloc)?;
+    ensure_rows("a program", &program, &PROGRAM)?;
+    let tree = filter.to_tree_bpf(alloc)?;
+    ensure_rows("a tree", &tree, &TREE)?;
+    filter.layouts_agree(&program, &tree);
+    Ok(())
+}
+
+// A program of the rule's 10122 instructions and 8 more is refused without memory; the tree takes memory
+// for its two ranges before it is known to have 10132.
+fn ask_of_too_large(alloc: Global, filter: &SeccompFilter) -> Result<(), Ending> {
+    let is_refused = filter.to_bpf(alloc) == Err(BackendError::FilterTooLarge(10130));
+    ensure(is_refused, "a program too large")?;
+    match filter.to_tree_bpf(alloc) {
+        Ok(_) => Err(Ending::Wrong("a tree too large")),
+        Err(BackendError::FilterTooLarge(10132)) => Ok(()),
+        Err(refusal) => Err(Ending::from(refusal)),
+    }
+}
+
+/// A rule and filters.
+#[derive(Drop)]
+pub struct Filters {
+    rule: SeccompRule,
+    filter: SeccompFilter,
+    too_large: SeccompFilter,
+}
+
+impl Lent for Filters {
+    fn new(alloc: Global) -> Result<Self, BackendError> {
+        Ok(Filters {
+            rule: two_conditions(alloc)?,
+            filter: two_calls(alloc)?,
+            too_large: too_large(alloc)?,
+        })
+    }
+
+    fn equals(&self, other: &Self) -> bool {
+        self.rule == other.rule && self.filter == other.filter && self.too_large == other.too_large
+    }
+
+    fn make_calls(&self, alloc: Global) -> Result<(), Ending> {
+        ask_for_parts(alloc)?;
+        ask_of_rule(alloc, &self.rule)?;
+        ask_of_filter(alloc, &self.filter)?;
+        ask_of_too_large(alloc, &self.too_large)
+    }
+}

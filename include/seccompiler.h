@@ -8,6 +8,7 @@
  *
  *     #include <linux/audit.h>
  *     #include <seccompiler.h>
+ *     #include <stdio.h>
  *
  *     // Writes the program of a text's filter "main_thread" into the array, or why there is none
  *     // onto standard error. Returns the number of instructions, or -1.

@@ -1,8 +1,7 @@
 -- The texts of refusals, and what is written of them.
 use Rattle.std.specs.Prelude.{◌≡◌, ℕ, ℤ, pos, ◌<◌, ◌≤◌, ◌⊎◌, List, [], ◌++◌, take, drop, length, Option, Some, IfSome, codes, decimal}
 use Rattle.std.specs.Str.{IsUtf8, IsCharBoundary}
-use Rattle.seccompiler.specs.JsonTexts.{json_text}
-use Rattle.seccompiler.specs.Texts.{backend_text}
+use Rattle.seccompiler.specs.Texts.{json_text, backend_text}
 use Rattle.seccompiler_c.specs.Programs.{Request, OfProgram, IsRefusal}
 use Rattle.seccompiler_c.specs.declared.fault.Fault.{Fault}
 use Rattle.seccompiler_c.specs.declared.fault.Fault.TheVariants.{OutOfMemory, UnknownArchitecture, UnknownLayout, NotARecord, Text, NoFilter, Filter, NoRoom}

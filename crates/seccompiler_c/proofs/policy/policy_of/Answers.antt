@@ -1,4 +1,4 @@
-use Rattle.std.proofs.Common.{◌≡◌, ℕ, List, Option, Some, IfSome, sym, subst}
+use Rattle.std.proofs.Common.{◌≡◌, ℕ, List, Option, Some, None, IfSome, sym, ◌∙◌, subst}
 use Rattle.std.specs.Prelude.{All}
 use Rattle.std.specs.HashMap.{get_by_text}
 use Rattle.std.proofs.lemmas.Result.{err_from_is_err_and}
@@ -46,3 +46,13 @@ returns-in-Some-clause-numbers c =
     let policy = c.in-Some.policy in
     let there : find name ≡ Some policy = subst (λ (called : List ℕ). find called ≡ Some policy) c.in-Ok.ensures.cases.0 (sym c.in-Some.ensures.value) in
     subst (λ (o : Option Filter). IfSome o (λ (f : Filter). All IsTableNumber (numbers_of f.chains))) there (c.in_ok-policies.ensures.numbers name)
+
+pub returns-clause-fault : goal.returns-clause-fault
+returns-clause-fault c =
+    let find = get_by_text c.in_ok-policies.policies in
+    let text = c.args.text.now in
+    let name = c.args.name.now in
+    let policies = of_slice text (λ read. OfValue read (ArePoliciesOf c.new.result find)) c.in_ok-policies.ensures.policies in
+    let nowhere : find name ≡ None = subst (λ (called : List ℕ). find called ≡ None) c.in-Ok.ensures.cases.0 (sym c.in-None.ensures.value) in
+    let none : (policy : Filter) → find name ≡ Some policy → ⊥ = λ policy found. (let differ : Some policy ≡ None = sym found ∙ nowhere in cc) in
+    subst (λ (target : TargetArch). NamesNone target text name) c.new.ensures (names_none c.new.result text name find policies none)

@@ -31,6 +31,7 @@ pub mod JsonEquality
 pub mod JsonEqualityLaws
 pub mod JsonFault
 pub mod JsonFilters
+pub mod ColonCount
 pub mod JsonRepeats
 pub mod JsonShape
 pub mod JsonTexts

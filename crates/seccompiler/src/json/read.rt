@@ -122,7 +122,7 @@ fn conditions_of(
     ensures none { IfOk result (λ o. IfNone o
         ((all : List JsonCondition) → OneByOne IsCondition (items_view items.now.items) all → ⊥)) }
 {
-    let mut found = Vec::new(alloc);
+    let mut found = Vec::with_capacity(alloc, items.len())?;
     for item in items {
         match condition_of(item) {
             Some(condition) => found.push(condition)?,
@@ -179,7 +179,7 @@ fn entries_of(alloc: Global, items: &Vec<Value>) -> Result<Option<Vec<JsonRule>>
     ensures none { IfOk result (λ o. IfNone o
         ((all : List JsonRule) → OneByOne IsEntry (items_view items.now.items) all → ⊥)) }
 {
-    let mut found = Vec::new(alloc);
+    let mut found = Vec::with_capacity(alloc, items.len())?;
     for item in items {
         match entry_of(alloc, item)? {
             Some(rule) => found.push(rule)?,

@@ -8,6 +8,8 @@ use std::io;
 pub(crate) enum Failure {
     Io(io::Error),
     Backend(BackendError),
+    Policy(seccompiler::Error),
+    Json(serde_json::Error),
     OutOfMemory,
 }
 
@@ -20,6 +22,18 @@ impl From<io::Error> for Failure {
 impl From<BackendError> for Failure {
     fn from(error: BackendError) -> Self {
         Failure::Backend(error)
+    }
+}
+
+impl From<seccompiler::Error> for Failure {
+    fn from(error: seccompiler::Error) -> Self {
+        Failure::Policy(error)
+    }
+}
+
+impl From<serde_json::Error> for Failure {
+    fn from(error: serde_json::Error) -> Self {
+        Failure::Json(error)
     }
 }
 

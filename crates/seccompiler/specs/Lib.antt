@@ -49,5 +49,6 @@ pub mod TreeCode
 pub mod BlankProgram
 pub mod JsonGathered
 pub mod ByName
+pub mod ColonCount
 pub mod EqualityLaws
 pub mod JsonEqualityLaws

@@ -122,7 +122,7 @@ fn read_conditions(
     ensures none { IfOk result (λ o. IfNone o
         ((all : List JsonCondition) → OneByOne IsCondition (items_view items.now.items) all → ⊥)) }
 {
-    let mut found = Vec::new(alloc);
+    let mut found = Vec::with_capacity(alloc, items.len())?;
     for item in items {
         match read_condition(item) {
             Some(condition) => found.push(condition)?,
@@ -179,7 +179,7 @@ fn read_entries(alloc: Global, items: &Vec<Value>) -> Result<Option<Vec<JsonRule
     ensures none { IfOk result (λ o. IfNone o
         ((all : List JsonRule) → OneByOne IsEntry (items_view items.now.items) all → ⊥)) }
 {
-    let mut found = Vec::new(alloc);
+    let mut found = Vec::with_capacity(alloc, items.len())?;
     for item in items {
         match read_entry(alloc, item)? {
             Some(rule) => found.push(rule)?,

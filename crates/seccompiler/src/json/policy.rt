@@ -65,7 +65,7 @@ fn rule_of(alloc: Global, conditions: &[JsonCondition]) -> Result<SeccompRule, J
     ensures fine { OnOk result (AreFineArgs conditions.now) }
     ensures refused { IfErr result (Tells (IsFaultIn conditions.now)) }
 {
-    let mut found = Vec::new(alloc);
+    let mut found = Vec::with_capacity(alloc, conditions.len())?;
     for condition in conditions {
         found.push(condition_of(condition)?)?;
     }

@@ -1,7 +1,8 @@
 // Whether a text has more colons outside strings than its value has names.
 
-ghost use Rattle.std.specs.Prelude.{◌≡◌, ℕ, ◌-◌, ◌<◌, ◌↔◌, IsTrue};
+ghost use Rattle.std.specs.Prelude.{◌≡◌, ℕ, ◌-◌, ◌<◌, ◌≤◌, ◌↔◌, IsTrue, length};
 ghost use Rattle.serde_json.specs.View.{view, items_view, members_view};
+ghost use Rattle.seccompiler.specs.ColonCount.{from_outside, from_inside};
 ghost use Rattle.seccompiler.specs.JsonRepeats.{Repeats, HasColons, names_in, names_in_items, names_in_members};
 
 use serde_json::Value;
@@ -61,31 +62,40 @@ fn after_members(members: &Map<String, Value>, mut left: usize) -> usize
     left
 }
 
-// Where a byte of a text stands.
-#[derive(Clone, Copy)]
-enum Place {
-    Outside,
-    Inside,
-    // In a string, behind a backslash.
-    Escaped,
-}
-
 // How many bytes `:` stand outside strings.
 fn colons(text: &[u8]) -> usize
     ensures { HasColons text.now result }
 {
-    let mut place = Place::Outside;
+    let mut rest = text;
     let mut found = 0usize;
-    for byte in text {
-        match (place, *byte) {
-            (Place::Outside, b'"') => place = Place::Inside,
-            (Place::Outside, b':') => found += 1,
-            (Place::Outside, _) => {}
-            (Place::Inside, b'"') => place = Place::Outside,
-            (Place::Inside, b'\\') => place = Place::Escaped,
-            (Place::Inside, _) => {}
-            (Place::Escaped, _) => place = Place::Inside,
+    while let Some((byte, behind)) = rest.split_first() {
+        match *byte {
+            b'"' => rest = behind_string(behind),
+            b':' => {
+                rest = behind;
+                found += 1;
+            }
+            _ => rest = behind,
         }
     }
     found
+}
+
+// What stands behind the string that these bytes begin in; nothing where it is not closed.
+fn behind_string(text: &[u8]) -> &[u8]
+    ensures same_count { (n : ℕ) → from_inside n text.now ≡ from_outside n result.now }
+    ensures shorter { length result.now ≤ length text.now }
+{
+    let mut rest = text;
+    while let Some((byte, behind)) = rest.split_first() {
+        match *byte {
+            b'"' => return behind,
+            b'\\' => match behind.split_first() {
+                Some((_, further)) => rest = further,
+                None => rest = behind,
+            },
+            _ => rest = behind,
+        }
+    }
+    rest
 }

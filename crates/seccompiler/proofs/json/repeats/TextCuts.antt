@@ -1,14 +1,19 @@
 -- For `colons` and `repeats_key`: each text has a cut into pieces, and all its cuts have the same number of colons.
-use Rattle.std.proofs.Common.{◌≡◌, ◌≢◌, ℕ, ◌+◌, ◌==◌, List, [], ◌∷◌, ◌++◌, refl, sym, ap, ◌∙◌, append_assoc, append-nil, add-zero, count_by, cond, if◌then◌else◌, subst}
+use Rattle.std.proofs.Common.{◌≡◌, ◌≢◌, ℕ, ◌+◌, ◌==◌, List, [], ◌∷◌, ◌++◌, refl, sym, ap, ◌∙◌, append_assoc, append-nil, add-zero, count_by, cond, subst, inl, inr, length, arith}
 use Rattle.std.specs.List.{flat_map, fold}
-use Rattle.std.proofs.lemmas.Bool.{ne_eqb}
+use Rattle.std.proofs.lemmas.Bool.{ne_eqb, cases_eq}
 use Rattle.std.proofs.lemmas.List.{flat_map_more}
 use Rattle.std.proofs.lemmas.List.Sums.{sum_by-append}
 use Rattle.std.proofs.lemmas.Grind.{flat_map-append}
+use Rattle.seccompiler.specs.ColonCount.{from_outside, from_inside, from_escaped}
 use Rattle.seccompiler.specs.JsonRepeats.{HasColons}
 use Rattle.seccompiler.specs.TextPieces.{StringItem, plain, escaped, item_bytes, items_bytes, Piece, byte, quoted, piece_bytes, Ending, closed, unclosed, unclosed_backslash, ending_bytes, IsCutIntoPieces, is_colon}
-use Rattle.seccompiler.specs.declared.json.repeats.Place.{Place}
-use Rattle.seccompiler.specs.declared.json.repeats.Place.TheVariants.{Outside, Inside, Escaped}
+
+-- Where a text stops: outside strings, in one, or in one behind a backslash.
+data Place : Type 0 where
+  Outside : Place
+  Inside : Place
+  Escaped : Place
 
 -- How a text ends that stops at a place, in or behind a string of these items.
 abbrev ending_at : Place → List StringItem → Ending
@@ -17,14 +22,14 @@ ending_at Inside string = unclosed string
 ending_at Escaped string = unclosed_backslash string
 
 -- The text, up to this place, is cut into pieces of which so many are a colon.
-pub record IsWalked (text : List ℕ) (place : Place) (count : ℕ) : Type 0 where
+record IsWalked (text : List ℕ) (place : Place) (count : ℕ) : Type 0 where
   pub pieces : List Piece
   pub string : List StringItem
   pub cut : IsCutIntoPieces text pieces (ending_at place string)
   pub counted : count ≡ count_by is_colon pieces
 
 -- No text is cut into no pieces.
-pub begins : IsWalked [] Outside 0
+begins : IsWalked [] Outside 0
 begins = record { pieces = []; string = []; cut = refl; counted = refl }
 
 module _ (text : List ℕ) (b n : ℕ) where
@@ -39,49 +44,69 @@ module _ (text : List ℕ) (b n : ℕ) where
   }
 
   -- A byte outside strings that is no quote is a piece, and counts if it is a colon.
-  pub stands_alone : (other : b ≢ 34) → IsWalked text Outside n → IsWalked (text ++ b ∷ []) Outside (n + count_by is_colon (byte b other ∷ []))
-  stands_alone other w = one_more Outside Outside w (byte b other ∷ []) [] refl
+  stands_alone : b ≢ 34 → IsWalked text Outside n → IsWalked (text ++ b ∷ []) Outside (n + cond (b == 58) 1 0)
+  stands_alone other w =
+      let one : count_by is_colon (byte b other ∷ []) ≡ cond (b == 58) 1 0 = omega arith in
+      subst (λ k. IsWalked (text ++ b ∷ []) Outside (n + k)) one (one_more Outside Outside w (byte b other ∷ []) [] refl)
 
   -- A byte that ends no piece: it is the quote that opens a string, or a byte in one.
-  pub goes_on : (place next : Place) (w : IsWalked text place n) (string : List StringItem) → ending_bytes (ending_at place w.string) ++ b ∷ [] ≡ ending_bytes (ending_at next string) → IsWalked (text ++ b ∷ []) next n
+  goes_on : (place next : Place) (w : IsWalked text place n) (string : List StringItem) → ending_bytes (ending_at place w.string) ++ b ∷ [] ≡ ending_bytes (ending_at next string) → IsWalked (text ++ b ∷ []) next n
   goes_on place next w string spelled = subst (IsWalked (text ++ b ∷ []) next) (add-zero n) (one_more place next w [] string spelled)
 
 module _ (text : List ℕ) (n : ℕ) where
   -- A quote opens a string.
-  pub opens : IsWalked text Outside n → IsWalked (text ++ 34 ∷ []) Inside n
+  opens : IsWalked text Outside n → IsWalked (text ++ 34 ∷ []) Inside n
   opens w = goes_on text 34 n Outside Inside w [] refl
 
   -- A quote closes the string, which is a piece.
-  pub closes : IsWalked text Inside n → IsWalked (text ++ 34 ∷ []) Outside n
+  closes : IsWalked text Inside n → IsWalked (text ++ 34 ∷ []) Outside n
   closes w = subst (IsWalked (text ++ 34 ∷ []) Outside) (add-zero n) (one_more text 34 n Inside Outside w (quoted w.string ∷ []) [] (sym (append-nil _ ∙ append-nil _)))
 
   -- A backslash in a string waits for the byte behind it.
-  pub waits : IsWalked text Inside n → IsWalked (text ++ 92 ∷ []) Escaped n
+  waits : IsWalked text Inside n → IsWalked (text ++ 92 ∷ []) Escaped n
   waits w = goes_on text 92 n Inside Escaped w w.string refl
 
   -- Another byte is an item of the string.
-  pub is_plain : (b : ℕ) → b ≢ 34 → b ≢ 92 → IsWalked text Inside n → IsWalked (text ++ b ∷ []) Inside n
+  is_plain : (b : ℕ) → b ≢ 34 → b ≢ 92 → IsWalked text Inside n → IsWalked (text ++ b ∷ []) Inside n
   is_plain b no_quote no_backslash w =
       let item = plain b no_quote no_backslash in
       goes_on text b n Inside Inside w (w.string ++ item ∷ []) (flat_map_more item_bytes (34 ∷ []) w.string item)
 
   -- The byte behind a backslash is one item with it.
-  pub is_escaped : (b : ℕ) → IsWalked text Escaped n → IsWalked (text ++ b ∷ []) Inside n
+  is_escaped : (b : ℕ) → IsWalked text Escaped n → IsWalked (text ++ b ∷ []) Inside n
   is_escaped b w = goes_on text b n Escaped Inside w (w.string ++ escaped b ∷ []) (ap (λ t. 34 ∷ t) (append_assoc (items_bytes w.string) (92 ∷ []) (b ∷ [])) ∙ flat_map_more item_bytes (34 ∷ []) w.string (escaped b))
 
--- So many colons, and those that stand outside strings: counted from outside, in a string, and from behind a backslash.
-abbrev mutual
-  from_outside : ℕ → List ℕ → ℕ
-  from_outside n [] = n
-  from_outside n (b ∷ bs) = if b == 34 then from_inside n bs else from_outside (n + cond (b == 58) 1 0) bs
+-- A text whose front stops at a place, and how many colons it has if so many are in the front.
+abbrev from_place : Place → ℕ → List ℕ → ℕ
+from_place Outside = from_outside
+from_place Inside = from_inside
+from_place Escaped = from_escaped
 
-  from_inside : ℕ → List ℕ → ℕ
-  from_inside n [] = n
-  from_inside n (b ∷ bs) = if b == 34 then from_outside n bs else (if b == 92 then from_escaped n bs else from_inside n bs)
+walked_on : (place : Place) (n : ℕ) (front text : List ℕ) → IsWalked front place n → HasColons (front ++ text) (from_place place n text)
+walked_on Outside n front [] w = rw append-nil (w.pieces, closed, w.cut, w.counted)
+walked_on Inside n front [] w = rw append-nil (w.pieces, unclosed w.string, w.cut, w.counted)
+walked_on Escaped n front [] w = rw append-nil (w.pieces, unclosed_backslash w.string, w.cut, w.counted)
+walked_on Outside n front (b ∷ text) w = rw (← append_assoc front (b ∷ []) text) (elim (cases_eq b 34) [
+  | inl is ↦ rw is (walked_on Inside n (front ++ 34 ∷ []) text (opens front n w))
+  | inr other ↦ rw (ne_eqb b 34 other) (walked_on Outside (n + cond (b == 58) 1 0) (front ++ b ∷ []) text (stands_alone front b n other w))
+])
+walked_on Inside n front (b ∷ text) w = rw (← append_assoc front (b ∷ []) text) (elim (cases_eq b 34) [
+  | inl is ↦ rw is (walked_on Outside n (front ++ 34 ∷ []) text (closes front n w))
+  | inr no_quote ↦ elim (cases_eq b 92) [
+    | inl is ↦ rw is (walked_on Escaped n (front ++ 92 ∷ []) text (waits front n w))
+    | inr no_backslash ↦ rw (ne_eqb b 34 no_quote, ne_eqb b 92 no_backslash) (walked_on Inside n (front ++ b ∷ []) text (is_plain front n b no_quote no_backslash w))
+  ]
+])
+walked_on Escaped n front (b ∷ text) w = rw (← append_assoc front (b ∷ []) text) (walked_on Inside n (front ++ b ∷ []) text (is_escaped front n b w))
 
-  from_escaped : ℕ → List ℕ → ℕ
-  from_escaped n [] = n
-  from_escaped n (b ∷ bs) = from_inside n bs
+-- Each text has a cut with as many colons as are counted from the front.
+counted_from_front : (text : List ℕ) → HasColons text (from_outside 0 text)
+counted_from_front text = walked_on Outside 0 [] text begins
+
+-- So many are counted where nothing is left.
+pub counted_to_end : (text rest : List ℕ) (n : ℕ) → length rest ≡ 0 → from_outside n rest ≡ from_outside 0 text → HasColons text n
+counted_to_end text [] n none same = let whole = counted_from_front text in (whole.0, whole.1, whole.2, same ∙ whole.3)
+counted_to_end text (b ∷ rest) n none same = absurd (omega arith)
 
 -- No colon in a string's items counts, nor one in an ending; each piece that is one does.
 past_items : (n : ℕ) (items : List StringItem) (rest : List ℕ) → from_inside n (items_bytes items ++ rest) ≡ from_inside n rest

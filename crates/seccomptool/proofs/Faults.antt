@@ -1,5 +1,5 @@
 -- What the refusals of the library mean for the answers of the engines.
-use Rattle.std.proofs.Common.{◌≡◌, ℕ, ◌⊎◌, List, Option, Ok, Err, refl, ⊎_elim}
+use Rattle.std.proofs.Common.{◌≡◌, ℕ, ◌⊎◌, List, Option, Ok, Err, refl, ⊎_elim, sym, subst}
 use Rattle.seccompiler.specs.declared.backend.TargetArch.{TargetArch}
 use Rattle.seccompiler.specs.declared.backend.BackendError.{BackendError}
 use Rattle.seccompiler.specs.declared.backend.BackendError.TheVariants as backend
@@ -13,26 +13,38 @@ use Rattle.seccompiler.specs.JsonPrograms.{TellsFirstFault}
 use Rattle.seccompiler.specs.Reads.{Reads}
 use Rattle.seccompiler.specs.Texts.{IsInvalidArch}
 use Rattle.seccomptool.specs.Errors.{from_library}
-use Rattle.seccomptool.specs.Policies.{IsNameOf, IsRefusedPolicy, IsRefusedText, no_architecture, of_policy}
+use Rattle.seccomptool.specs.Policies.{IsNameOf, IsNoArchitecture, IsBeforePrograms, IsTextFault, IsRefusedName, IsRefusedPolicy, IsRefusedText, no_architecture, of_policy}
 use Rattle.seccomptool.specs.declared.error.ToolError.{ToolError}
 use Rattle.seccomptool.specs.declared.error.ToolError.TheVariants as tool
 
 -- A name that is refused is no architecture's.
-pub name_refused : (arch : List ℕ) (known : Option (List ℕ)) (e : BackendError) → ((target : TargetArch) → IsNameOf arch target → Err e ≡ Ok target)
-    → IsInvalidArch e arch ⊎ (e ≡ backend.OutOfMemory) → IsRefusedText arch known (from_library (from_backend e))
-name_refused arch known (backend.InvalidTargetArch text) none cause =
-    ⊎_elim (λ given. (no_architecture text (λ target named. let no = none target named in cc) given refl, tt)) (λ no. absurd cc) cause
-name_refused arch known backend.OutOfMemory none cause = tt
-name_refused arch known backend.EmptyRule none cause = ⊎_elim (λ no. absurd no) (λ no. absurd cc) cause
-name_refused arch known (backend.FilterTooLarge n) none cause = ⊎_elim (λ no. absurd no) (λ no. absurd cc) cause
-name_refused arch known backend.IdenticalActions none cause = ⊎_elim (λ no. absurd no) (λ no. absurd cc) cause
-name_refused arch known backend.InvalidArgumentNumber none cause = ⊎_elim (λ no. absurd no) (λ no. absurd cc) cause
-name_refused arch known (backend.InvalidSyscallNumber n) none cause = ⊎_elim (λ no. absurd no) (λ no. absurd cc) cause
+pub name_refused : (arch : List ℕ) (e : BackendError) → ((target : TargetArch) → IsNameOf arch target → Err e ≡ Ok target)
+    → IsInvalidArch e arch ⊎ (e ≡ backend.OutOfMemory) → IsRefusedName arch (from_library (from_backend e))
+name_refused arch (backend.InvalidTargetArch text) none cause =
+    ⊎_elim (λ given. record { text = text; unnamed = λ target named. let no = none target named in cc; given = given; told = refl }) (λ no. absurd cc) cause
+name_refused arch backend.OutOfMemory none cause = tt
+name_refused arch backend.EmptyRule none cause = ⊎_elim (λ no. absurd no) (λ no. absurd cc) cause
+name_refused arch (backend.FilterTooLarge n) none cause = ⊎_elim (λ no. absurd no) (λ no. absurd cc) cause
+name_refused arch backend.IdenticalActions none cause = ⊎_elim (λ no. absurd no) (λ no. absurd cc) cause
+name_refused arch backend.InvalidArgumentNumber none cause = ⊎_elim (λ no. absurd no) (λ no. absurd cc) cause
+name_refused arch (backend.InvalidSyscallNumber n) none cause = ⊎_elim (λ no. absurd no) (λ no. absurd cc) cause
+
+-- A name's refusal is one of the policy's text.
+before : (arch : List ℕ) (known : Option (List ℕ)) (e f : Error) → IsNoArchitecture arch e → e ≡ f → IsBeforePrograms f → IsTextFault arch known e
+before arch known e f is same early = (no_architecture is, subst IsBeforePrograms (sym same) early)
+
+pub name_is_text : (arch : List ℕ) (known : Option (List ℕ)) (e : ToolError) → IsRefusedName arch e → IsRefusedText arch known e
+name_is_text arch known (tool.Library e) refused = before arch known e _ refused refused.told tt
+name_is_text arch known (tool.NoFilter name) refused = refused
+name_is_text arch known (tool.UnknownCall call target) refused = refused
+name_is_text arch known (tool.Write e) refused = refused
+name_is_text arch known tool.OutOfMemory refused = tt
 
 -- A refusal before the programs is one of the whole policy.
 pub text_is_policy : (arch : List ℕ) (known : Option (List ℕ)) (e : ToolError) → IsRefusedText arch known e → IsRefusedPolicy arch known e
 text_is_policy arch known (tool.Library e) refused = refused.0
 text_is_policy arch known (tool.NoFilter name) refused = refused
+text_is_policy arch known (tool.UnknownCall call target) refused = refused
 text_is_policy arch known (tool.Write e) refused = refused
 text_is_policy arch known tool.OutOfMemory refused = tt
 

@@ -23,19 +23,6 @@ use Rattle.seccomptool.specs.declared.words.Layout.{Layout}
 use Rattle.seccomptool.specs.declared.words.Layout.TheVariants.{Chains, Tree}
 use Rattle.seccomptool.proofs.Found.{there, nowhere}
 
--- ---- bytes
-
--- One instruction more at the end.
-bytes_push : (program : List sock_filter) (i : sock_filter) → program_bytes (program ++ i ∷ []) ≡ program_bytes program ++ instruction_bytes i
-bytes_push [] i = append-nil (instruction_bytes i)
-bytes_push (x ∷ program) i = ap (λ l. instruction_bytes x ++ l) (bytes_push program i) ∙ sym (append_assoc (instruction_bytes x) (program_bytes program) (instruction_bytes i))
-
-pub bytes_more : (program : List sock_filter) (at : ℕ) (i : sock_filter) (old new : List ℕ) → at < length program → i ≡ get_or program at i
-    → old ≡ program_bytes (take at program) → new ≡ old ++ instruction_bytes i → new ≡ program_bytes (take (at + 1) program)
-bytes_more program at i old new room is so_far more =
-    more ∙ ap (λ l. l ++ instruction_bytes i) so_far ∙ sym (bytes_push (take at program) i)
-    ∙ ap (λ j. program_bytes (take at program ++ j ∷ [])) is ∙ ap program_bytes (sym (take_more program at i room))
-
 -- ---- answers
 
 module _ (arch : List ℕ) (known : Option (List ℕ)) where
@@ -64,6 +51,7 @@ module _ (arch : List ℕ) (known : Option (List ℕ)) where
       under_name layout name (λ target value. HasProgram layout target value program) (HasSomeProgram layout) (λ target value has. (program, has)) h
   program_sent layout name program bytes sent (Err (tool.Library e)) old new h are is appends cause = absurd cause
   program_sent layout name program bytes sent (Err (tool.NoFilter text)) old new h are is appends cause = absurd cause
+  program_sent layout name program bytes sent (Err (tool.UnknownCall call target)) old new h are is appends cause = absurd cause
   program_sent layout name program bytes sent (Err tool.OutOfMemory) old new h are is appends cause = tt
 
   -- ---- of chains
@@ -119,5 +107,6 @@ module _ (arch : List ℕ) (known : Option (List ℕ)) where
   pub text_told : (name : List ℕ) (e : ToolError) (old new : Option (List ℕ)) → IsRefusedText arch known e → AnswersRaw arch known name Tree (Err e) old new
   text_told name (tool.Library e) old new refused = of_text refused
   text_told name (tool.NoFilter text) old new refused = absurd refused
+  text_told name (tool.UnknownCall call target) old new refused = absurd refused
   text_told name (tool.Write e) old new refused = absurd refused
   text_told name tool.OutOfMemory old new refused = tt

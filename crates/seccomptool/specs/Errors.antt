@@ -3,8 +3,9 @@ use Rattle.std.specs.Prelude.{◌≡◌, ℕ, List, ◌++◌, Option, Some, code
 use Rattle.seccompiler.specs.declared.error.Error.{Error as LibraryError}
 use Rattle.seccompiler.specs.declared.error.Error.TheVariants as library
 use Rattle.seccompiler.specs.Errors.{error_text}
+use Rattle.seccompiler.specs.Texts.{arch_text}
 use Rattle.seccomptool.specs.declared.error.ToolError.{ToolError}
-use Rattle.seccomptool.specs.declared.error.ToolError.TheVariants.{Library, NoFilter, Write, OutOfMemory}
+use Rattle.seccomptool.specs.declared.error.ToolError.TheVariants.{Library, NoFilter, UnknownCall, Write, OutOfMemory}
 
 -- A refusal of the library; want of memory stays want of memory.
 abbrev pub from_library : LibraryError → ToolError
@@ -15,6 +16,7 @@ from_library refusal = Library refusal
 abbrev pub tool_text : ToolError → Option (List ℕ)
 tool_text (Library e) = error_text e
 tool_text (NoFilter name) = Some (codes "No filter has this name: " ++ string_bytes name ++ codes ".")
+tool_text (UnknownCall call target) = Some (codes "No call of " ++ arch_text target ++ codes " has this name or number: " ++ string_bytes call ++ codes ".")
 tool_text (Write e) = Some (codes "Error writing output.")
 tool_text OutOfMemory = Some (codes "Out of memory.")
 

@@ -91,3 +91,4 @@ AnswersRaw arch known name layout (Err (Library e)) old new = IsFault layout arc
 AnswersRaw arch known name layout (Err (NoFilter text)) old new = (string_bytes text ≡ name) × IsFaultless layout arch known (λ target d. Lacks d name)
 AnswersRaw arch known name layout (Err (Write e)) old new = IsFaultless layout arch known (UnderName name (HasSomeProgram layout))
 AnswersRaw arch known name layout (Err OutOfMemory) old new = ⊤
+AnswersRaw arch known name layout (Err e) old new = ⊥

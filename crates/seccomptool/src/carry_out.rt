@@ -6,6 +6,7 @@ ghost use Rattle.seccomptool.specs.Statuses.{IsFaultless};
 
 use crate::error::ToolError;
 use crate::raw::raw;
+use crate::record::record;
 use crate::send::send;
 use crate::words::Command;
 use std::io;
@@ -13,7 +14,7 @@ use std::process::ExitCode;
 
 // Carries out a command, from standard input to standard output; where there is none, says how the
 // program is called.
-#[tactic(auto, using(crate::proofs::Statuses::raw_faultless))]
+#[tactic(auto, using(crate::proofs::Statuses::raw_faultless, crate::proofs::Statuses::record_faultless))]
 pub(crate) fn carry_out(
     rt: &(impl Input + Print + Eprint + AllocGlobal),
     command: Option<Command<'_>>,
@@ -32,6 +33,13 @@ pub(crate) fn carry_out(
         Some(Command::Raw { arch, name, layout }) => {
             answered(rt, raw(alloc, arch, name, layout, rt.reader(), &mut out))
         }
+        Some(
+            Command::Record {
+                arch,
+                call,
+                arguments,
+            },
+        ) => answered(rt, record(alloc, arch, call, arguments, &mut out)),
         None => misused(rt),
     }
 }
@@ -54,17 +62,20 @@ const HELP: &str = "\
 usage: seccomptool COMMAND
 
 commands:
-  raw ARCH NAME [--tree]   write the program of the filter NAME as bytes
-  --help                   write this text
-  --version                write the program's name and version
+  raw ARCH NAME [--tree]     write the program of the filter NAME as bytes
+  record ARCH CALL [ARG..]   write the record of a call, of 64 bytes
+  --help                     write this text
+  --version                  write the program's name and version
 
-The policy is read from standard input. ARCH is x86_64, aarch64 or riscv64.
-With --tree the program is the tree of tests.
+ARCH is x86_64, aarch64 or riscv64. raw reads the policy from standard input;
+with --tree the program is the tree of tests. CALL is a call's name or number,
+and ARG are its arguments, up to six. Numbers are decimal, or hexadecimal behind 0x.
 ";
 
 const VERSION: &str = "seccomptool 0.5.0\n";
 
-const USAGE: &str = "usage: seccomptool raw ARCH NAME [--tree] | --help | --version";
+const USAGE: &str =
+    "usage: seccomptool raw ARCH NAME [--tree] | record ARCH CALL [ARG..] | --help | --version";
 
 // Status 2, with how the program is called on standard error.
 pub(crate) fn misused(rt: &impl Eprint) -> ExitCode

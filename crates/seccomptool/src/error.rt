@@ -1,7 +1,7 @@
 // Why an engine of the program fails.
 
-use seccompiler::BackendError;
 use seccompiler::json::JsonFrontendError;
+use seccompiler::{BackendError, TargetArch};
 use std::alloc::{AllocError, AllocFailed};
 use std::{fmt, io};
 
@@ -14,6 +14,8 @@ pub enum ToolError {
     Library(seccompiler::Error),
     /// No filter of the policy has this name.
     NoFilter(String),
+    /// The architecture has no call of this name or number.
+    UnknownCall(String, TargetArch),
     /// The output can't be written; how much of it went out is not known.
     Write(io::Error),
     /// A growth of memory was refused, or reading failed for want of memory.
@@ -30,6 +32,9 @@ impl fmt::Display for ToolError {
         match self {
             ToolError::Library(error) => write!(f, "{error}"),
             ToolError::NoFilter(name) => write!(f, "No filter has this name: {name}."),
+            ToolError::UnknownCall(call, arch) => {
+                write!(f, "No call of {arch} has this name or number: {call}.")
+            }
             ToolError::Write(_) => f.write_str("Error writing output."),
             ToolError::OutOfMemory => f.write_str("Out of memory."),
         }

@@ -4,9 +4,13 @@
 mod arguments;
 mod carry_out;
 mod error;
+mod numbers;
 mod policy;
 mod raw;
+mod record;
 mod send;
+#[cfg(test)]
+mod tests;
 mod words;
 
 use crate::carry_out::{answered, carry_out};

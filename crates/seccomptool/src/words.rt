@@ -1,8 +1,10 @@
 // The words that the program is called with.
 
-ghost use Rattle.std.specs.Prelude.{◌≡◌, [], ◌∷◌, IfSome, IfNone, map, codes, string_bytes};
+ghost use Rattle.std.specs.Prelude.{◌≡◌, ℕ, List, ◌∷◌, IfSome, IfNone, map, codes, string_bytes};
 ghost use Rattle.seccomptool.specs.declared.words.Command.{Command};
-ghost use Rattle.seccomptool.specs.Words.{IsCommand};
+ghost use Rattle.seccomptool.specs.Words.{IsCommand, AreArguments};
+
+use crate::numbers::read_number;
 
 /// A layout of programs: docs/LAYOUTS.md has both.
 #[derive(Clone, Copy, Debug, PartialEq, Eq)]
@@ -29,12 +31,23 @@ pub enum Command<'a> {
         /// The program's layout.
         layout: Layout,
     },
+    /// Write the record of a call.
+    Record {
+        /// The architecture's name.
+        arch: &'a str,
+        /// The call's name or number.
+        call: &'a str,
+        /// The call's arguments, 0 where none is given.
+        arguments: [u64; 6],
+    },
 }
 
 /// Reads the words that follow the program's name: exactly the command that they are, or `None`
 /// where they are none. Takes no memory.
 ///
-/// The commands are `--help`, `--version` and `raw ARCH NAME [--tree]`. ARCH and NAME are any texts.
+/// The commands are `--help`, `--version`, `raw ARCH NAME [--tree]` and `record ARCH CALL [ARG..]`. ARCH,
+/// NAME and CALL are any texts. There are at most six ARG; each is one or more ASCII digits, or `0x` and
+/// one or more hexadecimal digits of either case, and fits `u64`.
 pub fn read_words(words: &[String]) -> Option<Command<'_>>
     ensures read { IfSome result (IsCommand (map string_bytes words.now)) }
     ensures unread { IfNone result ((command : Command) → IsCommand (map string_bytes words.now) command → ⊥) }
@@ -44,6 +57,7 @@ pub fn read_words(words: &[String]) -> Option<Command<'_>>
         "--help" => read_help(words),
         "--version" => read_version(words),
         "raw" => read_raw(words),
+        "record" => read_record(words),
         _ => None,
     }
 }
@@ -91,4 +105,33 @@ fn read_raw(words: &[String]) -> Option<Command<'_>>
         },
         _ => None,
     }
+}
+
+// The record that the words behind `record` ask for.
+fn read_record(words: &[String]) -> Option<Command<'_>>
+    ensures read { IfSome result (IsCommand (codes "record" ∷ map string_bytes words.now)) }
+    ensures unread { IfNone result ((command : Command) → IsCommand (codes "record" ∷ map string_bytes words.now) command → ⊥) }
+{
+    let (arch, words) = words.split_first()?;
+    let (call, words) = words.split_first()?;
+    Some(Command::Record {
+        arch: arch.as_str(),
+        call: call.as_str(),
+        arguments: read_arguments(words)?,
+    })
+}
+
+// The arguments that these words write, with zeros behind them.
+fn read_arguments(words: &[String]) -> Option<[u64; 6]>
+    ensures read { IfSome result (AreArguments (map string_bytes words.now)) }
+    ensures unread { IfNone result ((arguments : List ℕ) → AreArguments (map string_bytes words.now) arguments → ⊥) }
+{
+    if words.len() > 6 {
+        return None;
+    }
+    let mut arguments = [0; 6];
+    for (place, word) in words.iter().enumerate() {
+        arguments[place] = read_number(word.as_str())?;
+    }
+    Some(arguments)
 }

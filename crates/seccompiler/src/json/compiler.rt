@@ -1,6 +1,7 @@
 // From JSON filters, and from a text of them, to filters.
 
 ghost use Rattle.std.specs.Prelude.{◌≡◌, ◌↔◌, ◌⊎◌, ℕ, ℤ, List, All, Contains, IfSome, IfOk, IfErr, OnOk};
+ghost use Rattle.std.specs.BTreeMap as tree;
 ghost use Rattle.std.specs.HashMap.{get_by_text};
 ghost use Rattle.std.specs.List.Sorted.{IsStrictlySortedBy};
 ghost use Rattle.std.specs.Ordering.{int_cmp};
@@ -23,7 +24,7 @@ use crate::json::policy::{seccomp_filter, widened_numbers};
 use crate::json::texts::filters_from;
 use crate::json::types::{JsonFilter, JsonFilterMap};
 use std::alloc::Global;
-use std::collections::HashMap;
+use std::collections::{BTreeMap, HashMap};
 use std::io::Read;
 use std::marker::Model;
 
@@ -189,6 +190,21 @@ impl JsonCompiler {
     ) -> Result<HashMap<String, SeccompFilter>, JsonFrontendError>
         ensures policies { IfOk result (λ m. Reads (R.remaining reader) (λ text. OfValue text (ArePoliciesOf self.now (get_by_text m)))) }
         ensures numbers { IfOk result (λ m. (name : List ℕ) → IfSome (get_by_text m name) (λ f. All IsTableNumber (numbers_of f.chains))) }
+        ensures fault { IfErr result (λ e. Reads (R.remaining reader) (λ text. TellsFrontendFault self.now text e)) }
+        ensures memory { IfErr result IsNoMemoryInFrontend }
+    {
+        let policies = self.policies_from(alloc, reader)?;
+        Ok(policies.into_iter().collect(alloc)?)
+    }
+
+    /// The same filters as [`compile`](JsonCompiler::compile) gives, and the same errors, with the
+    /// names in byte order.
+    pub fn compile_in_order<R: Read + Drop>(
+        &self,
+        alloc: Global,
+        reader: R,
+    ) -> Result<BTreeMap<String, SeccompFilter>, JsonFrontendError>
+        ensures policies { IfOk result (λ m. Reads (R.remaining reader) (λ text. OfValue text (ArePoliciesOf self.now (tree.get_by_text m)))) }
         ensures fault { IfErr result (λ e. Reads (R.remaining reader) (λ text. TellsFrontendFault self.now text e)) }
         ensures memory { IfErr result IsNoMemoryInFrontend }
     {

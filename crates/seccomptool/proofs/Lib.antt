@@ -1,0 +1,8 @@
+-- Lemmas that several proofs cite.
+pub mod Calls
+pub mod GivenArguments
+pub mod Faults
+pub mod Found
+pub mod Joined
+pub mod RawPrograms
+pub mod Statuses

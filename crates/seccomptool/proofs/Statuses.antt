@@ -1,0 +1,17 @@
+-- What an engine's answer says of the command's own words where the program ends with status 0, since each error ends it
+-- with 1.
+use Rattle.std.proofs.Common.{◌≡◌, ℕ, List, Option, Result, Ok, Err, arith}
+use Rattle.std.specs.Prelude.{OnErr, ⊤}
+use Rattle.seccomptool.specs.Policies.{NamesArchitecture}
+use Rattle.seccomptool.specs.Raw.{AnswersRaw}
+use Rattle.seccomptool.specs.Record.{AnswersRecord, IsFaultless}
+use Rattle.seccomptool.specs.declared.error.ToolError.{ToolError}
+use Rattle.seccomptool.specs.declared.words.Layout.{Layout}
+
+pub raw_faultless : (arch name : List ℕ) (layout : Layout) (known old new : Option (List ℕ)) (r : Result ⊤ ToolError) (status : ℕ) → AnswersRaw arch known name layout r old new → OnErr r (status ≡ 1) → status ≡ 0 → NamesArchitecture arch
+raw_faultless arch name layout known old new (Ok done) status answers failed zero = (answers.0, answers.1)
+raw_faultless arch name layout known old new (Err e) status answers failed zero = absurd (omega arith)
+
+pub record_faultless : (arch call arguments : List ℕ) (old new : Option (List ℕ)) (r : Result ⊤ ToolError) (status : ℕ) → AnswersRecord arch call arguments r old new → OnErr r (status ≡ 1) → status ≡ 0 → IsFaultless arch call (λ target n. ⊤)
+record_faultless arch call arguments old new (Ok done) status answers failed zero = (answers.0, answers.1, (answers.2.0, answers.2.1, tt))
+record_faultless arch call arguments old new (Err e) status answers failed zero = absurd (omega arith)

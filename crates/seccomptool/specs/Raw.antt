@@ -1,0 +1,94 @@
+-- What `raw` answers and writes: a program as the machine has it.
+use Rattle.std.specs.Prelude.{◌≡◌, ◌≢◌, ℕ, List, [], ◌∷◌, ◌++◌, map, Option, Result, Ok, Err, string_bytes, ⊤}
+use Rattle.std.specs.Int.{w16, w32, to_le_bytes}
+use Rattle.std.specs.Io.KnownBytes.{Appends}
+use Rattle.std.specs.List.{concat}
+use Rattle.serde_json.specs.Data.{Data}
+use Rattle.seccompiler.specs.declared.backend.BackendError.{BackendError}
+use Rattle.seccompiler.specs.declared.backend.BackendError.TheVariants as backend
+use Rattle.seccompiler.specs.declared.backend.TargetArch.{TargetArch}
+use Rattle.seccompiler.specs.declared.bpf.sock_filter.{sock_filter}
+use Rattle.seccompiler.specs.declared.error.Error.{Error}
+use Rattle.seccompiler.specs.declared.error.Error.TheVariants as library
+use Rattle.seccompiler.specs.Compiled.{IsCompiled}
+use Rattle.seccompiler.specs.JsonAnswers.{HasPolicy, HasSomePolicy}
+use Rattle.seccompiler.specs.JsonFilters.{AreAll}
+use Rattle.seccompiler.specs.JsonShape.{Under, Lacks}
+use Rattle.seccompiler.specs.Policy.{Filter}
+use Rattle.seccompiler.specs.Tree.{IsTreeCompiled, IsTreeRefusal}
+use Rattle.seccomptool.specs.declared.error.ToolError.{ToolError}
+use Rattle.seccomptool.specs.declared.error.ToolError.TheVariants.{Library, NoFilter, Write, OutOfMemory}
+use Rattle.seccomptool.specs.declared.words.Layout.{Layout}
+use Rattle.seccomptool.specs.declared.words.Layout.TheVariants.{Chains, Tree}
+use Rattle.seccomptool.specs.Policies.{OfPolicy, IsPolicyFault, IsTextFault}
+
+-- The 8 bytes of an instruction: those of a `struct sock_filter` (linux/filter.h), each number with its low byte first.
+abbrev pub instruction_bytes : sock_filter → List ℕ
+instruction_bytes i = to_le_bytes w16 i.code ++ (i.jt ∷ i.jf ∷ []) ++ to_le_bytes w32 i.k
+
+-- The bytes of a program: those of its instructions, in order.
+abbrev pub program_bytes : List sock_filter → List ℕ
+program_bytes program = concat (map instruction_bytes program)
+
+-- The program is compiled for the filter in this layout.
+abbrev pub IsCompiledIn : Layout → Filter → List sock_filter → Type 0
+IsCompiledIn Chains policy program = IsCompiled policy program
+IsCompiledIn Tree policy program = IsTreeCompiled policy program
+
+-- The value's policy on this architecture is one that the program is compiled for.
+pub record HasProgram (layout : Layout) (target : TargetArch) (value : Data) (program : List sock_filter) : Type 0 where
+  pub policy : Filter
+  pub is_policy : HasPolicy target value policy
+  pub compiled : IsCompiledIn layout policy program
+
+-- The value has a program.
+abbrev pub HasSomeProgram : Layout → TargetArch → Data → Type 0
+HasSomeProgram layout target value = (program : List sock_filter) × HasProgram layout target value program
+
+-- No filter of the value is at fault: each has a program, or, of trees, of which one filter's alone is made, a policy.
+abbrev pub AreFaultless : Layout → TargetArch → Data → Type 0
+AreFaultless Chains target d = AreAll (HasSomeProgram Chains target) d
+AreFaultless Tree target d = AreAll (HasSomePolicy target) d
+
+-- Nothing is at fault in the architecture's name and in the policy's text, and P holds of both.
+abbrev pub IsFaultless : Layout → List ℕ → Option (List ℕ) → (TargetArch → Data → Type 0) → Type 0
+IsFaultless layout arch known P = OfPolicy arch known (λ target d. AreFaultless layout target d × P target d)
+
+-- The value has this name, and what stands under it is as P says.
+abbrev pub UnderName : List ℕ → (TargetArch → Data → Type 0) → TargetArch → Data → Type 0
+UnderName name P target d = Under d name (P target)
+
+-- What is written grew by the bytes of a program of the value.
+pub record WritesProgram (layout : Layout) (old new : Option (List ℕ)) (target : TargetArch) (value : Data) : Type 0 where
+  pub program : List sock_filter
+  pub compiled : HasProgram layout target value program
+  pub appends : Appends old new (program_bytes program)
+
+-- The value's policy has no tree, for this cause.
+pub record HasNoTree (cause : BackendError) (target : TargetArch) (value : Data) : Type 0 where
+  pub policy : Filter
+  pub is_policy : HasPolicy target value policy
+  pub refused : IsTreeRefusal policy cause
+
+-- The first fault of the architecture's name, of the policy's text, and of the trees that are made of it: only that of
+-- the filter that is asked for is.
+pub data IsTreeFault (arch : List ℕ) (known : Option (List ℕ)) (name : List ℕ) (e : Error) : Type 0 where
+  of_text : IsTextFault arch known e → IsTreeFault arch known name e
+  of_tree : (cause : BackendError) → cause ≢ backend.OutOfMemory → e ≡ library.Backend cause
+      → IsFaultless Tree arch known (UnderName name (HasNoTree cause)) → IsTreeFault arch known name e
+
+-- The error is the first fault.
+abbrev pub IsFault : Layout → List ℕ → Option (List ℕ) → List ℕ → Error → Type 0
+IsFault Chains arch known name e = IsPolicyFault arch known e
+IsFault Tree arch known name e = IsTreeFault arch known name e
+
+-- The answer of `raw`. The first fault is told: of the architecture's name and of the policy's text; that no filter has
+-- the name; of a tree; and then that writing fails. It is Ok only where nothing is at fault, and the program's bytes are
+-- written. Want of memory may come in place of all.
+abbrev pub AnswersRaw : List ℕ → Option (List ℕ) → List ℕ → Layout → Result ⊤ ToolError → Option (List ℕ) → Option (List ℕ) → Type 0
+AnswersRaw arch known name layout (Ok done) old new = IsFaultless layout arch known (UnderName name (WritesProgram layout old new))
+AnswersRaw arch known name layout (Err (Library e)) old new = IsFault layout arch known name e
+AnswersRaw arch known name layout (Err (NoFilter text)) old new = (string_bytes text ≡ name) × IsFaultless layout arch known (λ target d. Lacks d name)
+AnswersRaw arch known name layout (Err (Write e)) old new = IsFaultless layout arch known (UnderName name (HasSomeProgram layout))
+AnswersRaw arch known name layout (Err OutOfMemory) old new = ⊤
+AnswersRaw arch known name layout (Err e) old new = ⊥

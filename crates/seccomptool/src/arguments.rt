@@ -1,0 +1,33 @@
+// The words that stand behind the program's name.
+
+use std::alloc::Global;
+use std::env::FillError;
+use std::rt::Env;
+use std::{env, io};
+
+// The process's words without the first: the program's own path may be any bytes.
+#[derive(Clone, Copy)]
+struct BehindTheName<'a, R>(&'a R);
+
+impl<R: Env> Env for BehindTheName<'_, R> {
+    fn arg(&self, i: usize, buf: &mut [u8]) -> Result<usize, FillError> {
+        match i.checked_add(1) {
+            Some(next) => self.0.arg(next, buf),
+            None => Err(FillError::NotPresent),
+        }
+    }
+
+    fn var(&self, name: &str, buf: &mut [u8]) -> Result<usize, FillError> {
+        self.0.var(name, buf)
+    }
+
+    fn var_at(&self, i: usize, buf: &mut [u8]) -> Result<usize, FillError> {
+        self.0.var_at(i, buf)
+    }
+}
+
+// The words behind the program's name; an error where one of them is no text, or for want of memory.
+pub(crate) fn behind_the_name(rt: &(impl Env + AllocGlobal)) -> io::Result<Vec<String>> {
+    let alloc = rt.alloc();
+    Ok(env::args(&(BehindTheName(rt), alloc))?.collect(alloc)?)
+}

@@ -1,0 +1,31 @@
+// Shows the programs of seccomp filters in other forms than `seccompc` does, and what they stand for.
+#![tactic(auto)]
+
+mod arguments;
+mod carry_out;
+mod error;
+mod numbers;
+mod policy;
+mod raw;
+mod record;
+mod send;
+#[cfg(test)]
+mod tests;
+mod words;
+
+use crate::carry_out::{answered, carry_out};
+use crate::error::ToolError;
+use crate::words::read_words;
+use std::io::ErrorKind;
+use std::process::ExitCode;
+
+fn main(rt: HostRuntime) -> ExitCode {
+    match arguments::behind_the_name(&rt) {
+        Ok(words) => carry_out(&rt, read_words(&words)),
+        Err(error) if error.kind() == ErrorKind::OutOfMemory => {
+            answered(&rt, Err(ToolError::OutOfMemory))
+        }
+        // A word that is no text is no command's.
+        Err(_) => carry_out(&rt, None),
+    }
+}

@@ -1,0 +1,110 @@
+// A filter's program, as the machine has it.
+
+ghost use Rattle.std.specs.Prelude.{◌≡◌, ◌++◌, IfOk, IfErr, OnOk};
+ghost use Rattle.seccomptool.specs.Errors.{KeepsOutput};
+ghost use Rattle.seccomptool.specs.Raw.{AnswersRaw, instruction_bytes, program_bytes};
+ghost use Rattle.seccomptool.specs.declared.words.Layout.TheVariants.{Chains, Tree};
+
+use crate::error::ToolError;
+use crate::policy::{filters, programs};
+use crate::send::send;
+use crate::words::Layout;
+use seccompiler::{BpfProgramRef, sock_filter};
+use std::alloc::{AllocError, Global};
+use std::io::{Read, Write};
+
+/// Writes the program of a policy's filter as bytes: what `struct sock_fprog` of `seccomp(2)` points
+/// at, and what bubblewrap's `--seccomp` reads.
+///
+/// Each instruction is a `struct sock_filter` of 8 bytes, its numbers with the low byte first: code in
+/// 2, jt in 1, jf in 1, k in 4. That is the order of each machine that a program can be made for. All
+/// bytes are written at once.
+///
+/// The policy's text is what its reader gives; of a reader whose type doesn't tell its bytes, as that
+/// of standard input, the contract says that there is such a text.
+///
+/// # Errors
+///
+/// The first of these: `Library` with `InvalidTargetArch` and the text as it was given where `arch` is
+/// no architecture's name, ASCII case aside; `Library` with what the library refuses of the policy,
+/// `JsonFrontend(Read)` among it where the reader fails; `NoFilter` with the name where no filter of
+/// the policy has it; `Write` where the writer fails. In the layout of chains every filter is compiled,
+/// and `FilterTooLarge` of any comes before `NoFilter`; of trees only the one of this name is made, and
+/// its `FilterTooLarge` comes behind it. `OutOfMemory` comes in place of any of these where memory is
+/// refused, and where the reader fails for want of memory. On any error but `Write` nothing is written.
+pub fn raw<P: Read + Drop, W: Write>(
+    alloc: Global,
+    arch: &str,
+    name: &str,
+    layout: Layout,
+    policy: P,
+    out: &mut W,
+) -> Result<(), ToolError>
+    // When each answer comes, and what is written.
+    ensures answers { AnswersRaw arch.now (P.remaining policy) name.now layout result (W.contents out.old) (W.contents out.new) }
+    ensures unwritten { IfErr result (λ e. KeepsOutput e out.old out.new) }
+{
+    match layout {
+        Layout::Chains => raw_chains(alloc, arch, name, policy, out),
+        Layout::Tree => raw_tree(alloc, arch, name, policy, out),
+    }
+}
+
+// The same in the layout of chains.
+fn raw_chains<P: Read + Drop, W: Write>(
+    alloc: Global,
+    arch: &str,
+    name: &str,
+    policy: P,
+    out: &mut W,
+) -> Result<(), ToolError>
+    ensures answers { AnswersRaw arch.now (P.remaining policy) name.now Chains result (W.contents out.old) (W.contents out.new) }
+    ensures unwritten { IfErr result (λ e. KeepsOutput e out.old out.new) }
+{
+    let programs = programs(alloc, arch, policy)?;
+    let Some(program) = programs.get(name) else {
+        return Err(ToolError::NoFilter(String::from_str(alloc, name)?));
+    };
+    send(out, &bytes_of(alloc, program)?)
+}
+
+// The same in the layout of a tree.
+fn raw_tree<P: Read + Drop, W: Write>(
+    alloc: Global,
+    arch: &str,
+    name: &str,
+    policy: P,
+    out: &mut W,
+) -> Result<(), ToolError>
+    ensures answers { AnswersRaw arch.now (P.remaining policy) name.now Tree result (W.contents out.old) (W.contents out.new) }
+    ensures unwritten { IfErr result (λ e. KeepsOutput e out.old out.new) }
+{
+    let filters = filters(alloc, arch, policy)?;
+    let Some(filter) = filters.get(name) else {
+        return Err(ToolError::NoFilter(String::from_str(alloc, name)?));
+    };
+    let program = filter.to_tree_bpf(alloc)?;
+    send(out, &bytes_of(alloc, &program)?)
+}
+
+// The bytes of a program.
+fn bytes_of(alloc: Global, program: BpfProgramRef<'_>) -> Result<Vec<u8>, AllocError>
+    ensures { IfOk result (λ bytes. bytes.items ≡ program_bytes program.now) }
+{
+    let mut bytes = Vec::new(alloc);
+    for instruction in program {
+        push_instruction(&mut bytes, instruction)?;
+    }
+    Ok(bytes)
+}
+
+// Adds the bytes of an instruction.
+fn push_instruction(bytes: &mut Vec<u8>, instruction: &sock_filter) -> Result<(), AllocError>
+    ensures { OnOk result (bytes.new.items ≡ bytes.old.items ++ instruction_bytes instruction.now) }
+{
+    let sock_filter { code, jt, jf, k } = *instruction;
+    bytes.extend_from_slice(&code.to_le_bytes())?;
+    bytes.push(jt)?;
+    bytes.push(jf)?;
+    bytes.extend_from_slice(&k.to_le_bytes())
+}

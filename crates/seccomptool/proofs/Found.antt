@@ -14,8 +14,8 @@ module _ {X : Type 0} (P : Data → X → Type 0) (find : List ℕ → Option X)
       by None lacks = let none : Some x ≡ None = sym is ∙ found.no_other name lacks in cc
       by (Some value) has =
           let own = found.each name value has in
-          let same : own.0 ≡ x = let e : Some own.0 ≡ Some x = sym own.1 ∙ is in cc in
-          (value, has, subst (P value) same own.2)
+          let same : own.found ≡ x = let e : Some own.found ≡ Some x = sym own.there ∙ is in cc in
+          (value, has, subst (P value) same own.own)
 
   -- Where nothing is found, the name is not there.
   pub nowhere : find name ≡ None → Lacks d name
@@ -23,4 +23,4 @@ module _ {X : Type 0} (P : Data → X → Type 0) (find : List ℕ → Option X)
     where
       by : (o : Option Data) → get name d ≡ o → Lacks d name
       by None lacks = lacks
-      by (Some value) has = let own = found.each name value has in let some : Some own.0 ≡ None = sym own.1 ∙ is in cc
+      by (Some value) has = let own = found.each name value has in let some : Some own.found ≡ None = sym own.there ∙ is in cc

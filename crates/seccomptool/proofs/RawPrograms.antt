@@ -60,7 +60,7 @@ module _ (arch : List ℕ) (known : Option (List ℕ)) where
     all_programs : (target : TargetArch) (d : Data) → AreProgramsOf target find d → AreFaultless Chains target d
     all_programs target d are = record {
       is_object = are.is_object;
-      each = λ n value has. let own = are.each n value has in (own.0.items, record { policy = own.2.0; is_policy = own.2.1; compiled = own.2.2.compiled });
+      each = λ n value has. let own = are.each n value has in (own.found.items, record { policy = own.own.policy; is_policy = own.own.is_policy; compiled = own.own.compiled });
     }
 
     pub no_program : find name ≡ None → IsFaultless Chains arch known (λ target d. Lacks d name)
@@ -71,13 +71,13 @@ module _ (arch : List ℕ) (known : Option (List ℕ)) where
         (λ target d are.
         let value = there _ find d are name program is in
         let own = value.2 in
-        (all_programs target d are, (value.0, value.1, record { policy = own.0; is_policy = own.1; compiled = own.2.compiled })))
+        (all_programs target d are, (value.0, value.1, record { policy = own.policy; is_policy = own.is_policy; compiled = own.compiled })))
 
   -- ---- of a tree
 
   module _ (find : List ℕ → Option Filter) (h : OfPolicy arch known (λ target. ArePoliciesOf target find)) (name : List ℕ) where
     all_policies : (target : TargetArch) (d : Data) → ArePoliciesOf target find d → AreFaultless Tree target d
-    all_policies target d are = record { is_object = are.is_object; each = λ n value has. let own = are.each n value has in (own.0, own.2) }
+    all_policies target d are = record { is_object = are.is_object; each = λ n value has. let own = are.each n value has in (own.found, own.own) }
 
     pub no_policy : find name ≡ None → IsFaultless Tree arch known (λ target d. Lacks d name)
     no_policy none = shown Tree (λ target. ArePoliciesOf target find) (λ target d. Lacks d name) h (λ target d are. (all_policies target d are, nowhere _ find d are name none))

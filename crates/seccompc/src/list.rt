@@ -5,8 +5,8 @@ ghost use Rattle.seccompc.specs.Errors.{KeepsOutput};
 ghost use Rattle.seccompc.specs.Policies.{AnswersList};
 
 use crate::error::ToolError;
-use crate::program_text::listing;
 use crate::policy::compiled;
+use crate::program_text::listing;
 use std::alloc::Global;
 use std::io::{Read, Write};
 

@@ -1,5 +1,7 @@
 // What a call that takes memory may answer: as with ample memory, or that memory is refused.
 
+ghost use Rattle.std.specs.Prelude.{◌↔◌, IsOk, IsTrue};
+
 use seccompiler::{BackendError, Error, JsonFrontendError, TargetArch, sock_filter};
 use std::alloc::{AllocError, AllocFailed};
 
@@ -56,7 +58,9 @@ fn has_rows(code: &[sock_filter], rows: &[Row]) -> bool {
 }
 
 /// Wants this to hold of the answer of this name.
-pub fn ensure(holds: bool, name: &'static str) -> Result<(), Ending> {
+pub(crate) fn ensure(holds: bool, name: &'static str) -> Result<(), Ending>
+    ensures { IsOk result ↔ IsTrue holds }
+{
     if holds {
         Ok(())
     } else {
@@ -65,12 +69,16 @@ pub fn ensure(holds: bool, name: &'static str) -> Result<(), Ending> {
 }
 
 /// Wants the code to be these instructions.
-pub fn ensure_rows(name: &'static str, code: &[sock_filter], rows: &[Row]) -> Result<(), Ending> {
+pub(crate) fn ensure_rows(
+    name: &'static str,
+    code: &[sock_filter],
+    rows: &[Row],
+) -> Result<(), Ending> {
     ensure(has_rows(code, rows), name)
 }
 
 /// Wants code to be given, and to be these instructions.
-pub fn ensure_code(
+pub(crate) fn ensure_code(
     name: &'static str,
     made: Result<Vec<sock_filter>, BackendError>,
     rows: &[Row],
@@ -113,7 +121,7 @@ fn fault_of_backend(refusal: &BackendError) -> Fault {
 }
 
 /// The fault that the front end tells.
-pub fn fault_of_frontend(error: &JsonFrontendError) -> Fault {
+pub(crate) fn fault_of_frontend(error: &JsonFrontendError) -> Fault {
     match error {
         JsonFrontendError::Backend(refusal) => fault_of_backend(refusal),
         JsonFrontendError::SerdeJson(_) => Fault::SerdeJson,
@@ -129,7 +137,7 @@ pub fn fault_of_frontend(error: &JsonFrontendError) -> Fault {
 
 /// The fault that the library tells: want of memory outside of all else, any other within
 /// `JsonFrontend`.
-pub fn fault_of_library(error: &Error) -> Fault {
+pub(crate) fn fault_of_library(error: &Error) -> Fault {
     match error {
         Error::OutOfMemory => Fault::OutOfMemory,
         Error::JsonFrontend(JsonFrontendError::OutOfMemory) => Fault::Other,
@@ -139,7 +147,11 @@ pub fn fault_of_library(error: &Error) -> Fault {
 }
 
 /// Wants the fault to be this one, where one is wanted.
-pub fn ensure_fault(name: &'static str, told: Fault, wanted: Option<Fault>) -> Result<(), Ending> {
+pub(crate) fn ensure_fault(
+    name: &'static str,
+    told: Fault,
+    wanted: Option<Fault>,
+) -> Result<(), Ending> {
     if told == Fault::OutOfMemory {
         return Err(Ending::OutOfMemory);
     }

@@ -29,7 +29,7 @@ impl Kernel for Taking {
 }
 
 /// Installs a program for one thread and for all.
-pub fn install() -> Result<(), Ending> {
+pub(crate) fn install() -> Result<(), Ending> {
     let program = [bpf_stmt(0x06, 0)];
     let mut kernel = Taking { flags: None };
     let is_installed = apply_filter(&mut kernel, &program).is_ok();

@@ -53,7 +53,7 @@ pub trait Lent: Drop {
 }
 
 /// Makes calls. Wants nothing that is lent to change, and each call to answer as ever after want of memory.
-pub fn make_calls_of<L: Lent>(alloc: Global) -> Result<(), Ending> {
+pub(crate) fn make_calls_of<L: Lent>(alloc: Global) -> Result<(), Ending> {
     let lent = L::new(alloc)?;
     let copy = L::new(alloc)?;
     let answered = lent.make_calls(alloc);
@@ -66,27 +66,27 @@ pub fn make_calls_of<L: Lent>(alloc: Global) -> Result<(), Ending> {
 }
 
 /// A rule of two conditions.
-pub fn two_conditions(alloc: Global) -> Result<SeccompRule, BackendError> {
+pub(crate) fn two_conditions(alloc: Global) -> Result<SeccompRule, BackendError> {
     rule(alloc, &[(0, Dword, Eq, 1), MASKED])
 }
 
 /// The entries of the two calls.
-pub fn two_calls_entries(alloc: Global) -> Result<JsonFilter, BackendError> {
+pub(crate) fn two_calls_entries(alloc: Global) -> Result<JsonFilter, BackendError> {
     entries(alloc, KillProcess, &TWO_CALLS)
 }
 
 /// Entries of one call, without conditions and with one.
-pub fn both_kinds(alloc: Global) -> Result<JsonFilter, BackendError> {
+pub(crate) fn both_kinds(alloc: Global) -> Result<JsonFilter, BackendError> {
     entries(alloc, Trap, &BOTH_KINDS)
 }
 
 /// Entries with a condition on argument 6.
-pub fn faulty(alloc: Global) -> Result<JsonFilter, BackendError> {
+pub(crate) fn faulty(alloc: Global) -> Result<JsonFilter, BackendError> {
     entries(alloc, Trap, &FAULTY)
 }
 
 /// The value of the text of two calls, which is refused for want of memory alone.
-pub fn two_calls_value(alloc: Global) -> Result<Value, BackendError> {
+pub(crate) fn two_calls_value(alloc: Global) -> Result<Value, BackendError> {
     match Value::from_str(alloc, TWO_CALLS_TEXT) {
         Ok(value) => Ok(value),
         Err(_) => Err(BackendError::OutOfMemory),
@@ -94,7 +94,7 @@ pub fn two_calls_value(alloc: Global) -> Result<Value, BackendError> {
 }
 
 /// The condition of these parts.
-pub fn condition(parts: Parts) -> Result<SeccompCondition, BackendError> {
+pub(crate) fn condition(parts: Parts) -> Result<SeccompCondition, BackendError> {
     let (arg_index, arg_len, operator, value) = parts;
     SeccompCondition::new(arg_index, arg_len, operator, value)
 }
@@ -108,7 +108,7 @@ fn rule(alloc: Global, conditions: &[Parts]) -> Result<SeccompRule, BackendError
 }
 
 /// Two calls, one with two rules and one with none.
-pub fn two_calls(alloc: Global) -> Result<SeccompFilter, BackendError> {
+pub(crate) fn two_calls(alloc: Global) -> Result<SeccompFilter, BackendError> {
     let both = rule(alloc, &[(1, Dword, Eq, 2), (2, Dword, Eq, 1)])?;
     let one = rule(alloc, &[(1, Dword, Eq, 1)])?;
     let mut chains = BTreeMap::new(alloc);
@@ -118,7 +118,7 @@ pub fn two_calls(alloc: Global) -> Result<SeccompFilter, BackendError> {
 }
 
 /// One call with a rule of 5000 conditions.
-pub fn too_large(alloc: Global) -> Result<SeccompFilter, BackendError> {
+pub(crate) fn too_large(alloc: Global) -> Result<SeccompFilter, BackendError> {
     let long = SeccompRule::new(vec![in alloc; condition((0, Dword, Eq, 5))?; 5000]?)?;
     let mut chains = BTreeMap::new(alloc);
     drop(chains.insert(0, vec![in alloc; long]?)?);

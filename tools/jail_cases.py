@@ -214,3 +214,27 @@ LINES
     return 126;
 }
 """
+
+# A package of cargo, and what stands around the lines of Rust that the pages show.
+PACKAGE = """
+[package]
+name = "lines-rs"
+version = "0.1.0"
+edition = "2021"
+
+[dependencies]
+seccompiler_wrapper = { path = "WRAPPER" }
+
+[workspace]
+"""
+AROUND_RUST = """
+use seccompiler_wrapper::{Layout, Program};
+use std::os::unix::process::CommandExt;
+use std::process::Command;
+use std::{error, fs};
+
+fn main() -> Result<(), Box<dyn error::Error>> {
+LINES
+    Err(error.into())
+}
+"""

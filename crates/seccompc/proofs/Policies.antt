@@ -25,7 +25,8 @@ use Rattle.seccompiler.specs.JsonShape.{Under, Lacks}
 use Rattle.seccompiler.specs.Policy.{Filter}
 use Rattle.seccompiler.specs.Reads.{Reads}
 use Rattle.seccompiler.specs.Texts.{IsInvalidArch}
-use Rattle.seccompc.specs.Answers.{WritesLines, AnswersRecords}
+use Rattle.seccomp_command_line.specs.Records.{WritesLines}
+use Rattle.seccompc.specs.Answers.{AnswersRecords}
 use Rattle.seccompc.specs.Errors.{from_library}
 use Rattle.seccompc.specs.EngineSteps.{IsTraceError}
 use Rattle.seccompc.specs.Lines.{AreLines, Traced}
@@ -136,7 +137,7 @@ traced_lines f program bytes rest old new compiled w = record {
   cut = w.cut;
   left = w.left;
   text = w.text;
-  traced = record { program = program; compiled = compiled; lines = w.traced };
+  told = record { program = program; compiled = compiled; lines = w.told };
   appends = w.appends;
 }
 

@@ -1,19 +1,8 @@
 -- What an engine that traces records answers, and what it adds to what is written.
-use Rattle.std.specs.Prelude.{◌≡◌, ℕ, ◌<◌, List, length, Option, Result, Ok, Err, ⊤}
-use Rattle.std.specs.Io.KnownBytes.{Appends}
+use Rattle.std.specs.Prelude.{ℕ, ◌<◌, List, Option, Result, Ok, Err, ⊤}
 use Rattle.seccompc.specs.declared.error.ToolError.{ToolError}
 use Rattle.seccompc.specs.declared.error.ToolError.TheVariants.{ShortRecord}
-use Rattle.seccompc.specs.Lines.{IsCutIntoRecords}
-
--- What is written grew by the text of the whole records of these bytes, and so many bytes are left behind them.
-pub record WritesLines (IsTextOf : List (List ℕ) → List ℕ → Type 0) (bytes : List ℕ) (rest : ℕ) (old new : Option (List ℕ)) : Type 0 where
-  pub records : List (List ℕ)
-  pub tail : List ℕ
-  pub cut : IsCutIntoRecords bytes records tail
-  pub left : length tail ≡ rest
-  pub text : List ℕ
-  pub traced : IsTextOf records text
-  pub appends : Appends old new text
+use Rattle.seccomp_command_line.specs.Records.{WritesLines}
 
 -- The answer on these bytes: the text of all records is written where no byte is left, and that of the whole ones, with
 -- the number of bytes that are left, where some are.

@@ -1,6 +1,5 @@
 -- What the program writes for programs under their names: each name with its program's length, and each instruction.
-use Rattle.std.specs.Prelude.{◌≡◌, ℕ, ◌==◌, ◌||◌, Bool, if◌then◌else◌, List, [], ◌∷◌, ◌++◌, length, map, All, Contains, String, Vec, string_bytes, codes, decimal}
-use Rattle.std.specs.Char.{is_ascii_control}
+use Rattle.std.specs.Prelude.{◌≡◌, ℕ, List, ◌++◌, length, map, All, Contains, String, Vec, string_bytes, codes, decimal}
 use Rattle.std.specs.Ordering.{nat_cmp}
 use Rattle.std.specs.Cmp.Lexicographic.{slice_cmp}
 use Rattle.std.specs.List.{concat}
@@ -10,20 +9,9 @@ use Rattle.serde_json.specs.Data.{Data}
 use Rattle.seccompiler.specs.declared.bpf.sock_filter.{sock_filter}
 use Rattle.seccompiler.specs.declared.backend.TargetArch.{TargetArch}
 use Rattle.seccompiler.specs.JsonShape.{Has, Under}
-use Rattle.seccompc.specs.Lines.{hexadecimal}
+use Rattle.seccomp_command_line.specs.Hexadecimal.{hexadecimal}
+use Rattle.seccomp_command_line.specs.Names.{escaped}
 use Rattle.seccompiler.specs.JsonPrograms.{IsProgramOf}
-
--- The bytes of a name that are written by their numbers: 00 to 1f, 7f and the backslash.
-abbrev pub is_escaped : ℕ → Bool
-is_escaped byte = is_ascii_control byte || (byte == 92)
-
--- A byte of a name: `\x` and two hexadecimal digits where it is written by its number, and else the byte.
-abbrev pub escaped_byte : ℕ → List ℕ
-escaped_byte byte = if is_escaped byte then codes "\\x" ++ hexadecimal 2 byte else byte ∷ []
-
--- A name, byte by byte.
-abbrev pub escaped : List ℕ → List ℕ
-escaped name = concat (map escaped_byte name)
 
 -- The line in front of a program: its length and its name.
 abbrev pub header_of : ℕ → List ℕ → List ℕ

@@ -14,7 +14,7 @@ use Rattle.seccompiler.specs.JsonPrograms.{IsProgramOf, TellsFirstFault}
 use Rattle.seccompiler.specs.JsonShape.{IsObject, Has, Lacks}
 use Rattle.seccompiler.specs.Policy.{Filter}
 use Rattle.seccompiler.specs.Reads.{Reads}
-use Rattle.seccompc.specs.Answers.{WritesLines}
+use Rattle.seccomp_command_line.specs.Records.{WritesLines}
 use Rattle.seccompc.specs.Errors.{IsReadFault}
 use Rattle.seccompc.specs.Lines.{Traced}
 use Rattle.seccompc.specs.Listing.{Listed}

@@ -1,9 +1,7 @@
 // Compiles seccomp filters, and shows what their programs do with the records of system calls.
 #![tactic(auto)]
 
-mod arguments;
 mod error;
-mod hexadecimal;
 mod list;
 mod policy;
 mod probe;
@@ -21,13 +19,14 @@ ghost use Rattle.seccompc.specs.Statuses.{HasNoFault};
 
 use crate::error::ToolError;
 use crate::words::{Command, read_words};
+use seccomp_command_line::arguments::behind_the_name;
 use std::io::ErrorKind;
 use std::process::ExitCode;
 use std::rt::Files;
 use std::{fs, io};
 
 fn main(rt: HostRuntime) -> ExitCode {
-    match arguments::behind_the_name(&rt) {
+    match behind_the_name(&rt) {
         Ok(words) => carry_out(&rt, read_words(&words)),
         Err(error) if error.kind() == ErrorKind::OutOfMemory => {
             answered(&rt, Err(ToolError::OutOfMemory))

@@ -3,10 +3,11 @@
 ghost use Rattle.std.specs.Prelude.{◌≡◌, ◌++◌, map, IfOk, OnOk, string_cmp};
 ghost use Rattle.std.specs.List.{concat};
 ghost use Rattle.std.specs.BTreeMap as tree;
-ghost use Rattle.seccompc.specs.Listing.{is_escaped, escaped_byte, escaped, header_of, instruction_line, instruction_lines, named_program, listing_of};
+ghost use Rattle.seccompc.specs.Listing.{header_of, instruction_line, instruction_lines, named_program, listing_of};
 
-use crate::hexadecimal::{eight_digits, four_digits, two_digits};
 use itoa::Buffer;
+use seccomp_command_line::hexadecimal::{eight_digits, four_digits, two_digits};
+use seccomp_command_line::names::push_escaped;
 use seccompiler::{BpfProgram, BpfProgramRef, sock_filter};
 use std::alloc::{AllocError, Global};
 use std::collections::BTreeMap;
@@ -57,35 +58,6 @@ fn push_header(text: &mut Vec<u8>, count: usize, name: &str) -> Result<(), Alloc
     text.extend_from_slice(b" ")?;
     push_escaped(text, name.as_bytes())?;
     text.extend_from_slice(b"\n")
-}
-
-// Adds a name, the bytes that steer a terminal and the backslash by their numbers.
-fn push_escaped(text: &mut Vec<u8>, name: &[u8]) -> Result<(), AllocError>
-    ensures { OnOk result (text.new.items ≡ text.old.items ++ escaped name.now) }
-{
-    for byte in name {
-        push_byte(text, *byte)?;
-    }
-    Ok(())
-}
-
-// Whether a byte is written by its number.
-fn is_escaped(byte: u8) -> bool
-    ensures { result ≡ is_escaped byte }
-{
-    byte.is_ascii_control() || byte == b'\\'
-}
-
-// Adds a byte of a name.
-fn push_byte(text: &mut Vec<u8>, byte: u8) -> Result<(), AllocError>
-    ensures { OnOk result (text.new.items ≡ text.old.items ++ escaped_byte byte) }
-{
-    if is_escaped(byte) {
-        let [high, low] = two_digits(byte);
-        text.extend_from_slice(&[b'\\', b'x', high, low])
-    } else {
-        text.extend_from_slice(&[byte])
-    }
 }
 
 // Adds the lines of a program's instructions.

@@ -4,8 +4,8 @@ ghost use Rattle.std.specs.Prelude.{◌≡◌, ◌++◌, IfOk, OnOk};
 ghost use Rattle.seccompiler.specs.Checked.{IsChecked};
 ghost use Rattle.seccompc.specs.Lines.{AreLines, line_of};
 
-use crate::hexadecimal::eight_digits;
 use itoa::Buffer;
+use seccomp_command_line::hexadecimal::eight_digits;
 use seccompiler::BpfProgramRef;
 use seccompiler::machine::{Outcome, run};
 use std::alloc::{AllocError, Global};

@@ -1,6 +1,5 @@
 // Tests of the engines, the words and the statuses, with scripted readers and writers.
 
-mod arguments;
 mod hoard;
 mod list;
 mod policies;

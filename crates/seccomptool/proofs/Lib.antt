@@ -3,6 +3,5 @@ pub mod Calls
 pub mod GivenArguments
 pub mod Faults
 pub mod Found
-pub mod Joined
 pub mod RawPrograms
 pub mod Statuses

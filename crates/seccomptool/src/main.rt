@@ -1,7 +1,6 @@
 // Shows the programs of seccomp filters in other forms than `seccompc` does, and what they stand for.
 #![tactic(auto)]
 
-mod arguments;
 mod carry_out;
 mod error;
 mod numbers;
@@ -16,11 +15,12 @@ mod words;
 use crate::carry_out::{answered, carry_out};
 use crate::error::ToolError;
 use crate::words::read_words;
+use seccomp_command_line::arguments::behind_the_name;
 use std::io::ErrorKind;
 use std::process::ExitCode;
 
 fn main(rt: HostRuntime) -> ExitCode {
-    match arguments::behind_the_name(&rt) {
+    match behind_the_name(&rt) {
         Ok(words) => carry_out(&rt, read_words(&words)),
         Err(error) if error.kind() == ErrorKind::OutOfMemory => {
             answered(&rt, Err(ToolError::OutOfMemory))

@@ -1,26 +1,9 @@
 -- Lines of instructions and listings of programs, one after the other.
-use Rattle.std.proofs.Common.{◌≡◌, ℕ, ◌+◌, ◌<◌, List, [], ◌∷◌, ◌++◌, length, take, get_or, map, string_bytes, sym, ap, ◌∙◌, append_assoc, append-nil}
+use Rattle.std.proofs.Common.{◌≡◌, ℕ, List, [], ◌∷◌, ◌++◌, length, map, string_bytes, sym, ap, ◌∙◌, append_assoc, append-nil}
 use Rattle.std.specs.List.{concat}
-use Rattle.std.proofs.lemmas.List.{take_more}
 use Rattle.seccompiler.specs.declared.bpf.sock_filter.{sock_filter}
 use Rattle.seccompc.specs.Listing.{header_of, instruction_lines, named_program, listing_of}
 use Rattle.seccompc.proofs.Names.{Entry}
-
-module _ {X : Type 0} (written : X → List ℕ) where
-  -- What is written of a list, piece by piece.
-  abbrev pieces : List X → List ℕ
-  pieces xs = concat (map written xs)
-
-  -- One piece more at the end.
-  pub pieces_push : (xs : List X) (x : X) → pieces (xs ++ x ∷ []) ≡ pieces xs ++ written x
-  pieces_push [] x = append-nil (written x)
-  pieces_push (y ∷ xs) x = ap (λ l. written y ++ l) (pieces_push xs x) ∙ sym (append_assoc (written y) (pieces xs) (written x))
-
-  pub pieces_more : (xs : List X) (at : ℕ) (x : X) (begun old new : List ℕ) → at < length xs → x ≡ get_or xs at x
-      → old ≡ begun ++ pieces (take at xs) → new ≡ old ++ written x → new ≡ begun ++ pieces (take (at + 1) xs)
-  pieces_more xs at x begun old new room is so_far more =
-      more ∙ ap (λ l. l ++ written x) so_far ∙ append_assoc begun (pieces (take at xs)) (written x)
-      ∙ ap (λ l. begun ++ l) (sym (pieces_push (take at xs) x) ∙ ap (λ y. pieces (take at xs ++ y ∷ [])) is ∙ ap pieces (sym (take_more xs at x room)))
 
 -- The listings of programs.
 abbrev pub listings : List Entry → List ℕ

@@ -1,5 +1,5 @@
 use Rattle.std.proofs.Common.{refl}
-use Rattle.seccompc.specs.Lines.{hexadecimal}
+use Rattle.seccomp_command_line.specs.Hexadecimal.{hexadecimal}
 use Rattle.seccompc.proofs.program_text.line.Goals as goal
 
 pub returns : goal.returns

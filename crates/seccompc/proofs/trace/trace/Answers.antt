@@ -2,7 +2,8 @@ use Rattle.std.proofs.Common.{◌<◌, length, refl, subst, arith}
 use Rattle.std.proofs.lemmas.Result.{err_from_is_err_and}
 use Rattle.seccompc.specs.Lines.{AreLines}
 use Rattle.seccompc.specs.EngineSteps.{IsReadError}
-use Rattle.seccompc.proofs.Records.{lines_sent, reads_some, answers_none}
+use Rattle.seccomp_command_line.proofs.Records.{lines_sent}
+use Rattle.seccompc.proofs.Records.{reads_some, answers_none}
 use Rattle.seccompc.proofs.trace.trace.Goals as goal
 
 pub returns-in_err-bytes-clause-lines : goal.returns-in_err-bytes-clause-lines
@@ -18,7 +19,7 @@ returns-in-0-clause-lines g c =
     let contents = g.W.Write.contents in
     let old = contents c.args.out.now in
     let new = contents c.write_all.new.self in
-    let written = lines_sent program items c.as_slice.result.now c.as_chunks.result.1.now _ c.as_slice-2.result.now c.as_chunks.result.0.now 0 old new
+    let written = lines_sent (AreLines program) items c.as_slice.result.now c.as_chunks.result.1.now _ c.as_slice-2.result.now c.as_chunks.result.0.now 0 old new
     c.as_slice.ensures.value c.as_chunks.ensures.front c.as_chunks.ensures.back c.in-0.is c.in_ok-text.ensures c.as_slice-2.ensures.value c.in-Ok.ensures.bytes in
     (items, c.in_ok-bytes.ensures.bytes, written)
 
@@ -30,7 +31,7 @@ returns-clause-lines g c =
     let old = contents c.args.out.now in
     let new = contents c.write_all.new.self in
     let rest = length c.as_chunks.result.1.now in
-    let written = lines_sent program items c.as_slice.result.now c.as_chunks.result.1.now _ c.as_slice-2.result.now c.as_chunks.result.0.now rest old new
+    let written = lines_sent (AreLines program) items c.as_slice.result.now c.as_chunks.result.1.now _ c.as_slice-2.result.now c.as_chunks.result.0.now rest old new
     c.as_slice.ensures.value c.as_chunks.ensures.front c.as_chunks.ensures.back refl c.in_ok-text.ensures c.as_slice-2.ensures.value c.in-Ok.ensures.bytes in
     let some : 0 < rest = let d = c.in_default in omega arith in
     (items, c.in_ok-bytes.ensures.bytes, (some, written))

@@ -1,6 +1,6 @@
 use Rattle.std.proofs.Common.{[]}
 use Rattle.seccomptool.specs.Raw.{instruction_bytes}
-use Rattle.seccomptool.proofs.Joined.{joined_more}
+use Rattle.seccomp_command_line.proofs.Joined.{joined_more}
 use Rattle.seccomptool.proofs.raw.bytes_of.Goals as goal
 
 pub loop-instruction-preserved : goal.loop-instruction-preserved

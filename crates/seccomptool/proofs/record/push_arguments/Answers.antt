@@ -1,6 +1,6 @@
 use Rattle.std.proofs.Common.{◌≡◌, ◌++◌, get_or, rules, w64}
 use Rattle.std.specs.Int.{to_le_bytes}
-use Rattle.seccomptool.proofs.Joined.{joined_more}
+use Rattle.seccomp_command_line.proofs.Joined.{joined_more}
 use Rattle.seccomptool.proofs.record.push_arguments.Goals as goal
 
 pub loop-argument-preserved : goal.loop-argument-preserved

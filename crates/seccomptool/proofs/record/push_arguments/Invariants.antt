@@ -1,6 +1,6 @@
 use Rattle.std.proofs.Common.{◌≡◌, ◌++◌, take, w64}
 use Rattle.std.specs.Int.{to_le_bytes}
-use Rattle.seccomptool.proofs.Joined.{joined}
+use Rattle.seccomp_command_line.proofs.Joined.{joined}
 use Rattle.seccomptool.proofs.record.push_arguments.Given as goal
 
 abbrev pub invariant-loop-argument : goal.invariant-loop-argument

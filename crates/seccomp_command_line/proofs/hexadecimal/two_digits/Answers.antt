@@ -1,6 +1,6 @@
 use Rattle.std.proofs.Common.{rules}
-use Rattle.seccompc.proofs.Digits.{byte_written}
-use Rattle.seccompc.proofs.hexadecimal.two_digits.Goals as goal
+use Rattle.seccomp_command_line.proofs.Digits.{byte_written}
+use Rattle.seccomp_command_line.proofs.hexadecimal.two_digits.Goals as goal
 
 pub returns : goal.returns
 returns c = rw (c.digit.ensures, c.digit-2.ensures) (byte_written c.args.n (search rules))

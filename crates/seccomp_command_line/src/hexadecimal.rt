@@ -1,7 +1,7 @@
 // Numbers in lower-case hexadecimal digits, as many as their types take.
 
 ghost use Rattle.std.specs.Prelude.{◌≡◌, ◌<◌};
-ghost use Rattle.seccompc.specs.Lines.{hexadecimal, hexadecimal_digit};
+ghost use Rattle.seccomp_command_line.specs.Hexadecimal.{hexadecimal, hexadecimal_digit};
 
 // The digit of a number below 16.
 fn digit(n: u8) -> u8
@@ -11,15 +11,15 @@ fn digit(n: u8) -> u8
     if n < 10 { b'0' + n } else { b'a' + (n - 10) }
 }
 
-// The digits of a byte.
-pub(crate) fn two_digits(n: u8) -> [u8; 2]
+/// The digits of a byte.
+pub fn two_digits(n: u8) -> [u8; 2]
     ensures { result ≡ hexadecimal 2 n }
 {
     [digit(n / 16), digit(n % 16)]
 }
 
-// The digits of a number of two bytes.
-pub(crate) fn four_digits(n: u16) -> [u8; 4]
+/// The digits of a number of two bytes, the highest first.
+pub fn four_digits(n: u16) -> [u8; 4]
     ensures { result ≡ hexadecimal 4 n }
 {
     let [high, low] = n.to_be_bytes();
@@ -28,8 +28,8 @@ pub(crate) fn four_digits(n: u16) -> [u8; 4]
     [a, b, c, d]
 }
 
-// The digits of a number of four bytes.
-pub(crate) fn eight_digits(n: u32) -> [u8; 8]
+/// The digits of a number of four bytes, the highest first.
+pub fn eight_digits(n: u32) -> [u8; 8]
     ensures { result ≡ hexadecimal 8 n }
 {
     let [first, second, third, fourth] = n.to_be_bytes();

@@ -1,7 +1,7 @@
 -- Numbers in hexadecimal digits, byte by byte.
 use Rattle.std.proofs.Common.{◌≡◌, ℕ, suc, ◌/◌, ◌%◌, ◌^◌, ◌<◌, [], ◌∷◌, ◌++◌, sym, append_assoc, refl, arith}
 use Rattle.std.specs.Int.{byte_at}
-use Rattle.seccompc.specs.Lines.{hexadecimal, hexadecimal_digit}
+use Rattle.seccomp_command_line.specs.Hexadecimal.{hexadecimal, hexadecimal_digit}
 
 -- A byte has two digits.
 pub byte_written : (n : ℕ) → n < 2 ^ 8 → hexadecimal_digit (n / 16) ∷ hexadecimal_digit (n % 16) ∷ [] ≡ hexadecimal 2 n

@@ -26,8 +26,12 @@ impl<R: Env> Env for BehindTheName<'_, R> {
     }
 }
 
-// The words behind the program's name; an error where one of them is no text, or for want of memory.
-pub(crate) fn behind_the_name(rt: &(impl Env + AllocGlobal)) -> io::Result<Vec<String>> {
+/// The words behind the program's name.
+///
+/// # Errors
+///
+/// Of the kind `OutOfMemory` where memory is refused; of another where one of the words is no text.
+pub fn behind_the_name(rt: &(impl Env + AllocGlobal)) -> io::Result<Vec<String>> {
     let alloc = rt.alloc();
     Ok(env::args(&(BehindTheName(rt), alloc))?.collect(alloc)?)
 }

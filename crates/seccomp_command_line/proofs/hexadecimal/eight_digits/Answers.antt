@@ -1,7 +1,7 @@
 use Rattle.std.proofs.Common.{rules}
-use Rattle.seccompc.specs.Lines.{hexadecimal}
-use Rattle.seccompc.proofs.Digits.{four_bytes_written}
-use Rattle.seccompc.proofs.hexadecimal.eight_digits.Goals as goal
+use Rattle.seccomp_command_line.specs.Hexadecimal.{hexadecimal}
+use Rattle.seccomp_command_line.proofs.Digits.{four_bytes_written}
+use Rattle.seccomp_command_line.proofs.hexadecimal.eight_digits.Goals as goal
 
 pub returns : goal.returns
 unfolding hexadecimal

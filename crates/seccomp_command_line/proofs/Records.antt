@@ -1,0 +1,48 @@
+-- Bytes in chunks of 64 are records and a rest.
+use Rattle.std.proofs.Common.{◌≡◌, ℕ, zero, suc, ◌+◌, ◌*◌, ◌/◌, ◌≤◌, List, [], ◌++◌, length, take, drop, All, Option, refl, sym, subst, ap, ◌∙◌, append_assoc, take-append-drop, length-drop, length-take-le, arith}
+use Rattle.std.specs.List.{concat}
+use Rattle.std.specs.Simd.{first_chunks}
+use Rattle.std.proofs.lemmas.List.{drop-drop}
+use Rattle.std.proofs.lemmas.List.Elements.{All-nil, All-cons}
+use Rattle.std.specs.Io.KnownBytes.{Appends}
+use Rattle.seccomp_command_line.specs.Records.{IsCutIntoRecords, WritesLines}
+
+-- The chunks and what is left behind them are the bytes.
+chunks_joined : (k : ℕ) (bytes : List ℕ) → concat (first_chunks 64 k bytes) ++ drop (k * 64) bytes ≡ bytes
+chunks_joined zero bytes = refl
+chunks_joined (suc k) bytes =
+    let more : suc k * 64 ≡ 64 + k * 64 = omega arith in
+    let rest : drop (suc k * 64) bytes ≡ drop (k * 64) (drop 64 bytes) = ap (λ n. drop n bytes) more ∙ sym (drop-drop (k * 64) 64 bytes) in
+    append_assoc (take 64 bytes) (concat (first_chunks 64 k (drop 64 bytes))) (drop (suc k * 64) bytes)
+    ∙ ap (λ text. take 64 bytes ++ (concat (first_chunks 64 k (drop 64 bytes)) ++ text)) rest
+    ∙ ap (λ text. take 64 bytes ++ text) (chunks_joined k (drop 64 bytes))
+    ∙ take-append-drop 64 bytes
+
+-- Each chunk has 64 bytes.
+chunks_whole : (k : ℕ) (bytes : List ℕ) → k * 64 ≤ length bytes → All (λ (call : List ℕ). length call ≡ 64) (first_chunks 64 k bytes)
+chunks_whole zero bytes room = All-nil (λ (call : List ℕ). length call ≡ 64)
+chunks_whole (suc k) bytes room =
+    All-cons (λ (call : List ℕ). length call ≡ 64) (take 64 bytes) (first_chunks 64 k (drop 64 bytes)) (length-take-le 64 bytes (omega arith))
+    (chunks_whole k (drop 64 bytes) (omega (arith, length-drop 64 bytes)))
+
+-- The whole chunks and the rest are a cut into records.
+pub cut_by_chunks : (bytes : List ℕ) → IsCutIntoRecords bytes (first_chunks 64 (length bytes / 64) bytes) (drop (length bytes / 64 * 64) bytes)
+cut_by_chunks bytes = record {
+  joined = sym (chunks_joined (length bytes / 64) bytes);
+  whole = chunks_whole (length bytes / 64) bytes (omega arith);
+  short = omega (arith, length-drop (length bytes / 64 * 64) bytes);
+}
+
+-- The text of the chunks of all items, once it is sent.
+pub lines_sent : (IsTextOf : List (List ℕ) → List ℕ → Type 0) (items slice tail text sent : List ℕ) (records : List (List ℕ)) (rest : ℕ) (old new : Option (List ℕ))
+    → slice ≡ items → records ≡ first_chunks 64 (length slice / 64) slice → tail ≡ drop (length slice / 64 * 64) slice → length tail ≡ rest
+    → IsTextOf records text → sent ≡ text → Appends old new sent → WritesLines IsTextOf items rest old new
+lines_sent IsTextOf items slice tail text sent records rest old new same chunks behind left told is appends = record {
+  records = records;
+  tail = tail;
+  cut = subst (λ bytes. IsCutIntoRecords bytes records tail) same (rw (chunks, behind) (cut_by_chunks slice));
+  left = left;
+  text = text;
+  told = told;
+  appends = subst (Appends old new) is appends;
+}

@@ -1,0 +1,17 @@
+-- Names of filters, as the programs write them.
+use Rattle.std.specs.Prelude.{ℕ, ◌==◌, ◌||◌, Bool, if◌then◌else◌, List, [], ◌∷◌, ◌++◌, map, codes}
+use Rattle.std.specs.Char.{is_ascii_control}
+use Rattle.std.specs.List.{concat}
+use Rattle.seccomp_command_line.specs.Hexadecimal.{hexadecimal}
+
+-- The bytes of a name that are written by their numbers: 00 to 1f, 7f and the backslash.
+abbrev pub is_escaped : ℕ → Bool
+is_escaped byte = is_ascii_control byte || (byte == 92)
+
+-- A byte of a name: `\x` and two hexadecimal digits where it is written by its number, and else the byte.
+abbrev pub escaped_byte : ℕ → List ℕ
+escaped_byte byte = if is_escaped byte then codes "\\x" ++ hexadecimal 2 byte else byte ∷ []
+
+-- A name, byte by byte.
+abbrev pub escaped : List ℕ → List ℕ
+escaped name = concat (map escaped_byte name)

@@ -1,0 +1,41 @@
+// Names of filters, as the programs write them.
+
+ghost use Rattle.std.specs.Prelude.{◌≡◌, ◌++◌, OnOk};
+ghost use Rattle.seccomp_command_line.specs.Names.{is_escaped, escaped_byte, escaped};
+
+use crate::hexadecimal::two_digits;
+use std::alloc::AllocError;
+
+/// Adds a name to a text: the bytes 00 to 1f, 7f and the backslash as `\x` and two lower-case hexadecimal
+/// digits, all others as they are. So no name steers a terminal, and no two names are written alike.
+///
+/// # Errors
+///
+/// `AllocError` where memory is refused; the text may then have grown by a front of this.
+pub fn push_escaped(text: &mut Vec<u8>, name: &[u8]) -> Result<(), AllocError>
+    ensures { OnOk result (text.new.items ≡ text.old.items ++ escaped name.now) }
+{
+    for byte in name {
+        push_byte(text, *byte)?;
+    }
+    Ok(())
+}
+
+// Whether a byte is written by its number.
+fn is_escaped(byte: u8) -> bool
+    ensures { result ≡ is_escaped byte }
+{
+    byte.is_ascii_control() || byte == b'\\'
+}
+
+// Adds a byte of a name.
+fn push_byte(text: &mut Vec<u8>, byte: u8) -> Result<(), AllocError>
+    ensures { OnOk result (text.new.items ≡ text.old.items ++ escaped_byte byte) }
+{
+    if is_escaped(byte) {
+        let [high, low] = two_digits(byte);
+        text.extend_from_slice(&[b'\\', b'x', high, low])
+    } else {
+        text.extend_from_slice(&[byte])
+    }
+}

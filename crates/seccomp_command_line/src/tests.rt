@@ -1,0 +1,3 @@
+// Tests of the words.
+
+mod arguments;

@@ -53,6 +53,9 @@ pub name_told : (arch call arguments : List ℕ) (e : ToolError) (old new : Opti
 name_told arch call arguments (tool.Library e) old new refused = refused
 name_told arch call arguments (tool.NoFilter text) old new refused = absurd refused
 name_told arch call arguments (tool.UnknownCall text target) old new refused = absurd refused
+name_told arch call arguments (tool.ShortRecord rest) old new refused = absurd refused
+name_told arch call arguments (tool.Read e) old new refused = absurd refused
+name_told arch call arguments (tool.Fault told) old new refused = absurd refused
 name_told arch call arguments (tool.Write e) old new refused = absurd refused
 name_told arch call arguments tool.OutOfMemory old new refused = tt
 
@@ -63,4 +66,7 @@ record_sent arch call arguments target n bytes sent (Err (tool.Write e)) old new
 record_sent arch call arguments target n bytes sent (Err (tool.Library e)) old new own called are is appends cause = absurd cause
 record_sent arch call arguments target n bytes sent (Err (tool.NoFilter text)) old new own called are is appends cause = absurd cause
 record_sent arch call arguments target n bytes sent (Err (tool.UnknownCall text other)) old new own called are is appends cause = absurd cause
+record_sent arch call arguments target n bytes sent (Err (tool.ShortRecord rest)) old new own called are is appends cause = absurd cause
+record_sent arch call arguments target n bytes sent (Err (tool.Read e)) old new own called are is appends cause = absurd cause
+record_sent arch call arguments target n bytes sent (Err (tool.Fault told)) old new own called are is appends cause = absurd cause
 record_sent arch call arguments target n bytes sent (Err tool.OutOfMemory) old new own called are is appends cause = tt

@@ -37,6 +37,9 @@ pub name_is_text : (arch : List ℕ) (known : Option (List ℕ)) (e : ToolError)
 name_is_text arch known (tool.Library e) refused = before arch known e _ refused refused.told tt
 name_is_text arch known (tool.NoFilter name) refused = refused
 name_is_text arch known (tool.UnknownCall call target) refused = refused
+name_is_text arch known (tool.ShortRecord rest) refused = refused
+name_is_text arch known (tool.Read e) refused = refused
+name_is_text arch known (tool.Fault told) refused = refused
 name_is_text arch known (tool.Write e) refused = refused
 name_is_text arch known tool.OutOfMemory refused = tt
 
@@ -45,6 +48,9 @@ pub text_is_policy : (arch : List ℕ) (known : Option (List ℕ)) (e : ToolErro
 text_is_policy arch known (tool.Library e) refused = refused.0
 text_is_policy arch known (tool.NoFilter name) refused = refused
 text_is_policy arch known (tool.UnknownCall call target) refused = refused
+text_is_policy arch known (tool.ShortRecord rest) refused = refused
+text_is_policy arch known (tool.Read e) refused = refused
+text_is_policy arch known (tool.Fault told) refused = refused
 text_is_policy arch known (tool.Write e) refused = refused
 text_is_policy arch known tool.OutOfMemory refused = tt
 

@@ -52,6 +52,9 @@ module _ (arch : List ℕ) (known : Option (List ℕ)) where
   program_sent layout name program bytes sent (Err (tool.Library e)) old new h are is appends cause = absurd cause
   program_sent layout name program bytes sent (Err (tool.NoFilter text)) old new h are is appends cause = absurd cause
   program_sent layout name program bytes sent (Err (tool.UnknownCall call target)) old new h are is appends cause = absurd cause
+  program_sent layout name program bytes sent (Err (tool.ShortRecord rest)) old new h are is appends cause = absurd cause
+  program_sent layout name program bytes sent (Err (tool.Read e)) old new h are is appends cause = absurd cause
+  program_sent layout name program bytes sent (Err (tool.Fault told)) old new h are is appends cause = absurd cause
   program_sent layout name program bytes sent (Err tool.OutOfMemory) old new h are is appends cause = tt
 
   -- ---- of chains
@@ -108,5 +111,8 @@ module _ (arch : List ℕ) (known : Option (List ℕ)) where
   text_told name (tool.Library e) old new refused = of_text refused
   text_told name (tool.NoFilter text) old new refused = absurd refused
   text_told name (tool.UnknownCall call target) old new refused = absurd refused
+  text_told name (tool.ShortRecord rest) old new refused = absurd refused
+  text_told name (tool.Read e) old new refused = absurd refused
+  text_told name (tool.Fault told) old new refused = absurd refused
   text_told name (tool.Write e) old new refused = absurd refused
   text_told name tool.OutOfMemory old new refused = tt

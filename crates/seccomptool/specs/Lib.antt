@@ -1,8 +1,28 @@
--- What the program's words mean, and what its engines answer and write.
+-- The definitions that the contracts cite.
+
+-- What is promised, in reading order: which words are which command, what goes wrong, and what each engine answers and
+-- writes, in the order of the commands; and what the statuses tell.
 pub mod Numbers
 pub mod Words
 pub mod Errors
 pub mod Policies
 pub mod Raw
+pub mod ShowText
+pub mod ShowLabels
+pub mod Show
+pub mod Ways
+pub mod Steps
+pub mod Widened
+pub mod LintFaults
+pub mod LintTexts
+pub mod Lint
+pub mod Reasons
+pub mod ExplainLines
+pub mod Explain
 pub mod Record
 pub mod Statuses
+-- Between layers: what the private steps of the engines promise each other.
+pub mod ShowTrees
+pub mod StepsParts
+pub mod WidenedParts
+pub mod ExplainSteps

@@ -1,7 +1,7 @@
 -- What the program's statuses say of the words that it is called with.
 use Rattle.std.specs.Prelude.{⊤}
 use Rattle.seccomptool.specs.declared.words.Command.{Command}
-use Rattle.seccomptool.specs.declared.words.Command.TheVariants.{Help, Version, Raw, Record}
+use Rattle.seccomptool.specs.declared.words.Command.TheVariants.{Help, Version, Raw, Show, Steps, Widened, Lint, Explain, Record}
 use Rattle.seccomptool.specs.Policies.{NamesArchitecture}
 use Rattle.seccomptool.specs.Record as call
 
@@ -11,4 +11,9 @@ abbrev pub IsFaultless : Command → Type 0
 IsFaultless Help = ⊤
 IsFaultless Version = ⊤
 IsFaultless (Raw arch name layout) = NamesArchitecture arch.now
+IsFaultless (Show arch layout) = NamesArchitecture arch.now
+IsFaultless (Steps arch) = NamesArchitecture arch.now
+IsFaultless (Widened arch) = NamesArchitecture arch.now
+IsFaultless (Lint arch) = NamesArchitecture arch.now
+IsFaultless (Explain arch file name) = NamesArchitecture arch.now
 IsFaultless (Record arch name arguments) = call.IsFaultless arch.now name.now (λ target n. ⊤)

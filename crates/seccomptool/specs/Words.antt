@@ -1,7 +1,7 @@
 -- The words that the program is called with, and the command that they are.
 use Rattle.std.specs.Prelude.{◌≡◌, ℕ, ◌≤◌, ◌<◌, List, [], ◌∷◌, ◌++◌, length, Some, slice_get, slice_index, codes}
 use Rattle.seccomptool.specs.declared.words.Command.{Command}
-use Rattle.seccomptool.specs.declared.words.Command.TheVariants.{Help, Version, Raw, Record}
+use Rattle.seccomptool.specs.declared.words.Command.TheVariants.{Help, Version, Raw, Show, Steps, Widened, Lint, Explain, Record}
 use Rattle.seccomptool.specs.declared.words.Layout.{Layout}
 use Rattle.seccomptool.specs.declared.words.Layout.TheVariants.{Chains, Tree}
 use Rattle.seccomptool.specs.Numbers.{IsNumber}
@@ -29,4 +29,9 @@ abbrev pub IsCommand : List (List ℕ) → Command → Type 0
 IsCommand words Help = words ≡ codes "--help" ∷ []
 IsCommand words Version = words ≡ codes "--version" ∷ []
 IsCommand words (Raw arch name layout) = words ≡ (codes "raw" ∷ arch.now ∷ name.now ∷ []) ++ layout_words layout
+IsCommand words (Show arch layout) = words ≡ (codes "show" ∷ arch.now ∷ []) ++ layout_words layout
+IsCommand words (Steps arch) = words ≡ codes "steps" ∷ arch.now ∷ []
+IsCommand words (Widened arch) = words ≡ codes "widened" ∷ arch.now ∷ []
+IsCommand words (Lint arch) = words ≡ codes "lint" ∷ arch.now ∷ []
+IsCommand words (Explain arch file name) = words ≡ codes "explain" ∷ arch.now ∷ file.now ∷ name.now ∷ []
 IsCommand words (Record arch call arguments) = IsRecordAsked words arch.now call.now arguments

@@ -16,6 +16,12 @@ pub enum ToolError {
     NoFilter(String),
     /// The architecture has no call of this name or number.
     UnknownCall(String, TargetArch),
+    /// The records end inside a record, after so many bytes of it, from 1 to 63.
+    ShortRecord(usize),
+    /// The records can't be read.
+    Read(io::Error),
+    /// The policy has a fault that has a place; the text tells the place, what stands there and what may.
+    Fault(String),
     /// The output can't be written; how much of it went out is not known.
     Write(io::Error),
     /// A growth of memory was refused, or reading failed for want of memory.
@@ -35,6 +41,14 @@ impl fmt::Display for ToolError {
             ToolError::UnknownCall(call, arch) => {
                 write!(f, "No call of {arch} has this name or number: {call}.")
             }
+            ToolError::ShortRecord(rest) => {
+                write!(
+                    f,
+                    "The input ends inside a record, after {rest} bytes of it."
+                )
+            }
+            ToolError::Read(_) => f.write_str("Error reading input."),
+            ToolError::Fault(told) => f.write_str(told.as_str()),
             ToolError::Write(_) => f.write_str("Error writing output."),
             ToolError::OutOfMemory => f.write_str("Out of memory."),
         }

@@ -3,13 +3,18 @@
 
 mod carry_out;
 mod error;
+mod explain;
+mod lint;
 mod numbers;
 mod policy;
 mod raw;
 mod record;
 mod send;
+mod show;
+mod steps;
 #[cfg(test)]
 mod tests;
+mod widened;
 mod words;
 
 use crate::carry_out::{answered, carry_out};

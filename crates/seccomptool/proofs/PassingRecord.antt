@@ -1,0 +1,25 @@
+-- For `steps`: what stands in the passing record.
+use Rattle.std.proofs.Common.{◌≡◌, ◌^◌, ◌-◌, ◌<◌, true, nat_lt, refl}
+use Rattle.std.proofs.lemmas.List.Elements.{All-weaker}
+use Rattle.std.proofs.lemmas.List.Sums.{AllPass-from_list_all}
+use borrow.Author.Tests.{ltb-true}
+use Rattle.seccompiler.specs.declared.backend.TargetArch.{TargetArch}
+use Rattle.seccompiler.specs.declared.backend.TargetArch.TheVariants.{x86_64, aarch64, riscv64}
+use Rattle.seccompiler.specs.Action.{audit_word}
+use Rattle.seccompiler.specs.Record.{IsRecord, word_at}
+use Rattle.seccomptool.specs.Steps.{passing_record}
+
+pub is_record : (target : TargetArch) → IsRecord (passing_record target)
+is_record x86_64 = record { long = refl; bytes = All-weaker (λ b. nat_lt b 256 ≡ true) (λ b. b < 256) (λ b less. ltb-true b 256 less) (passing_record x86_64) (AllPass-from_list_all (λ b. nat_lt b 256) (passing_record x86_64) refl) }
+is_record aarch64 = record { long = refl; bytes = All-weaker (λ b. nat_lt b 256 ≡ true) (λ b. b < 256) (λ b less. ltb-true b 256 less) (passing_record aarch64) (AllPass-from_list_all (λ b. nat_lt b 256) (passing_record aarch64) refl) }
+is_record riscv64 = record { long = refl; bytes = All-weaker (λ b. nat_lt b 256 ≡ true) (λ b. b < 256) (λ b less. ltb-true b 256 less) (passing_record riscv64) (AllPass-from_list_all (λ b. nat_lt b 256) (passing_record riscv64) refl) }
+
+pub its_number : (target : TargetArch) → word_at (passing_record target) 0 ≡ 2 ^ 32 - 1
+its_number x86_64 = refl
+its_number aarch64 = refl
+its_number riscv64 = refl
+
+pub its_word : (target : TargetArch) → word_at (passing_record target) 4 ≡ audit_word target
+its_word x86_64 = refl
+its_word aarch64 = refl
+its_word riscv64 = refl

@@ -1,0 +1,37 @@
+use Rattle.std.proofs.Common.{Some, subst}
+use Rattle.std.specs.BTreeMap.{get_by_text}
+use Rattle.std.proofs.lemmas.Result.{err_from_is_err_and}
+use Rattle.seccompiler.specs.JsonAnswers.{OfValue}
+use Rattle.seccompiler.specs.JsonPrograms.{AreProgramsOf, TellsFirstFault}
+use Rattle.seccompiler.specs.Reads.{Reads}
+use Rattle.seccomptool.proofs.Faults.{policy_refused}
+use Rattle.seccomptool.proofs.UsableFilters.{reads_on, policy_unread, filters_read, filters_unread}
+use Rattle.seccomptool.proofs.explain.filters.usable_filters.Goals as goal
+
+pub returns-in_err-text-clause-refused : goal.returns-in_err-text-clause-refused
+returns-in_err-text-clause-refused g c = λ arch named.
+    let error = err_from_is_err_and c.from_residual.result c.from_residual.ensures.1 in
+    rw (error.1, error.2) (policy_unread arch (g.P.Read.remaining c.args.policy) c.args.target c.in_err-text.field-0.0 named c.in_err-text.ensures.cause)
+
+pub returns-in_err-compile_from_json_in_order-clause-refused : goal.returns-in_err-compile_from_json_in_order-clause-refused
+returns-in_err-compile_from_json_in_order-clause-refused g c = λ arch named.
+    let error = err_from_is_err_and c.from_residual-in_err-compile_from_json_in_order.result c.from_residual-in_err-compile_from_json_in_order.ensures.1 in
+    let fault = c.in_err-compile_from_json_in_order.ensures in
+    let refusal = c.in_err-compile_from_json_in_order.field-0.0 in
+    let known = g.P.Read.remaining c.args.policy in
+    let told = subst (λ items. Reads (Some items) (λ text. TellsFirstFault c.args.target text refusal)) c.as_slice.ensures.value fault.fault in
+    rw (error.1, error.2) (policy_refused arch known c.args.target refusal named fault.memory (reads_on known c.in_ok-text.text.items (λ text. TellsFirstFault c.args.target text refusal) c.in_ok-text.ensures.text told))
+
+pub returns-clause-filters : goal.returns-clause-filters
+returns-clause-filters g c =
+    let find = get_by_text c.in_ok-compile_from_json_in_order.field-0 in
+    let compiled = subst (λ items. Reads (Some items) (λ text. OfValue text (AreProgramsOf c.args.target find))) c.as_slice.ensures.value c.in_ok-compile_from_json_in_order.ensures.programs in
+    filters_read (g.P.Read.remaining c.args.policy) c.in_ok-text.text.items c.args.target find c.in_ok-text.ensures.text compiled c.filters_in.result
+    (rw c.as_slice-2.ensures.value at c.filters_in.ensures.filters) c.filters_in.ensures.one_filter
+
+pub returns-clause-refused : goal.returns-clause-refused
+returns-clause-refused g c = λ arch named.
+    let find = get_by_text c.in_ok-compile_from_json_in_order.field-0 in
+    let compiled = subst (λ items. Reads (Some items) (λ text. OfValue text (AreProgramsOf c.args.target find))) c.as_slice.ensures.value c.in_ok-compile_from_json_in_order.ensures.programs in
+    filters_unread (g.P.Read.remaining c.args.policy) c.in_ok-text.text.items c.args.target find c.in_ok-text.ensures.text compiled arch c.filters_in.result
+    (rw c.as_slice-2.ensures.value at c.filters_in.ensures.refused)

@@ -1,0 +1,6 @@
+use Rattle.std.proofs.Common.{take}
+use Rattle.seccomptool.specs.ExplainLines.{AreLines}
+use Rattle.seccomptool.proofs.explain.lines.lines.Given as goal
+
+abbrev pub invariant-records : goal.invariant-records
+invariant-records l = AreLines l.target l.filter l.policy (take l.record-index l.records) l.text.items

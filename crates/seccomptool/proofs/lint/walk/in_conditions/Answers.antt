@@ -1,0 +1,14 @@
+use Rattle.std.proofs.Common.{◌≡◌, Some, subst, rules}
+use Rattle.serde_json.specs.Find.{get_item}
+use Rattle.serde_json.specs.View.{view, items_view}
+use Rattle.seccomptool.proofs.LintValues.{item_there}
+use Rattle.seccomptool.proofs.lint.walk.in_conditions.Goals as goal
+
+pub returns-in_err-under_item : goal.returns-in_err-under_item
+returns-in_err-under_item c =
+    let place = c.loop-place.place in
+    let item = c.item-item.result in
+    let here = item_there c.deref-item-items.result.now place item c.loop-place-test.true c.item-item.is in
+    let there = subst (λ vs. get_item place (items_view vs) ≡ Some (view item)) c.deref-item-items.ensures.value here in
+    let told = c.under_item.ensures.led c.args.cause (items_view c.args.items.now.items) (view item) there c.in_condition.ensures.found in
+    record { found = search (rules, told) }

@@ -1,0 +1,10 @@
+use Rattle.serde_json.specs.Data.{array}
+use Rattle.serde_json.specs.View.{view, items_view}
+use Rattle.seccomptool.proofs.LintValues.{found_array}
+use Rattle.seccomptool.proofs.lint.walk.in_filter.Goals as goal
+
+pub returns-in-Some-Array : goal.returns-in-Some-Array
+returns-in-Some-Array c =
+    let at = c.in-Some-Array in
+    let there = found_array c.get.result at.field-0 at.items _ c.get.ensures at.is at.field-0-is in
+    record { found = c.under_key.ensures.led c.args.cause (view c.args.value.now) (array (items_view at.items.items)) there (rw at.items-is at c.in_entries.ensures.found) }

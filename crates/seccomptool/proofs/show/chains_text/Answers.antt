@@ -1,0 +1,37 @@
+use Rattle.std.proofs.Common.{◌≡◌, IfSome, Ok, sym, subst, ◌∙◌}
+use Rattle.std.proofs.lemmas.Result.{err_from_is_err_and}
+use Rattle.std.specs.BTreeMap.{get_by_text}
+use Rattle.seccompiler.specs.declared.backend.TargetArch.{TargetArch}
+use Rattle.seccompiler.specs.JsonAnswers.{IsValueOf}
+use Rattle.seccomptool.specs.Policies.{IsNameOf}
+use Rattle.seccomptool.proofs.Faults.{name_refused, name_is_text, text_is_policy}
+use Rattle.seccomptool.proofs.ShowAnswers.{policy_is_refused, given_refused, unread_refused, programs_shown}
+use Rattle.seccomptool.proofs.ShowNames.{by_text}
+use Rattle.seccomptool.proofs.show.chains_text.Goals as goal
+
+pub returns-in_err-target-clause-refused : goal.returns-in_err-target-clause-refused
+returns-in_err-target-clause-refused g c =
+    let error = err_from_is_err_and c.from_residual.result c.from_residual.ensures.1 in
+    let arch = c.args.arch.now in
+    let known = g.R.Read.remaining c.args.policy in
+    rw (error.1, error.2) (policy_is_refused arch known _ (text_is_policy arch known _ (name_is_text arch known _ (name_refused arch c.in_err-target.field-0.0 c.in_err-target.ensures.named c.in_err-target.ensures.refused))))
+
+pub returns-in_err-bytes-clause-refused : goal.returns-in_err-bytes-clause-refused
+returns-in_err-bytes-clause-refused g c =
+    let error = err_from_is_err_and c.from_residual-in_err-bytes.result c.from_residual-in_err-bytes.ensures.1 in
+    rw (error.1, error.2) (unread_refused c.args.arch.now (g.R.Read.remaining c.args.policy) c.in_ok-target.target _ c.in_ok-target.ensures.read c.in_err-bytes.ensures.refused)
+
+pub returns-in_err-programs-clause-refused : goal.returns-in_err-programs-clause-refused
+returns-in_err-programs-clause-refused g c =
+    let error = err_from_is_err_and c.from_residual-in_err-programs.result c.from_residual-in_err-programs.ensures.1 in
+    let gives = subst (λ b. IfSome (g.R.Read.remaining c.args.policy) (λ k. b ≡ k)) (sym c.as_slice.ensures.value) c.in_ok-bytes.ensures.bytes in
+    rw (error.1, error.2) (given_refused c.args.arch.now (g.R.Read.remaining c.args.policy) c.as_slice.result.now _ gives c.in_err-programs.ensures.refused)
+
+pub returns-clause-shown : goal.returns-clause-shown
+returns-clause-shown g c =
+    let programs = c.in_ok-programs.programs in
+    let only : (other : TargetArch) → IsNameOf c.args.arch.now other → c.in_ok-target.target ≡ other = λ other named. let same = c.in_ok-target.ensures.named other named in cc in
+    let gives = subst (λ b. IfSome (g.R.Read.remaining c.args.policy) (λ k. b ≡ k)) (sym c.as_slice.ensures.value) c.in_ok-bytes.ensures.bytes in
+    let same_text : c.as_slice-2.result.now ≡ c.as_slice.result.now = c.as_slice-2.ensures.value ∙ sym c.as_slice.ensures.value in
+    programs_shown c.args.arch.now (g.R.Read.remaining c.args.policy) c.in_ok-target.target only c.as_slice.result.now gives (get_by_text programs) (get_by_text c.in_ok-filters.filters.0) programs.entries c.in_ok-listing.field-0.items
+    c.in_ok-programs.ensures.programs (λ d is. c.in_ok-filters.ensures d (subst (λ t. IsValueOf t d) (sym same_text) is)) (λ name. sym (by_text name programs.entries)) c.in_ok-listing.ensures.ordered c.in_ok-listing.ensures.texts

@@ -1,0 +1,112 @@
+-- What `show` answers and writes: programs, for people.
+use Rattle.std.specs.Prelude.{◌≡◌, ◌≢◌, ℕ, List, [], ◌∷◌, All, Contains, map, Option, Result, Ok, Err, ⊤}
+use Rattle.std.specs.Cmp.Lexicographic.{slice_cmp}
+use Rattle.std.specs.Io.KnownBytes.{Appends}
+use Rattle.std.specs.List.{concat}
+use Rattle.std.specs.List.Sorted.{IsStrictlySortedBy}
+use Rattle.std.specs.Ordering.{nat_cmp}
+use Rattle.serde_json.specs.Data.{Data}
+use Rattle.seccompiler.specs.declared.backend.BackendError.{BackendError}
+use Rattle.seccompiler.specs.declared.backend.BackendError.TheVariants as backend
+use Rattle.seccompiler.specs.declared.backend.TargetArch.{TargetArch}
+use Rattle.seccompiler.specs.declared.bpf.sock_filter.{sock_filter}
+use Rattle.seccompiler.specs.declared.error.Error.{Error}
+use Rattle.seccompiler.specs.declared.error.Error.TheVariants as library
+use Rattle.seccompiler.specs.JsonFilters.{AreAll, IsLeast}
+use Rattle.seccompiler.specs.JsonAnswers.{HasSomePolicy}
+use Rattle.seccompiler.specs.JsonShape.{Has, Under, IsFilter}
+use Rattle.seccompiler.specs.JsonTypes.{JsonFilter}
+use Rattle.seccompiler.specs.Texts.{arch_text}
+use Rattle.seccomptool.specs.declared.error.ToolError.{ToolError}
+use Rattle.seccomptool.specs.declared.error.ToolError.TheVariants.{Library, Write, OutOfMemory}
+use Rattle.seccomptool.specs.declared.words.Layout.{Layout}
+use Rattle.seccomptool.specs.declared.words.Layout.TheVariants.{Chains, Tree}
+use Rattle.seccomptool.specs.Policies.{OfPolicy, IsPolicyFault, IsTextFault}
+use Rattle.seccomptool.specs.Raw.{HasProgram, HasSomeProgram, HasNoTree}
+use Rattle.seccomptool.specs.ShowLabels.{program_labels}
+use Rattle.seccomptool.specs.ShowText.{text_of}
+
+-- The labels of the guard in front of each program: its second instruction tests the architecture.
+abbrev pub guard_labels : TargetArch → List (List ℕ)
+guard_labels target = [] ∷ arch_text target ∷ []
+
+-- A program with its name, which is given by its bytes.
+abbrev pub NamedProgram : Type 0
+NamedProgram = List ℕ × List sock_filter
+
+-- The text of one whose places have these labels.
+abbrev pub shown : List (List ℕ) → NamedProgram → List ℕ
+shown labels p = text_of labels p.0 p.1
+
+-- The text is, for each name of the value in byte order, that of a tree of the name's policy, of which the guard has labels.
+pub record AreTreesShown (target : TargetArch) (d : Data) (text : List ℕ) : Type 0 where
+  pub programs : List NamedProgram
+  pub ordered : IsStrictlySortedBy (slice_cmp nat_cmp) (map (λ p. p.0) programs)
+  pub each : All (λ p. Under d p.0 (λ value. HasProgram Tree target value p.1)) programs
+  pub complete : (name : List ℕ) (value : Data) → Has d name value → Contains (map (λ p. p.0) programs) name
+  pub texts : text ≡ concat (map (shown (guard_labels target)) programs)
+
+-- A program with its name and the labels of its places.
+abbrev pub LabelledProgram : Type 0
+LabelledProgram = List ℕ × List (List ℕ) × List sock_filter
+
+-- The text of one.
+abbrev pub labelled_text : LabelledProgram → List ℕ
+labelled_text p = text_of p.1 p.0 p.2
+
+-- The program is compiled for the value's policy, and the labels are those of the value's entries.
+pub record IsLabelledFor (target : TargetArch) (value : Data) (labels : List (List ℕ)) (program : List sock_filter) : Type 0 where
+  pub compiled : HasProgram Chains target value program
+  pub json : JsonFilter
+  pub is_filter : IsFilter value json
+  pub labelled : labels ≡ program_labels target json.rules
+
+-- The text is, for each name of the value in byte order, that of a program that is compiled for the name's policy, whose
+-- places have the labels of the filter's entries.
+pub record AreChainsShown (target : TargetArch) (d : Data) (text : List ℕ) : Type 0 where
+  pub programs : List LabelledProgram
+  pub ordered : IsStrictlySortedBy (slice_cmp nat_cmp) (map (λ p. p.0) programs)
+  pub each : All (λ p. Under d p.0 (λ value. IsLabelledFor target value p.1 p.2)) programs
+  pub complete : (name : List ℕ) (value : Data) → Has d name value → Contains (map (λ p. p.0) programs) name
+  pub texts : text ≡ concat (map labelled_text programs)
+
+-- The text is that of the value's programs in this layout.
+abbrev pub IsShown : Layout → TargetArch → Data → List ℕ → Type 0
+IsShown Chains target d text = AreChainsShown target d text
+IsShown Tree target d text = AreTreesShown target d text
+
+-- Nothing is at fault: the value is an object, and each value in it has a program in this layout. P holds of both.
+abbrev pub AreCompiled : Layout → List ℕ → Option (List ℕ) → (TargetArch → Data → Type 0) → Type 0
+AreCompiled layout arch known P = OfPolicy arch known (λ target d. AreAll (HasSomeProgram layout target) d × P target d)
+
+-- What is written grew by the text of all programs of the value.
+pub record WritesPrograms (layout : Layout) (old new : Option (List ℕ)) (target : TargetArch) (d : Data) : Type 0 where
+  pub text : List ℕ
+  pub is_shown : IsShown layout target d text
+  pub appends : Appends old new text
+
+-- All values have policies; the policy of this name has no tree, for this cause, and each value of a name below it has
+-- one.
+abbrev pub IsLeastTreeless : BackendError → TargetArch → Data → Type 0
+IsLeastTreeless cause target d = AreAll (HasSomePolicy target) d × (name : List ℕ) × IsLeast (HasNoTree cause target) (HasSomeProgram Tree target) d name
+
+-- The first fault of the architecture's name, of the policy's text, and of the trees that are made of it.
+pub data IsTreesFault (arch : List ℕ) (known : Option (List ℕ)) (e : Error) : Type 0 where
+  of_text : IsTextFault arch known e → IsTreesFault arch known e
+  of_tree : (cause : BackendError) → cause ≢ backend.OutOfMemory → e ≡ library.Backend cause
+      → OfPolicy arch known (IsLeastTreeless cause) → IsTreesFault arch known e
+
+-- The error is the first fault.
+abbrev pub IsFault : Layout → List ℕ → Option (List ℕ) → Error → Type 0
+IsFault Chains arch known e = IsPolicyFault arch known e
+IsFault Tree arch known e = IsTreesFault arch known e
+
+-- The answer of `show`: the first fault, in this order: of the architecture's name and of the policy's text; of a
+-- program; and then that writing fails. It is Ok only where nothing is at fault, and the text of all programs is
+-- written. Want of memory may come in place of all.
+abbrev pub AnswersShow : List ℕ → Option (List ℕ) → Layout → Result ⊤ ToolError → Option (List ℕ) → Option (List ℕ) → Type 0
+AnswersShow arch known layout (Ok done) old new = AreCompiled layout arch known (WritesPrograms layout old new)
+AnswersShow arch known layout (Err (Library e)) old new = IsFault layout arch known e
+AnswersShow arch known layout (Err (Write e)) old new = AreCompiled layout arch known (λ target d. ⊤)
+AnswersShow arch known layout (Err OutOfMemory) old new = ⊤
+AnswersShow arch known layout (Err e) old new = ⊥

@@ -1,0 +1,285 @@
+// The search for a policy's first fault of a kind.
+
+ghost use Rattle.std.specs.Prelude.{◌≡◌, ◌↔◌, Contains, IsTrue, IfErr, IfOk, OnOk, string_bytes};
+ghost use Rattle.serde_json.specs.Data.{Data, array, object};
+ghost use Rattle.serde_json.specs.View.{view, items_view, members_view};
+ghost use Rattle.seccompiler.specs.JsonShape.{Has, HasOnly};
+ghost use Rattle.seccomptool.specs.declared.lint.fault.Cause.TheVariants as cause;
+ghost use Rattle.seccomptool.specs.LintFaults.{array_text, Tells, IsAllowed, IsShown, cause_of_expected, keys_of};
+
+use crate::lint::allowed::{is_allowed, is_among, one_action};
+use crate::lint::fault::{Cause, Expected, Finding, Kind, Problem, refuse, under_item, under_key};
+use crate::lint::length::in_lengths;
+use serde_json::Value;
+use serde_json::value::Map;
+use std::alloc::{AllocError, Global};
+
+// The text that tells an array of this many values.
+fn array_shown(alloc: Global, length: usize) -> Result<String, AllocError>
+    ensures { IfOk result (λ text. string_bytes text ≡ array_text length) }
+{
+    if length == 0 {
+        String::from_str(alloc, "an empty array")
+    } else if length == 1 {
+        String::from_str(alloc, "an array of 1 value")
+    } else {
+        format!(in alloc; "an array of {length} values")
+    }
+}
+
+// The text that tells a value.
+fn shown(alloc: Global, value: &Value) -> Result<String, AllocError>
+    ensures { IfOk result (λ text. IsShown (view value.now) (string_bytes text)) }
+{
+    match value {
+        Value::Object(_) => String::from_str(alloc, "an object"),
+        Value::Array(items) => array_shown(alloc, items.len()),
+        Value::Null | Value::Bool(_) | Value::Number(_) | Value::String(_) => {
+            value.to_string(alloc)
+        }
+    }
+}
+
+// That the value may stand there.
+fn check(alloc: Global, expected: Expected, value: &Value) -> Result<(), Finding>
+    ensures found { IfErr result (Tells (cause_of_expected expected) (view value.now)) }
+    ensures fine { OnOk result (IsAllowed expected (view value.now)) }
+{
+    if is_allowed(expected, value) {
+        return Ok(());
+    }
+    refuse(alloc, Problem::Stands(shown(alloc, value)?, expected))
+}
+
+// That what stands under the name, if anything, may stand there.
+fn check_key(alloc: Global, key: &str, expected: Expected, value: &Value) -> Result<(), Finding>
+    ensures found { IfErr result (Tells (cause_of_expected expected) (view value.now)) }
+    ensures fine { OnOk result ((inner : Data) → Has (view value.now) key.now inner → IsAllowed expected inner) }
+{
+    match value.get(key) {
+        Some(inner) => under_key(alloc, key, check(alloc, expected, inner)),
+        None => Ok(()),
+    }
+}
+
+// That the value has this name.
+fn check_there(alloc: Global, key: &'static str, value: &Value) -> Result<(), Finding>
+    ensures found { IfErr result (Tells cause.Shape (view value.now)) }
+    ensures fine { OnOk result ((inner : Data) × Has (view value.now) key.now inner) }
+{
+    match value.get(key) {
+        Some(_) => Ok(()),
+        None => refuse(alloc, Problem::Missing(key)),
+    }
+}
+
+// That the value has exactly one of two names, and an action there.
+fn check_action(
+    alloc: Global,
+    key: &'static str,
+    other: &'static str,
+    value: &Value,
+) -> Result<(), Finding>
+    ensures found { IfErr result (Tells cause.Shape (view value.now)) }
+{
+    match (value.get(key), value.get(other)) {
+        (Some(_), Some(_)) => refuse(alloc, Problem::Both(key, other)),
+        (None, None) => refuse(alloc, Problem::Neither(key, other)),
+        (Some(_), None) => check_key(alloc, key, Expected::Action, value),
+        (None, Some(_)) => check_key(alloc, other, Expected::Action, value),
+    }
+}
+
+const FILTER_KEYS: [&str; 5] = [
+    "mismatch_action",
+    "default_action",
+    "match_action",
+    "filter_action",
+    "filter",
+];
+
+const ENTRY_KEYS: [&str; 3] = ["syscall", "args", "comment"];
+
+const CONDITION_KEYS: [&str; 5] = ["index", "type", "op", "val", "comment"];
+
+// Whether an object of this kind may have the name.
+fn is_key(kind: Kind, name: &str) -> bool
+    ensures { IsTrue result ↔ Contains (keys_of kind) name.now }
+{
+    match kind {
+        Kind::Filter => is_among(name, &FILTER_KEYS),
+        Kind::Entry => is_among(name, &ENTRY_KEYS),
+        Kind::Condition => is_among(name, &CONDITION_KEYS),
+    }
+}
+
+// That the object has no names but those of its kind.
+fn check_keys(alloc: Global, kind: Kind, members: &Map<String, Value>) -> Result<(), Finding>
+    ensures found { IfErr result (Tells cause.Shape (object (members_view members.now.entries))) }
+{
+    for (name, _) in members.iter() {
+        if !is_key(kind, name.as_str()) {
+            let name = String::from_str(alloc, name.as_str())?;
+            return refuse(alloc, Problem::Strange(name, kind));
+        }
+    }
+    Ok(())
+}
+
+// That the value is an object, with no names but those of its kind.
+fn check_object(alloc: Global, expected: Expected, kind: Kind, value: &Value) -> Result<(), Finding>
+    ensures found { cause_of_expected expected ≡ cause.Shape → IfErr result (Tells cause.Shape (view value.now)) }
+{
+    check(alloc, expected, value)?;
+    match value {
+        Value::Object(members) => check_keys(alloc, kind, members),
+        _ => Ok(()),
+    }
+}
+
+// That the condition is made as it has to be.
+fn check_condition(alloc: Global, value: &Value) -> Result<(), Finding>
+    ensures found { IfErr result (Tells cause.Shape (view value.now)) }
+{
+    check_object(alloc, Expected::Condition, Kind::Condition, value)?;
+    check_key(alloc, "comment", Expected::Comment, value)?;
+    check_there(alloc, "index", value)?;
+    check_key(alloc, "index", Expected::Index, value)?;
+    check_there(alloc, "type", value)?;
+    check_key(alloc, "type", Expected::Length, value)?;
+    check_there(alloc, "op", value)?;
+    check_key(alloc, "op", Expected::Operator, value)?;
+    check_there(alloc, "val", value)?;
+    check_key(alloc, "val", Expected::Number, value)
+}
+
+// That the entry is made as it has to be, but for its conditions.
+fn check_entry(alloc: Global, value: &Value) -> Result<(), Finding>
+    ensures found { IfErr result (Tells cause.Shape (view value.now)) }
+{
+    check_object(alloc, Expected::Entry, Kind::Entry, value)?;
+    check_key(alloc, "comment", Expected::Comment, value)?;
+    check_there(alloc, "syscall", value)?;
+    check_key(alloc, "syscall", Expected::Name, value)?;
+    check_key(alloc, "args", Expected::Conditions, value)
+}
+
+// That the filter is made as it has to be, but for its entries.
+fn check_filter(alloc: Global, value: &Value) -> Result<(), Finding>
+    ensures found { IfErr result (Tells cause.Shape (view value.now)) }
+{
+    check_object(alloc, Expected::Filter, Kind::Filter, value)?;
+    check_action(alloc, "mismatch_action", "default_action", value)?;
+    check_action(alloc, "match_action", "filter_action", value)?;
+    check_there(alloc, "filter", value)?;
+    check_key(alloc, "filter", Expected::Entries, value)
+}
+
+// That the filter's actions differ.
+fn check_actions(alloc: Global, value: &Value) -> Result<(), Finding>
+    ensures found { IfErr result (Tells cause.Actions (view value.now)) }
+{
+    let mismatch = one_action(value.get("mismatch_action"), value.get("default_action"));
+    let matching = one_action(value.get("match_action"), value.get("filter_action"));
+    match (mismatch, matching) {
+        (Some(mismatch), Some(matching)) if mismatch == matching => {
+            refuse(alloc, Problem::SameActions)
+        }
+        _ => Ok(()),
+    }
+}
+
+// The first fault of this kind in a condition.
+fn in_condition(alloc: Global, cause: Cause, value: &Value) -> Result<(), Finding>
+    ensures found { IfErr result (Tells cause (view value.now)) }
+{
+    match cause {
+        Cause::Shape => check_condition(alloc, value),
+        Cause::Argument => check_key(alloc, "index", Expected::Argument, value),
+        _ => Ok(()),
+    }
+}
+
+fn in_conditions(alloc: Global, cause: Cause, items: &Vec<Value>) -> Result<(), Finding>
+    ensures found { IfErr result (Tells cause (array (items_view items.now.items))) }
+{
+    for (place, item) in items.iter().enumerate() {
+        under_item(place, in_condition(alloc, cause, item))?;
+    }
+    Ok(())
+}
+
+// The first fault of this kind in an entry itself.
+fn in_entry_itself(alloc: Global, cause: Cause, value: &Value) -> Result<(), Finding>
+    ensures found { IfErr result (Tells cause (view value.now)) }
+{
+    match cause {
+        Cause::Shape => check_entry(alloc, value),
+        Cause::Call(target) => check_key(alloc, "syscall", Expected::Call(target), value),
+        Cause::Empty => check_key(alloc, "args", Expected::SomeConditions, value),
+        _ => Ok(()),
+    }
+}
+
+fn in_entry(alloc: Global, cause: Cause, value: &Value) -> Result<(), Finding>
+    ensures found { IfErr result (Tells cause (view value.now)) }
+{
+    in_entry_itself(alloc, cause, value)?;
+    match value.get("args") {
+        Some(Value::Array(items)) => {
+            under_key(alloc, "args", in_conditions(alloc, cause, items))
+        }
+        _ => Ok(()),
+    }
+}
+
+fn in_entries(alloc: Global, cause: Cause, items: &Vec<Value>) -> Result<(), Finding>
+    ensures found { IfErr result (Tells cause (array (items_view items.now.items))) }
+{
+    for (place, item) in items.iter().enumerate() {
+        under_item(place, in_entry(alloc, cause, item))?;
+    }
+    Ok(())
+}
+
+// The first fault of this kind in a filter itself.
+fn in_filter_itself(alloc: Global, cause: Cause, value: &Value) -> Result<(), Finding>
+    ensures found { IfErr result (Tells cause (view value.now)) }
+{
+    match cause {
+        Cause::Shape => check_filter(alloc, value),
+        Cause::Actions => check_actions(alloc, value),
+        _ => Ok(()),
+    }
+}
+
+fn in_filter(alloc: Global, cause: Cause, value: &Value) -> Result<(), Finding>
+    ensures found { IfErr result (Tells cause (view value.now)) }
+{
+    in_filter_itself(alloc, cause, value)?;
+    match value.get("filter") {
+        Some(Value::Array(items)) => { under_key(alloc, "filter", in_entries(alloc, cause, items)) }
+        _ => Ok(()),
+    }
+}
+
+fn in_filters(alloc: Global, cause: Cause, members: &Map<String, Value>) -> Result<(), Finding>
+    ensures found { IfErr result (Tells cause (object (members_view members.now.entries))) }
+{
+    for (name, value) in members.iter() {
+        under_key(alloc, name.as_str(), in_filter(alloc, cause, value))?;
+    }
+    Ok(())
+}
+
+// The first fault of this kind in a policy.
+pub(crate) fn in_policy(alloc: Global, cause: Cause, value: &Value) -> Result<(), Finding>
+    ensures found { IfErr result (Tells cause (view value.now)) }
+{
+    match (cause, value) {
+        (Cause::Top, _) => check(alloc, Expected::Filters, value),
+        (Cause::Length(target), _) => in_lengths(alloc, target, value),
+        (_, Value::Object(members)) => in_filters(alloc, cause, members),
+        _ => Ok(()),
+    }
+}

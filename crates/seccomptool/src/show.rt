@@ -1,0 +1,129 @@
+// The programs of a policy, for people.
+
+mod instruction;
+mod labels;
+mod listing;
+mod text;
+
+ghost use Rattle.std.specs.Prelude.{◌≡◌, IfOk, IfErr, IfSome};
+ghost use Rattle.serde_json.specs.Data.{Data};
+ghost use Rattle.seccompiler.specs.JsonAnswers.{IsValueOf};
+ghost use Rattle.seccompiler.specs.JsonSteps.{AreFilters};
+ghost use Rattle.seccomptool.specs.Errors.{KeepsOutput};
+ghost use Rattle.seccomptool.specs.Show.{AnswersShow, AreCompiled, IsShown};
+ghost use Rattle.seccomptool.specs.ShowTrees.{IsRefused, IsUnread};
+ghost use Rattle.seccomptool.specs.declared.words.Layout.TheVariants.{Chains, Tree};
+
+use crate::error::ToolError;
+use crate::policy::{filters, programs};
+use crate::send::send;
+use crate::show::listing::{guard_labels, listing, trees};
+use crate::words::Layout;
+use seccompiler::json::read_filters;
+use seccompiler::{JsonFilterMap, JsonFrontendError, TargetArch};
+use serde_json::Value;
+use std::alloc::{AllocError, Global};
+use std::io::{ErrorKind, Read, Write};
+
+/// Writes the programs of a policy's filters for people, in byte order of the filters' names.
+///
+/// For each filter come a line `filter LENGTH NAME`, as `seccompc list` has it, and a line for each
+/// instruction: its place in decimal, filled with spaces in front up to 4 bytes; two spaces; and the
+/// instruction in the words of `bpf_asm`, in which jumps tell the places that they lead to. Where a
+/// note stands beside them, the words are filled with spaces up to 28 bytes, and `; ` stands in front
+/// of the note. It says which architecture the second instruction tests, what a load gets of the
+/// record, and which action a returned word stands for. In the layout of chains it says first which
+/// call, rule and condition the instruction belongs to, by the lengths that these have: rules and
+/// conditions are numbered from 0, in the policy's order, and a call has the name of its first entry.
+/// All is written at once.
+///
+/// The policy's text is what its reader gives; of a reader whose type doesn't tell its bytes, as that
+/// of standard input, the contract says that there is such a text.
+///
+/// # Errors
+///
+/// The first of these: `Library` with `InvalidTargetArch` and the text as it was given where `arch` is
+/// no architecture's name, ASCII case aside; `Library` with what the library refuses of the policy,
+/// `JsonFrontend(Read)` among it where the reader fails, and then with `FilterTooLarge` of the least
+/// name whose program would have more than 4096 instructions in this layout; `Write` where the writer
+/// fails. `OutOfMemory` comes in place of any of these where memory is refused, and where the reader
+/// fails for want of memory. On any error but `Write` nothing is written.
+pub fn show<R: Read + Drop, W: Write>(
+    alloc: Global,
+    arch: &str,
+    layout: Layout,
+    policy: R,
+    out: &mut W,
+) -> Result<(), ToolError>
+    // When each answer comes, and what is written.
+    ensures answers { AnswersShow arch.now (R.remaining policy) layout result (W.contents out.old) (W.contents out.new) }
+    ensures unwritten { IfErr result (λ e. KeepsOutput e out.old out.new) }
+{
+    let text = text_in(alloc, arch, layout, policy)?;
+    send(out, &text)
+}
+
+// The text of the programs in this layout.
+fn text_in<R: Read + Drop>(
+    alloc: Global,
+    arch: &str,
+    layout: Layout,
+    policy: R,
+) -> Result<Vec<u8>, ToolError>
+    ensures shown { IfOk result (λ text. AreCompiled layout arch.now (R.remaining policy) (λ target d. IsShown layout target d text.items)) }
+    ensures refused { IfErr result (IsRefused layout arch.now (R.remaining policy)) }
+{
+    match layout {
+        Layout::Chains => chains_text(alloc, arch, policy),
+        Layout::Tree => trees_text(alloc, arch, policy),
+    }
+}
+
+// The text of the programs in the layout of chains.
+fn chains_text<R: Read + Drop>(alloc: Global, arch: &str, policy: R) -> Result<Vec<u8>, ToolError>
+    ensures shown { IfOk result (λ text. AreCompiled Chains arch.now (R.remaining policy) (λ target d. IsShown Chains target d text.items)) }
+    ensures refused { IfErr result (IsRefused Chains arch.now (R.remaining policy)) }
+{
+    let target = TargetArch::from_text(alloc, arch)?;
+    let bytes = read_all(alloc, policy)?;
+    let programs = programs(alloc, arch, bytes.as_slice())?;
+    let filters = json_filters(alloc, bytes.as_slice())?;
+    Ok(listing(alloc, target, &programs, &filters)?)
+}
+
+// All that a reader gives.
+fn read_all<R: Read + Drop>(alloc: Global, mut policy: R) -> Result<Vec<u8>, ToolError>
+    ensures bytes { IfOk result (λ bytes. IfSome (R.remaining policy) (λ known. bytes.items ≡ known)) }
+    ensures refused { IfErr result IsUnread }
+{
+    let mut bytes = Vec::new(alloc);
+    match policy.read_to_end(&mut bytes) {
+        Ok(_) => Ok(bytes),
+        Err(error) if error.kind() == ErrorKind::OutOfMemory => Err(ToolError::OutOfMemory),
+        Err(error) => Err(JsonFrontendError::Read(error).into()),
+    }
+}
+
+// The JSON filters of a text that the library takes: only memory can be wanting.
+fn json_filters(alloc: Global, text: &[u8]) -> Result<JsonFilterMap, AllocError>
+    ensures { IfOk result (λ filters. (d : Data) → IsValueOf text.now d → AreFilters d filters) }
+{
+    let Ok(value) = Value::from_slice(alloc, text) else {
+        return Err(AllocError);
+    };
+    match read_filters(alloc, &value) {
+        Ok(filters) => Ok(filters),
+        Err(_) => Err(AllocError),
+    }
+}
+
+// The text of the programs in the layout of a tree.
+fn trees_text<R: Read + Drop>(alloc: Global, arch: &str, policy: R) -> Result<Vec<u8>, ToolError>
+    ensures shown { IfOk result (λ text. AreCompiled Tree arch.now (R.remaining policy) (λ target d. IsShown Tree target d text.items)) }
+    ensures refused { IfErr result (IsRefused Tree arch.now (R.remaining policy)) }
+{
+    let target = TargetArch::from_text(alloc, arch)?;
+    let filters = filters(alloc, arch, policy)?;
+    let labels = guard_labels(alloc, target)?;
+    Ok(trees(alloc, &labels, &filters)?)
+}

@@ -1,0 +1,92 @@
+// The texts of programs, one after the other.
+
+ghost use Rattle.std.specs.Prelude.{◌≡◌, ◌++◌, map, IfOk, IfErr, OnOk, string_bytes, string_cmp};
+ghost use Rattle.std.specs.BTreeMap as tree;
+ghost use Rattle.seccomptool.specs.Show.{guard_labels};
+ghost use Rattle.seccomptool.specs.ShowText.{label_in, text_of};
+ghost use Rattle.seccomptool.specs.ShowTrees.{AreLabelled, AreTrees, IsFirstTreeless};
+
+use crate::show::labels::labels;
+use crate::show::text::{push_header, push_line};
+use seccompiler::{
+    BackendError, BpfProgram, BpfProgramRef, JsonFilterMap, SeccompFilter, TargetArch,
+};
+use std::alloc::{AllocError, Global};
+use std::collections::BTreeMap;
+
+// The texts of programs whose places have the labels of their filters' entries.
+pub(crate) fn listing(
+    alloc: Global,
+    target: TargetArch,
+    programs: &BTreeMap<String, BpfProgram>,
+    filters: &JsonFilterMap,
+) -> Result<Vec<u8>, AllocError>
+    ensures texts { IfOk result (λ text. AreLabelled target (tree.get_by_text filters.now.0) programs.now.entries text.items) }
+    ensures ordered { tree.IsOrdered string_cmp programs.now }
+{
+    let mut text = Vec::new(alloc);
+    for (name, program) in programs {
+        // Each program is that of a filter.
+        let Some(filter) = filters.0.get(name.as_str()) else {
+            return Err(AllocError);
+        };
+        let labels = labels(alloc, target, filter.rules.as_slice())?;
+        push_program(alloc, &mut text, &labels, name.as_str(), program)?;
+    }
+    Ok(text)
+}
+
+// The texts of the trees of filters, whose places have these labels.
+pub(crate) fn trees(
+    alloc: Global,
+    labels: &[String],
+    filters: &BTreeMap<String, SeccompFilter>,
+) -> Result<Vec<u8>, BackendError>
+    ensures texts { IfOk result (λ text. AreTrees (map string_bytes labels.now) filters.now.entries text.items) }
+    ensures ordered { tree.IsOrdered string_cmp filters.now }
+    ensures refused { IfErr result (IsFirstTreeless filters.now.entries) }
+{
+    let mut text = Vec::new(alloc);
+    for (name, filter) in filters {
+        let program = filter.to_tree_bpf(alloc)?;
+        push_program(alloc, &mut text, labels, name.as_str(), &program)?;
+    }
+    Ok(text)
+}
+
+// Adds the text of a program whose places have these labels.
+fn push_program(
+    alloc: Global,
+    text: &mut Vec<u8>,
+    labels: &[String],
+    name: &str,
+    program: BpfProgramRef<'_>,
+) -> Result<(), AllocError>
+    ensures { OnOk result (text.new.items ≡ text.old.items ++ text_of (map string_bytes labels.now) name.now program.now) }
+{
+    push_header(alloc, text, program.len(), name)?;
+    for (place, instruction) in program.iter().enumerate() {
+        push_line(alloc, text, place, label_at(labels, place), instruction)?;
+    }
+    Ok(())
+}
+
+// The label of a place, which is empty where there is none.
+fn label_at(labels: &[String], place: usize) -> &str
+    ensures { result.now ≡ label_in (map string_bytes labels.now) place }
+{
+    match labels.get(place) {
+        Some(label) => label.as_str(),
+        None => "",
+    }
+}
+
+// The labels of the guard in front of each program.
+pub(crate) fn guard_labels(alloc: Global, target: TargetArch) -> Result<Vec<String>, AllocError>
+    ensures { IfOk result (λ labels. map string_bytes labels.items ≡ guard_labels target) }
+{
+    let mut labels = Vec::new(alloc);
+    labels.push(String::new(alloc))?;
+    labels.push(target.to_string(alloc)?)?;
+    Ok(labels)
+}

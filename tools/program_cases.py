@@ -1,0 +1,250 @@
+"""What the built programs are tried on by tools/check-documents, and what they have to do."""
+
+READ = {"index": 0, "type": "dword", "op": "eq", "val": 5}
+LOGS = {"match_action": "allow", "mismatch_action": "log", "filter": []}
+
+
+def reads(entry):
+    """Returns the policy of one filter, `a`, with this entry for the call `read`."""
+    entry = {"syscall": "read", **entry}
+    return {"a": {"mismatch_action": "trap", "match_action": "allow", "filter": [entry]}}
+
+
+# The files of the folder. A text or bytes stand as they are, anything else as JSON.
+FILES = {
+    "logs.json": {"a": LOGS},
+    "names.json": {"b": LOGS, "a\n\\": LOGS, "\u00b5": LOGS},
+    "no-filters.json": {},
+    "empty": "",
+    "no-json.json": "{1}",
+    "list.json": [],
+    "repeated.json": '{"a":{"x":1,"x":1}}',
+    "no-filter.json": {"a": {}},
+    "unknown-call.json": reads({"syscall": "nosyscall"}),
+    "no-conditions.json": reads({"args": []}),
+    "index.json": reads({"args": [{**READ, "index": 6}]}),
+    "equal-actions.json": {"a": {**LOGS, "match_action": "log"}},
+    "too-large.json": reads({"args": [READ] * 5000}),
+    "widened.json": {"a": {**LOGS, "filter": [
+        {"syscall": "read", "args": [READ]}, {"syscall": "close"}, {"syscall": "read"}]}},
+    "63-bytes": bytes(63),
+    "65-bytes": bytes(65),
+}
+
+# What `list` writes for the filter that logs each call, under a name; and what `run` writes for it on
+# the records of the examples, four of x86_64 and one of aarch64.
+LISTING = (
+    "filter 4 {}\n0020 00 00 00000004\n0015 01 00 c000003e\n0006 00 00 80000000\n"
+    "0006 00 00 7ffc0000\n"
+)
+LINES = "7ffc0000 3\n" * 4 + "80000000 3\n"
+PROBED = "7fff0000 10\n80000000 8\n80000000 10\n80000000 6\n80000000 3\n"
+
+USAGE = "usage: seccompc probe ARCH NR INDEX VALUE | list ARCH | run ARCH FILE NAME\n"
+FRONTEND = "Json Frontend error: "
+UNREAD = "Json Frontend error: Error reading Json.\n"
+UNOPENED = "Error opening the policy file.\n"
+UNWRITTEN = "Error writing output.\n"
+INDEX = "The seccomp rule contains an invalid argument index. Maximum index value: 5\n"
+LARGE = (
+    "Backend error: The seccomp filter contains too many BPF instructions: 10130. "
+    "Max length is 4096.\n"
+)
+
+# What stands behind `./seccompc`, the status, standard output, and standard error; where that ends
+# with `..`, it only has to begin so.
+CASES = [
+    # What each command writes.
+    ("probe x86_64 72 1 4294967298 < examples/records.bin", 0, PROBED, ""),
+    ("probe x86_64 72 1 4294967298 < empty", 0, "", ""),
+    ("list x86_64 < logs.json", 0, LISTING.format("a"), ""),
+    ("list X86_64 < names.json", 0,
+     LISTING.format("a\\x0a\\x5c") + LISTING.format("b") + LISTING.format("\u00b5"), ""),
+    ("list x86_64 < no-filters.json", 0, "", ""),
+    ("run x86_64 logs.json a < examples/records.bin", 0, LINES, ""),
+    ("run x86_64 names.json \u00b5 < examples/records.bin", 0, LINES, ""),
+    ("run x86_64 names.json \"$(printf 'a\\n\\\\')\" < examples/records.bin", 0, LINES, ""),
+    ("run x86_64 logs.json a < empty", 0, "", ""),
+    # Records that end inside a record: the lines of the whole ones come first.
+    ("probe x86_64 72 1 0 < 65-bytes", 1, "80000000 3\n",
+     "The input ends inside a record, after 1 bytes of it.\n"),
+    ("run x86_64 logs.json a < 63-bytes", 1, "",
+     "The input ends inside a record, after 63 bytes of it.\n"),
+    # Words that ask for no filter; the first fault is told.
+    ("probe x8664 -1 6 0 < empty", 1, "", "Backend error: Invalid target arch: x8664.\n"),
+    ("probe x86_64 -1 6 0 < empty", 1, "", "Backend error: " + INDEX),
+    ("probe x86_64 -1 0 0 < 63-bytes", 1, "", "Backend error: Invalid syscall number: -1.\n"),
+    ("list x8664 < no-json.json", 1, "", "Backend error: Invalid target arch: x8664.\n"),
+    ("run x8664 logs.json b < 63-bytes", 1, "", "Backend error: Invalid target arch: x8664.\n"),
+    # Policies that are refused, and names that no filter has.
+    ("list x86_64 < empty", 1, "", FRONTEND + "Error parsing Json: .."),
+    ("list x86_64 < no-json.json", 1, "", FRONTEND + "Error parsing Json: .."),
+    ("list x86_64 < repeated.json", 1, "", FRONTEND + "Repeated key in Json.\n"),
+    ("list x86_64 < list.json", 1, "", FRONTEND + "Json is not an object of filters.\n"),
+    ("list x86_64 < no-filter.json", 1, "", FRONTEND + "Json filter has a wrong shape: a.\n"),
+    ("list x86_64 < unknown-call.json", 1, "",
+     FRONTEND + "Invalid syscall name: nosyscall for given arch: x86_64.\n"),
+    ("list x86_64 < no-conditions.json", 1, "",
+     FRONTEND + "The condition vector of a rule cannot be empty.\n"),
+    ("list x86_64 < index.json", 1, "", FRONTEND + INDEX),
+    ("list x86_64 < equal-actions.json", 1, "",
+     FRONTEND + "`match_action` and `mismatch_action` are equal.\n"),
+    ("list x86_64 < too-large.json", 1, "", LARGE),
+    ("run x86_64 too-large.json b < 63-bytes", 1, "", LARGE),
+    ("run x86_64 logs.json b < 63-bytes", 1, "", "No filter has this name: b.\n"),
+    ("run x86_64 no-filters.json '' < examples/records.bin", 1, "",
+     "No filter has this name: .\n"),
+    # Files and inputs that can't be opened or read.
+    ("run x86_64 missing.json a < empty", 1, "", UNOPENED),
+    ("run x8664 missing.json a < empty", 1, "", UNOPENED),
+    ("run x86_64 examples a < empty", 1, "", UNREAD),
+    ("run x86_64 logs.json a < examples", 1, "", "Error reading input.\n"),
+    ("probe x86_64 1 1 1 < examples", 1, "", "Error reading input.\n"),
+    ("list x86_64 < examples", 1, "", UNREAD),
+    ("list x86_64 <&-", 1, "", UNREAD),
+    ("probe x86_64 1 1 1 <&-", 1, "", "Error reading input.\n"),
+    ("run x86_64 logs.json a <&-", 1, "", "Error reading input.\n"),
+    # Outputs that take nothing. Where nothing is to be written, nothing fails.
+    ("list x86_64 < logs.json > /dev/full", 1, "", UNWRITTEN),
+    ("list x86_64 < logs.json >&-", 1, "", UNWRITTEN),
+    ("list x86_64 < no-filters.json > /dev/full", 0, "", ""),
+    ("probe x86_64 1 1 1 < examples/records.bin > /dev/full", 1, "", UNWRITTEN),
+    ("run x86_64 logs.json a < examples/records.bin > /dev/full", 1, "", UNWRITTEN),
+    ("run x86_64 logs.json a < examples/records.bin >&-", 1, "", UNWRITTEN),
+    ("run x86_64 logs.json b < empty 2>&-", 1, "", ""),
+    ("run x86_64 logs.json b < empty 2> /dev/full", 1, "", ""),
+    # Words that are no command.
+    ("< empty", 2, "", USAGE),
+    ("probe x86_64 72 1 < empty", 2, "", USAGE),
+    ("probe x86_64 +1 0 0 < empty", 2, "", USAGE),
+    ("probe x86_64 72 256 0 < empty", 2, "", USAGE),
+    ("list < empty", 2, "", USAGE),
+    ("list x86_64 x86_64 < empty", 2, "", USAGE),
+    ("list \"$(printf 'x86\\377')\" < empty", 2, "", USAGE),
+    ("run x86_64 logs.json < empty", 2, "", USAGE),
+    ("--help < empty", 2, "", USAGE),
+    ("list 2> /dev/full", 2, "", ""),
+]
+
+# What `raw` writes for the filter that logs each call, as two lines of hexadecimal digits of `od`.
+LOGS_RAW = (
+    " 20 00 00 00 04 00 00 00 15 00 01 00 3e 00 00 c0\n"
+    " 06 00 00 00 00 00 00 80 06 00 00 00 00 00 fc 7f\n"
+)
+DUMPED = " | od -An -tx1 -v"
+TOOL_USAGE = (
+    "usage: seccomptool raw ARCH NAME [--tree] | show ARCH [--tree] | steps ARCH | widened ARCH | "
+    "lint ARCH | explain ARCH FILE NAME | record ARCH CALL [ARG..] | --help | --version\n"
+)
+LOGS_SHOWN = (
+    "filter 4 a\n"
+    "   0  ld [4]                      ; the architecture\n"
+    "   1  jeq #0xc000003e, 3, 2       ; x86_64\n"
+    "   2  ret #0x80000000             ; kill the process\n"
+    "   3  ret #0x7ffc0000             ; log\n"
+)
+LOGS_STEPS = (
+    "filter a\nchains: 4 instructions, at most 3 steps, 3 passing\n"
+    "tree: 6 instructions, at most 4 steps, 4 passing\n"
+)
+EXPLAINED = (
+    "7ffc0000 no entry of call 72\n" * 3 + "7ffc0000 no entry of call 5\n"
+    "80000000 another architecture\n"
+)
+UNCALLED = "No call of x86_64 has this name or number: {}.\n"
+
+# The same of `./seccomptool`.
+TOOL_CASES = [
+    ("raw x86_64 a < logs.json" + DUMPED, 0, LOGS_RAW, ""),
+    ("raw x86_64 \"$(printf 'a\\n\\\\')\" < names.json" + DUMPED, 0, LOGS_RAW, ""),
+    ("raw x86_64 a --tree < logs.json | wc -c", 0, "48\n", ""),
+    ("record x86_64 0xffffffff 1 0x2 | od -An -tx4 -w32 -v", 0,
+     " ffffffff c000003e 00000000 00000000 00000001 00000000 00000002 00000000\n"
+     + " 00000000" * 8 + "\n", ""),
+    ("show x86_64 < logs.json", 0, LOGS_SHOWN, ""),
+    ("steps x86_64 < logs.json", 0, LOGS_STEPS, ""),
+    ("widened x86_64 < logs.json", 0, "", ""),
+    ("widened x86_64 < widened.json", 0, "read a\n", ""),
+    ("widened x86_64 < too-large.json", 0, "", ""),
+    ("lint x86_64 < logs.json", 0, "", ""),
+    ("explain x86_64 logs.json a < examples/records.bin", 0, EXPLAINED, ""),
+    # Where a policy is refused.
+    ("lint x86_64 < list.json", 1, "",
+     "the policy: an empty array stands here, and an object of filters may.\n"),
+    ("lint x86_64 < no-filter.json", 1, "", "a: `mismatch_action` or `default_action` is missing.\n"),
+    ("lint x86_64 < unknown-call.json", 1, "",
+     "a.filter[0].syscall: \"nosyscall\" stands here, and the name of a call of x86_64 may.\n"),
+    ("lint x86_64 < no-conditions.json", 1, "",
+     "a.filter[0].args: an empty array stands here, and null or at least one condition may.\n"),
+    ("lint x86_64 < index.json", 1, "",
+     "a.filter[0].args[0].index: 6 stands here, and a number from 0 to 5 may.\n"),
+    ("lint x86_64 < equal-actions.json", 1, "",
+     "a: two equal actions stand here, and two that differ may.\n"),
+    ("lint x86_64 < too-large.json", 1, "",
+     "a: a filter of 10130 instructions stands here, and one of at most 4096 may.\n"),
+    ("lint x86_64 < no-json.json", 1, "", FRONTEND + "Error parsing Json: .."),
+    ("lint x86_64 < repeated.json", 1, "", FRONTEND + "Repeated key in Json.\n"),
+    ("lint x8664 < repeated.json", 1, "", "Backend error: Invalid target arch: x8664.\n"),
+    ("lint x86_64 < examples", 1, "", UNREAD),
+    # The first fault is told.
+    ("show x86_64 < too-large.json", 1, "", LARGE),
+    ("steps x86_64 < too-large.json", 1, "", LARGE),
+    ("widened x86_64 < index.json", 1, "", FRONTEND + INDEX),
+    ("explain x86_64 too-large.json b < 63-bytes", 1, "", LARGE),
+    ("explain x86_64 logs.json b < 63-bytes", 1, "", "No filter has this name: b.\n"),
+    ("explain x8664 missing.json a < empty", 1, "", UNOPENED),
+    ("explain x86_64 logs.json a < examples", 1, "", "Error reading input.\n"),
+    ("explain x86_64 logs.json a < 65-bytes", 1, "80000000 another architecture\n",
+     "The input ends inside a record, after 1 bytes of it.\n"),
+    ("raw x8664 b < no-json.json", 1, "", "Backend error: Invalid target arch: x8664.\n"),
+    ("raw x86_64 b < no-json.json", 1, "", FRONTEND + "Error parsing Json: .."),
+    ("raw x86_64 b --tree < unknown-call.json", 1, "",
+     FRONTEND + "Invalid syscall name: nosyscall for given arch: x86_64.\n"),
+    ("raw x86_64 b < too-large.json", 1, "", LARGE),
+    ("raw x86_64 b --tree < too-large.json", 1, "", "No filter has this name: b.\n"),
+    ("raw x86_64 a --tree < too-large.json", 1, "", "Backend error: The seccomp filter .."),
+    ("raw x86_64 b < logs.json", 1, "", "No filter has this name: b.\n"),
+    ("raw x86_64 a < examples", 1, "", UNREAD),
+    ("raw x86_64 a <&-", 1, "", UNREAD),
+    ("record x8664 nocall", 1, "", "Backend error: Invalid target arch: x8664.\n"),
+    ("record x86_64 nocall", 1, "", UNCALLED.format("nocall")),
+    ("record x86_64 4294967296", 1, "", UNCALLED.format("4294967296")),
+    # Outputs that take nothing.
+    ("raw x86_64 a < logs.json > /dev/full", 1, "", UNWRITTEN),
+    ("record x86_64 read > /dev/full", 1, "", UNWRITTEN),
+    ("show x86_64 < logs.json > /dev/full", 1, "", UNWRITTEN),
+    ("steps x86_64 < logs.json > /dev/full", 1, "", UNWRITTEN),
+    ("widened x86_64 < widened.json > /dev/full", 1, "", UNWRITTEN),
+    ("explain x86_64 logs.json a < examples/records.bin > /dev/full", 1, "", UNWRITTEN),
+    ("--help > /dev/full", 1, "", UNWRITTEN),
+    # Words that are no command.
+    ("", 2, "", TOOL_USAGE),
+    ("raw x86_64", 2, "", TOOL_USAGE),
+    ("raw x86_64 a tree < logs.json", 2, "", TOOL_USAGE),
+    ("record x86_64 read 1 2 3 4 5 6 7", 2, "", TOOL_USAGE),
+    ("show x86_64 tree < logs.json", 2, "", TOOL_USAGE),
+    ("steps x86_64 a < logs.json", 2, "", TOOL_USAGE),
+    ("widened < logs.json", 2, "", TOOL_USAGE),
+    ("lint x86_64 --tree < logs.json", 2, "", TOOL_USAGE),
+    ("explain x86_64 logs.json < empty", 2, "", TOOL_USAGE),
+    ("record x86_64 read 0x", 2, "", TOOL_USAGE),
+    ("raw x86_64 \"$(printf 'a\\377')\" < logs.json", 2, "", TOOL_USAGE),
+]
+
+# The script with a program that writes `ran` and its words and ends with status 7, and an `rt` that
+# is told how to end: what is done before, the status, standard output, and standard error.
+BUILDS = "seccompc: proving and building the program\n"
+OLD = "touch -d 2001-01-01 crates/seccompc/out/seccompc; "
+FAILS = "echo 'exit 1' > bin/touch; echo 'exit 1' > bin/mktemp; chmod +x bin/*; "
+SCRIPT_CASES = [
+    ("fresh", "rm bin/rt;", 7, "ran list x86_64\n", ""),
+    ("old, and rt builds it", OLD, 7, "ran list x86_64\n", BUILDS),
+    ("old, and no time can be set", OLD + FAILS, 7, "ran list x86_64\n", BUILDS),
+    ("old, and rt fails", OLD + "echo 'echo why; exit 1' > bin/rt;", 3, "",
+     BUILDS + "why\nseccompc: the program cannot be built\n"),
+    ("old, and there is no rt", OLD + "rm bin/rt;", 3, "", BUILDS + ".."),
+    ("missing, and rt builds none", "rm crates/seccompc/out/seccompc;", 3, "",
+     BUILDS + "\nseccompc: the program cannot be built\n"),
+    ("without what it runs", "rm tools/run-program;", 3, "", ".."),
+    ("without sources that can be listed", "rm crates.txt bin/rt;", 3, "", ".."),
+]

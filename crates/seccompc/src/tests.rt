@@ -1,4 +1,5 @@
-// Tests of the engines, the words and the statuses, with scripted readers and writers.
+// Tests of the engines, with scripted readers and writers. What the words mean, and which statuses
+// there are, is tried on the built program by tools/check-documents.
 
 mod hoard;
 mod list;
@@ -7,5 +8,3 @@ mod probe;
 mod run;
 mod scarce;
 mod scripted;
-mod statuses;
-mod words;

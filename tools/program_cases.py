@@ -1,4 +1,5 @@
-"""What the built programs are tried on by tools/check-documents, and what they have to do."""
+"""What the built program seccompc, and the script that runs it, are tried on by tools/check-documents, and what
+they have to do. tools/seccomptool_cases has the same of seccomptool, and names files and texts of this table."""
 
 READ = {"index": 0, "type": "dword", "op": "eq", "val": 5}
 LOGS = {"match_action": "allow", "mismatch_action": "log", "filter": []}
@@ -124,111 +125,6 @@ CASES = [
     ("run x86_64 logs.json < empty", 2, "", USAGE),
     ("--help < empty", 2, "", USAGE),
     ("list 2> /dev/full", 2, "", ""),
-]
-
-# What `raw` writes for the filter that logs each call, as two lines of hexadecimal digits of `od`.
-LOGS_RAW = (
-    " 20 00 00 00 04 00 00 00 15 00 01 00 3e 00 00 c0\n"
-    " 06 00 00 00 00 00 00 80 06 00 00 00 00 00 fc 7f\n"
-)
-DUMPED = " | od -An -tx1 -v"
-TOOL_USAGE = (
-    "usage: seccomptool raw ARCH NAME [--tree] | show ARCH [--tree] | steps ARCH | widened ARCH | "
-    "lint ARCH | explain ARCH FILE NAME | record ARCH CALL [ARG..] | --help | --version\n"
-)
-LOGS_SHOWN = (
-    "filter 4 a\n"
-    "   0  ld [4]                      ; the architecture\n"
-    "   1  jeq #0xc000003e, 3, 2       ; x86_64\n"
-    "   2  ret #0x80000000             ; kill the process\n"
-    "   3  ret #0x7ffc0000             ; log\n"
-)
-LOGS_STEPS = (
-    "filter a\nchains: 4 instructions, at most 3 steps, 3 passing\n"
-    "tree: 6 instructions, at most 4 steps, 4 passing\n"
-)
-EXPLAINED = (
-    "7ffc0000 no entry of call 72\n" * 3 + "7ffc0000 no entry of call 5\n"
-    "80000000 another architecture\n"
-)
-UNCALLED = "No call of x86_64 has this name or number: {}.\n"
-
-# The same of `./seccomptool`.
-TOOL_CASES = [
-    ("raw x86_64 a < logs.json" + DUMPED, 0, LOGS_RAW, ""),
-    ("raw x86_64 \"$(printf 'a\\n\\\\')\" < names.json" + DUMPED, 0, LOGS_RAW, ""),
-    ("raw x86_64 a --tree < logs.json | wc -c", 0, "48\n", ""),
-    ("record x86_64 0xffffffff 1 0x2 | od -An -tx4 -w32 -v", 0,
-     " ffffffff c000003e 00000000 00000000 00000001 00000000 00000002 00000000\n"
-     + " 00000000" * 8 + "\n", ""),
-    ("show x86_64 < logs.json", 0, LOGS_SHOWN, ""),
-    ("steps x86_64 < logs.json", 0, LOGS_STEPS, ""),
-    ("widened x86_64 < logs.json", 0, "", ""),
-    ("widened x86_64 < widened.json", 0, "read a\n", ""),
-    ("widened x86_64 < too-large.json", 0, "", ""),
-    ("lint x86_64 < logs.json", 0, "", ""),
-    ("explain x86_64 logs.json a < examples/records.bin", 0, EXPLAINED, ""),
-    # Where a policy is refused.
-    ("lint x86_64 < list.json", 1, "",
-     "the policy: an empty array stands here, and an object of filters may.\n"),
-    ("lint x86_64 < no-filter.json", 1, "", "a: `mismatch_action` or `default_action` is missing.\n"),
-    ("lint x86_64 < unknown-call.json", 1, "",
-     "a.filter[0].syscall: \"nosyscall\" stands here, and the name of a call of x86_64 may.\n"),
-    ("lint x86_64 < no-conditions.json", 1, "",
-     "a.filter[0].args: an empty array stands here, and null or at least one condition may.\n"),
-    ("lint x86_64 < index.json", 1, "",
-     "a.filter[0].args[0].index: 6 stands here, and a number from 0 to 5 may.\n"),
-    ("lint x86_64 < equal-actions.json", 1, "",
-     "a: two equal actions stand here, and two that differ may.\n"),
-    ("lint x86_64 < too-large.json", 1, "",
-     "a: a filter of 10130 instructions stands here, and one of at most 4096 may.\n"),
-    ("lint x86_64 < no-json.json", 1, "", FRONTEND + "Error parsing Json: .."),
-    ("lint x86_64 < repeated.json", 1, "", FRONTEND + "Repeated key in Json.\n"),
-    ("lint x8664 < repeated.json", 1, "", "Backend error: Invalid target arch: x8664.\n"),
-    ("lint x86_64 < examples", 1, "", UNREAD),
-    # The first fault is told.
-    ("show x86_64 < too-large.json", 1, "", LARGE),
-    ("steps x86_64 < too-large.json", 1, "", LARGE),
-    ("widened x86_64 < index.json", 1, "", FRONTEND + INDEX),
-    ("explain x86_64 too-large.json b < 63-bytes", 1, "", LARGE),
-    ("explain x86_64 logs.json b < 63-bytes", 1, "", "No filter has this name: b.\n"),
-    ("explain x8664 missing.json a < empty", 1, "", UNOPENED),
-    ("explain x86_64 logs.json a < examples", 1, "", "Error reading input.\n"),
-    ("explain x86_64 logs.json a < 65-bytes", 1, "80000000 another architecture\n",
-     "The input ends inside a record, after 1 bytes of it.\n"),
-    ("raw x8664 b < no-json.json", 1, "", "Backend error: Invalid target arch: x8664.\n"),
-    ("raw x86_64 b < no-json.json", 1, "", FRONTEND + "Error parsing Json: .."),
-    ("raw x86_64 b --tree < unknown-call.json", 1, "",
-     FRONTEND + "Invalid syscall name: nosyscall for given arch: x86_64.\n"),
-    ("raw x86_64 b < too-large.json", 1, "", LARGE),
-    ("raw x86_64 b --tree < too-large.json", 1, "", "No filter has this name: b.\n"),
-    ("raw x86_64 a --tree < too-large.json", 1, "", "Backend error: The seccomp filter .."),
-    ("raw x86_64 b < logs.json", 1, "", "No filter has this name: b.\n"),
-    ("raw x86_64 a < examples", 1, "", UNREAD),
-    ("raw x86_64 a <&-", 1, "", UNREAD),
-    ("record x8664 nocall", 1, "", "Backend error: Invalid target arch: x8664.\n"),
-    ("record x86_64 nocall", 1, "", UNCALLED.format("nocall")),
-    ("record x86_64 4294967296", 1, "", UNCALLED.format("4294967296")),
-    # Outputs that take nothing.
-    ("raw x86_64 a < logs.json > /dev/full", 1, "", UNWRITTEN),
-    ("record x86_64 read > /dev/full", 1, "", UNWRITTEN),
-    ("show x86_64 < logs.json > /dev/full", 1, "", UNWRITTEN),
-    ("steps x86_64 < logs.json > /dev/full", 1, "", UNWRITTEN),
-    ("widened x86_64 < widened.json > /dev/full", 1, "", UNWRITTEN),
-    ("explain x86_64 logs.json a < examples/records.bin > /dev/full", 1, "", UNWRITTEN),
-    ("--help > /dev/full", 1, "", UNWRITTEN),
-    # Words that are no command.
-    ("", 2, "", TOOL_USAGE),
-    ("raw x86_64", 2, "", TOOL_USAGE),
-    ("raw x86_64 a tree < logs.json", 2, "", TOOL_USAGE),
-    ("record x86_64 read 1 2 3 4 5 6 7", 2, "", TOOL_USAGE),
-    ("show x86_64 tree < logs.json", 2, "", TOOL_USAGE),
-    ("steps x86_64 a < logs.json", 2, "", TOOL_USAGE),
-    ("widened < logs.json", 2, "", TOOL_USAGE),
-    ("lint x86_64 --tree < logs.json", 2, "", TOOL_USAGE),
-    ("explain x86_64 logs.json < empty", 2, "", TOOL_USAGE),
-    ("record x86_64 read 0x", 2, "", TOOL_USAGE),
-    ("raw x86_64 \"$(printf 'a\\377')\" < logs.json", 2, "", TOOL_USAGE),
 ]
 
 # The script with a program that writes `ran` and its words and ends with status 7, and an `rt` that

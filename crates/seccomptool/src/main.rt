@@ -12,8 +12,6 @@ mod record;
 mod send;
 mod show;
 mod steps;
-#[cfg(test)]
-mod tests;
 mod widened;
 mod words;
 

@@ -1,0 +1,94 @@
+"""What `explain` has to do: what is decided on records, and why, and the faults in their order."""
+
+from program_cases import FRONTEND, LARGE, UNOPENED, UNREAD, UNWRITTEN
+
+from .forms import LOGS, NO_ARCHITECTURE, NO_OBJECT, Case, Failing, refuses, writes
+from .records import AARCH64, X86_64, record_of
+
+# Entries of three calls, of which `close` has one without conditions.
+POLICY = r'''{"a": {"mismatch_action": {"errno": 1}, "match_action": "allow", "filter": [
+    {"syscall": "accept4"},
+    {"syscall": "fcntl", "args": [
+        {"index": 1, "type": "dword", "op": "eq", "val": 2},
+        {"index": 2, "type": "dword", "op": "eq", "val": 1}
+    ]},
+    {"syscall": "fcntl", "args": [{"index": 1, "type": "dword", "op": "eq", "val": 1}]},
+    {"syscall": "close", "args": [{"index": 0, "type": "qword", "op": "gt", "val": 2}]},
+    {"syscall": "close"},
+    {"syscall": "fcntl", "args": [{"index": 1, "type": "dword", "op": "eq", "val": 2}]}
+]}}'''
+
+# No call of aarch64 has this name.
+OPENS = '{"a":{"mismatch_action":"log","match_action":"allow","filter":[{"syscall":"open"}]}}'
+
+# Each of 1025 conditions takes 4 instructions.
+CONDITIONS = ",".join(['{"index":0,"type":"qword","op":"eq","val":1}'] * 1025)
+MANY_CONDITIONS = (
+    '{"a":{"mismatch_action":"log","match_action":"allow","filter":[{"syscall":"read","args":['
+    + CONDITIONS + "]}]}}"
+)
+
+FILES = {
+    "explained.json": POLICY,
+    "explained-logs.json": LOGS,
+    "opens.json": OPENS,
+    "many-conditions.json": MANY_CONDITIONS,
+}
+
+# Calls of x86_64 by their numbers and first three arguments, and the lines of the policy on them.
+LINES = [
+    (288, (0, 0, 0), "7fff0000 entry 0, rule 0 of call 288\n"),
+    (72, (9, 2, 1), "7fff0000 entry 1, rule 0 of call 72\n"),
+    (72, (9, 1, 1), "7fff0000 entry 2, rule 1 of call 72\n"),
+    (72, (9, 2, 0), "7fff0000 entry 5, rule 2 of call 72\n"),
+    (72, (9, 3, 1), "00050001 no match among 3 entries of call 72\n"),
+    (3, (3, 0, 0), "7fff0000 entry 3, rule 0 of call 3\n"),
+    (3, (2, 0, 0), "7fff0000 entry 4, rule 1 of call 3\n"),
+    (0, (0, 0, 0), "00050001 no entry of call 0\n"),
+    (4294967295, (0, 0, 0), "00050001 no entry of call 4294967295\n"),
+]
+
+ANOTHER = "80000000 another architecture\n"
+TWO_RECORDS = record_of(1, X86_64) + record_of(72, 0)
+TWO_LINES = "7ffc0000 no entry of call 1\n" + ANOTHER
+EXAMPLE_LINES = "7ffc0000 no entry of call 72\n" * 3 + "7ffc0000 no entry of call 5\n" + ANOTHER
+
+SHORT = "The input ends inside a record, after 1 bytes of it.\n"
+NO_FILTER = "No filter has this name: b.\n"
+UNREAD_RECORDS = "Error reading input.\n"
+
+# A whole record, behind which reading fails.
+FAILING_RECORDS = Failing(bytes(64))
+
+CASES = [
+    # `explain` tells the decision and the reason.
+    *[writes("explain X86_64 explained.json a", record_of(number, X86_64, *arguments), line)
+      for number, arguments, line in LINES],
+    ("explain x86_64 logs.json a < examples/records.bin", 0, EXAMPLE_LINES, ""),
+    # `explain` tells another architecture.
+    *[writes(f"explain {arch} explained.json a", record_of(72, word, 9, 2, 1), ANOTHER)
+      for arch, word in (("x86_64", AARCH64), ("aarch64", X86_64), ("riscv64", 0))],
+    # `explain` tells of each record, and then of a rest.
+    writes("explain x86_64 explained-logs.json a", TWO_RECORDS, TWO_LINES),
+    Case("explain x86_64 explained-logs.json a", 1, TWO_LINES, SHORT, TWO_RECORDS + bytes(1)),
+    ("explain x86_64 logs.json a < 65-bytes", 1, ANOTHER, SHORT),
+    # `explain` tells the first fault; the records' are the last.
+    refuses("explain x8664 empty b", FAILING_RECORDS, NO_ARCHITECTURE),
+    refuses("explain x86_64 list.json b", FAILING_RECORDS, NO_OBJECT),
+    refuses("explain aarch64 opens.json b", FAILING_RECORDS,
+            FRONTEND + "Invalid syscall name: open for given arch: aarch64.\n"),
+    refuses("explain x86_64 explained-logs.json b", FAILING_RECORDS, NO_FILTER),
+    refuses("explain x86_64 explained-logs.json a", FAILING_RECORDS, UNREAD_RECORDS),
+    ("explain x86_64 logs.json b < 63-bytes", 1, "", NO_FILTER),
+    ("explain x8664 missing.json a < empty", 1, "", UNOPENED),
+    # `explain` refuses a filter that is too large.
+    refuses("explain x86_64 many-conditions.json b", "",
+            "Backend error: The seccomp filter contains too many BPF instructions: .."),
+    ("explain x86_64 too-large.json b < 63-bytes", 1, "", LARGE),
+    # `explain` answers failing readers and writers.
+    refuses("explain x86_64 examples a", "", UNREAD),
+    ("explain x86_64 logs.json a < examples", 1, "", UNREAD_RECORDS),
+    refuses("explain x86_64 explained-logs.json a > /dev/full", bytes(65), UNWRITTEN),
+    refuses("explain x86_64 explained-logs.json a >&-", bytes(65), UNWRITTEN),
+    ("explain x86_64 logs.json a < examples/records.bin > /dev/full", 1, "", UNWRITTEN),
+]

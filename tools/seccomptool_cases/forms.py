@@ -1,0 +1,55 @@
+"""The form of a case, and what the cases of several commands name."""
+
+from typing import NamedTuple, Union
+
+from program_cases import FRONTEND, UNREAD, UNWRITTEN
+
+NO_ARCHITECTURE = "Backend error: Invalid target arch: x8664.\n"
+NO_OBJECT = FRONTEND + "Json is not an object of filters.\n"
+
+# A filter without entries.
+LOGS = '{"a":{"mismatch_action":"log","match_action":"allow","filter":[]}}'
+
+# What stands behind the other words, where the programs are chains and where they are trees.
+LAYOUTS = ("", " --tree")
+
+
+class Failing(NamedTuple):
+    """Standard input that gives this text, and then fails."""
+
+    given: Union[str, bytes]
+
+
+class Case(NamedTuple):
+    """What stands behind `./seccomptool`, the status, standard output, and standard error; where one of these
+    ends with `..`, it only has to begin so. Standard input is empty where a case has none."""
+
+    words: str
+    status: int
+    output: Union[str, bytes]
+    errors: str
+    given: Union[str, bytes, Failing] = ""
+
+
+def writes(words, given, output):
+    """Returns the case of words that write this output, and end with 0."""
+    return Case(words, 0, output, "", given)
+
+
+def refuses(words, given, told):
+    """Returns the case of words that write no output, tell this line, and end with 1."""
+    return Case(words, 1, "", told, given)
+
+
+def refuses_in_both(words, given, told):
+    """Returns the same cases of both layouts."""
+    return [refuses(words + layout, given, told) for layout in LAYOUTS]
+
+
+def fails_to_read_and_write(words, read=LOGS, written=LOGS):
+    """Returns the cases of a policy behind which reading fails, and of one whose output can't be written."""
+    return [
+        refuses(words, Failing(read), UNREAD),
+        refuses(words + " > /dev/full", written, UNWRITTEN),
+        refuses(words + " >&-", written, UNWRITTEN),
+    ]

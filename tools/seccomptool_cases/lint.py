@@ -1,0 +1,161 @@
+"""What `lint` has to do: the faults of policies with their places, and policies without one."""
+
+from program_cases import FRONTEND, UNREAD
+
+from .forms import NO_ARCHITECTURE, Failing, refuses, writes
+
+FINE = (
+    '{"b":{"mismatch_action":{"errno":1},"match_action":"allow","filter":['
+    '{"syscall":"read"},'
+    '{"syscall":"write","args":[{"index":5,"type":"qword","op":{"masked_eq":255},'
+    '"val":18446744073709551615,"comment":null}],"comment":"c"}]},'
+    '"a":{"default_action":"trap","filter_action":{"trace":0},"filter":[]}}'
+)
+
+# A condition without a fault, and a rule of 5000, which take two instructions each, and more than one jump
+# reaches.
+FAULTLESS = '{"index":0,"type":"dword","op":"eq","val":0}'
+TOO_LONG = '{"syscall":"read","args":[' + ",".join([FAULTLESS] * 5000) + "]}"
+
+REPEATED = FRONTEND + "Repeated key in Json.\n"
+UNPARSED = FRONTEND + "Error parsing Json: .."
+
+
+def told(policy, where, what):
+    """Returns the case of a policy of which this is told at this place on x86_64."""
+    return refuses("lint x86_64", policy, f"{where}{what}.\n")
+
+
+def stands(policy, where, what, may):
+    """Returns the case of a policy in which this stands at a place, and something else may."""
+    return told(policy, where, f": {what} stands here, and {may} may")
+
+
+def entries(text):
+    """Returns the policy whose one filter has these entries."""
+    return '{"a":{"mismatch_action":"trap","match_action":"log","filter":[' + text + "]}}"
+
+
+def condition(text):
+    """Returns the policy that has this condition behind a faultless one, in the second entry."""
+    return entries('{"syscall":"read"},{"syscall":"read","args":[' + FAULTLESS + "," + text + "]}")
+
+
+CONDITION = "a.filter[1].args[1]"
+
+FILTER = "an object with the actions and the entries of a filter"
+CALL = "the name of a call of x86_64"
+INDEX = "a number from 0 to 5"
+TWO_EQUAL = ": two equal actions stand here, and two that differ may"
+ACTIONS = '"allow", {"errno": N}, "kill_process", "kill_thread", "log", {"trace": N} or "trap"'
+OPERATORS = '"eq", "ge", "gt", "le", "lt", {"masked_eq": N} or "ne"'
+
+IN_FILTERS = [
+    stands("[]", "the policy", "an empty array", "an object of filters"),
+    stands("1.5", "the policy", "1.5", "an object of filters"),
+    stands(r'{"a\\\u0007é":[1]}', r"a\x5c\x07é", "an array of 1 value", FILTER),
+    stands('{"b":0,"a":{"filters":[]}}', "a", 'the key "filters"',
+           "only mismatch_action, default_action, match_action, filter_action and filter"),
+    told('{"a":{"match_action":"log","filter":[]}}', "a",
+         ": `mismatch_action` or `default_action` is missing"),
+    told('{"a":{"match_action":"log","mismatch_action":"log","filter_action":"log","filter":[]}}', "a",
+         ": `match_action` and `filter_action` stand here, and only one of them may"),
+    stands('{"a":{"match_action":"log","default_action":{"errno":-1},"filter":[]}}', "a.default_action",
+           "an object", ACTIONS),
+    told('{"a":{"match_action":"log","mismatch_action":"trap"}}', "a", ": `filter` is missing"),
+    stands('{"a":{"match_action":"log","mismatch_action":"trap","filter":null}}', "a.filter",
+           "null", "an array of entries"),
+    told('{"a":{"match_action":"log","mismatch_action":"log","filter":[]}}', "a", TWO_EQUAL),
+]
+
+IN_AN_ENTRY = [
+    stands(entries('{"syscall":"read"},[]'), "a.filter[1]", "an empty array",
+           "an object with the call of an entry"),
+    stands(entries('{"syscall":"read","arg":[]}'), "a.filter[0]", 'the key "arg"',
+           "only syscall, args and comment"),
+    stands(entries('{"syscall":"read","comment":1}'), "a.filter[0].comment", "1", "null or a text"),
+    told(entries('{"args":null}'), "a.filter[0]", ": `syscall` is missing"),
+    stands(entries('{"syscall":-7}'), "a.filter[0].syscall", "-7", "the name of a call, in quotes,"),
+    stands(entries('{"syscall":"read","args":{}}'), "a.filter[0].args", "an object",
+           "null or an array of conditions"),
+    stands(entries(r'{"syscall":"read"},{"syscall":"read","args":null},{"syscall":"op\"ne"}'),
+           "a.filter[2].syscall", r'"op\"ne"', CALL),
+    stands(entries('{"syscall":"read","args":[]}'), "a.filter[0].args", "an empty array",
+           "null or at least one condition"),
+]
+
+IN_A_CONDITION = [
+    stands(condition("true"), CONDITION, "true", "an object with the four parts of a condition"),
+    stands(condition('{"index":0,"type":"dword","op":"eq","vall":0}'), CONDITION, 'the key "vall"',
+           "only index, type, op, val and comment"),
+    stands(condition('{"index":256,"comment":[1,2]}'), CONDITION + ".comment", "an array of 2 values",
+           "null or a text"),
+    told(condition("{}"), CONDITION, ": `index` is missing"),
+    stands(condition('{"index":256}'), CONDITION + ".index", "256", INDEX),
+    told(condition('{"index":0}'), CONDITION, ": `type` is missing"),
+    stands(condition('{"index":0,"type":"byte"}'), CONDITION + ".type", '"byte"', '"dword" or "qword"'),
+    told(condition('{"index":0,"type":"dword"}'), CONDITION, ": `op` is missing"),
+    stands(condition('{"index":0,"type":"dword","op":17}'), CONDITION + ".op", "17", OPERATORS),
+    told(condition('{"index":0,"type":"dword","op":"eq"}'), CONDITION, ": `val` is missing"),
+    stands(condition('{"index":0,"type":"dword","op":"eq","val":-1}'), CONDITION + ".val", "-1",
+           "a whole number from 0 to 18446744073709551615"),
+    stands(condition('{"index":6,"type":"dword","op":"eq","val":0}'), CONDITION + ".index", "6", INDEX),
+]
+
+FIRST_FAULTS = [
+    # Of the least name first, and a wrong form before anything else.
+    stands('{"b":1,"a":2}', "a", "2", FILTER),
+    stands('{"a":{"mismatch_action":"log","match_action":"log","filter":[{"syscall":"opne"}]},"b":1}',
+           "b", "1", FILTER),
+    # Of an entry its name, and then its conditions; of a filter its entries, and then its actions.
+    stands('{"a":{"mismatch_action":"log","match_action":"log","filter":['
+           '{"syscall":"read","args":[{"index":5,"type":"dword","op":"eq","val":0},'
+           '{"index":7,"type":"dword","op":"eq","val":0}]},{"syscall":"opne","args":[]}]}}',
+           "a.filter[0].args[1].index", "7", INDEX),
+    stands('{"a":{"mismatch_action":"log","match_action":"log","filter":[{"syscall":"opne","args":[]}]}}',
+           "a.filter[0].syscall", '"opne"', CALL),
+    told('{"b":{"mismatch_action":"log","match_action":"log","filter":[{"syscall":"opne"}]},'
+         '"a":{"mismatch_action":"log","match_action":"log","filter":[]}}', "a", TWO_EQUAL),
+]
+
+# The same of the files that the cases of both programs share, and files that can't be read.
+OF_FILES = [
+    ("lint x86_64 < logs.json", 0, "", ""),
+    ("lint x86_64 < list.json", 1, "",
+     "the policy: an empty array stands here, and an object of filters may.\n"),
+    ("lint x86_64 < no-filter.json", 1, "", "a: `mismatch_action` or `default_action` is missing.\n"),
+    ("lint x86_64 < unknown-call.json", 1, "",
+     "a.filter[0].syscall: \"nosyscall\" stands here, and the name of a call of x86_64 may.\n"),
+    ("lint x86_64 < no-conditions.json", 1, "",
+     "a.filter[0].args: an empty array stands here, and null or at least one condition may.\n"),
+    ("lint x86_64 < index.json", 1, "",
+     "a.filter[0].args[0].index: 6 stands here, and a number from 0 to 5 may.\n"),
+    ("lint x86_64 < equal-actions.json", 1, "",
+     "a: two equal actions stand here, and two that differ may.\n"),
+    ("lint x86_64 < too-large.json", 1, "",
+     "a: a filter of 10130 instructions stands here, and one of at most 4096 may.\n"),
+    ("lint x86_64 < no-json.json", 1, "", UNPARSED),
+    ("lint x86_64 < repeated.json", 1, "", REPEATED),
+    ("lint x8664 < repeated.json", 1, "", NO_ARCHITECTURE),
+    ("lint x86_64 < examples", 1, "", UNREAD),
+]
+
+CASES = [
+    # `lint` says nothing of a policy without faults.
+    writes("lint X86_64", FINE, ""),
+    writes("lint X86_64", "{}", ""),
+    # `lint` tells faults without a place as the library.
+    refuses("lint x86_64", '{"a":{"filter":1,"filter":2}}', REPEATED),
+    refuses("lint x8664", "[]", NO_ARCHITECTURE),
+    refuses("lint x86_64", "{1}", UNPARSED),
+    # `lint` tells the place in the filters, in an entry and in a condition, and the first fault.
+    *IN_FILTERS,
+    *IN_AN_ENTRY,
+    *IN_A_CONDITION,
+    *FIRST_FAULTS,
+    # `lint` tells the filter that is too long.
+    stands(entries(TOO_LONG), "a", "a filter of 10130 instructions", "one of at most 4096"),
+    # `lint` answers faults of its reader.
+    refuses("lint x86_64", Failing(FINE), UNREAD),
+    *OF_FILES,
+]

@@ -1,0 +1,105 @@
+"""What `show` has to do: programs for people, and the faults."""
+
+from program_cases import FRONTEND, LARGE, UNWRITTEN
+
+from .forms import (
+    LAYOUTS, NO_ARCHITECTURE, NO_OBJECT, fails_to_read_and_write, refuses_in_both, writes
+)
+
+# Two filters without entries; the second one's name has a byte that steers a terminal.
+LOGS = r'''{"b\n":{"mismatch_action":{"errno":65537},"match_action":"allow","filter":[]},
+    "a":{"mismatch_action":"log","match_action":"allow","filter":[]}}'''
+
+LOGS_AS_CHAINS = r"""filter 4 a
+   0  ld [4]                      ; the architecture
+   1  jeq #0xc00000b7, 3, 2       ; aarch64
+   2  ret #0x80000000             ; kill the process
+   3  ret #0x7ffc0000             ; log
+filter 4 b\x0a
+   0  ld [4]                      ; the architecture
+   1  jeq #0xc00000b7, 3, 2       ; aarch64
+   2  ret #0x80000000             ; kill the process
+   3  ret #0x50001                ; errno 1
+"""
+
+LOGS_AS_TREE = r"""filter 6 a
+   0  ld [4]                      ; the architecture
+   1  jeq #0xc00000b7, 3, 2       ; aarch64
+   2  ret #0x80000000             ; kill the process
+   3  ld [0]                      ; the call number
+   4  ret #0x7ffc0000             ; log
+   5  ret #0x7ffc0000             ; log
+filter 6 b\x0a
+   0  ld [4]                      ; the architecture
+   1  jeq #0xc00000b7, 3, 2       ; aarch64
+   2  ret #0x80000000             ; kill the process
+   3  ld [0]                      ; the call number
+   4  ret #0x50001                ; errno 1
+   5  ret #0x50001                ; errno 1
+"""
+
+# A call with two entries with conditions, and one without conditions: `read` is 63 on aarch64, and
+# `close` is 57.
+CALLS = r'''{"a":{"mismatch_action":"trap","match_action":{"trace":7},"filter":[
+    {"syscall":"read","args":[
+        {"index":0,"type":"dword","op":"ge","val":3},
+        {"index":5,"type":"dword","op":{"masked_eq":15},"val":18}]},
+    {"syscall":"close"},
+    {"syscall":"read","args":[{"index":1,"type":"qword","op":"eq","val":4294967298}]}]}}'''
+
+CALLS_SHOWN = r"""filter 27 a
+   0  ld [4]                      ; the architecture
+   1  jeq #0xc00000b7, 3, 2       ; aarch64
+   2  ret #0x80000000             ; kill the process
+   3  ld [0]                      ; the call number
+   4  jeq #0x39, 5, 6             ; close
+   5  ja 7                        ; close, to its return
+   6  ja 9                        ; close, past it
+   7  ret #0x7ff00007             ; close: trace 7
+   8  ret #0x30000                ; close: trap
+   9  jeq #0x3f, 10, 11           ; read
+  10  ja 12                       ; read, rule 0, to its conditions
+  11  ja 19                       ; read, rule 0, past it
+  12  ld [56]                     ; read, rule 0, condition 1: the low half of argument 5
+  13  and #0xf                    ; read, rule 0, condition 1
+  14  jeq #0x2, 15, 18            ; read, rule 0, condition 1
+  15  ld [16]                     ; read, rule 0, condition 0: the low half of argument 0
+  16  jge #0x3, 17, 18            ; read, rule 0, condition 0
+  17  ret #0x7ff00007             ; read, rule 0: trace 7
+  18  ja 20                       ; read, rule 1, to its conditions
+  19  ja 26                       ; read, rule 1, past it
+  20  ld [28]                     ; read, rule 1, condition 0: the high half of argument 1
+  21  jeq #0x1, 22, 25            ; read, rule 1, condition 0
+  22  ld [24]                     ; read, rule 1, condition 0: the low half of argument 1
+  23  jeq #0x2, 24, 25            ; read, rule 1, condition 0
+  24  ret #0x7ff00007             ; read, rule 1: trace 7
+  25  ret #0x30000                ; read: trap
+  26  ret #0x30000                ; trap
+"""
+
+LOGS_SHOWN = """filter 4 a
+   0  ld [4]                      ; the architecture
+   1  jeq #0xc000003e, 3, 2       ; x86_64
+   2  ret #0x80000000             ; kill the process
+   3  ret #0x7ffc0000             ; log
+"""
+
+# Both filters of this policy are at fault: `a` is none, and the actions of `b` are equal.
+BOTH_FAULTY = '{"b":{"mismatch_action":"log","match_action":"log","filter":[]},"a":{}}'
+
+CASES = [
+    ("show x86_64 < logs.json", 0, LOGS_SHOWN, ""),
+    # `show` writes the programs of both layouts.
+    writes("show Aarch64", LOGS, LOGS_AS_CHAINS),
+    writes("show Aarch64 --tree", LOGS, LOGS_AS_TREE),
+    # `show` tells what each instruction is for.
+    writes("show aarch64", CALLS, CALLS_SHOWN),
+    # `show` tells the first fault.
+    *refuses_in_both("show x8664", "", NO_ARCHITECTURE),
+    *refuses_in_both("show x86_64", "[]", NO_OBJECT),
+    *refuses_in_both("show x86_64", BOTH_FAULTY, FRONTEND + "Json filter has a wrong shape: a.\n"),
+    ("show x86_64 < too-large.json", 1, "", LARGE),
+    # `show` answers faults of its reader and its writer.
+    *[case for it in LAYOUTS for case in fails_to_read_and_write("show x86_64" + it, LOGS, LOGS)],
+    ("show x86_64 < logs.json > /dev/full", 1, "", UNWRITTEN),
+]

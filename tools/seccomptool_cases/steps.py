@@ -1,0 +1,53 @@
+"""What `steps` has to do: lengths and steps of programs, and the faults."""
+
+from program_cases import FRONTEND, LARGE, UNWRITTEN
+
+from .forms import LOGS, NO_ARCHITECTURE, NO_OBJECT, fails_to_read_and_write, refuses, writes
+from .long_filters import of_rules
+
+# The programs of a filter without entries load the architecture's word and compare it, the tree loads the
+# call number, and they return.
+LOGS_STEPS = (
+    "filter a\nchains: 4 instructions, at most 3 steps, 3 passing\n"
+    "tree: 6 instructions, at most 4 steps, 4 passing\n"
+)
+
+# Call 0 has a rule, and call 39 matches always.
+#
+# Chains: 4 instructions in front, 7 of call 0 (a test, two jumps, a load and a test, two returns), 5 of
+# call 39 and a return. A passing call takes 3 steps to the number, 2 past each chain and the return, and
+# no way is longer.
+#
+# Tree: 4 instructions in front, a test at 39, one at 1, 6 of call 0 and a return, a test at 40 and two
+# returns, and the last return. The longest way is through call 0: 3 steps to the number, 2 tests, a
+# jump, a load, a test and a return. A passing call takes the 3 steps, 2 tests and a return.
+TWO_CALLS = r'''{"b\n\\":{"mismatch_action":"trap","match_action":"allow","filter":[
+    {"syscall":"read","args":[{"index":0,"type":"dword","op":"eq","val":5}]},
+    {"syscall":"getpid"}]}}'''
+TWO_CALLS_STEPS = (
+    "filter b\\x0a\\x5c\nchains: 17 instructions, at most 8 steps, 8 passing\n"
+    "tree: 17 instructions, at most 9 steps, 6 passing\n"
+)
+
+# Rules of 4089 instructions, and of 4094.
+LARGE_TREE = of_rules("b", 815)
+LARGE_CHAINS = of_rules("c", 816)
+TOO_MANY = "Backend error: The seccomp filter contains too many BPF instructions: {}. Max length is 4096.\n"
+
+CASES = [
+    # `steps` tells the lengths and steps.
+    writes("steps X86_64", LOGS, LOGS_STEPS),
+    writes("steps X86_64", TWO_CALLS, TWO_CALLS_STEPS),
+    writes("steps X86_64", "{}", ""),
+    ("steps x86_64 < logs.json", 0, LOGS_STEPS, ""),
+    # `steps` tells the first fault; the chains of all filters come before the trees.
+    refuses("steps x8664", "", NO_ARCHITECTURE),
+    refuses("steps x86_64", "[]", NO_OBJECT),
+    refuses("steps x86_64", '{"a":{},' + LARGE_TREE + "}", FRONTEND + "Json filter has a wrong shape: a.\n"),
+    refuses("steps x86_64", "{" + LARGE_TREE + "," + LARGE_CHAINS + "}", TOO_MANY.format(4101)),
+    refuses("steps x86_64", "{" + LARGE_TREE + "}", TOO_MANY.format(4098)),
+    ("steps x86_64 < too-large.json", 1, "", LARGE),
+    # `steps` answers faults of its reader and its writer.
+    *fails_to_read_and_write("steps x86_64"),
+    ("steps x86_64 < logs.json > /dev/full", 1, "", UNWRITTEN),
+]

@@ -43,6 +43,7 @@ POLICIES = {
             when("sched_yield", (0, "dword", {"masked_eq": 255}, 16)),
         ),
         "no execve": filter_of({"errno": 13}, "allow", "execve"),
+        "no memory to read": filter_of({"errno": 12}, "allow", when("read", (0, "dword", "eq", 0))),
     },
     "empty": "",
     "no-json.json": "{1}",
@@ -113,6 +114,12 @@ PASSED = [
      "errno 1000: Unknown error 1000\n" * 2, 0),
     ("log", ["grep", "-E", "^(NoNewPrivs|Seccomp):", "/proc/self/status"],
      "NoNewPrivs:\t1\nSeccomp:\t2\n", 0),
+]
+
+# Words of seccomptool that read standard input, whose reading is refused for want of memory.
+READING = [
+    "raw x86_64 a", "raw x86_64 a --tree", "show x86_64", "show x86_64 --tree", "steps x86_64",
+    "widened x86_64", "lint x86_64", "explain x86_64 actions.json log",
 ]
 
 # Commands that can't be run: the filter, the command, the status, and the error number.

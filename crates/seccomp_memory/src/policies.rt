@@ -7,7 +7,7 @@ use crate::filters::PROGRAM;
 use crate::lent::{
     Lent, TWO_CALLS_TEXT, both_kinds, faulty, two_calls, two_calls_entries, two_calls_value,
 };
-use seccompiler::json::read_filters;
+use seccompiler::json::{filters_from, read_filters};
 use seccompiler::{
     BackendError, BpfProgram, JsonCompiler, JsonFilter, SeccompFilter, TargetArch,
     compile_from_json, compile_from_json_in_order,
@@ -22,6 +22,16 @@ fn ask_of_value(alloc: Global, value: &Value, wanted: &JsonFilter) -> Result<(),
             ensure(filters.0.get("a") == Some(wanted), "the filter of a value")
         }
         Err(error) => ensure_fault("a value", fault_of_frontend(&error), None),
+    }
+}
+
+fn ask_of_text(alloc: Global, text: &'static str, wanted: &JsonFilter) -> Result<(), Ending> {
+    match filters_from(alloc, text.as_bytes()) {
+        Ok(filters) => {
+            ensure(filters.0.len() == 1, "how many filters a text gives")?;
+            ensure(filters.0.get("a") == Some(wanted), "the filter of a text")
+        }
+        Err(error) => ensure_fault("a text", fault_of_frontend(&error), None),
     }
 }
 
@@ -150,6 +160,7 @@ impl Lent for TwoCalls {
 
     fn make_calls(&self, alloc: Global) -> Result<(), Ending> {
         ask_of_value(alloc, &self.value, &self.entries)?;
+        ask_of_text(alloc, TWO_CALLS_TEXT, &self.entries)?;
         ask_of_entries(alloc, &self.entries, &two_calls(alloc)?)
     }
 }

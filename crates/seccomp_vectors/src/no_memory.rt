@@ -11,7 +11,9 @@ use seccompiler::backend::{BackendError, TargetArch};
 use seccompiler::bpf::{bpf_jump, bpf_stmt};
 use seccompiler::condition::SeccompCondition;
 use seccompiler::filter::SeccompFilter;
-use seccompiler::json::{JsonCondition, repeats_key};
+use seccompiler::json::{
+    JsonCondition, read_action, read_arg_len, read_operator, repeats_key,
+};
 use seccompiler::machine::{Outcome, check, run};
 use seccompiler::rule::SeccompRule;
 use seccompiler::syscall_table::SyscallTable;
@@ -75,6 +77,21 @@ fn names(rt: HostRuntime) -> Result<(), Fail> {
             table.get_syscall_nr("nosyscall").is_none(),
         ),
         ("a text's colons", repeats_key(b":", &Value::Null)),
+    ];
+    drop(hoard);
+    assert_seen(&rt, &seen);
+    Ok(())
+}
+
+#[test]
+fn values(rt: HostRuntime) -> Result<(), Fail> {
+    let alloc = rt.alloc();
+    let value = Value::from_str(alloc, r#"{"errno":1}"#)?;
+    let hoard = Hoard::take(alloc)?;
+    let seen = [
+        ("an action", read_action(&value) == Some(Errno(1))),
+        ("no length", read_arg_len(&value).is_none()),
+        ("no operator", read_operator(&value).is_none()),
     ];
     drop(hoard);
     assert_seen(&rt, &seen);

@@ -7,7 +7,9 @@ use crate::scarce::{Answer, Call, assert_refusals, assert_refusals_by, judged};
 use seccompiler::backend::TargetArch;
 use seccompiler::bpf::BpfProgram;
 use seccompiler::filter::SeccompFilter;
-use seccompiler::json::{JsonCompiler, JsonFilter, JsonFilterMap, JsonFrontendError, read_filters};
+use seccompiler::json::{
+    JsonCompiler, JsonFilter, JsonFilterMap, JsonFrontendError, filters_from, read_filters,
+};
 use seccompiler::{Error, compile_from_json, compile_from_json_in_order};
 use serde_json::Value;
 use std::alloc::Global;
@@ -73,6 +75,31 @@ fn values_of_no_filter(rt: HostRuntime) -> Result<(), Fail> {
         wanted: Err(Fault::Shape("a name")),
     };
     assert_refusals(&rt, rt.alloc(), "a value of no filter", &call)
+}
+
+#[derive(Drop)]
+struct FiltersFrom<'a> {
+    text: &'a str,
+    wanted: JsonFilterMap,
+}
+
+impl Call for FiltersFrom<'_> {
+    fn call(&self, alloc: Global) -> Answer {
+        match filters_from(alloc, self.text.as_bytes()) {
+            Ok(filters) => judged(filters == self.wanted, false, true),
+            Err(error) => answer_of_error(&error, None, true),
+        }
+    }
+}
+
+#[test]
+fn json_filters_of_a_text(rt: HostRuntime) -> Result<(), Fail> {
+    let alloc = rt.alloc();
+    let call = FiltersFrom {
+        text: MAIN_THREAD,
+        wanted: filters_from(alloc, MAIN_THREAD.as_bytes())?,
+    };
+    assert_refusals(&rt, alloc, "the JSON filters of a text", &call)
 }
 
 #[derive(Drop)]

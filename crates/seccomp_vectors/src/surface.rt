@@ -1,5 +1,6 @@
-// The public surface: every item of the root by its root path, the constants with their numbers, the
-// layout of an instruction, and the errors as errors of any program.
+// The public surface: every item of the root by its root path, the readers of policies by their
+// module's, the constants with their numbers, the layout of an instruction, and the errors as errors of
+// any program.
 
 use crate::builders::call;
 use crate::instructions::give;
@@ -178,6 +179,21 @@ fn texts_by_the_root(rt: HostRuntime) -> Result<(), Fail> {
     assert_eq!(rt; programs.len(), 0, "the programs of no filters");
     let programs = seccompiler::compile_from_json_in_order(alloc, b"{}".as_slice(), arch)?;
     assert_eq!(rt; programs.len(), 0, "the programs of no filters, in order");
+    Ok(())
+}
+
+#[test]
+fn readers_by_their_module(rt: HostRuntime) -> Result<(), Fail> {
+    let alloc = rt.alloc();
+    let named = seccompiler::json::filters_from(alloc, b"{}".as_slice())?;
+    assert_eq!(rt; named.0.len(), 0, "the filters of no names");
+    let qword = serde_json::Value::from_str(alloc, r#""qword""#)?;
+    let length = seccompiler::json::read_arg_len(&qword);
+    assert_eq!(rt; length, Some(seccompiler::SeccompCmpArgLen::Qword), "a length");
+    let action = seccompiler::json::read_action(&qword);
+    assert!(rt; action.is_none(), "the action of a length");
+    let operator = seccompiler::json::read_operator(&qword);
+    assert!(rt; operator.is_none(), "the operator of a length");
     Ok(())
 }
 

@@ -27,6 +27,12 @@ IsShapeRefusal d (Shape name) = IsLeastFault d (string_bytes name)
 IsShapeRefusal d OutOfMemory = ⊤
 IsShapeRefusal d _ = ⊥
 
+-- The error is of the reader, of the text or of the shape of its filters. It comes before a filter's policy is looked for.
+abbrev pub IsBeforePolicies : JsonFrontendError → Type 0
+IsBeforePolicies (Backend cause) = ⊥
+IsBeforePolicies (SyscallName name arch) = ⊥
+IsBeforePolicies e = ⊤
+
 -- A conversion gives the condition of the same four parts where the index is at most 5, and is refused where it is above.
 abbrev pub IsConditionOf : JsonCondition → Result Condition JsonFrontendError → Type 0
 IsConditionOf c (Ok made) = (c.arg_index ≤ 5) × (made ≡ condition_of c)

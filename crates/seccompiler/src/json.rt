@@ -1,8 +1,10 @@
 //! The JSON front end: filters written as JSON text.
 //!
 //! A text is an object that gives each filter a name, with its two actions and its entries;
-//! docs/JSON.md has the format. [`repeats_key`] tells that a text repeats a name, and
-//! [`read_filters`] turns the value of a text into filters.
+//! docs/JSON.md has the format. [`filters_from`] reads a text as JSON filters, and [`JsonCompiler`]
+//! makes them the filters of an architecture. [`repeats_key`] tells that a text repeats a name, and
+//! [`read_filters`] turns the value of a text into JSON filters. Whoever looks at the values inside a
+//! policy has [`read_action`], [`read_arg_len`] and [`read_operator`].
 
 mod compiler;
 mod error;
@@ -17,5 +19,7 @@ mod types;
 pub use compiler::JsonCompiler;
 pub use error::JsonFrontendError;
 pub use filter_map::read_filters;
+pub use parts::{read_action, read_arg_len, read_operator};
 pub use repeats::repeats_key;
+pub use texts::filters_from;
 pub use types::{JsonCondition, JsonFilter, JsonFilterMap, JsonRule};

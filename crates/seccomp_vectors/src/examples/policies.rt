@@ -1,6 +1,8 @@
-// The examples of policies as JSON text.
+// The examples of policies as JSON text, and of values in them.
 
-use seccompiler::{JsonCompiler, TargetArch, compile_from_json};
+use seccompiler::json::{filters_from, read_action, read_operator};
+use seccompiler::{JsonCompiler, SeccompAction, SeccompCmpOp, TargetArch, compile_from_json};
+use serde_json::Value;
 use std::test::Fail;
 
 #[test]
@@ -20,5 +22,35 @@ fn filters_of_a_text(rt: HostRuntime) -> Result<(), Fail> {
     let compiler = JsonCompiler::new(TargetArch::aarch64);
     let filters = compiler.compile(alloc, text.as_bytes())?;
     assert!(rt; filters.get("main").is_some());
+    Ok(())
+}
+
+#[test]
+fn json_filters_of_a_text(rt: HostRuntime) -> Result<(), Fail> {
+    let alloc = rt.alloc();
+    let text = r#"{"main": {"mismatch_action": "trap", "match_action": "allow", "filter": []}}"#;
+    let filters = filters_from(alloc, text.as_bytes())?;
+    let main = filters.0.get("main").ok_or("no filter has this name")?;
+    assert!(rt; main.match_action == SeccompAction::Allow);
+    Ok(())
+}
+
+#[test]
+fn actions_of_values(rt: HostRuntime) -> Result<(), Fail> {
+    let alloc = rt.alloc();
+    let value = Value::from_str(alloc, r#"{"errno": 1}"#)?;
+    assert!(rt; read_action(&value) == Some(SeccompAction::Errno(1)));
+    let value = Value::from_str(alloc, r#""errno""#)?;
+    assert!(rt; read_action(&value).is_none());
+    Ok(())
+}
+
+#[test]
+fn operators_of_values(rt: HostRuntime) -> Result<(), Fail> {
+    let alloc = rt.alloc();
+    let value = Value::from_str(alloc, r#"{"masked_eq": 255}"#)?;
+    assert!(rt; read_operator(&value) == Some(SeccompCmpOp::MaskedEq(255)));
+    let value = Value::from_str(alloc, r#""masked_eq""#)?;
+    assert!(rt; read_operator(&value).is_none());
     Ok(())
 }

@@ -33,7 +33,21 @@ fn read_plain_action(text: &str) -> Option<SeccompAction>
     }
 }
 
-fn read_action(value: &Value) -> Option<SeccompAction>
+/// The action that a JSON value is, or `None` where it is none.
+///
+/// An action is one of the texts `"allow"`, `"kill_thread"`, `"kill_process"`, `"log"` and `"trap"`, or
+/// an object of the one name `errno` or `trace`, whose value is a whole number up to 4294967295.
+/// Nothing else is one. It takes no memory.
+///
+/// # Examples
+///
+/// ```
+/// let value = Value::from_str(alloc, r#"{"errno": 1}"#)?;
+/// assert!(rt; read_action(&value) == Some(SeccompAction::Errno(1)));
+/// let value = Value::from_str(alloc, r#""errno""#)?;
+/// assert!(rt; read_action(&value).is_none());
+/// ```
+pub fn read_action(value: &Value) -> Option<SeccompAction>
     ensures found { IfSome result (IsAction (view value.now)) }
     ensures none { IfNone result ((a : SeccompAction) → IsAction (view value.now) a → ⊥) }
 {
@@ -52,7 +66,10 @@ fn read_action(value: &Value) -> Option<SeccompAction>
     }
 }
 
-fn read_arg_len(value: &Value) -> Option<SeccompCmpArgLen>
+/// The length of an argument that a JSON value is, or `None` where it is none.
+///
+/// A length is one of the texts `"dword"` and `"qword"`, and nothing else. It takes no memory.
+pub fn read_arg_len(value: &Value) -> Option<SeccompCmpArgLen>
     ensures found { IfSome result (IsArgLen (view value.now)) }
     ensures none { IfNone result ((l : SeccompCmpArgLen) → IsArgLen (view value.now) l → ⊥) }
 {
@@ -78,7 +95,21 @@ fn read_plain_operator(text: &str) -> Option<SeccompCmpOp>
     }
 }
 
-fn read_operator(value: &Value) -> Option<SeccompCmpOp>
+/// The operator that a JSON value is, or `None` where it is none.
+///
+/// An operator is one of the texts `"eq"`, `"ge"`, `"gt"`, `"le"`, `"lt"` and `"ne"`, or an object of
+/// the one name `masked_eq`, whose value is a mask: a whole number up to 18446744073709551615. Nothing
+/// else is one. It takes no memory.
+///
+/// # Examples
+///
+/// ```
+/// let value = Value::from_str(alloc, r#"{"masked_eq": 255}"#)?;
+/// assert!(rt; read_operator(&value) == Some(SeccompCmpOp::MaskedEq(255)));
+/// let value = Value::from_str(alloc, r#""masked_eq""#)?;
+/// assert!(rt; read_operator(&value).is_none());
+/// ```
+pub fn read_operator(value: &Value) -> Option<SeccompCmpOp>
     ensures found { IfSome result (IsOperator (view value.now)) }
     ensures none { IfNone result ((op : SeccompCmpOp) → IsOperator (view value.now) op → ⊥) }
 {

@@ -1,10 +1,13 @@
 // From a reader to the filters of its text.
 
-ghost use Rattle.std.specs.Prelude.{IfOk, IfErr};
+ghost use Rattle.std.specs.Prelude.{◌≡◌, IfOk, IfErr, OnOk};
+ghost use Rattle.serde_json.specs.Data.{Data};
 ghost use Rattle.serde_json.specs.View.{view};
 ghost use Rattle.seccompiler.specs.Errors.{IsNoMemoryInFrontend};
 ghost use Rattle.seccompiler.specs.JsonAnswers.{IsValueOf, OfValue, TellsFrontendFault};
-ghost use Rattle.seccompiler.specs.JsonSteps.{AreFilters};
+ghost use Rattle.seccompiler.specs.JsonShape.{IsFilter};
+ghost use Rattle.seccompiler.specs.JsonSteps.{AreFilters, IsBeforePolicies};
+ghost use Rattle.seccompiler.specs.JsonTypes.{JsonFilter};
 ghost use Rattle.seccompiler.specs.Reads.{Reads};
 ghost use Rattle.seccompiler.specs.declared.backend.TargetArch.{TargetArch};
 
@@ -16,14 +19,50 @@ use serde_json::Value;
 use std::alloc::Global;
 use std::io::{ErrorKind, Read};
 
-// The filters of a reader's text. Neither the text nor its value outlives the call.
-pub(crate) fn filters_from<R: Read + Drop>(
+/// Reads a text of JSON filters to its end.
+///
+/// On `Ok` the map has exactly the text's names, each with its filter as the text has it. No call's
+/// name is looked up, and no filter made: `JsonCompiler::make_seccomp_filter` does that with one of
+/// them, for an architecture, and `JsonCompiler::compile` with all of a text at once.
+///
+/// The text is what the reader gives, which the contract names where the reader's type tells its
+/// bytes, as a slice does. For a reader that doesn't tell them, as a file, it says that there is a
+/// text of which all this holds. The reader is dropped, and behind an error any part of it may have
+/// been read. Neither the text nor its value outlives the call.
+///
+/// # Errors
+///
+/// The first of these that is there:
+///
+/// - `Read` where the reader fails;
+/// - `SerdeJson` where the bytes are no JSON text;
+/// - `RepeatedKey` where `repeats_key` finds that a name is repeated;
+/// - `NotAnObject` where the text is no object;
+/// - `Shape` with the least name, in byte order, whose value is no filter.
+///
+/// `OutOfMemory` may come in place of any answer, where memory is refused or the reader fails for
+/// want of it. No other error comes.
+///
+/// # Examples
+///
+/// ```
+/// let text = r#"{"main": {"mismatch_action": "trap", "match_action": "allow", "filter": []}}"#;
+/// let filters = filters_from(alloc, text.as_bytes())?;
+/// let main = filters.0.get("main").ok_or("no filter has this name")?;
+/// assert!(rt; main.match_action == SeccompAction::Allow);
+/// ```
+pub fn filters_from<R: Read + Drop>(
     alloc: Global,
     mut reader: R,
 ) -> Result<JsonFilterMap, JsonFrontendError>
     ensures filters { IfOk result (λ filters. Reads (R.remaining reader) (λ text. OfValue text (λ d. AreFilters d filters))) }
+    // On whichever architecture.
     ensures fault { IfErr result (λ e. Reads (R.remaining reader) (λ text. (arch : TargetArch) → TellsFrontendFault arch text e)) }
+    ensures cause { IfErr result IsBeforePolicies }
     ensures memory { IfErr result IsNoMemoryInFrontend }
+
+    // A value is at most one filter.
+    ensures one_filter { OnOk result ((d : Data) (f g : JsonFilter) → IsFilter d f → IsFilter d g → f ≡ g) }
 {
     let mut text = Vec::new(alloc);
     match reader.read_to_end(&mut text) {
@@ -37,7 +76,9 @@ pub(crate) fn filters_from<R: Read + Drop>(
 fn filters_in_text(alloc: Global, text: &[u8]) -> Result<JsonFilterMap, JsonFrontendError>
     ensures filters { IfOk result (λ filters. OfValue text.now (λ d. AreFilters d filters)) }
     ensures fault { IfErr result (λ e. (arch : TargetArch) → TellsFrontendFault arch text.now e) }
+    ensures cause { IfErr result IsBeforePolicies }
     ensures memory { IfErr result IsNoMemoryInFrontend }
+    ensures one_filter { OnOk result ((d : Data) (f g : JsonFilter) → IsFilter d f → IsFilter d g → f ≡ g) }
 {
     let value = value_of(alloc, text)?;
     read_filters(alloc, &value)
@@ -47,6 +88,7 @@ fn filters_in_text(alloc: Global, text: &[u8]) -> Result<JsonFilterMap, JsonFron
 fn value_of(alloc: Global, text: &[u8]) -> Result<Value, JsonFrontendError>
     ensures value { IfOk result (λ value. IsValueOf text.now (view value)) }
     ensures fault { IfErr result (λ e. (arch : TargetArch) → TellsFrontendFault arch text.now e) }
+    ensures cause { IfErr result IsBeforePolicies }
     ensures memory { IfErr result IsNoMemoryInFrontend }
 {
     match Value::from_slice(alloc, text) {

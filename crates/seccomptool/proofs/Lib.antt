@@ -26,7 +26,6 @@ pub mod StepsAnswers
 pub mod CallLines
 pub mod WidenedAnswers
 -- `lint`.
-pub mod ObjectNames
 pub mod LintValues
 pub mod LintAnswers
 -- `explain`.

@@ -1,6 +1,5 @@
 // The calls that a policy decides otherwise than the Rust crate does.
 
-mod filters;
 mod lines;
 
 ghost use Rattle.std.specs.Prelude.{IfErr};
@@ -9,9 +8,9 @@ ghost use Rattle.seccomptool.specs.Widened.{AnswersWidened};
 
 use crate::error::ToolError;
 use crate::send::send;
-use crate::widened::filters::json_filters;
 use crate::widened::lines::calls_lines;
 use seccompiler::TargetArch;
+use seccompiler::json::filters_from;
 use std::alloc::Global;
 use std::io::{Read, Write};
 
@@ -46,6 +45,6 @@ pub fn widened<R: Read + Drop, W: Write>(
     ensures unwritten { IfErr result (λ e. KeepsOutput e out.old out.new) }
 {
     let target = TargetArch::from_text(alloc, arch)?;
-    let filters = json_filters(alloc, policy)?;
+    let filters = filters_from(alloc, policy)?;
     send(out, &calls_lines(alloc, target, &filters)?)
 }

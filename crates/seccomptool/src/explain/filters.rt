@@ -1,22 +1,14 @@
 // The JSON filters of a policy that can be compiled.
 
-ghost use Rattle.std.specs.Prelude.{◌≡◌, ℕ, List, IfOk, IfErr, IfSome, OnOk};
-ghost use Rattle.std.specs.BTreeMap.{get_by_text};
-ghost use Rattle.serde_json.specs.Data.{Data};
-ghost use Rattle.seccompiler.specs.JsonAnswers.{IsReadAs, OfValue};
-ghost use Rattle.seccompiler.specs.JsonFilters.{AreAll, AreFound, IsSomeFilter};
-ghost use Rattle.seccompiler.specs.JsonShape.{IsFilter};
-ghost use Rattle.seccompiler.specs.JsonSteps.{AreFilters};
-ghost use Rattle.seccompiler.specs.JsonTypes.{JsonFilter};
+ghost use Rattle.std.specs.Prelude.{◌≡◌, ℕ, List, IfOk, IfErr, IfSome};
+ghost use Rattle.seccompiler.specs.JsonAnswers.{OfValue};
 ghost use Rattle.seccompiler.specs.Reads.{Reads};
 ghost use Rattle.seccomptool.specs.ExplainSteps.{IsPolicyReadError, AreUsable};
 ghost use Rattle.seccomptool.specs.Policies.{IsNameOf, IsRefusedPolicy};
-ghost use Rattle.seccomptool.specs.declared.error.ToolError.TheVariants.{OutOfMemory};
 
 use crate::error::ToolError;
-use seccompiler::json::{JsonFrontendError, read_filters};
+use seccompiler::json::{JsonFrontendError, filters_from};
 use seccompiler::{Error, JsonFilterMap, TargetArch, compile_from_json_in_order};
-use serde_json::Value;
 use std::alloc::Global;
 use std::io::{ErrorKind, Read};
 
@@ -31,20 +23,7 @@ pub(crate) fn usable_filters<P: Read + Drop>(
 {
     let text = policy_text(alloc, policy)?;
     drop(compile_from_json_in_order(alloc, text.as_slice(), target)?);
-    filters_in(alloc, text.as_slice())
-}
-
-// The JSON filters of a text that was read before.
-fn filters_in(alloc: Global, text: &[u8]) -> Result<JsonFilterMap, ToolError>
-    ensures filters { IfOk result (λ filters. (d : Data) → IsReadAs text.now d → AreFilters d filters) }
-    ensures one_filter { OnOk result ((d : Data) (f g : JsonFilter) → IsFilter d f → IsFilter d g → f ≡ g) }
-    ensures refused { (d : Data) → IsReadAs text.now d → AreAll IsSomeFilter d → IfErr result (λ e. e ≡ OutOfMemory) }
-{
-    match Value::from_slice(alloc, text) {
-        Ok(value) => Ok(read_filters(alloc, &value)?),
-        Err(error) if error.is_memory() => Err(ToolError::OutOfMemory),
-        Err(error) => Err(JsonFrontendError::SerdeJson(error).into()),
-    }
+    Ok(filters_from(alloc, text.as_slice())?)
 }
 
 // The whole text of a policy.

@@ -11,9 +11,7 @@ use seccompiler::backend::{BackendError, TargetArch};
 use seccompiler::bpf::{bpf_jump, bpf_stmt};
 use seccompiler::condition::SeccompCondition;
 use seccompiler::filter::SeccompFilter;
-use seccompiler::json::{
-    JsonCondition, read_action, read_arg_len, read_operator, repeats_key,
-};
+use seccompiler::json::{JsonCondition, read_action, read_arg_len, read_operator, repeats_key};
 use seccompiler::machine::{Outcome, check, run};
 use seccompiler::rule::SeccompRule;
 use seccompiler::syscall_table::SyscallTable;

@@ -189,7 +189,11 @@ fn readers_by_their_module(rt: HostRuntime) -> Result<(), Fail> {
     assert_eq!(rt; named.0.len(), 0, "the filters of no names");
     let qword = serde_json::Value::from_str(alloc, r#""qword""#)?;
     let length = seccompiler::json::read_arg_len(&qword);
-    assert_eq!(rt; length, Some(seccompiler::SeccompCmpArgLen::Qword), "a length");
+    assert_eq!(rt;
+        length,
+        Some(seccompiler::SeccompCmpArgLen::Qword),
+        "a length"
+    );
     let action = seccompiler::json::read_action(&qword);
     assert!(rt; action.is_none(), "the action of a length");
     let operator = seccompiler::json::read_operator(&qword);

@@ -1,5 +1,5 @@
 -- Bytes in chunks of 64 are records and a rest.
-use Rattle.std.proofs.Common.{◌≡◌, ℕ, zero, suc, ◌+◌, ◌*◌, ◌/◌, ◌≤◌, List, [], ◌++◌, length, take, drop, All, Option, refl, sym, subst, ap, ◌∙◌, append_assoc, take-append-drop, length-drop, length-take-le, arith}
+use Rattle.std.proofs.Common.{◌≡◌, ℕ, zero, suc, ◌+◌, ◌*◌, ◌/◌, ◌≤◌, List, ◌++◌, length, take, drop, All, Option, refl, sym, subst, ap, ◌∙◌, append_assoc, take-append-drop, length-drop, length-take-le, arith}
 use Rattle.std.specs.List.{concat}
 use Rattle.std.specs.Simd.{first_chunks}
 use Rattle.std.proofs.lemmas.List.{drop-drop}
@@ -26,7 +26,7 @@ chunks_whole (suc k) bytes room =
     (chunks_whole k (drop 64 bytes) (omega (arith, length-drop 64 bytes)))
 
 -- The whole chunks and the rest are a cut into records.
-pub cut_by_chunks : (bytes : List ℕ) → IsCutIntoRecords bytes (first_chunks 64 (length bytes / 64) bytes) (drop (length bytes / 64 * 64) bytes)
+cut_by_chunks : (bytes : List ℕ) → IsCutIntoRecords bytes (first_chunks 64 (length bytes / 64) bytes) (drop (length bytes / 64 * 64) bytes)
 cut_by_chunks bytes = record {
   joined = sym (chunks_joined (length bytes / 64) bytes);
   whole = chunks_whole (length bytes / 64) bytes (omega arith);
@@ -45,4 +45,17 @@ lines_sent IsTextOf items slice tail text sent records rest old new same chunks 
   text = text;
   told = told;
   appends = subst (Appends old new) is appends;
+}
+
+-- Where a text of records is one in other words too, what is written of them is.
+pub retold : (IsTextOf IsOther : List (List ℕ) → List ℕ → Type 0) → ((records : List (List ℕ)) (text : List ℕ) → IsTextOf records text → IsOther records text)
+    → (bytes : List ℕ) (rest : ℕ) (old new : Option (List ℕ)) → WritesLines IsTextOf bytes rest old new → WritesLines IsOther bytes rest old new
+retold IsTextOf IsOther tells bytes rest old new w = record {
+  records = w.records;
+  tail = w.tail;
+  cut = w.cut;
+  left = w.left;
+  text = w.text;
+  told = tells w.records w.text w.told;
+  appends = w.appends;
 }

@@ -1,5 +1,5 @@
 -- What the programs of a policy mean for the answers of the engines.
-use Rattle.std.proofs.Common.{◌≡◌, ℕ, ◌<◌, ◌⊎◌, List, Option, Some, None, IfErr, Result, Ok, Err, String, Vec, Global, Contains, string_bytes, string_cmp, nat_cmp, map, refl, sym, subst, ◌∙◌, ⊎_elim}
+use Rattle.std.proofs.Common.{◌≡◌, ℕ, ◌⊎◌, List, Option, Some, None, IfErr, Result, Ok, Err, String, Vec, Global, Contains, string_bytes, string_cmp, nat_cmp, map, refl, sym, subst, ◌∙◌, ⊎_elim}
 use Rattle.std.specs.Prelude.{⊤}
 use Rattle.std.specs.Cmp.Lexicographic.{slice_cmp}
 use Rattle.std.proofs.lemmas.Simd.{map-map}
@@ -38,30 +38,22 @@ use Rattle.seccompc.specs.Probe.{IsNameOf}
 use Rattle.std.specs.declared.io.Error.{Error as IoError}
 use Rattle.seccompc.specs.declared.error.ToolError.{ToolError}
 use Rattle.seccompc.specs.declared.error.ToolError.TheVariants as tool
-use Rattle.seccompc.proofs.Names.{Entry, each_found, found_name, names_ordered}
+use Rattle.seccomp_command_line.proofs.ByName.{each_found, found_name, names_ordered}
+use Rattle.seccomp_command_line.proofs.Records.{retold}
 
 -- A name that is refused is no architecture's.
 pub name_refused : (arch : List ℕ) (known : Option (List ℕ)) (e : BackendError) → ((target : TargetArch) → IsNameOf arch target → Err e ≡ Ok target)
     → IsInvalidArch e arch ⊎ (e ≡ backend.OutOfMemory) → IsRefusedPolicy arch known (from_library (from_backend e))
-name_refused arch known backend.EmptyRule none cause = ⊎_elim (λ no. absurd no) (λ no. absurd cc) cause
-name_refused arch known (backend.FilterTooLarge n) none cause = ⊎_elim (λ no. absurd no) (λ no. absurd cc) cause
-name_refused arch known backend.IdenticalActions none cause = ⊎_elim (λ no. absurd no) (λ no. absurd cc) cause
-name_refused arch known backend.InvalidArgumentNumber none cause = ⊎_elim (λ no. absurd no) (λ no. absurd cc) cause
 name_refused arch known (backend.InvalidTargetArch text) none cause =
     ⊎_elim (λ given. no_architecture text (λ target named. let no = none target named in cc) given refl) (λ no. absurd cc) cause
-name_refused arch known (backend.InvalidSyscallNumber n) none cause = ⊎_elim (λ no. absurd no) (λ no. absurd cc) cause
 name_refused arch known backend.OutOfMemory none cause = tt
+name_refused arch known _ none cause = ⊎_elim (λ no. absurd no) (λ no. absurd cc) cause
 
 -- What the library refuses of a policy is its first fault.
 pub policy_refused : (arch : List ℕ) (known : Option (List ℕ)) (target : TargetArch) (e : Error) → IsNameOf arch target → IsNoMemoryInside e
     → Reads known (λ text. TellsFirstFault target text e) → IsRefusedPolicy arch known (from_library e)
-policy_refused arch known target (library.Backend e) named memory first = of_policy target named (λ same. cc) memory first
-policy_refused arch known target library.EmptyFilter named memory first = of_policy target named (λ same. cc) memory first
-policy_refused arch known target (library.Prctl number) named memory first = of_policy target named (λ same. cc) memory first
-policy_refused arch known target (library.Seccomp number) named memory first = of_policy target named (λ same. cc) memory first
-policy_refused arch known target (library.ThreadSync thread) named memory first = of_policy target named (λ same. cc) memory first
-policy_refused arch known target (library.JsonFrontend e) named memory first = of_policy target named (λ same. cc) memory first
 policy_refused arch known target library.OutOfMemory named memory first = tt
+policy_refused arch known target e named memory first = of_policy target named (λ same. cc) memory first
 
 -- The programs that are found by their names.
 abbrev pub Find : Type 0
@@ -76,7 +68,7 @@ found_value target find d programs name program found (Some value) has =
     let same : known.found ≡ program = let e : Some known.found ≡ Some program = sym known.there ∙ found in cc in
     (value, has, subst (λ (p : Vec sock_filter Global). IsProgramOf target value p.items) same known.own)
 
-pub found_there : (target : TargetArch) (find : Find) (d : Data) → AreProgramsOf target find d → (name : List ℕ) (program : Vec sock_filter Global) → find name ≡ Some program
+found_there : (target : TargetArch) (find : Find) (d : Data) → AreProgramsOf target find d → (name : List ℕ) (program : Vec sock_filter Global) → find name ≡ Some program
     → Under d name (λ value. IsProgramOf target value program.items)
 found_there target find d programs name program found = found_value target find d programs name program found (get name d) refl
 
@@ -131,15 +123,8 @@ none_found arch known find name text records old new h none is =
 -- The lines of a program that is compiled for a filter are the filter's.
 traced_lines : (f : Filter) (program : List sock_filter) (bytes : List ℕ) (rest : ℕ) (old new : Option (List ℕ)) → IsCompiled f program
     → WritesLines (AreLines program) bytes rest old new → WritesLines (Traced f) bytes rest old new
-traced_lines f program bytes rest old new compiled w = record {
-  records = w.records;
-  tail = w.tail;
-  cut = w.cut;
-  left = w.left;
-  text = w.text;
-  told = record { program = program; compiled = compiled; lines = w.told };
-  appends = w.appends;
-}
+traced_lines f program bytes rest old new compiled w =
+    retold (AreLines program) (Traced f) (λ records text lines. record { program = program; compiled = compiled; lines = lines }) bytes rest old new w
 
 -- The answer of tracing the program that is found under the name.
 pub ran : (arch : List ℕ) (known : Option (List ℕ)) (find : Find) (name : List ℕ) (program : Vec sock_filter Global) (records : Option (List ℕ)) (r : Result ⊤ ToolError) (old new : Option (List ℕ))
@@ -159,11 +144,11 @@ ran arch known find name program records (Err tool.OutOfMemory) old new h found 
 ran arch known find name program records (Err _) old new h found lines cause = absurd cause
 
 -- The names of programs in a map.
-names_of : (entries : List Entry) → map (λ (p : NamedProgram). p.0) (map named_program entries) ≡ map (λ e. string_bytes e.0) entries
+names_of : (entries : List (String Global × Vec sock_filter Global)) → map (λ (p : NamedProgram). p.0) (map named_program entries) ≡ map (λ e. string_bytes e.0) entries
 names_of entries = map-map (λ (p : NamedProgram). p.0) named_program entries
 
 -- The listing of programs in order is the value's, where the same is found under their names.
-pub listed : (target : TargetArch) (find : Find) (d : Data) (entries : List Entry) (text : List ℕ) → AreProgramsOf target find d
+listed : (target : TargetArch) (find : Find) (d : Data) (entries : List (String Global × Vec sock_filter Global)) (text : List ℕ) → AreProgramsOf target find d
     → ((name : List ℕ) → lookup (is_text name) entries ≡ find name) → IsStrictlySortedBy string_cmp (keys_of entries)
     → text ≡ concat (map listing_of (map named_program entries)) → Listed target d text
 listed target find d entries text programs same sorted is = record {
@@ -178,7 +163,7 @@ listed target find d entries text programs same sorted is = record {
 }
 
 -- The answer of a listing that is written.
-pub list_written : (arch : List ℕ) (known : Option (List ℕ)) (find : Find) (entries : List Entry) (text sent : List ℕ) (old new : Option (List ℕ)) → FindsPrograms arch known find
+pub list_written : (arch : List ℕ) (known : Option (List ℕ)) (find : Find) (entries : List (String Global × Vec sock_filter Global)) (text sent : List ℕ) (old new : Option (List ℕ)) → FindsPrograms arch known find
     → ((name : List ℕ) → lookup (is_text name) entries ≡ find name) → IsStrictlySortedBy string_cmp (keys_of entries)
     → text ≡ concat (map listing_of (map named_program entries)) → sent ≡ text → Appends old new sent → AnswersList arch known (Ok tt) old new
 list_written arch known find entries text sent old new h same sorted is sends appends =

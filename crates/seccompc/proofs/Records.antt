@@ -12,9 +12,5 @@ reads_some (Some bytes) P all = (bytes, refl, all bytes)
 
 -- An error that tells of no rest of a record says nothing of the records.
 pub answers_none : (IsTextOf : List (List ℕ) → List ℕ → Type 0) (e : ToolError) → ((rest : ℕ) → e ≡ tool.ShortRecord rest → ⊥) → (bytes : List ℕ) (old new : Option (List ℕ)) → AnswersRecords IsTextOf bytes (Err e) old new
-answers_none IsTextOf (tool.Library e) none bytes old new = tt
-answers_none IsTextOf (tool.NoFilter name) none bytes old new = tt
 answers_none IsTextOf (tool.ShortRecord rest) none bytes old new = absurd (none rest refl)
-answers_none IsTextOf (tool.Read e) none bytes old new = tt
-answers_none IsTextOf (tool.Write e) none bytes old new = tt
-answers_none IsTextOf tool.OutOfMemory none bytes old new = tt
+answers_none IsTextOf _ none bytes old new = tt

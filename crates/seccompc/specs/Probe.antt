@@ -13,7 +13,7 @@ use Rattle.seccompiler.specs.Texts.{arch_text}
 use Rattle.seccompiler.specs.Policy.{Filter, IsCallNumber}
 use Rattle.seccompc.specs.Errors.{IsReadFault}
 use Rattle.seccompc.specs.declared.error.ToolError.{ToolError}
-use Rattle.seccompc.specs.declared.error.ToolError.TheVariants.{Library, NoFilter, ShortRecord, Read, Write, OutOfMemory}
+use Rattle.seccompc.specs.declared.error.ToolError.TheVariants.{Library, ShortRecord, Read, Write, OutOfMemory}
 
 -- The filter that allows a call of this number where all 8 bytes of the argument equal the value, and else kills the
 -- process.

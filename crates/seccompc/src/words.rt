@@ -5,7 +5,7 @@ ghost use Rattle.seccompc.specs.declared.words.Command.{Command};
 ghost use Rattle.seccompc.specs.Words.{IsNumberText, IsSignedText, IsSigned64, IsCommand};
 
 /// A command of the program.
-#[derive(Clone, Copy, Debug, PartialEq, Eq)]
+#[derive(Clone, Copy)]
 pub enum Command<'a> {
     /// Compile a filter of one condition, and trace its program on the records of standard input.
     Probe {

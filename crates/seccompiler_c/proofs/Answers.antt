@@ -13,13 +13,9 @@ use Rattle.seccompiler_c.specs.declared.fault.Fault.TheVariants as fault
 pub no_decision : (text : List ℕ) (architecture : ℕ) (name call : List ℕ) (target : TargetArch) → IsArchitecture architecture target → length call ≡ 64
     → (f : Fault) → IsPolicyFault target text name f → IsUndecided text architecture name call f
 no_decision text architecture name call target is long fault.OutOfMemory why = (target, is, long)
-no_decision text architecture name call target is long fault.UnknownArchitecture why = absurd why
-no_decision text architecture name call target is long fault.UnknownLayout why = absurd why
-no_decision text architecture name call target is long fault.NotARecord why = absurd why
 no_decision text architecture name call target is long (fault.Text e) why = (target, is, (long, why))
 no_decision text architecture name call target is long fault.NoFilter why = (target, is, (long, why))
-no_decision text architecture name call target is long (fault.Filter e) why = absurd why
-no_decision text architecture name call target is long (fault.NoRoom n) why = absurd why
+no_decision text architecture name call target is long _ why = absurd why
 
 -- The text of a refusal, or that of want of memory, is what is to be said.
 pub says : (r : Request) (f : Fault) (said : List ℕ) → IsRefusal r f → IsTextOf f said → Says r said

@@ -23,14 +23,9 @@ of_slice text P read = subst P read.1 read.2
 
 -- What the front end refuses of a text in memory is its first fault, or want of memory.
 pub text_refused : (target : TargetArch) (text name : List ℕ) (e : JsonFrontendError) → TellsFrontendFault target text e → IsPolicyFault target text name (from_frontend e)
-text_refused target text name (frontend.Backend cause) tells = tells
-text_refused target text name (frontend.SerdeJson cause) tells = tells
-text_refused target text name (frontend.SyscallName called known) tells = tells
 text_refused target text name (frontend.Read cause) tells = tt
-text_refused target text name frontend.RepeatedKey tells = tells
-text_refused target text name frontend.NotAnObject tells = tells
-text_refused target text name (frontend.Shape called) tells = tells
 text_refused target text name frontend.OutOfMemory tells = tt
+text_refused target text name _ tells = tells
 
 -- The policies that are found by their names.
 abbrev pub Find : Type 0

@@ -5,7 +5,7 @@ use Rattle.seccompiler.specs.Policy.{Filter}
 use Rattle.seccompiler.specs.declared.backend.TargetArch.{TargetArch}
 use Rattle.seccompiler.specs.declared.bpf.sock_filter.{sock_filter}
 use Rattle.seccompiler_c.specs.Arguments.{IsArchitecture, IsLayout}
-use Rattle.seccompiler_c.specs.Policies.{NamesPolicy, IsPolicyFault}
+use Rattle.seccompiler_c.specs.Policies.{NamesPolicy}
 use Rattle.seccompiler_c.specs.Programs.{Request, OfProgram, Holds, IsRefusal, IsUncompiledIn}
 use Rattle.seccompiler_c.specs.declared.arguments.ProgramLayout.{ProgramLayout}
 use Rattle.seccompiler_c.specs.declared.fault.Fault.{Fault}
@@ -16,27 +16,11 @@ pub named_so : (target : TargetArch) (text name : List ℕ) (policy : Filter) (P
 named_so target text name policy P (d, is, (all, (value, has, (p, own, same)))) holds = (d, is, (all, (value, has, (p, own, subst P (sym same) holds))))
 
 module _ (r : Request) (target : TargetArch) (layout : ProgramLayout) (architecture : IsArchitecture r.architecture target) (number : IsLayout r.layout layout) where
-  -- A request without a policy is refused for that.
-  pub no_policy : (f : Fault) → IsPolicyFault target r.text r.name f → IsRefusal r f
-  no_policy fault.OutOfMemory why = (target, architecture, (layout, number, tt))
-  no_policy fault.UnknownArchitecture why = absurd why
-  no_policy fault.UnknownLayout why = absurd why
-  no_policy fault.NotARecord why = absurd why
-  no_policy (fault.Text e) why = (target, architecture, (layout, number, why))
-  no_policy fault.NoFilter why = (target, architecture, (layout, number, why))
-  no_policy (fault.Filter e) why = absurd why
-  no_policy (fault.NoRoom n) why = absurd why
-
   -- A request whose policy has no program is refused for that.
   pub no_program : (policy : Filter) → NamesPolicy target r.text r.name (λ p. p ≡ policy) → (f : Fault) → IsUncompiledIn layout policy f → IsRefusal r f
   no_program policy named fault.OutOfMemory why = (target, architecture, (layout, number, tt))
-  no_program policy named fault.UnknownArchitecture why = absurd why
-  no_program policy named fault.UnknownLayout why = absurd why
-  no_program policy named fault.NotARecord why = absurd why
-  no_program policy named (fault.Text e) why = absurd why
-  no_program policy named fault.NoFilter why = absurd why
   no_program policy named (fault.Filter e) why = (target, architecture, (layout, number, named_so target r.text r.name policy _ named why))
-  no_program policy named (fault.NoRoom n) why = absurd why
+  no_program policy named _ why = absurd why
 
 -- What holds of a request's program is so of it.
 pub programs_so : (r : Request) (P Q : List sock_filter → Type 0) → ((program : List sock_filter) → P program → Q program) → OfProgram r P → OfProgram r Q

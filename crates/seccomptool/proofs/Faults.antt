@@ -13,9 +13,11 @@ use Rattle.seccompiler.specs.JsonPrograms.{TellsFirstFault}
 use Rattle.seccompiler.specs.Reads.{Reads}
 use Rattle.seccompiler.specs.Texts.{IsInvalidArch}
 use Rattle.seccomptool.specs.Errors.{from_library}
+use Rattle.seccomptool.specs.ExplainSteps.{IsPolicyReadError}
 use Rattle.seccomptool.specs.Policies.{IsNameOf, IsNoArchitecture, IsBeforePrograms, IsTextFault, IsRefusedName, IsRefusedPolicy, IsRefusedText, no_architecture, of_policy}
 use Rattle.seccomptool.specs.declared.error.ToolError.{ToolError}
 use Rattle.seccomptool.specs.declared.error.ToolError.TheVariants as tool
+use Rattle.seccomptool.proofs.Readings.{reads_some}
 
 -- A name that is refused is no architecture's.
 pub name_refused : (arch : List ℕ) (e : BackendError) → ((target : TargetArch) → IsNameOf arch target → Err e ≡ Ok target)
@@ -23,11 +25,7 @@ pub name_refused : (arch : List ℕ) (e : BackendError) → ((target : TargetArc
 name_refused arch (backend.InvalidTargetArch text) none cause =
     ⊎_elim (λ given. record { text = text; unnamed = λ target named. let no = none target named in cc; given = given; told = refl }) (λ no. absurd cc) cause
 name_refused arch backend.OutOfMemory none cause = tt
-name_refused arch backend.EmptyRule none cause = ⊎_elim (λ no. absurd no) (λ no. absurd cc) cause
-name_refused arch (backend.FilterTooLarge n) none cause = ⊎_elim (λ no. absurd no) (λ no. absurd cc) cause
-name_refused arch backend.IdenticalActions none cause = ⊎_elim (λ no. absurd no) (λ no. absurd cc) cause
-name_refused arch backend.InvalidArgumentNumber none cause = ⊎_elim (λ no. absurd no) (λ no. absurd cc) cause
-name_refused arch (backend.InvalidSyscallNumber n) none cause = ⊎_elim (λ no. absurd no) (λ no. absurd cc) cause
+name_refused arch _ none cause = ⊎_elim (λ no. absurd no) (λ no. absurd cc) cause
 
 -- A name's refusal is one of the policy's text.
 before : (arch : List ℕ) (known : Option (List ℕ)) (e f : Error) → IsNoArchitecture arch e → e ≡ f → IsBeforePrograms f → IsTextFault arch known e
@@ -35,35 +33,18 @@ before arch known e f is same early = (no_architecture is, subst IsBeforeProgram
 
 pub name_is_text : (arch : List ℕ) (known : Option (List ℕ)) (e : ToolError) → IsRefusedName arch e → IsRefusedText arch known e
 name_is_text arch known (tool.Library e) refused = before arch known e _ refused refused.told tt
-name_is_text arch known (tool.NoFilter name) refused = refused
-name_is_text arch known (tool.UnknownCall call target) refused = refused
-name_is_text arch known (tool.ShortRecord rest) refused = refused
-name_is_text arch known (tool.Read e) refused = refused
-name_is_text arch known (tool.Fault told) refused = refused
-name_is_text arch known (tool.Write e) refused = refused
-name_is_text arch known tool.OutOfMemory refused = tt
+name_is_text arch known _ refused = refused
 
 -- A refusal before the programs is one of the whole policy.
 pub text_is_policy : (arch : List ℕ) (known : Option (List ℕ)) (e : ToolError) → IsRefusedText arch known e → IsRefusedPolicy arch known e
 text_is_policy arch known (tool.Library e) refused = refused.0
-text_is_policy arch known (tool.NoFilter name) refused = refused
-text_is_policy arch known (tool.UnknownCall call target) refused = refused
-text_is_policy arch known (tool.ShortRecord rest) refused = refused
-text_is_policy arch known (tool.Read e) refused = refused
-text_is_policy arch known (tool.Fault told) refused = refused
-text_is_policy arch known (tool.Write e) refused = refused
-text_is_policy arch known tool.OutOfMemory refused = tt
+text_is_policy arch known _ refused = refused
 
 -- What the library refuses of a policy is its first fault.
 pub policy_refused : (arch : List ℕ) (known : Option (List ℕ)) (target : TargetArch) (e : Error) → IsNameOf arch target → IsNoMemoryInside e
     → Reads known (λ text. TellsFirstFault target text e) → IsRefusedPolicy arch known (from_library e)
-policy_refused arch known target (library.Backend e) named memory first = of_policy target named (λ same. cc) memory first
-policy_refused arch known target library.EmptyFilter named memory first = of_policy target named (λ same. cc) memory first
-policy_refused arch known target (library.Prctl number) named memory first = of_policy target named (λ same. cc) memory first
-policy_refused arch known target (library.Seccomp number) named memory first = of_policy target named (λ same. cc) memory first
-policy_refused arch known target (library.ThreadSync thread) named memory first = of_policy target named (λ same. cc) memory first
-policy_refused arch known target (library.JsonFrontend e) named memory first = of_policy target named (λ same. cc) memory first
 policy_refused arch known target library.OutOfMemory named memory first = tt
+policy_refused arch known target e named memory first = of_policy target named (λ same. cc) memory first
 
 -- What the front end refuses of it comes before the programs.
 told : (arch : List ℕ) (known : Option (List ℕ)) (target : TargetArch) (e : JsonFrontendError) → IsNameOf arch target → (e ≡ json.OutOfMemory → ⊥) → IsNoMemoryInFrontend e
@@ -72,11 +53,12 @@ told arch known target e named other memory first = (of_policy target named (λ 
 
 pub text_refused : (arch : List ℕ) (known : Option (List ℕ)) (target : TargetArch) (e : JsonFrontendError) → IsNameOf arch target → IsNoMemoryInFrontend e
     → Reads known (λ text. TellsFrontendFault target text e) → IsRefusedText arch known (from_library (from_frontend e))
-text_refused arch known target (json.Backend e) named memory first = told arch known target (json.Backend e) named (λ same. cc) memory first
-text_refused arch known target (json.SerdeJson e) named memory first = told arch known target (json.SerdeJson e) named (λ same. cc) memory first
-text_refused arch known target (json.SyscallName name other) named memory first = told arch known target (json.SyscallName name other) named (λ same. cc) memory first
-text_refused arch known target (json.Read e) named memory first = told arch known target (json.Read e) named (λ same. cc) memory first
-text_refused arch known target json.RepeatedKey named memory first = told arch known target json.RepeatedKey named (λ same. cc) memory first
-text_refused arch known target json.NotAnObject named memory first = told arch known target json.NotAnObject named (λ same. cc) memory first
-text_refused arch known target (json.Shape name) named memory first = told arch known target (json.Shape name) named (λ same. cc) memory first
 text_refused arch known target json.OutOfMemory named memory first = tt
+text_refused arch known target e named memory first = told arch known target e named (λ same. cc) memory first
+
+-- A failed read is the first fault of a policy, on an architecture that is named.
+pub policy_unread : (arch : List ℕ) (known : Option (List ℕ)) (target : TargetArch) (e : ToolError) → IsNameOf arch target → IsPolicyReadError e → IsRefusedPolicy arch known e
+policy_unread arch known target (tool.Library (library.JsonFrontend (json.Read e))) named cause =
+    of_policy target named (λ same. cc) (λ same. cc, cause) (reads_some known _ (λ text. tt))
+policy_unread arch known target tool.OutOfMemory named cause = tt
+policy_unread arch known target _ named cause = absurd cause

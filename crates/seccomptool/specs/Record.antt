@@ -4,7 +4,6 @@ use Rattle.std.specs.Int.{w32, w64, to_le_bytes}
 use Rattle.std.specs.Io.KnownBytes.{Appends}
 use Rattle.std.specs.List.{concat}
 use Rattle.seccompiler.specs.declared.backend.TargetArch.{TargetArch}
-use Rattle.seccompiler.specs.declared.error.Error.{Error}
 use Rattle.seccompiler.specs.Action.{audit_word}
 use Rattle.seccompiler.specs.SyscallTable.{table_of, number_of}
 use Rattle.seccomptool.specs.declared.error.ToolError.{ToolError}

@@ -21,7 +21,7 @@ use std::{fs, io};
 
 // Carries out a command, from standard input to standard output; where there is none, says how the
 // program is called.
-#[tactic(auto, using(crate::proofs::Statuses::raw_faultless, crate::proofs::Statuses::record_faultless, crate::proofs::Statuses::show_faultless, crate::proofs::Statuses::explain_faultless, crate::proofs::Statuses::steps_faultless, crate::proofs::Statuses::lint_faultless, crate::proofs::Statuses::widened_faultless))]
+#[tactic(auto, using(crate::proofs::carry_out::Statuses::raw_faultless, crate::proofs::carry_out::Statuses::record_faultless, crate::proofs::carry_out::Statuses::show_faultless, crate::proofs::carry_out::Statuses::explain_faultless, crate::proofs::carry_out::Statuses::steps_faultless, crate::proofs::carry_out::Statuses::lint_faultless, crate::proofs::carry_out::Statuses::widened_faultless))]
 pub(crate) fn carry_out(
     rt: &(impl Files + Input + Print + Eprint + AllocGlobal),
     command: Option<Command<'_>>,

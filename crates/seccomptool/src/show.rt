@@ -6,9 +6,6 @@ mod listing;
 mod text;
 
 ghost use Rattle.std.specs.Prelude.{◌≡◌, IfOk, IfErr, IfSome};
-ghost use Rattle.serde_json.specs.Data.{Data};
-ghost use Rattle.seccompiler.specs.JsonAnswers.{IsValueOf};
-ghost use Rattle.seccompiler.specs.JsonSteps.{AreFilters};
 ghost use Rattle.seccomptool.specs.Errors.{KeepsOutput};
 ghost use Rattle.seccomptool.specs.Show.{AnswersShow, AreCompiled, IsShown};
 ghost use Rattle.seccomptool.specs.ShowTrees.{IsRefused, IsUnread};
@@ -19,10 +16,9 @@ use crate::policy::{filters, programs};
 use crate::send::send;
 use crate::show::listing::{guard_labels, listing, trees};
 use crate::words::Layout;
-use seccompiler::json::read_filters;
-use seccompiler::{JsonFilterMap, JsonFrontendError, TargetArch};
-use serde_json::Value;
-use std::alloc::{AllocError, Global};
+use seccompiler::json::filters_from;
+use seccompiler::{JsonFrontendError, TargetArch};
+use std::alloc::Global;
 use std::io::{ErrorKind, Read, Write};
 
 /// Writes the programs of a policy's filters for people, in byte order of the filters' names.
@@ -87,7 +83,7 @@ fn chains_text<R: Read + Drop>(alloc: Global, arch: &str, policy: R) -> Result<V
     let target = TargetArch::from_text(alloc, arch)?;
     let bytes = read_all(alloc, policy)?;
     let programs = programs(alloc, arch, bytes.as_slice())?;
-    let filters = json_filters(alloc, bytes.as_slice())?;
+    let filters = filters_from(alloc, bytes.as_slice())?;
     Ok(listing(alloc, target, &programs, &filters)?)
 }
 
@@ -101,19 +97,6 @@ fn read_all<R: Read + Drop>(alloc: Global, mut policy: R) -> Result<Vec<u8>, Too
         Ok(_) => Ok(bytes),
         Err(error) if error.kind() == ErrorKind::OutOfMemory => Err(ToolError::OutOfMemory),
         Err(error) => Err(JsonFrontendError::Read(error).into()),
-    }
-}
-
-// The JSON filters of a text that the library takes: only memory can be wanting.
-fn json_filters(alloc: Global, text: &[u8]) -> Result<JsonFilterMap, AllocError>
-    ensures { IfOk result (λ filters. (d : Data) → IsValueOf text.now d → AreFilters d filters) }
-{
-    let Ok(value) = Value::from_slice(alloc, text) else {
-        return Err(AllocError);
-    };
-    match read_filters(alloc, &value) {
-        Ok(filters) => Ok(filters),
-        Err(_) => Err(AllocError),
     }
 }
 

@@ -8,7 +8,7 @@ ghost use Rattle.seccomptool.specs.Words.{IsCommand, AreArguments, layout_words}
 use crate::numbers::read_number;
 
 /// A layout of programs: docs/LAYOUTS.md has both.
-#[derive(Clone, Copy, Debug, PartialEq, Eq)]
+#[derive(Clone, Copy)]
 pub enum Layout {
     /// One call number is tested after the other.
     Chains,
@@ -17,7 +17,7 @@ pub enum Layout {
 }
 
 /// A command of the program.
-#[derive(Clone, Copy, Debug, PartialEq, Eq)]
+#[derive(Clone, Copy)]
 pub enum Command<'a> {
     /// Say how the program is called.
     Help,

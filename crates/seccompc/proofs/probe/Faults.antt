@@ -4,7 +4,7 @@ use Rattle.std.proofs.lemmas.List.Elements.{All-head}
 use Rattle.seccompiler.specs.declared.bpf.sock_filter.{sock_filter}
 use Rattle.seccompiler.specs.declared.backend.TargetArch.{TargetArch}
 use Rattle.seccompiler.specs.declared.backend.BackendError.{BackendError}
-use Rattle.seccompiler.specs.declared.backend.BackendError.TheVariants.{EmptyRule, FilterTooLarge, IdenticalActions, InvalidArgumentNumber, InvalidTargetArch, InvalidSyscallNumber, OutOfMemory}
+use Rattle.seccompiler.specs.declared.backend.BackendError.TheVariants.{FilterTooLarge, InvalidArgumentNumber, InvalidTargetArch, InvalidSyscallNumber, OutOfMemory}
 use Rattle.seccompiler.specs.Errors.{from_backend}
 use Rattle.seccompiler.specs.Texts.{IsInvalidArch}
 use Rattle.seccompiler.specs.Layout.{counted_length}
@@ -18,14 +18,10 @@ use Rattle.seccompc.specs.EngineSteps.{IsFilterFor, IsCompiledFor, IsRefusedProb
 -- A name that is refused is no architecture's.
 pub name_refused : (arch : List ℕ) (nr : ℤ) (index : ℕ) (e : BackendError) → ((target : TargetArch) → IsNameOf arch target → Err e ≡ Ok target)
     → IsInvalidArch e arch ⊎ (e ≡ OutOfMemory) → IsRefusedProbe arch nr index (from_library (from_backend e))
-name_refused arch nr index EmptyRule none cause = ⊎_elim (λ no. absurd no) (λ no. absurd cc) cause
-name_refused arch nr index (FilterTooLarge n) none cause = ⊎_elim (λ no. absurd no) (λ no. absurd cc) cause
-name_refused arch nr index IdenticalActions none cause = ⊎_elim (λ no. absurd no) (λ no. absurd cc) cause
-name_refused arch nr index InvalidArgumentNumber none cause = ⊎_elim (λ no. absurd no) (λ no. absurd cc) cause
 name_refused arch nr index (InvalidTargetArch text) none cause =
     ⊎_elim (λ given. no_architecture text (λ target named. let no = none target named in cc) given refl) (λ no. absurd cc) cause
-name_refused arch nr index (InvalidSyscallNumber n) none cause = ⊎_elim (λ no. absurd no) (λ no. absurd cc) cause
 name_refused arch nr index OutOfMemory none cause = tt
+name_refused arch nr index _ none cause = ⊎_elim (λ no. absurd no) (λ no. absurd cc) cause
 
 -- An index that is refused is no argument's.
 pub index_refused : (arch : List ℕ) (nr : ℤ) (index : ℕ) (target : TargetArch) → IsNameOf arch target → 5 < index
@@ -40,16 +36,13 @@ only_number nr n (suc k, room, at) = absurd (omega arith)
 -- A filter of a probe that is refused has no call number.
 pub filter_refused : (arch : List ℕ) (nr : ℤ) (index value : ℕ) (f : Filter) (e : BackendError) → IsFilterFor arch nr index value f → IsRefusal f e
     → IsRefusedProbe arch nr index (from_library (from_backend e))
-filter_refused arch nr index value f EmptyRule for cause = absurd cause
 filter_refused arch nr index value f (FilterTooLarge n) for cause = absurd (omega (arith, ap counted_length for.filter, cause.large))
-filter_refused arch nr index value f IdenticalActions for cause = absurd cause
-filter_refused arch nr index value f InvalidArgumentNumber for cause = absurd cause
-filter_refused arch nr index value f (InvalidTargetArch text) for cause = absurd cause
 filter_refused arch nr index value f (InvalidSyscallNumber n) for cause =
     let among : Contains (nr ∷ []) n = subst (λ (g : Filter). Contains (numbers_of g.chains) n) for.filter cause.among in
     let same = only_number nr n among in
     no_call_number for.target for.named for.argument (λ fits. cause.unfit (subst IsCallNumber (sym same) fits)) (ap (λ m. from_backend (InvalidSyscallNumber m)) same)
 filter_refused arch nr index value f OutOfMemory for cause = tt
+filter_refused arch nr index value f _ for cause = absurd cause
 
 -- A filter of a probe that is compiled has one.
 pub filter_compiled : (arch : List ℕ) (nr : ℤ) (index value : ℕ) (f : Filter) (program : List sock_filter) → IsFilterFor arch nr index value f

@@ -1,18 +1,22 @@
--- Lines of instructions and listings of programs, one after the other.
-use Rattle.std.proofs.Common.{◌≡◌, ℕ, List, [], ◌∷◌, ◌++◌, length, map, string_bytes, sym, ap, ◌∙◌, append_assoc, append-nil}
+-- For `listing`: listings of programs, one after the other.
+use Rattle.std.proofs.Common.{◌≡◌, ℕ, List, [], ◌∷◌, ◌++◌, length, map, String, Vec, Global, string_bytes, sym, ap, ◌∙◌, append_assoc}
 use Rattle.std.specs.List.{concat}
+use Rattle.std.proofs.lemmas.List.{map_push}
 use Rattle.seccompiler.specs.declared.bpf.sock_filter.{sock_filter}
 use Rattle.seccompc.specs.Listing.{header_of, instruction_lines, named_program, listing_of}
-use Rattle.seccompc.proofs.Names.{Entry}
+use Rattle.seccomp_command_line.proofs.Joined.{joined, joined_push}
+
+-- A program with its name.
+abbrev pub Entry : Type 0
+Entry = String Global × Vec sock_filter Global
 
 -- The listings of programs.
 abbrev pub listings : List Entry → List ℕ
 listings entries = concat (map listing_of (map named_program entries))
 
 -- One program more at the end.
-pub listings_push : (entries : List Entry) (e : Entry) → listings (entries ++ e ∷ []) ≡ listings entries ++ listing_of (named_program e)
-listings_push [] e = append-nil (listing_of (named_program e))
-listings_push (x ∷ entries) e = ap (λ l. listing_of (named_program x) ++ l) (listings_push entries e) ∙ sym (append_assoc (listing_of (named_program x)) (listings entries) (listing_of (named_program e)))
+listings_push : (entries : List Entry) (e : Entry) → listings (entries ++ e ∷ []) ≡ listings entries ++ listing_of (named_program e)
+listings_push entries e = ap (joined listing_of) (map_push named_program entries e) ∙ joined_push listing_of (map named_program entries) (named_program e)
 
 -- A program's header and its lines are its listing.
 pub listing_more : (done : List Entry) (e : Entry) (count : ℕ) (name : List ℕ) (program : List sock_filter) (old middle new : List ℕ) → old ≡ listings done

@@ -132,7 +132,7 @@ fn read_words_takes_no_memory(rt: HostRuntime) -> Result<(), Fail> {
     let command = read_words(&words);
     drop(hoard);
     assert!(rt;
-        command == Some(Command::List { arch: "x86_64" }),
+        matches!(command, Some(Command::List { arch: "x86_64" })),
         "{words:?} without memory"
     );
     Ok(())

@@ -12,7 +12,7 @@ use seccompiler::{JsonCondition, JsonRule, SeccompCondition, SyscallTable, Targe
 use std::fmt;
 
 /// Why a filter decides a record as it does.
-#[derive(Clone, Copy, Debug, PartialEq, Eq)]
+#[derive(Clone, Copy)]
 pub enum Reason {
     /// The record is of another architecture.
     AnotherArchitecture,

@@ -11,7 +11,7 @@ use seccompiler::TargetArch;
 use std::alloc::{AllocError, AllocFailed, Global};
 
 /// A step from a value to one inside it.
-#[derive(Debug, Drop)]
+#[derive(Drop)]
 pub enum Step {
     /// To what stands under this name of an object.
     Key(String),
@@ -20,7 +20,7 @@ pub enum Step {
 }
 
 /// What may stand at a place.
-#[derive(Clone, Copy, Debug)]
+#[derive(Clone, Copy)]
 pub enum Expected {
     /// An object of filters.
     Filters,
@@ -57,7 +57,7 @@ pub enum Expected {
 }
 
 /// An object of which the names are told.
-#[derive(Clone, Copy, Debug)]
+#[derive(Clone, Copy)]
 pub enum Kind {
     /// A filter.
     Filter,
@@ -68,7 +68,7 @@ pub enum Kind {
 }
 
 /// What is wrong with a value.
-#[derive(Debug, Drop)]
+#[derive(Drop)]
 pub enum Problem {
     /// It is told by this text, and something else may stand there.
     Stands(String, Expected),
@@ -87,7 +87,7 @@ pub enum Problem {
 }
 
 /// The kinds of faults, in the order in which they are told.
-#[derive(Clone, Copy, Debug)]
+#[derive(Clone, Copy)]
 pub enum Cause {
     /// The policy is no object.
     Top,
@@ -106,14 +106,14 @@ pub enum Cause {
 }
 
 /// A fault: the way from the policy's value to the place, and what is wrong there.
-#[derive(Debug, Drop)]
+#[derive(Drop)]
 pub struct Fault {
     pub path: Vec<Step>,
     pub problem: Problem,
 }
 
 /// What a search ends with where it does not end well.
-#[derive(Debug, Drop)]
+#[derive(Drop)]
 pub enum Finding {
     /// This is the first fault.
     Fault(Fault),

@@ -47,7 +47,7 @@ fn push_place(alloc: Global, text: &mut Vec<u8>, place: usize) -> Result<(), All
     text.extend_from_slice(digits.as_bytes())
 }
 
-#[tactic(auto, using(crate::proofs::ShowLines::note_unlabelled, crate::proofs::ShowLines::note_meaningless, crate::proofs::ShowLines::note_joined))]
+#[tactic(auto, using(crate::proofs::show::Lines::note_unlabelled, crate::proofs::show::Lines::note_meaningless, crate::proofs::show::Lines::note_joined))]
 // A label and a meaning, with a colon between them where both are there.
 fn note(alloc: Global, label: &str, meaning: &str) -> Result<String, AllocError>
     ensures { IfOk result (λ note. string_bytes note ≡ note_of label.now meaning.now) }
@@ -68,7 +68,7 @@ fn labelled(alloc: Global, label: &str, meaning: &str) -> Result<String, AllocEr
     format!(in alloc; "{label}: {meaning}")
 }
 
-#[tactic(auto, using(crate::proofs::ShowLines::noted_alone, crate::proofs::ShowLines::noted_beside))]
+#[tactic(auto, using(crate::proofs::show::Lines::noted_alone, crate::proofs::show::Lines::noted_beside))]
 // Adds words, and beside them a note, where there is one.
 fn push_noted(text: &mut Vec<u8>, words: &str, note: &str) -> Result<(), AllocError>
     ensures { OnOk result (text.new.items ≡ text.old.items ++ noted words.now note.now) }

@@ -12,7 +12,7 @@ use std::alloc::Global;
 use std::collections::BTreeMap;
 
 /// A filter, and the measure of its program in the layout of chains.
-#[derive(Debug, Drop)]
+#[derive(Drop)]
 pub(crate) struct MeasuredChains {
     /// The filter's name.
     pub name: String,

@@ -11,7 +11,7 @@ use seccompiler::{BpfProgramRef, TargetArch};
 use std::alloc::{AllocError, Global};
 
 /// How long a program is, and how many steps it takes.
-#[derive(Clone, Copy, Debug, PartialEq, Eq)]
+#[derive(Clone, Copy)]
 pub(crate) struct Measure {
     /// How many instructions it has.
     pub length: usize,

@@ -1,7 +1,7 @@
 use Rattle.std.proofs.Common.{sym}
 use Rattle.std.proofs.lemmas.Result.{err_from_is_err_and}
 use Rattle.std.specs.BTreeMap.{get_by_text}
-use Rattle.seccompc.proofs.Names.{by_text}
+use Rattle.seccomp_command_line.proofs.ByName.{by_text}
 use Rattle.seccompc.proofs.Policies.{list_refused, list_written, list_unwritten}
 use Rattle.seccompc.proofs.list.list.Goals as goal
 

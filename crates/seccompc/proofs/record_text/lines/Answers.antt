@@ -1,14 +1,9 @@
-use Rattle.std.proofs.Common.{◌≡◌, ℕ, List, [], ◌∷◌, ◌++◌, get_or, sym, ap, ◌∙◌, append-nil, refl}
-use Rattle.std.specs.List.{concat}
+use Rattle.std.proofs.Common.{[], ◌∷◌, ◌++◌, get_or, sym, ap, ◌∙◌, refl}
 use Rattle.std.proofs.lemmas.List.{get_or_default}
 use Rattle.std.proofs.lemmas.List.Elements.{all_zip_more}
-use Rattle.std.proofs.lemmas.List.Folds.{concat-append}
+use Rattle.seccomp_command_line.proofs.Joined.{concat_push}
 use Rattle.seccompc.specs.Lines.{IsLine, line_of}
 use Rattle.seccompc.proofs.record_text.lines.Goals as goal
-
--- One line more at the end.
-concat_push : (lines : List (List ℕ)) (line : List ℕ) → concat (lines ++ line ∷ []) ≡ concat lines ++ line
-concat_push lines line = concat-append lines (line ∷ []) ∙ ap (λ text. concat lines ++ text) (append-nil line)
 
 pub records-preserved : goal.records-preserved
 records-preserved c =

@@ -1,5 +1,5 @@
 use Rattle.std.specs.BTreeMap.{get_by_text}
-use Rattle.seccomptool.proofs.LintAnswers.{all_compiled}
+use Rattle.seccomptool.proofs.lint.Judgements.{all_compiled}
 use Rattle.seccomptool.proofs.lint.judge.Goals as goal
 
 pub returns-in-Ok-clause-compiled : goal.returns-in-Ok-clause-compiled

@@ -1,7 +1,7 @@
 use Rattle.std.proofs.Common.{IfSome, subst, sym, ◌≡◌}
 use Rattle.std.proofs.lemmas.Result.{err_from_is_err_and}
 use Rattle.seccomptool.proofs.Faults.{name_refused}
-use Rattle.seccomptool.proofs.LintAnswers.{name_answers, read_answers, judged}
+use Rattle.seccomptool.proofs.lint.Judgements.{name_answers, read_answers, judged}
 use Rattle.seccomptool.proofs.lint.lint.Goals as goal
 
 pub returns-in_err-target : goal.returns-in_err-target

@@ -1,5 +1,5 @@
 use Rattle.std.proofs.Common.{sym, ◌∙◌}
-use Rattle.seccomptool.proofs.LintAnswers.{is_placed, is_plain}
+use Rattle.seccomptool.proofs.lint.Judgements.{is_placed, is_plain}
 use Rattle.seccomptool.proofs.lint.placed.Goals as goal
 
 pub returns-in-Ok-Some : goal.returns-in-Ok-Some

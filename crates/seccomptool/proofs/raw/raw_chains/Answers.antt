@@ -1,7 +1,7 @@
 use Rattle.std.proofs.Common.{sym}
 use Rattle.std.specs.BTreeMap.{get_by_text}
 use Rattle.seccomptool.specs.declared.words.Layout.TheVariants.{Chains}
-use Rattle.seccomptool.proofs.RawPrograms.{no_program, a_program, program_sent}
+use Rattle.seccomptool.proofs.raw.Programs.{no_program, a_program, program_sent}
 use Rattle.seccomptool.proofs.raw.raw_chains.Goals as goal
 
 pub returns-in_default-clause-answers : goal.returns-in_default-clause-answers

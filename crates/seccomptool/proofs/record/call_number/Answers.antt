@@ -1,4 +1,4 @@
-use Rattle.seccomptool.proofs.Calls.{numbered_call, numbered_none, no_call}
+use Rattle.seccomptool.proofs.record.Calls.{numbered_call, numbered_none, no_call}
 use Rattle.seccomptool.proofs.record.call_number.Goals as goal
 
 pub returns-in_err-get_syscall_nr-in-None-clause-uncalled : goal.returns-in_err-get_syscall_nr-in-None-clause-uncalled

@@ -1,5 +1,5 @@
 use Rattle.std.proofs.lemmas.Result.{err_from_is_err_and}
-use Rattle.seccomptool.proofs.Calls.{name_told, record_sent}
+use Rattle.seccomptool.proofs.record.Calls.{name_told, record_sent}
 use Rattle.seccomptool.proofs.Faults.{name_refused}
 use Rattle.seccomptool.proofs.record.record.Goals as goal
 

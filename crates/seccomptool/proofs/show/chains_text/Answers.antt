@@ -1,12 +1,15 @@
-use Rattle.std.proofs.Common.{◌≡◌, IfSome, Ok, sym, subst, ◌∙◌}
+use Rattle.std.proofs.Common.{◌≡◌, IfSome, Some, sym, subst, ◌∙◌}
 use Rattle.std.proofs.lemmas.Result.{err_from_is_err_and}
 use Rattle.std.specs.BTreeMap.{get_by_text}
 use Rattle.seccompiler.specs.declared.backend.TargetArch.{TargetArch}
-use Rattle.seccompiler.specs.JsonAnswers.{IsValueOf}
+use Rattle.seccompiler.specs.JsonAnswers.{OfValue}
+use Rattle.seccompiler.specs.JsonSteps.{AreFilters}
+use Rattle.seccompiler.specs.Reads.{Reads}
 use Rattle.seccomptool.specs.Policies.{IsNameOf}
-use Rattle.seccomptool.proofs.Faults.{name_refused, name_is_text, text_is_policy}
-use Rattle.seccomptool.proofs.ShowAnswers.{policy_is_refused, given_refused, unread_refused, programs_shown}
-use Rattle.seccomptool.proofs.ShowNames.{by_text}
+use Rattle.seccomptool.proofs.Faults.{name_refused, name_is_text, text_is_policy, text_refused}
+use Rattle.seccomptool.proofs.Readings.{filters_of_value}
+use Rattle.seccomptool.proofs.show.Texts.{policy_is_refused, given_refused, unread_refused, programs_shown}
+use Rattle.seccomp_command_line.proofs.ByName.{by_text}
 use Rattle.seccomptool.proofs.show.chains_text.Goals as goal
 
 pub returns-in_err-target-clause-refused : goal.returns-in_err-target-clause-refused
@@ -27,11 +30,24 @@ returns-in_err-programs-clause-refused g c =
     let gives = subst (λ b. IfSome (g.R.Read.remaining c.args.policy) (λ k. b ≡ k)) (sym c.as_slice.ensures.value) c.in_ok-bytes.ensures.bytes in
     rw (error.1, error.2) (given_refused c.args.arch.now (g.R.Read.remaining c.args.policy) c.as_slice.result.now _ gives c.in_err-programs.ensures.refused)
 
+pub returns-in_err-filters-clause-refused : goal.returns-in_err-filters-clause-refused
+returns-in_err-filters-clause-refused g c =
+    let error = err_from_is_err_and c.from_residual-in_err-filters.result c.from_residual-in_err-filters.ensures.1 in
+    let arch = c.args.arch.now in
+    let text = c.as_slice-2.result.now in
+    let target = c.in_ok-target.target in
+    let fault = c.in_err-filters.ensures in
+    let gives = subst (λ b. IfSome (g.R.Read.remaining c.args.policy) (λ k. b ≡ k)) (sym c.as_slice-2.ensures.value) c.in_ok-bytes.ensures.bytes in
+    rw (error.1, error.2) (given_refused arch (g.R.Read.remaining c.args.policy) text _ gives (text_is_policy arch (Some text) _
+    (text_refused arch (Some text) target c.in_err-filters.field-0.0 c.in_ok-target.ensures.read fault.memory (fault.fault.0, fault.fault.1, fault.fault.2 target))))
+
 pub returns-clause-shown : goal.returns-clause-shown
 returns-clause-shown g c =
     let programs = c.in_ok-programs.programs in
     let only : (other : TargetArch) → IsNameOf c.args.arch.now other → c.in_ok-target.target ≡ other = λ other named. let same = c.in_ok-target.ensures.named other named in cc in
     let gives = subst (λ b. IfSome (g.R.Read.remaining c.args.policy) (λ k. b ≡ k)) (sym c.as_slice.ensures.value) c.in_ok-bytes.ensures.bytes in
+    let filters = c.in_ok-filters.filters in
     let same_text : c.as_slice-2.result.now ≡ c.as_slice.result.now = c.as_slice-2.ensures.value ∙ sym c.as_slice.ensures.value in
-    programs_shown c.args.arch.now (g.R.Read.remaining c.args.policy) c.in_ok-target.target only c.as_slice.result.now gives (get_by_text programs) (get_by_text c.in_ok-filters.filters.0) programs.entries c.in_ok-listing.field-0.items
-    c.in_ok-programs.ensures.programs (λ d is. c.in_ok-filters.ensures d (subst (λ t. IsValueOf t d) (sym same_text) is)) (λ name. sym (by_text name programs.entries)) c.in_ok-listing.ensures.ordered c.in_ok-listing.ensures.texts
+    let read = subst (λ t. Reads (Some t) (λ text. OfValue text (λ d. AreFilters d filters))) same_text c.in_ok-filters.ensures.filters in
+    programs_shown c.args.arch.now (g.R.Read.remaining c.args.policy) c.in_ok-target.target only c.as_slice.result.now gives (get_by_text programs) (get_by_text filters.0) programs.entries c.in_ok-listing.field-0.items
+    c.in_ok-programs.ensures.programs (filters_of_value c.as_slice.result.now filters read) (λ name. by_text name programs.entries) c.in_ok-listing.ensures.ordered c.in_ok-listing.ensures.texts

@@ -1,5 +1,5 @@
 use Rattle.std.proofs.lemmas.Result.{err_from_is_err_and}
-use Rattle.seccomptool.proofs.ShowAnswers.{refusal_told, text_sent}
+use Rattle.seccomptool.proofs.show.Texts.{refusal_told, text_sent}
 use Rattle.seccomptool.proofs.show.show.Goals as goal
 
 pub returns-in_err-text-clause-answers : goal.returns-in_err-text-clause-answers

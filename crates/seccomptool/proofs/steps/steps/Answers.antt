@@ -5,8 +5,8 @@ use Rattle.seccompiler.specs.JsonAnswers.{OfValue, ArePoliciesOf, TellsFrontendF
 use Rattle.seccompiler.specs.Reads.{Reads}
 use Rattle.seccompiler.specs.SyscallTable.{IsCallTable, table_of}
 use Rattle.seccomptool.proofs.Faults.{name_refused, name_is_text, text_is_policy, text_refused}
-use Rattle.seccomptool.proofs.Names.{by_text}
-use Rattle.seccomptool.proofs.StepsAnswers.{policy_told, chains_refused, trees_refused, lines_sent}
+use Rattle.seccomp_command_line.proofs.ByName.{by_text}
+use Rattle.seccomptool.proofs.steps.Measures.{policy_told, chains_refused, trees_refused, lines_sent}
 use Rattle.seccomptool.proofs.steps.steps.Goals as goal
 
 pub returns-in_err-target-clause-answers : goal.returns-in_err-target-clause-answers

@@ -1,7 +1,7 @@
 use Rattle.std.proofs.Common.{◌≡◌, ◌<◌, ◌≤◌, length, map, string_bytes, Some, sym, ap, ◌∙◌, arith}
 use Rattle.std.specs.Prelude.{slice_get}
 use Rattle.std.proofs.lemmas.Bool.Decides.{nat_tests}
-use Rattle.seccomptool.proofs.GivenArguments.{read_more, text_here, all_read, none_given}
+use Rattle.seccomptool.proofs.words.GivenArguments.{read_more, text_here, all_read, none_given}
 use Rattle.seccomptool.proofs.words.read_arguments.Goals as goal
 
 pub returns-in_err-arguments-clause-unread : goal.returns-in_err-arguments-clause-unread

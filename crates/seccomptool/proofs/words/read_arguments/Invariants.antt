@@ -1,5 +1,5 @@
 use Rattle.std.proofs.Common.{map, string_bytes}
-use Rattle.seccomptool.proofs.GivenArguments.{AreRead}
+use Rattle.seccomptool.proofs.words.GivenArguments.{AreRead}
 use Rattle.seccomptool.proofs.words.read_arguments.Given as goal
 
 abbrev pub invariant-loop-place : goal.invariant-loop-place

@@ -1,4 +1,4 @@
-use Rattle.std.proofs.Common.{◌≡◌, Some, subst}
+use Rattle.std.proofs.Common.{Some, subst}
 use Rattle.std.specs.BTreeMap.{get_by_text}
 use Rattle.std.proofs.lemmas.Result.{err_from_is_err_and}
 use Rattle.seccompiler.specs.JsonAnswers.{OfValue, TellsFrontendFault}
@@ -6,8 +6,9 @@ use Rattle.seccompiler.specs.JsonPrograms.{AreProgramsOf, TellsFirstFault}
 use Rattle.seccompiler.specs.JsonSteps.{AreFilters}
 use Rattle.seccompiler.specs.Reads.{Reads}
 use Rattle.seccompiler.specs.declared.backend.TargetArch.{TargetArch}
-use Rattle.seccomptool.proofs.Faults.{policy_refused, text_refused, text_is_policy}
-use Rattle.seccomptool.proofs.UsableFilters.{reads_on, policy_unread, filters_read}
+use Rattle.seccomptool.proofs.Faults.{policy_refused, policy_unread, text_refused, text_is_policy}
+use Rattle.seccomptool.proofs.Readings.{reads_on}
+use Rattle.seccomptool.proofs.explain.filters.TextFilters.{filters_read}
 use Rattle.seccomptool.proofs.explain.filters.usable_filters.Goals as goal
 
 pub returns-in_err-text-clause-refused : goal.returns-in_err-text-clause-refused

@@ -5,8 +5,8 @@ use Rattle.seccompiler.specs.JsonTypes.{JsonFilter}
 use Rattle.seccomptool.specs.declared.explain.reason.Reason.{Reason}
 use Rattle.seccomptool.specs.ExplainLines.{IsLine, line_of}
 use Rattle.seccomptool.specs.Reasons.{IsReason}
-use Rattle.seccomptool.proofs.Agreement.{reason_decides}
-use Rattle.seccomptool.proofs.Explained.{concat_push}
+use Rattle.seccomptool.proofs.explain.lines.Agreement.{reason_decides}
+use Rattle.seccomp_command_line.proofs.Joined.{concat_push}
 use Rattle.seccomptool.proofs.explain.lines.lines.Goals as goal
 
 pub records-preserved : goal.records-preserved

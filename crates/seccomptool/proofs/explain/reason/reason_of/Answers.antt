@@ -1,4 +1,4 @@
-use Rattle.seccomptool.proofs.EntrySearches.{one_reason}
+use Rattle.seccomptool.proofs.explain.EntrySearches.{one_reason}
 use Rattle.seccomptool.proofs.explain.reason.reason_of.Goals as goal
 
 pub returns-clause-only : goal.returns-clause-only

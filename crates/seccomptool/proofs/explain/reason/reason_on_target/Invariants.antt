@@ -1,4 +1,4 @@
-use Rattle.seccomptool.proofs.EntrySearches.{AreBehind}
+use Rattle.seccomptool.proofs.explain.EntrySearches.{AreBehind}
 use Rattle.seccomptool.proofs.explain.reason.reason_on_target.Given as goal
 
 abbrev pub invariant-loop-place : goal.invariant-loop-place

@@ -1,10 +1,17 @@
-use Rattle.std.proofs.Common.{◌<◌, length, refl, subst, arith}
+use Rattle.std.proofs.Common.{◌≡◌, ℕ, ◌<◌, List, length, Option, Err, refl, subst, arith}
 use Rattle.std.proofs.lemmas.Result.{err_from_is_err_and}
-use Rattle.seccomptool.specs.ExplainLines.{AreLines}
+use Rattle.seccomptool.specs.ExplainLines.{AreLines, AnswersRecords}
 use Rattle.seccomptool.specs.ExplainSteps.{IsReadError}
 use Rattle.seccomp_command_line.proofs.Records.{lines_sent}
-use Rattle.seccomptool.proofs.Explained.{reads_some, answers_none}
+use Rattle.seccomptool.specs.declared.error.ToolError.{ToolError}
+use Rattle.seccomptool.specs.declared.error.ToolError.TheVariants as tool
+use Rattle.seccomptool.proofs.Readings.{reads_some}
 use Rattle.seccomptool.proofs.explain.records.explain_records.Goals as goal
+
+-- An error that tells of no rest of a record says nothing of the records.
+answers_none : (IsTextOf : List (List ℕ) → List ℕ → Type 0) (e : ToolError) → ((rest : ℕ) → e ≡ tool.ShortRecord rest → ⊥) → (bytes : List ℕ) (old new : Option (List ℕ)) → AnswersRecords IsTextOf bytes (Err e) old new
+answers_none IsTextOf (tool.ShortRecord rest) none bytes old new = absurd (none rest refl)
+answers_none IsTextOf _ none bytes old new = tt
 
 pub returns-in_err-bytes-clause-lines : goal.returns-in_err-bytes-clause-lines
 returns-in_err-bytes-clause-lines g c =

@@ -1,5 +1,5 @@
 use Rattle.serde_json.proofs.Views.{view-Array}
-use Rattle.seccomptool.proofs.LintValues.{emptied}
+use Rattle.seccomptool.proofs.lint.Values.{emptied}
 use Rattle.seccomptool.proofs.lint.allowed.is_empty.Goals as goal
 
 pub returns-in-Array : goal.returns-in-Array

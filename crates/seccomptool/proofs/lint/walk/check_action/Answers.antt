@@ -1,5 +1,5 @@
 use Rattle.serde_json.specs.View.{view}
-use Rattle.seccomptool.proofs.LintValues.{found_value}
+use Rattle.seccomptool.proofs.lint.Values.{found_value}
 use Rattle.seccomptool.proofs.lint.walk.check_action.Goals as goal
 
 pub returns-in-Some-Some : goal.returns-in-Some-Some

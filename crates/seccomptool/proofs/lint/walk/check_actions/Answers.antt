@@ -2,7 +2,7 @@ use Rattle.std.proofs.Common.{◌≡◌, rules, sym, subst}
 use Rattle.std.specs.Cmp.Rules.{comparing}
 use Rattle.serde_json.specs.View.{view}
 use Rattle.seccomptool.specs.LintFaults.{HasActions}
-use Rattle.seccomptool.proofs.LintValues.{actions_are}
+use Rattle.seccomptool.proofs.lint.Values.{actions_are}
 use Rattle.seccomptool.proofs.lint.walk.check_actions.Goals as goal
 
 pub returns-in-Some-Some : goal.returns-in-Some-Some

@@ -1,6 +1,6 @@
 use Rattle.serde_json.specs.View.{view}
 use Rattle.seccomptool.specs.LintFaults.{cause_of_expected}
-use Rattle.seccomptool.proofs.LintValues.{found_value}
+use Rattle.seccomptool.proofs.lint.Values.{found_value}
 use Rattle.seccomptool.proofs.lint.walk.check_key.Goals as goal
 
 pub returns-in-Some-clause-found : goal.returns-in-Some-clause-found

@@ -5,7 +5,7 @@ use Rattle.serde_json.specs.Data.{object}
 use Rattle.serde_json.specs.View.{view, members_view}
 use Rattle.serde_json.proofs.Views.{Entry}
 use Rattle.seccomptool.specs.LintFaults as lint
-use Rattle.seccomptool.proofs.LintValues.{member_there}
+use Rattle.seccomptool.proofs.lint.Values.{member_there}
 use Rattle.seccomptool.proofs.lint.walk.check_keys.Goals as goal
 
 pub returns-then-not-is_key : goal.returns-then-not-is_key

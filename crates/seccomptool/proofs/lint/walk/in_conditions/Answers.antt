@@ -1,7 +1,7 @@
 use Rattle.std.proofs.Common.{◌≡◌, Some, subst, rules}
 use Rattle.serde_json.specs.Find.{get_item}
 use Rattle.serde_json.specs.View.{view, items_view}
-use Rattle.seccomptool.proofs.LintValues.{item_there}
+use Rattle.seccomptool.proofs.lint.Values.{item_there}
 use Rattle.seccomptool.proofs.lint.walk.in_conditions.Goals as goal
 
 pub returns-in_err-under_item : goal.returns-in_err-under_item

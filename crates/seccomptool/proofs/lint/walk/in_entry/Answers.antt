@@ -1,6 +1,6 @@
 use Rattle.serde_json.specs.Data.{array}
 use Rattle.serde_json.specs.View.{view, items_view}
-use Rattle.seccomptool.proofs.LintValues.{found_array}
+use Rattle.seccomptool.proofs.lint.Values.{found_array}
 use Rattle.seccomptool.proofs.lint.walk.in_entry.Goals as goal
 
 pub returns-in-Some-Array : goal.returns-in-Some-Array

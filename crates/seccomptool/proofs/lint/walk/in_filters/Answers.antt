@@ -5,7 +5,7 @@ use Rattle.serde_json.specs.Data.{object}
 use Rattle.serde_json.specs.Find.{get_member}
 use Rattle.serde_json.specs.View.{view, members_view}
 use Rattle.serde_json.proofs.Views.{Entry}
-use Rattle.seccomptool.proofs.LintValues.{member_there}
+use Rattle.seccomptool.proofs.lint.Values.{member_there}
 use Rattle.seccomptool.proofs.lint.walk.in_filters.Goals as goal
 
 pub returns-in_err-under_key : goal.returns-in_err-under_key

@@ -1,6 +1,6 @@
 use Rattle.seccomptool.specs.LintFaults.{keys_of}
 use Rattle.seccomptool.specs.declared.lint.fault.Kind.TheVariants as kind
-use Rattle.seccomptool.proofs.LintValues.{among}
+use Rattle.seccomptool.proofs.lint.Values.{among}
 use Rattle.seccomptool.proofs.lint.walk.is_key.Goals as goal
 
 pub returns-in-Filter : goal.returns-in-Filter

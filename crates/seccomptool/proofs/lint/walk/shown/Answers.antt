@@ -2,7 +2,7 @@ use Rattle.std.proofs.Common.{◌≡◌, IfOk, string_bytes, sym, ◌∙◌, sub
 use Rattle.serde_json.specs.View.{items_view}
 use Rattle.serde_json.proofs.Views.{view-Array}
 use Rattle.seccomptool.specs.LintFaults.{array_text, count_of}
-use Rattle.seccomptool.proofs.LintValues.{counted}
+use Rattle.seccomptool.proofs.lint.Values.{counted}
 use Rattle.seccomptool.proofs.lint.walk.shown.Goals as goal
 
 pub returns-in-Array : goal.returns-in-Array

@@ -1,5 +1,5 @@
 use Rattle.std.proofs.Common.{◌++◌, [], ◌∷◌, codes, map, string_bytes}
-use Rattle.seccomptool.proofs.ShowSearches.{five_more}
+use Rattle.seccomptool.proofs.show.labels.Searches.{five_more}
 use Rattle.seccomptool.proofs.show.labels.push_always.Goals as goal
 
 pub returns : goal.returns

@@ -1,7 +1,7 @@
 use Rattle.std.proofs.Common.{◌++◌, [], ◌∷◌, codes, map, string_bytes}
 use Rattle.seccompiler.specs.JsonPolicyOf.{condition_of}
 use Rattle.seccomptool.specs.ShowLabels.{conditions_labels}
-use Rattle.seccomptool.proofs.ShowSearches.{four_more}
+use Rattle.seccomptool.proofs.show.labels.Searches.{four_more}
 use Rattle.seccomptool.proofs.show.labels.push_rule.Goals as goal
 
 pub returns : goal.returns

@@ -1,7 +1,7 @@
 use Rattle.std.proofs.Common.{[], ◌∷◌, pos, map, string_bytes}
 use Rattle.seccompiler.specs.JsonPolicyOf.{all_rules}
 use Rattle.seccomptool.specs.ShowLabels.{rules_labels}
-use Rattle.seccomptool.proofs.ShowSearches.{three_more}
+use Rattle.seccomptool.proofs.show.labels.Searches.{three_more}
 use Rattle.seccomptool.proofs.show.labels.push_ruled.Goals as goal
 
 pub returns : goal.returns

@@ -1,6 +1,6 @@
 use Rattle.std.proofs.Common.{pos, length, take, map, string_bytes, ap, length-append, arith}
 use Rattle.std.specs.List.{flat_map}
-use Rattle.seccomptool.proofs.ShowSearches.{entries_more, rules_taken}
+use Rattle.seccomptool.proofs.show.labels.Searches.{entries_more, rules_taken}
 use Rattle.seccompiler.specs.JsonPolicyOf.{rules_for}
 use Rattle.seccomptool.proofs.show.labels.push_rules.Goals as goal
 

@@ -3,7 +3,7 @@ use Rattle.std.specs.BTreeMap.{get_by_text}
 use Rattle.seccompiler.specs.JsonTypes.{JsonFilter}
 use Rattle.seccomptool.specs.ShowLabels.{program_labels}
 use Rattle.seccomptool.specs.ShowTrees.{Entry}
-use Rattle.seccomptool.proofs.ShowPrograms.{label_more}
+use Rattle.seccomptool.proofs.show.listing.Programs.{label_more}
 use Rattle.seccomptool.proofs.show.listing.listing.Goals as goal
 
 pub loop-name-preserved : goal.loop-name-preserved

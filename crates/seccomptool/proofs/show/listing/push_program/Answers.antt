@@ -1,7 +1,7 @@
 use Rattle.std.proofs.Common.{◌++◌, get_or, length, map, string_bytes, ap, ◌∙◌}
 use Rattle.seccompiler.specs.declared.bpf.sock_filter.{sock_filter}
 use Rattle.seccomptool.specs.ShowText.{header_of, label_in, line_of}
-use Rattle.seccomptool.proofs.ShowLines.{lines_more}
+use Rattle.seccomptool.proofs.show.Lines.{lines_more}
 use Rattle.seccomptool.proofs.show.listing.push_program.Goals as goal
 
 pub loop-place-preserved : goal.loop-place-preserved

@@ -2,7 +2,7 @@ use Rattle.std.proofs.Common.{◌≡◌, ◌∷◌, ◌++◌, [], map, string_by
 use Rattle.std.proofs.lemmas.Result.{err_from_is_err_and}
 use Rattle.seccompiler.specs.Tree.{IsTreeCompiled}
 use Rattle.seccomptool.specs.ShowTrees.{NamedFilter, refused}
-use Rattle.seccomptool.proofs.ShowPrograms.{tree_more, have_trees}
+use Rattle.seccomptool.proofs.show.listing.Programs.{tree_more, have_trees}
 use Rattle.seccomptool.proofs.show.listing.trees.Goals as goal
 
 pub loop-name-preserved : goal.loop-name-preserved

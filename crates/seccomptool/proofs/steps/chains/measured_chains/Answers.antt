@@ -6,7 +6,7 @@ use Rattle.seccompiler.specs.Policy.{Filter}
 use Rattle.seccompiler.specs.Refusal.{IsCompilable, IsRefusal}
 use Rattle.seccomptool.specs.StepsParts.{NamedFilters, named_filter, AreOfChains, AreMeasured}
 use Rattle.seccomptool.specs.declared.steps.chains.MeasuredChains.{MeasuredChains}
-use Rattle.seccomptool.proofs.StepsRefusals.{first_refusal}
+use Rattle.seccomptool.proofs.steps.Refusals.{first_refusal}
 use Rattle.seccomptool.proofs.steps.chains.measured_chains.Goals as goal
 
 pub loop-name-init : goal.loop-name-init

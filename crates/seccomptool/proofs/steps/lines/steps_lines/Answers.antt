@@ -2,8 +2,8 @@ use Rattle.std.proofs.Common.{suc, take, drop, map, sym}
 use Rattle.std.proofs.lemmas.Result.{err_from_is_err_and}
 use Rattle.seccompiler.specs.Tree.{IsTreeCompilable, IsTreeRefusal}
 use Rattle.seccomptool.specs.StepsParts.{named_filter}
-use Rattle.seccomptool.proofs.StepsLines.{lines_more, cut_at, all_have_trees}
-use Rattle.seccomptool.proofs.StepsRefusals.{first_refusal}
+use Rattle.seccomptool.proofs.steps.lines.MeasureLines.{lines_more, cut_at, all_have_trees}
+use Rattle.seccomptool.proofs.steps.Refusals.{first_refusal}
 use Rattle.seccomptool.proofs.steps.lines.steps_lines.Goals as goal
 
 pub returns-in_err-program-clause-refused : goal.returns-in_err-program-clause-refused

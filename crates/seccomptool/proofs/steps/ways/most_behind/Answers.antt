@@ -1,6 +1,6 @@
 use Rattle.std.proofs.Common.{◌≢◌, arith}
 use Rattle.std.proofs.lemmas.Bool.Decides.{nat_tests}
-use Rattle.seccomptool.proofs.Ways.{greatest_of_rest}
+use Rattle.seccomptool.proofs.steps.ways.LongestWays.{greatest_of_rest}
 use Rattle.seccomptool.proofs.steps.ways.most_behind.Goals as goal
 
 pub returns-in_default : goal.returns-in_default

@@ -2,7 +2,7 @@ use Rattle.std.proofs.Common.{◌≡◌, ◌+◌, ◌-◌, ◌<◌, ◌≤◌, l
 use Rattle.std.proofs.lemmas.List.{get_or_default}
 use Rattle.std.proofs.lemmas.Option.{slice_get-get_or}
 use Rattle.seccomptool.specs.Ways.{IsLongest}
-use Rattle.seccomptool.proofs.Ways.{AreLongest, longest_return, longest_behind, few_behind, longest_more, most_of}
+use Rattle.seccomptool.proofs.steps.ways.LongestWays.{AreLongest, longest_return, longest_behind, few_behind, longest_more, most_of}
 use Rattle.seccomptool.proofs.steps.ways.most_steps.Goals as goal
 use Rattle.seccomptool.proofs.steps.ways.most_steps.Goals.{then-instruction-eq-RETURN, else-instruction-eq-RETURN}
 

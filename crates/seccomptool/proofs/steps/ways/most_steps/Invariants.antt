@@ -1,5 +1,5 @@
 use Rattle.std.proofs.Common.{◌≡◌, length}
-use Rattle.seccomptool.proofs.Ways.{AreLongest}
+use Rattle.seccomptool.proofs.steps.ways.LongestWays.{AreLongest}
 use Rattle.seccomptool.proofs.steps.ways.most_steps.Given as goal
 
 -- the numbers from the place on are those of the longest ways

@@ -5,7 +5,7 @@ use Rattle.std.proofs.lemmas.List.{get_or_default, take_all}
 use Rattle.seccompiler.specs.JsonPolicyOf.{IsFor}
 use Rattle.seccompiler.specs.JsonWidened.{IsWidened, DecideAlikeOff}
 use Rattle.seccomptool.specs.WidenedParts.{AddsCall}
-use Rattle.seccomptool.proofs.CallLines.{AreLines, no_lines, line_more}
+use Rattle.seccomptool.proofs.widened.lines.CallLines.{AreLines, no_lines, line_more}
 use Rattle.seccomptool.proofs.widened.lines.filter_lines.Goals as goal
 
 pub loop-number-init : goal.loop-number-init

@@ -1,5 +1,5 @@
 use Rattle.std.proofs.Common.{take}
-use Rattle.seccomptool.proofs.CallLines.{AreLines}
+use Rattle.seccomptool.proofs.widened.lines.CallLines.{AreLines}
 use Rattle.seccomptool.proofs.widened.lines.filter_lines.Given as goal
 
 -- the text is the lines of the numbers so far

@@ -8,7 +8,7 @@ use Rattle.std.proofs.lemmas.List.Elements.{All-push}
 use Rattle.seccompiler.specs.JsonPolicyOf.{IsFor}
 use Rattle.seccompiler.specs.JsonTypes.{JsonRule}
 use Rattle.seccompiler.specs.SyscallTable.{number_of, table_of}
-use Rattle.seccomptool.proofs.CallLines.{first_at}
+use Rattle.seccomptool.proofs.widened.lines.CallLines.{first_at}
 use Rattle.seccomptool.proofs.widened.lines.first_entry.Goals as goal
 
 -- A test for a number tells whether it is the one.

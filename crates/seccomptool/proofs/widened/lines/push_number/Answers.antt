@@ -5,7 +5,7 @@ use Rattle.seccompiler.specs.JsonPolicyOf.{IsFor}
 use Rattle.seccompiler.specs.JsonTypes.{JsonFilter, JsonRule}
 use Rattle.seccomp_command_line.specs.Names.{escaped}
 use Rattle.seccomptool.specs.Widened.{IsFirstEntry}
-use Rattle.seccomptool.proofs.CallLines.{none_and_some}
+use Rattle.seccomptool.proofs.widened.lines.CallLines.{none_and_some}
 use Rattle.seccomptool.proofs.widened.lines.push_number.Goals as goal
 
 pub returns-in-Some : goal.returns-in-Some

@@ -1,0 +1,24 @@
+-- Lists whose items go together place by place: what one of them tells of the other.
+use Rattle.std.proofs.Common.{◌≡◌, List, [], ◌∷◌, All, map, refl}
+use Rattle.std.specs.List.{AllZip}
+use Rattle.std.proofs.lemmas.List.Elements.{All-nil, All-cons, All-head, All-tail}
+
+module _ {A B : Type 0} (R : A → B → Type 0) where
+  -- What each pair shows of its first item holds of the whole first list.
+  pub all_first : (P : A → Type 0) → ((a : A) (b : B) → R a b → P a) → (xs : List A) (ys : List B) → AllZip R xs ys → All P xs
+  all_first P shows [] ys h = All-nil P
+  all_first P shows (x ∷ xs) [] h = absurd h
+  all_first P shows (x ∷ xs) (y ∷ ys) h = All-cons P x xs (shows x y h.0) (all_first P shows xs ys h.1)
+
+  -- What each pair shows of its second item, where P holds of the first, holds of the whole second list.
+  pub all_second : (P : A → Type 0) (Q : B → Type 0) → ((a : A) (b : B) → R a b → P a → Q b) → (xs : List A) (ys : List B) → AllZip R xs ys → All P xs → All Q ys
+  all_second P Q shows xs [] h all = All-nil Q
+  all_second P Q shows [] (y ∷ ys) h all = absurd h
+  all_second P Q shows (x ∷ xs) (y ∷ ys) h all = All-cons Q y ys (shows x y h.0 (All-head P x xs all)) (all_second P Q shows xs ys h.1 (All-tail P x xs all))
+
+  -- What both items of each pair have in common is the same in both lists.
+  pub same_under : {C : Type 0} (f : A → C) (g : B → C) → ((a : A) (b : B) → R a b → g b ≡ f a) → (xs : List A) (ys : List B) → AllZip R xs ys → map g ys ≡ map f xs
+  same_under f g same [] [] h = refl
+  same_under f g same [] (y ∷ ys) h = absurd h
+  same_under f g same (x ∷ xs) [] h = absurd h
+  same_under f g same (x ∷ xs) (y ∷ ys) h = rw (same x y h.0, same_under f g same xs ys h.1) refl

@@ -1,0 +1,2 @@
+-- Lemmas for the functions of `carry_out`.
+pub mod Statuses

@@ -1,0 +1,3 @@
+-- Lemmas for the functions of `explain`.
+pub mod EntrySearches
+pub mod Explanations

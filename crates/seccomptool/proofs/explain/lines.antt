@@ -1,0 +1,2 @@
+-- Lemmas for the functions of `explain::lines`.
+pub mod Agreement

@@ -1,0 +1,3 @@
+-- Lemmas for the functions of `lint`.
+pub mod Values
+pub mod Judgements

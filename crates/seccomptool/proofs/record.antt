@@ -1,0 +1,2 @@
+-- Lemmas for the functions of `record`.
+pub mod Calls

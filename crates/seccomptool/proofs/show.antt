@@ -1,0 +1,3 @@
+-- Lemmas for the functions of `show`.
+pub mod Lines
+pub mod Texts

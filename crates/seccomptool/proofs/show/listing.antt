@@ -1,0 +1,2 @@
+-- Lemmas for the functions of `show::listing`.
+pub mod Programs

@@ -1,0 +1,2 @@
+-- Lemmas for the functions of `steps::lines`.
+pub mod MeasureLines

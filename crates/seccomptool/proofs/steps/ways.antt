@@ -1,0 +1,2 @@
+-- Lemmas for the functions of `steps::ways`.
+pub mod LongestWays

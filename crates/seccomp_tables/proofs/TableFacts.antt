@@ -4,6 +4,8 @@ use Rattle.std.specs.Cmp.Lexicographic.{slice_cmp}
 use Rattle.std.specs.List.{list_all}
 use Rattle.std.specs.Ordering.{is_lt}
 use Rattle.std.specs.Int.Signed.{le_z, le_z_yes}
+use Rattle.std.proofs.Math.Dec.{ltb}
+use Rattle.std.proofs.lemmas.Bool.{ltb-true}
 use Rattle.std.proofs.lemmas.Cmp.{nat_list_cmp_total}
 use Rattle.std.proofs.lemmas.Float.{T_from_true}
 use Rattle.std.proofs.lemmas.List.Elements.{All-nil, All-cons, All-weaker}
@@ -57,13 +59,21 @@ is_in_range pair = le_z (pos 0) pair.1 && le_z pair.1 greatest_number
 in_range : (pair : Pair) → is_in_range pair ≡ true → IsTableNumber pair.1
 in_range pair passed = let parts = both (le_z (pos 0) pair.1) (le_z pair.1 greatest_number) passed in (le_z_yes (T_from_true _ parts.0), le_z_yes (T_from_true _ parts.1))
 
+-- whether a pair's name is of ASCII
+abbrev is_ascii : Pair → Bool
+is_ascii pair = list_all (λ byte. ltb byte 128) pair.0
+
+ascii : (pair : Pair) → is_ascii pair ≡ true → All (λ byte. byte < 128) pair.0
+ascii pair passed = All-weaker (λ byte. ltb byte 128 ≡ true) (λ byte. byte < 128) (λ byte. ltb-true byte 128) pair.0 (AllPass-from_list_all (λ byte. ltb byte 128) pair.0 passed)
+
 -- a table that passes the tests is one
-is_table : (table : List Pair) → 255 ≤ length table → length table < 512 → is_ascending table ≡ true → list_all is_in_range table ≡ true → IsCallTable table
-is_table table long short order range =
+is_table : (table : List Pair) → 255 ≤ length table → length table < 512 → list_all is_ascii table ≡ true → is_ascending table ≡ true → list_all is_in_range table ≡ true → IsCallTable table
+is_table table long short names order range =
     let ascends = ascending table order in
     record {
       long = long;
       short = short;
+      ascii = All-weaker (λ pair. is_ascii pair ≡ true) (λ pair. All (λ byte. byte < 128) pair.0) ascii table (AllPass-from_list_all is_ascii table names);
       ascending = ascends;
       distinct = λ i j d i<j j<n. differs (slice_index_or table i d) (slice_index_or table j d) (ascends i j d i<j j<n);
       in_range = All-weaker (λ pair. is_in_range pair ≡ true) (λ pair. IsTableNumber pair.1) in_range table (AllPass-from_list_all is_in_range table range);
@@ -72,14 +82,17 @@ is_table table long short order range =
 -- the tests, computed
 pub x86_64_table : IsCallTable x86_64_pairs
 unfolding x86_64_pairs
-x86_64_table = is_table x86_64_pairs (omega arith) (omega arith) refl refl
+x86_64_table = is_table x86_64_pairs (omega arith) (omega arith) refl refl refl
 
 -- the tests, computed
 pub aarch64_table : IsCallTable aarch64_pairs
 unfolding aarch64_pairs
-aarch64_table = is_table aarch64_pairs (omega arith) (omega arith) refl refl
+aarch64_table = is_table aarch64_pairs (omega arith) (omega arith) refl refl refl
 
 -- the tests, computed
 pub riscv64_table : IsCallTable riscv64_pairs
 unfolding riscv64_pairs
-riscv64_table = is_table riscv64_pairs (omega arith) (omega arith) refl refl
+riscv64_table = is_table riscv64_pairs (omega arith) (omega arith) refl refl refl
+
+-- what holds of each table, for a proof by cases of architectures
+pub ruleset each_table = (x86_64_table, aarch64_table, riscv64_table)

@@ -40,10 +40,11 @@ greatest_number = pos 462
 abbrev pub IsTableNumber : ℤ → Type 0
 IsTableNumber number = (pos 0 ≤ℤ number) × (number ≤ℤ greatest_number)
 
--- What every table is: of 255 to 511 names, in byte order of names, with no name twice, and with no number out of range.
+-- What every table is: of 255 to 511 names, each of ASCII, in byte order of names, with no name twice, and with no number out of range.
 pub record IsCallTable (table : List Pair) : Type 0 where
   pub long : 255 ≤ length table
   pub short : length table < 512
+  pub ascii : All (λ pair. All (λ byte. byte < 128) pair.0) table
   pub ascending : AllPairs StandsBefore table
   pub distinct : AllPairs (λ first second. first.0 ≢ second.0) table
   pub in_range : All (λ pair. IsTableNumber pair.1) table

@@ -9,7 +9,7 @@ use Rattle.seccompiler.specs.declared.backend.SeccompAction.TheVariants.{Allow, 
 use Rattle.seccompiler.specs.declared.backend.BackendError.TheVariants.{InvalidArgumentNumber, InvalidTargetArch, InvalidSyscallNumber}
 use Rattle.seccompiler.specs.declared.error.Error.{Error}
 use Rattle.seccompiler.specs.declared.error.Error.TheVariants.{Backend}
-use Rattle.seccompiler.specs.Texts.{arch_text}
+use Rattle.seccompiler.specs.Architecture.{arch_text}
 use Rattle.seccompiler.specs.Policy.{Filter, IsCallNumber}
 use Rattle.seccompc.specs.Errors.{IsReadFault}
 use Rattle.seccompc.specs.declared.error.ToolError.{ToolError}

@@ -4,7 +4,8 @@ use Rattle.seccompiler.specs.declared.bpf.sock_filter.{sock_filter}
 use Rattle.seccompiler.specs.Record.{IsRecord, word_at}
 use Rattle.seccompiler.specs.Machine.{Ends}
 use Rattle.seccompiler.specs.Checked.{IsChecked}
-use Rattle.seccompiler.specs.Action.{word_of, audit_word}
+use Rattle.seccompiler.specs.Architecture.{audit_word}
+use Rattle.seccompiler.specs.Action.{word_of}
 use Rattle.seccompiler.specs.Policy.{Filter, chain_under, IsDecision}
 use Rattle.seccompiler.specs.Layout.{counted_length, passing_steps}
 

@@ -13,7 +13,8 @@ use Rattle.seccompiler.specs.JsonTypes.{JsonRule, JsonFilter}
 use Rattle.seccompiler.specs.Condition.{Condition}
 use Rattle.seccompiler.specs.Policy.{Rule, Chain, Filter}
 use Rattle.seccompiler.specs.Refusal.{numbers_of}
-use Rattle.seccompiler.specs.SyscallTable.{number_of, table_of}
+use Rattle.seccompiler.specs.Architecture.{table_of}
+use Rattle.seccompiler.specs.SyscallTable.{number_of}
 use Rattle.seccompiler.specs.declared.backend.BackendError.{BackendError}
 
 -- The condition of the same four parts.

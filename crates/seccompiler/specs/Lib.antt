@@ -1,10 +1,11 @@
 -- The definitions that the contracts cite.
 
--- What is promised. The headline for filters, in reading order: call records, the machine, checked programs; policies and
--- what they decide; how long a program is; when one is compiled for a filter, and why a filter is refused.
+-- What is promised. The headline for filters, in reading order: call records, the machine, checked programs; architectures;
+-- policies and what they decide; how long a program is; when one is compiled for a filter, and why a filter is refused.
 pub mod Record
 pub mod Machine
 pub mod Checked
+pub mod Architecture
 pub mod Action
 pub mod Condition
 pub mod Policy

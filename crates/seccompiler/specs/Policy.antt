@@ -7,7 +7,8 @@ use Rattle.std.specs.declared.alloc.Global.{Global}
 use Rattle.seccompiler.specs.declared.backend.SeccompAction.{SeccompAction}
 use Rattle.seccompiler.specs.declared.backend.TargetArch.{TargetArch}
 use Rattle.seccompiler.specs.Record.{word_at}
-use Rattle.seccompiler.specs.Action.{word_of, audit_word}
+use Rattle.seccompiler.specs.Architecture.{audit_word}
+use Rattle.seccompiler.specs.Action.{word_of}
 use Rattle.seccompiler.specs.Condition.{Condition, Holds}
 
 -- A rule: conditions, joined by and.

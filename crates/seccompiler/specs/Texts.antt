@@ -1,18 +1,11 @@
--- The texts of architectures, and of the errors of the backend and of the front end, byte for byte.
+-- The texts of the errors of the backend and of the front end, byte for byte.
 use Rattle.std.specs.Prelude.{◌≡◌, ℕ, List, ◌++◌, codes, decimal, string_bytes, Option, Some, None}
 use Rattle.std.specs.Fmt.{signed_decimal}
-use Rattle.seccompiler.specs.declared.backend.TargetArch.{TargetArch}
-use Rattle.seccompiler.specs.declared.backend.TargetArch.TheVariants.{x86_64, aarch64, riscv64}
+use Rattle.seccompiler.specs.Architecture.{arch_text}
 use Rattle.seccompiler.specs.declared.backend.BackendError.{BackendError}
 use Rattle.seccompiler.specs.declared.backend.BackendError.TheVariants.{EmptyRule, FilterTooLarge, IdenticalActions, InvalidArgumentNumber, InvalidTargetArch, InvalidSyscallNumber, OutOfMemory}
 use Rattle.seccompiler.specs.declared.json.error.JsonFrontendError.{JsonFrontendError}
 use Rattle.seccompiler.specs.declared.json.error.JsonFrontendError.TheVariants as frontend
-
--- The name of an architecture.
-abbrev pub arch_text : TargetArch → List ℕ
-arch_text x86_64 = codes "x86_64"
-arch_text aarch64 = codes "aarch64"
-arch_text riscv64 = codes "riscv64"
 
 -- The text of an error of the backend.
 abbrev pub backend_text : BackendError → List ℕ

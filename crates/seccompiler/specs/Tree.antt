@@ -4,7 +4,7 @@ use Rattle.seccompiler.specs.declared.bpf.sock_filter.{sock_filter}
 use Rattle.seccompiler.specs.declared.backend.BackendError.{BackendError}
 use Rattle.seccompiler.specs.declared.backend.BackendError.TheVariants.{FilterTooLarge, InvalidSyscallNumber, OutOfMemory}
 use Rattle.seccompiler.specs.Record.{IsRecord, word_at}
-use Rattle.seccompiler.specs.Action.{audit_word}
+use Rattle.seccompiler.specs.Architecture.{audit_word}
 use Rattle.seccompiler.specs.Machine.{Ends}
 use Rattle.seccompiler.specs.Checked.{greatest_length, IsChecked}
 use Rattle.seccompiler.specs.Policy.{Filter, Chain, chain_under}

@@ -5,6 +5,7 @@ use crate::bpf::{
     jump_if_equal, load_word, return_word, sock_filter,
 };
 use crate::equality::EqualByParts;
+use seccomp_tables::{aarch64_calls, riscv64_calls, x86_64_calls};
 use std::alloc::{AllocError, AllocFailed, Global};
 use std::{error, fmt};
 
@@ -49,12 +50,21 @@ impl EqualByParts for TargetArch {
 }
 
 impl TargetArch {
-    ghost use Rattle.std.specs.Prelude.{◌≡◌, ◌⊎◌, Ok, Some, IfOk, IfErr, IfSome};
+    ghost use Rattle.std.specs.Prelude.{◌≡◌, ◌≢◌, ◌⊎◌, Ok, Some, IfOk, IfErr, IfSome, AllPairs, Contains};
     ghost use Rattle.std.specs.Str.{str_to_ascii_lowercase};
     ghost use Rattle.seccompiler.specs.declared.backend.TargetArch.{TargetArch};
     ghost use Rattle.seccompiler.specs.declared.backend.BackendError.TheVariants.{OutOfMemory};
-    ghost use Rattle.seccompiler.specs.Action.{audit_word};
-    ghost use Rattle.seccompiler.specs.Texts.{arch_text, IsInvalidArch};
+    ghost use Rattle.seccompiler.specs.Architecture.{arch_text, audit_word, table_of};
+    ghost use Rattle.seccompiler.specs.SyscallTable.{pairs_of};
+    ghost use Rattle.seccompiler.specs.Texts.{IsInvalidArch};
+
+    /// Every architecture, each once.
+    pub fn all() -> &'static [Self]
+        ensures each { (arch : TargetArch) → Contains result.now arch }
+        ensures once { AllPairs (λ first second. first ≢ second) result.now }
+    {
+        &[TargetArch::x86_64, TargetArch::aarch64, TargetArch::riscv64]
+    }
 
     /// Reads an architecture's name, `x86_64`, `aarch64` or `riscv64`, without regard to ASCII case.
     ///
@@ -98,8 +108,8 @@ impl TargetArch {
         }
     }
 
-    // The variant's name.
-    fn name(self) -> &'static str
+    /// The variant's name, as its `Display` writes it.
+    pub fn name(self) -> &'static str
         ensures { result.now ≡ arch_text self }
     {
         match self {
@@ -119,12 +129,23 @@ impl TargetArch {
             TargetArch::riscv64 => AUDIT_ARCH_RISCV64,
         }
     }
+
+    // The pairs of the architecture's table, in byte order of names.
+    pub(crate) fn pairs(self) -> &'static [(&'static str, i64)]
+        ensures { pairs_of result.now ≡ table_of self }
+    {
+        match self {
+            TargetArch::x86_64 => x86_64_calls(),
+            TargetArch::aarch64 => aarch64_calls(),
+            TargetArch::riscv64 => riscv64_calls(),
+        }
+    }
 }
 
 /// The variant's name.
 impl fmt::Display for TargetArch {
     ghost use Rattle.std.specs.Prelude.{Some};
-    ghost use Rattle.seccompiler.specs.Texts.{arch_text};
+    ghost use Rattle.seccompiler.specs.Architecture.{arch_text};
 
     ghost output = { λ arch. Some (arch_text arch) };
 
@@ -318,7 +339,7 @@ impl<T: Drop> From<AllocFailed<T>> for BackendError {
 
 ghost use Rattle.std.specs.Prelude.{◌≡◌, IfOk, IsOkUnless};
 ghost use Rattle.seccompiler.specs.declared.backend.BackendError.TheVariants.{OutOfMemory};
-ghost use Rattle.seccompiler.specs.Action.{audit_word};
+ghost use Rattle.seccompiler.specs.Architecture.{audit_word};
 ghost use Rattle.seccompiler.specs.Code.{guard_code};
 
 /// The three instructions that kill the process on a call of another architecture: load the

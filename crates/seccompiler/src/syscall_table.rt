@@ -1,11 +1,11 @@
 // From the names of system calls to their numbers.
 
 ghost use Rattle.std.specs.Prelude.{◌≡◌, ◌≢◌, ◌≤◌, All, IfSome, IfNone};
-ghost use Rattle.seccompiler.specs.SyscallTable.{IsTableNumber, IsCallTable, IsFirstNumber, number_of, pairs_of, table_of};
+ghost use Rattle.seccompiler.specs.Architecture.{table_of};
+ghost use Rattle.seccompiler.specs.SyscallTable.{IsTableNumber, IsCallTable, IsFirstNumber, number_of, pairs_of};
 
 use crate::backend::TargetArch;
 use crate::equality::EqualByParts;
-use seccomp_tables::{aarch64_calls, riscv64_calls, x86_64_calls};
 use std::cmp::Ordering;
 use std::marker::Model;
 
@@ -62,6 +62,15 @@ impl SyscallTable {
         SyscallTable { arch }
     }
 
+    /// Gives the name and the number of each system call, in byte order of names.
+    ///
+    /// No name stands twice. It takes no memory.
+    pub fn pairs(&self) -> &'static [(&'static str, i64)]
+        ensures { pairs_of result.now ≡ table_of self.now }
+    {
+        self.arch.pairs()
+    }
+
     /// Looks the system call with exactly this name up, case included, by halving the table.
     ///
     /// `number` is `None` where the table has no such name, and otherwise lies within 0 to 462.
@@ -75,7 +84,7 @@ impl SyscallTable {
         ensures compared { (1 ≤ result.compared) × (result.compared ≤ 9) }
         ensures missed { IfNone result.number (8 ≤ result.compared) }
     {
-        let mut part = pairs_for(self.arch);
+        let mut part = self.pairs();
         let mut compared = 0;
         while !part.is_empty() {
             let middle = part.len() / 2;
@@ -116,16 +125,5 @@ impl SyscallTable {
         ensures in_range { IfSome result IsTableNumber }
     {
         self.lookup(name).number
-    }
-}
-
-// The pairs of an architecture, in byte order of names.
-fn pairs_for(arch: TargetArch) -> &'static [(&'static str, i64)]
-    ensures { pairs_of result.now ≡ table_of arch }
-{
-    match arch {
-        TargetArch::x86_64 => x86_64_calls(),
-        TargetArch::aarch64 => aarch64_calls(),
-        TargetArch::riscv64 => riscv64_calls(),
     }
 }

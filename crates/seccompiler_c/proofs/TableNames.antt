@@ -6,7 +6,7 @@ use Rattle.std.proofs.Math.Dec.{ltb}
 use Rattle.std.proofs.lemmas.List.Elements.{All-weaker}
 use Rattle.std.proofs.lemmas.List.Sums.{AllPass-from_list_all}
 use Rattle.seccomp_tables.specs.Tables.{Pair, x86_64_pairs, aarch64_pairs, riscv64_pairs}
-use Rattle.seccompiler.specs.SyscallTable.{table_of}
+use Rattle.seccompiler.specs.Architecture.{table_of}
 use Rattle.seccompiler.specs.declared.backend.TargetArch.{TargetArch}
 use Rattle.seccompiler.specs.declared.backend.TargetArch.TheVariants.{x86_64, aarch64, riscv64}
 use Rattle.seccompiler_c.proofs.Ascii.{utf8_if_ascii}

@@ -1,6 +1,6 @@
 -- What the words of a caller in C name.
 use Rattle.std.specs.Prelude.{◌≡◌, ℕ}
-use Rattle.seccompiler.specs.Action.{audit_word}
+use Rattle.seccompiler.specs.Architecture.{audit_word}
 use Rattle.seccompiler.specs.declared.backend.TargetArch.{TargetArch}
 use Rattle.seccompiler_c.specs.declared.arguments.ProgramLayout.{ProgramLayout}
 use Rattle.seccompiler_c.specs.declared.arguments.ProgramLayout.TheVariants.{Chains, Tree}

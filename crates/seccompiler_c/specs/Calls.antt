@@ -1,6 +1,7 @@
 -- What a look-up of a system call by its name answers.
 use Rattle.std.specs.Prelude.{◌≡◌, ◌≢◌, ℕ, ℤ, List, All}
-use Rattle.seccompiler.specs.SyscallTable.{IsTableNumber, IsFirstNumber, table_of}
+use Rattle.seccompiler.specs.Architecture.{table_of}
+use Rattle.seccompiler.specs.SyscallTable.{IsTableNumber, IsFirstNumber}
 use Rattle.seccompiler_c.specs.Arguments.{IsNoArchitecture, OfArchitecture}
 use Rattle.seccompiler_c.specs.declared.codes.TheConstants.{SECCOMPILER_UNKNOWN_ARCHITECTURE, SECCOMPILER_UNKNOWN_CALL}
 

@@ -6,7 +6,7 @@ use Rattle.std.specs.declared.io.ErrorKind.TheVariants as kind
 use Rattle.seccompiler.specs.declared.error.Error.{Error as LibraryError}
 use Rattle.seccompiler.specs.declared.error.Error.TheVariants as library
 use Rattle.seccompiler.specs.Errors.{error_text}
-use Rattle.seccompiler.specs.Texts.{arch_text}
+use Rattle.seccompiler.specs.Architecture.{arch_text}
 use Rattle.seccomptool.specs.declared.error.ToolError.{ToolError}
 use Rattle.seccomptool.specs.declared.error.ToolError.TheVariants.{Library, NoFilter, UnknownCall, ShortRecord, Read, Fault, Write, OutOfMemory}
 

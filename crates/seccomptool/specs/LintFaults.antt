@@ -12,7 +12,8 @@ use Rattle.seccompiler.specs.JsonAnswers.{HasPolicy}
 use Rattle.seccompiler.specs.JsonShape.{IsObject, Has, Lacks, IsWhole, IsAction, IsOperator, IsArgLen, IsComment, IsOneAction}
 use Rattle.seccompiler.specs.Policy.{Filter}
 use Rattle.seccompiler.specs.Refusal.{IsTooLarge}
-use Rattle.seccompiler.specs.SyscallTable.{number_of, table_of}
+use Rattle.seccompiler.specs.Architecture.{table_of}
+use Rattle.seccompiler.specs.SyscallTable.{number_of}
 use Rattle.seccomptool.specs.declared.lint.fault.Cause.{Cause}
 use Rattle.seccomptool.specs.declared.lint.fault.Cause.TheVariants as cause
 use Rattle.seccomptool.specs.declared.lint.fault.Expected.{Expected}

@@ -2,7 +2,7 @@
 use Rattle.std.specs.Prelude.{List, ℕ, [], ◌∷◌, ◌++◌, map, codes, decimal, string_bytes}
 use Rattle.std.specs.List.{concat}
 use Rattle.seccomp_command_line.specs.Names.{escaped}
-use Rattle.seccompiler.specs.Texts.{arch_text}
+use Rattle.seccompiler.specs.Architecture.{arch_text}
 use Rattle.seccomptool.specs.declared.lint.fault.Expected.{Expected}
 use Rattle.seccomptool.specs.declared.lint.fault.Expected.TheVariants as expected
 use Rattle.seccomptool.specs.declared.lint.fault.Fault.{Fault}

@@ -11,7 +11,7 @@ use Rattle.seccompiler.specs.Errors.{IsNoMemoryInside}
 use Rattle.seccompiler.specs.JsonAnswers.{OfValue}
 use Rattle.seccompiler.specs.JsonPrograms.{TellsFirstFault}
 use Rattle.seccompiler.specs.Reads.{Reads}
-use Rattle.seccompiler.specs.Texts.{arch_text}
+use Rattle.seccompiler.specs.Architecture.{arch_text}
 use Rattle.seccomptool.specs.declared.error.ToolError.{ToolError}
 use Rattle.seccomptool.specs.declared.error.ToolError.TheVariants.{Library, OutOfMemory}
 

@@ -1,7 +1,8 @@
 -- Why a filter decides a record as it does: the reasons, and their texts.
 use Rattle.std.specs.Prelude.{◌≡◌, ◌≢◌, ℕ, pos, ◌≤◌, List, ◌++◌, take, slice_get, Some, All, IfSome, count_by, codes, decimal}
 use Rattle.seccompiler.specs.declared.backend.TargetArch.{TargetArch}
-use Rattle.seccompiler.specs.Action.{audit_word, word_of}
+use Rattle.seccompiler.specs.Architecture.{audit_word}
+use Rattle.seccompiler.specs.Action.{word_of}
 use Rattle.seccompiler.specs.Condition.{Holds}
 use Rattle.seccompiler.specs.JsonPolicyOf.{condition_of, is_for, IsFor}
 use Rattle.seccompiler.specs.JsonTypes.{JsonRule, JsonFilter}

@@ -4,8 +4,8 @@ use Rattle.std.specs.Int.{w32, w64, to_le_bytes}
 use Rattle.std.specs.Io.KnownBytes.{Appends}
 use Rattle.std.specs.List.{concat}
 use Rattle.seccompiler.specs.declared.backend.TargetArch.{TargetArch}
-use Rattle.seccompiler.specs.Action.{audit_word}
-use Rattle.seccompiler.specs.SyscallTable.{table_of, number_of}
+use Rattle.seccompiler.specs.Architecture.{audit_word, table_of}
+use Rattle.seccompiler.specs.SyscallTable.{number_of}
 use Rattle.seccomptool.specs.declared.error.ToolError.{ToolError}
 use Rattle.seccomptool.specs.declared.error.ToolError.TheVariants.{Library, UnknownCall, Write, OutOfMemory}
 use Rattle.seccomptool.specs.Numbers.{IsNumber}

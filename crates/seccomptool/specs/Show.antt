@@ -16,7 +16,7 @@ use Rattle.seccompiler.specs.JsonFilters.{AreAll, IsLeast}
 use Rattle.seccompiler.specs.JsonAnswers.{HasSomePolicy}
 use Rattle.seccompiler.specs.JsonShape.{Has, Under, IsFilter}
 use Rattle.seccompiler.specs.JsonTypes.{JsonFilter}
-use Rattle.seccompiler.specs.Texts.{arch_text}
+use Rattle.seccompiler.specs.Architecture.{arch_text}
 use Rattle.seccomptool.specs.declared.error.ToolError.{ToolError}
 use Rattle.seccomptool.specs.declared.error.ToolError.TheVariants.{Library, Write, OutOfMemory}
 use Rattle.seccomptool.specs.declared.words.Layout.{Layout}

@@ -7,7 +7,7 @@ use Rattle.seccompiler.specs.JsonPolicyOf.{is_for, is_always, all_rules}
 use Rattle.seccompiler.specs.JsonTypes.{JsonRule}
 use Rattle.seccompiler.specs.Policy.{Rule}
 use Rattle.seccompiler.specs.Sizes.{greatest_offset}
-use Rattle.seccompiler.specs.Texts.{arch_text}
+use Rattle.seccompiler.specs.Architecture.{arch_text}
 
 -- A rule of a call, by its place in the chain.
 abbrev pub rule_label : List ℕ → ℕ → List ℕ

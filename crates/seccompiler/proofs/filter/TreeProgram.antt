@@ -7,7 +7,8 @@ use Rattle.seccompiler.specs.Code.{load, give, jump_equal}
 use Rattle.seccompiler.specs.Machine.{Goes, Ends}
 use Rattle.seccompiler.specs.Checked.{greatest_length, IsChecked, AreInRange}
 use Rattle.seccompiler.specs.Pieces.{inside_load}
-use Rattle.seccompiler.specs.Action.{word_of, audit_word}
+use Rattle.seccompiler.specs.Architecture.{audit_word}
+use Rattle.seccompiler.specs.Action.{word_of}
 use Rattle.seccompiler.specs.Policy.{Rule, Chain, Filter, chain_under, ChainMatches, IsDecision, other_architecture, policy_matches, policy_differs}
 use Rattle.seccompiler.specs.ChainCode.{IsBlock}
 use Rattle.seccompiler.specs.Ranges.{Range, AreRanges, HasNoRules}

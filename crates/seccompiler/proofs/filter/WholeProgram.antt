@@ -7,13 +7,14 @@ use Rattle.seccompiler.specs.declared.bpf.sock_filter.{sock_filter}
 use Rattle.seccompiler.specs.declared.backend.SeccompAction.{SeccompAction}
 use Rattle.seccompiler.specs.declared.backend.SeccompAction.TheVariants.{Allow, Errno, KillThread, KillProcess, Log, Trace, Trap}
 use Rattle.seccompiler.specs.declared.backend.TargetArch.{TargetArch}
-use Rattle.seccompiler.specs.declared.backend.TargetArch.TheVariants.{x86_64, aarch64, riscv64}
+use Rattle.seccompiler.specs.declared.backend.TargetArch.TheVariants.{x86_64}
 use Rattle.seccompiler.specs.Record.{IsRecord, word_at}
 use Rattle.seccompiler.specs.Code.{load, give, jump_equal, guard_code}
 use Rattle.seccompiler.specs.Machine.{Goes, stays, then_step, Ends}
 use Rattle.seccompiler.specs.Checked.{greatest_length, IsFine, fine_load, fine_mask, fine_jump, fine_equal, fine_greater, fine_at_least, fine_return, IsChecked, AreInRange, IsInRange}
 use Rattle.seccompiler.specs.Pieces.{IsInside, inside_load, inside_mask, inside_jump, inside_equal, inside_greater, inside_at_least}
-use Rattle.seccompiler.specs.Action.{word_of, audit_word}
+use Rattle.seccompiler.specs.Architecture.{audit_word}
+use Rattle.seccompiler.specs.Action.{word_of}
 use Rattle.seccompiler.specs.Policy.{Rule, Chain, Filter, chains_of, chain_under, ChainMatches, IsDecision, other_architecture, policy_matches, policy_differs}
 use Rattle.seccompiler.specs.Layout.{chains_length, counted_length_of, counted_length, chains_steps, passing_steps}
 use Rattle.seccompiler.specs.ChainCode.{Returns, IsBlock, Dispatches, in_chain, no_chain, IsChainsCode}
@@ -225,11 +226,10 @@ action_word_fits Log = omega arith
 action_word_fits (Trace x) = omega arith
 action_word_fits Trap = omega arith
 
--- so has the word of an architecture
+-- so has the word of an architecture; the second clause stands for every other one
 pub audit_word_fits : (arch : TargetArch) → audit_word arch < 2 ^ 32
 audit_word_fits x86_64 = omega arith
-audit_word_fits aarch64 = omega arith
-audit_word_fits riscv64 = omega arith
+audit_word_fits _ = omega arith
 
 -- What is known of a filter whose program is written: its words, and its chains as the map holds them.
 pub record Written (f : Filter) (entries : List (ℤ × Vec Rule Global)) (mismatch matched : ℕ) : Type 0 where

@@ -12,7 +12,8 @@ use Rattle.seccompiler.specs.declared.backend.TargetArch.{TargetArch}
 use Rattle.seccompiler.specs.JsonPolicyOf.{is_for, is_number, IsFor}
 use Rattle.seccompiler.specs.JsonTypes.{JsonRule}
 use Rattle.seccompiler.specs.Record.{word_at}
-use Rattle.seccompiler.specs.SyscallTable.{number_of, table_of}
+use Rattle.seccompiler.specs.Architecture.{table_of}
+use Rattle.seccompiler.specs.SyscallTable.{number_of}
 use Rattle.seccomptool.specs.declared.explain.reason.Reason.{Reason}
 use Rattle.seccomptool.specs.declared.explain.reason.Reason.TheVariants.{AnotherArchitecture, NoEntry, NoMatch, Entry}
 use Rattle.seccomptool.specs.Reasons.{EntryHolds, MatchesAlone, entries_for, IsFirstMatch, IsReason}

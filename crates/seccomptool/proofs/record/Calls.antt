@@ -5,7 +5,8 @@ use Rattle.std.specs.Io.KnownBytes.{Appends}
 use Rattle.std.specs.Result.{OkIff, result_ok}
 use Rattle.std.specs.Str.Parse.{IsNumeral, digits_value}
 use Rattle.seccompiler.specs.declared.backend.TargetArch.{TargetArch}
-use Rattle.seccompiler.specs.SyscallTable.{table_of, number_of}
+use Rattle.seccompiler.specs.Architecture.{table_of}
+use Rattle.seccompiler.specs.SyscallTable.{number_of}
 use Rattle.seccomptool.specs.Errors.{IsWriteError}
 use Rattle.seccomptool.specs.Numbers.{IsNumber, decimal, hexadecimal}
 use Rattle.seccomptool.specs.Policies.{IsNameOf, IsRefusedName}

@@ -7,7 +7,7 @@ use Rattle.std.proofs.lemmas.List.Elements.{All-weaker}
 use Rattle.std.proofs.lemmas.List.Sums.{AllPass-from_list_all}
 use Rattle.seccompiler.specs.declared.backend.TargetArch.{TargetArch}
 use Rattle.seccompiler.specs.declared.backend.TargetArch.TheVariants.{x86_64, aarch64, riscv64}
-use Rattle.seccompiler.specs.Action.{audit_word}
+use Rattle.seccompiler.specs.Architecture.{audit_word}
 use Rattle.seccompiler.specs.Record.{IsRecord, word_at}
 use Rattle.seccomptool.specs.Steps.{passing_record}
 

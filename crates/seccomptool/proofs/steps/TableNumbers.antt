@@ -11,7 +11,8 @@ use Rattle.seccompiler.specs.JsonPolicyOf.{IsPolicyOf, chain_at}
 use Rattle.seccompiler.specs.JsonTypes.{JsonFilter}
 use Rattle.seccompiler.specs.Policy.{Filter, IsCallNumber, chain_under}
 use Rattle.seccompiler.specs.Refusal.{numbers_of, IsLeastUnfit}
-use Rattle.seccompiler.specs.SyscallTable.{Pair, IsTableNumber, IsCallTable, number_of, table_of}
+use Rattle.seccompiler.specs.Architecture.{table_of}
+use Rattle.seccompiler.specs.SyscallTable.{Pair, IsTableNumber, IsCallTable, number_of}
 
 -- A number that is found is within a table's range where all are.
 number_in : (pairs : List Pair) (name : List ℕ) (n : ℤ) → All (λ (pair : Pair). IsTableNumber pair.1) pairs → number_of pairs name ≡ Some n → IsTableNumber n

@@ -1,7 +1,7 @@
 // Why a filter decides a record as it does.
 
 ghost use Rattle.std.specs.Prelude.{◌≡◌, ◌≤◌, ◌↔◌, pos, All, IfSome, IsTrue};
-ghost use Rattle.seccompiler.specs.Action.{audit_word};
+ghost use Rattle.seccompiler.specs.Architecture.{audit_word};
 ghost use Rattle.seccompiler.specs.Condition.{Holds};
 ghost use Rattle.seccompiler.specs.JsonPolicyOf.{condition_of, is_for, IsFineEntry, AreFineArgs};
 ghost use Rattle.seccompiler.specs.Record.{word_at};

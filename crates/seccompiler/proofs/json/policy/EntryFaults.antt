@@ -8,7 +8,8 @@ use Rattle.seccompiler.specs.declared.json.error.JsonFrontendError.{JsonFrontend
 use Rattle.seccompiler.specs.declared.json.error.JsonFrontendError.TheVariants as e
 use Rattle.seccompiler.specs.declared.json.types.JsonCondition.{JsonCondition}
 use Rattle.seccompiler.specs.JsonTypes.{JsonRule}
-use Rattle.seccompiler.specs.SyscallTable.{number_of, table_of}
+use Rattle.seccompiler.specs.Architecture.{table_of}
+use Rattle.seccompiler.specs.SyscallTable.{number_of}
 use Rattle.seccompiler.specs.JsonPolicyOf.{Fault, unknown_call, IsFaultIn, IsFor, IsFineEntry, IsFaultOf, unknown_name, wrong_args, IsFirstOf}
 use Rattle.seccompiler.specs.JsonSteps.{Tells}
 use Rattle.seccompiler.proofs.json.policy.EntryRules.{fine_or_fault_in, not_both_in, one_fault_in}

@@ -27,7 +27,8 @@ use Rattle.seccompiler.specs.JsonWidened.{IsPolicyBefore}
 use Rattle.seccompiler.specs.JsonTypes.{JsonRule, JsonFilter}
 use Rattle.seccompiler.specs.Policy.{Rule, Chain, Filter, chains_of}
 use Rattle.seccompiler.specs.Refusal.{numbers_of}
-use Rattle.seccompiler.specs.SyscallTable.{IsTableNumber, number_of, table_of}
+use Rattle.seccompiler.specs.Architecture.{table_of}
+use Rattle.seccompiler.specs.SyscallTable.{IsTableNumber, number_of}
 use Rattle.seccompiler.proofs.json.policy.EntryFaults.{all_fine_or_fault, none_wrong, one_first}
 use Rattle.seccompiler.proofs.json.policy.NumberedChains.{numbered, same_chains}
 use Rattle.seccompiler.proofs.TableFacts.{is_call_table}

@@ -9,7 +9,8 @@ use Rattle.std.proofs.lemmas.List.Folds.{Any-from_list_any, list_any-from_Any}
 use Rattle.std.proofs.lemmas.Option.{get_or_from_slice_get, slice_get_within, slice_get-get_or}
 use Rattle.seccompiler.specs.declared.backend.TargetArch.{TargetArch}
 use Rattle.seccompiler.specs.declared.json.types.JsonCondition.{JsonCondition}
-use Rattle.seccompiler.specs.Action.{audit_word, word_of}
+use Rattle.seccompiler.specs.Architecture.{audit_word}
+use Rattle.seccompiler.specs.Action.{word_of}
 use Rattle.seccompiler.specs.Condition.{Condition, Holds}
 use Rattle.seccompiler.specs.JsonPolicyOf.{condition_of, rules_of, rules_for, is_for, is_always, IsFor, chain_for, all_rules, IsPolicyOf}
 use Rattle.seccompiler.specs.JsonTypes.{JsonRule, JsonFilter}

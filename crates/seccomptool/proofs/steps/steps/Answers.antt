@@ -3,7 +3,8 @@ use Rattle.std.proofs.lemmas.Result.{err_from_is_err_and}
 use Rattle.std.specs.BTreeMap.{get_by_text}
 use Rattle.seccompiler.specs.JsonAnswers.{OfValue, ArePoliciesOf, TellsFrontendFault}
 use Rattle.seccompiler.specs.Reads.{Reads}
-use Rattle.seccompiler.specs.SyscallTable.{IsCallTable, table_of}
+use Rattle.seccompiler.specs.Architecture.{table_of}
+use Rattle.seccompiler.specs.SyscallTable.{IsCallTable}
 use Rattle.seccomptool.proofs.Faults.{name_refused, name_is_text, text_is_policy, text_refused}
 use Rattle.seccomp_command_line.proofs.ByName.{by_text}
 use Rattle.seccomptool.proofs.steps.Measures.{policy_told, chains_refused, trees_refused, lines_sent}

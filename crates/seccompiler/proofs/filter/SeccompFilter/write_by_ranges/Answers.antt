@@ -1,5 +1,5 @@
 use Rattle.std.proofs.Common.{◌≡◌, ◌+◌, length, ap, ◌∙◌, arith}
-use Rattle.seccompiler.specs.Action.{audit_word}
+use Rattle.seccompiler.specs.Architecture.{audit_word}
 use Rattle.seccompiler.specs.Code.{jump_equal, guard_code}
 use Rattle.seccompiler.specs.Policy.{Filter}
 use Rattle.seccompiler.proofs.Parts.{headed}

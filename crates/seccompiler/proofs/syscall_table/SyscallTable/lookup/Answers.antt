@@ -2,7 +2,8 @@ use Rattle.std.proofs.Common.{◌≡◌, ℕ, ◌+◌, ◌-◌, ◌/◌, ◌<◌
 use Rattle.std.proofs.lemmas.Grind.{common_steps}
 use Rattle.std.proofs.lemmas.List.{take_all, length-take, length-drop}
 use Rattle.std.specs.Cmp.Lexicographic.{slice_cmp}
-use Rattle.seccompiler.specs.SyscallTable.{IsTableNumber, pairs_of, table_of}
+use Rattle.seccompiler.specs.Architecture.{table_of}
+use Rattle.seccompiler.specs.SyscallTable.{IsTableNumber, pairs_of}
 use Rattle.seccompiler.proofs.TableFacts.{is_call_table}
 use Rattle.seccompiler.proofs.TableNames.{found_first, found_among, found_nowhere}
 use Rattle.seccompiler.proofs.syscall_table.Halving.{IsHalf, lower, upper, found, missed, absent, whole, as_short, compared_with, nothing}
@@ -12,10 +13,10 @@ pub loop-part-init : goal.loop-part-init
 loop-part-init c =
     let table = table_of c.args.self.now in
     let is = is_call_table c.args.self.now in
-    let same : pairs_of c.pairs_for-part.result.now ≡ table_of c.args.self.now = cc in
+    let same : pairs_of c.pairs-part.result.now ≡ table_of c.args.self.now = cc in
     record {
       half = rw same (whole table c.args.name.now is);
-      short = as_short table c.pairs_for-part.result.now is.short same;
+      short = as_short table c.pairs-part.result.now is.short same;
     }
 
 pub returns-in-Equal-clause-number : goal.returns-in-Equal-clause-number

@@ -1,5 +1,6 @@
 use Rattle.std.proofs.Common.{◌<◌, length}
-use Rattle.seccompiler.specs.SyscallTable.{pairs_of, table_of}
+use Rattle.seccompiler.specs.Architecture.{table_of}
+use Rattle.seccompiler.specs.SyscallTable.{pairs_of}
 use Rattle.seccompiler.proofs.syscall_table.Halving.{IsHalf}
 use Rattle.seccompiler.proofs.syscall_table.SyscallTable.lookup.Given as goal
 

@@ -7,7 +7,8 @@ use Rattle.std.proofs.lemmas.List.{take_more, take_all}
 use Rattle.std.proofs.lemmas.List.Elements.{All-push}
 use Rattle.seccompiler.specs.JsonPolicyOf.{IsFor}
 use Rattle.seccompiler.specs.JsonTypes.{JsonRule}
-use Rattle.seccompiler.specs.SyscallTable.{number_of, table_of}
+use Rattle.seccompiler.specs.Architecture.{table_of}
+use Rattle.seccompiler.specs.SyscallTable.{number_of}
 use Rattle.seccomptool.proofs.widened.lines.CallLines.{first_at}
 use Rattle.seccomptool.proofs.widened.lines.first_entry.Goals as goal
 

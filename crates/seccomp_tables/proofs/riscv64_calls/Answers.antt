@@ -1,7 +1,0 @@
-use Rattle.std.proofs.Common.{refl}
-use Rattle.seccomp_tables.specs.Tables.{riscv64_pairs}
-use Rattle.seccomp_tables.proofs.riscv64_calls.Goals as goal
-
-pub returns-clause-pairs : goal.returns-clause-pairs
-unfolding riscv64_pairs
-returns-clause-pairs c = refl

@@ -5,7 +5,6 @@ ghost use Rattle.seccompiler_c.specs.Arguments.{IsArchitecture, IsNoArchitecture
 
 use crate::codes::{SECCOMPILER_LAYOUT_CHAINS, SECCOMPILER_LAYOUT_TREE};
 use seccompiler::TargetArch;
-use seccompiler::bpf::{AUDIT_ARCH_AARCH64, AUDIT_ARCH_RISCV64, AUDIT_ARCH_X86_64};
 
 /// How a program finds the rules of a call.
 #[derive(Clone, Copy, Debug, PartialEq, Eq)]
@@ -21,12 +20,13 @@ pub(crate) fn architecture_of(word: u32) -> Option<TargetArch>
     ensures found { IfSome result (IsArchitecture word) }
     ensures not_found { IfNone result (IsNoArchitecture word) }
 {
-    match word {
-        AUDIT_ARCH_X86_64 => Some(TargetArch::x86_64),
-        AUDIT_ARCH_AARCH64 => Some(TargetArch::aarch64),
-        AUDIT_ARCH_RISCV64 => Some(TargetArch::riscv64),
-        _ => None,
+    let targets = TargetArch::all();
+    for target in targets {
+        if target.get_audit_value() == word {
+            return Some(*target);
+        }
     }
+    None
 }
 
 // The layout of this number.

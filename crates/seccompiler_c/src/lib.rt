@@ -169,10 +169,11 @@ pub extern "C" fn seccompiler_call_number(architecture: u32, name: &[u8]) -> i64
     let Some(target) = architecture_of(architecture) else {
         return SECCOMPILER_UNKNOWN_ARCHITECTURE;
     };
+    let table = SyscallTable::new(target);
     let Ok(name) = std::str::from_utf8(name) else {
         return SECCOMPILER_UNKNOWN_CALL;
     };
-    match SyscallTable::new(target).get_syscall_nr(name) {
+    match table.get_syscall_nr(name) {
         Some(number) => number,
         None => SECCOMPILER_UNKNOWN_CALL,
     }

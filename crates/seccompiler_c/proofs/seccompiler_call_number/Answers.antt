@@ -1,7 +1,11 @@
-use Rattle.std.proofs.Common.{refl}
+use Rattle.std.proofs.Common.{refl, subst}
+use Rattle.seccompiler.specs.Architecture.{table_of}
+use Rattle.seccompiler.specs.SyscallTable.{IsCallTable}
 use Rattle.seccompiler_c.specs.Calls.{unknown_call}
 use Rattle.seccompiler_c.proofs.TableNames.{no_call}
 use Rattle.seccompiler_c.proofs.seccompiler_call_number.Goals as goal
 
 pub returns-in_default-from_utf8 : goal.returns-in_default-from_utf8
-returns-in_default-from_utf8 c = record { answers = unknown_call (c.in-Some.target, c.in-Some.ensures.found, no_call c.in-Some.target c.args.name.now c.in_default-from_utf8.ensures.cases.0) refl }
+returns-in_default-from_utf8 c =
+    let table = subst (λ t. IsCallTable (table_of t)) c.new-table.ensures.arch c.new-table.ensures.table in
+    record { answers = unknown_call (c.in-Some.target, c.in-Some.ensures.found, no_call (table_of c.in-Some.target) c.args.name.now table c.in_default-from_utf8.ensures.cases.0) refl }

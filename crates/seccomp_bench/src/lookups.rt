@@ -2,7 +2,6 @@
 
 use crate::failure::Failure;
 use crate::times::Each;
-use seccomp_tables::{aarch64_calls, riscv64_calls, x86_64_calls};
 use seccompiler::{SyscallTable, TargetArch};
 use std::alloc::Global;
 use std::time::{Clock, Instant};
@@ -19,20 +18,14 @@ enum Way {
     Walking,
 }
 
-// The pairs of an architecture.
-fn pairs_of(arch: TargetArch) -> &'static [(&'static str, i64)] {
-    match arch {
-        TargetArch::x86_64 => x86_64_calls(),
-        TargetArch::aarch64 => aarch64_calls(),
-        TargetArch::riscv64 => riscv64_calls(),
-    }
-}
-
 // Whether the table has the name.
 fn has(way: Way, arch: TargetArch, name: &str) -> bool {
     match way {
         Way::Halving => SyscallTable::new(arch).lookup(name).number.is_some(),
-        Way::Walking => pairs_of(arch).iter().any(|pair| pair.0 == name),
+        Way::Walking => SyscallTable::new(arch)
+            .pairs()
+            .iter()
+            .any(|pair| pair.0 == name),
     }
 }
 
@@ -70,7 +63,7 @@ fn least_time(
 // The table's names, each with this text behind it.
 fn names_with(alloc: Global, arch: TargetArch, text: &str) -> Result<Vec<String>, Failure> {
     let mut names = Vec::new(alloc);
-    for (name, _) in pairs_of(arch) {
+    for (name, _) in SyscallTable::new(arch).pairs() {
         names.push(format!(in alloc; "{name}{text}")?)?;
     }
     Ok(names)
@@ -106,9 +99,9 @@ fn write_row(
 // Writes the table of look-ups: every name once, and as many that no table has.
 pub(crate) fn write_times(rt: &(impl Clock + Print + AllocGlobal)) -> Result<(), Failure> {
     println!(rt; "| table | names | found | halving, ns | walking, ns |\n|---|---|---|---|---|")?;
-    for arch in [TargetArch::x86_64, TargetArch::aarch64, TargetArch::riscv64] {
-        write_row(rt, arch, "of its own", &names_with(rt.alloc(), arch, "")?)?;
-        write_row(rt, arch, "others", &names_with(rt.alloc(), arch, "_")?)?;
+    for arch in TargetArch::all() {
+        write_row(rt, *arch, "of its own", &names_with(rt.alloc(), *arch, "")?)?;
+        write_row(rt, *arch, "others", &names_with(rt.alloc(), *arch, "_")?)?;
     }
     Ok(())
 }

@@ -2,14 +2,10 @@
 #![tactic(auto)]
 
 #[cfg(test)]
-mod aarch64;
+mod files;
 #[cfg(test)]
 mod lookups;
 #[cfg(test)]
 mod pairs;
 #[cfg(test)]
-mod riscv64;
-#[cfg(test)]
 mod samples;
-#[cfg(test)]
-mod x86_64;

@@ -1,6 +1,6 @@
 // Looking names up by halving: what is found, and how many names are compared.
 
-use crate::pairs::{ARCHITECTURES, file_of};
+use crate::files::file_of;
 use seccompiler::{Lookup, SyscallTable, TargetArch};
 use std::process::Abort;
 
@@ -59,9 +59,9 @@ fn place(name: &str) -> Option<usize> {
 
 #[test]
 fn each_pair_of_the_files(rt: HostRuntime) {
-    for arch in ARCHITECTURES {
-        for (name, number) in file_of(arch) {
-            assert_found(&rt, arch, name, Some(*number), 1);
+    for arch in TargetArch::all() {
+        for (name, number) in file_of(*arch) {
+            assert_found(&rt, *arch, name, Some(*number), 1);
         }
     }
 }
@@ -69,11 +69,11 @@ fn each_pair_of_the_files(rt: HostRuntime) {
 // A name without its last letter may be a name itself, as `accept4` and `accept`.
 #[test]
 fn fronts_of_the_names(rt: HostRuntime) {
-    for arch in ARCHITECTURES {
-        let pairs = file_of(arch);
+    for arch in TargetArch::all() {
+        let pairs = file_of(*arch);
         for (name, _) in pairs {
             if let Some(front) = name.get(..name.len().saturating_sub(1)) {
-                assert_found(&rt, arch, front, walked(pairs, front), 1);
+                assert_found(&rt, *arch, front, walked(pairs, front), 1);
             }
         }
     }
@@ -81,9 +81,9 @@ fn fronts_of_the_names(rt: HostRuntime) {
 
 #[test]
 fn texts_that_name_no_call(rt: HostRuntime) {
-    for arch in ARCHITECTURES {
+    for arch in TargetArch::all() {
         for name in ABSENT {
-            assert_found(&rt, arch, name, None, 8);
+            assert_found(&rt, *arch, name, None, 8);
         }
     }
 }

@@ -1,37 +1,13 @@
 // That each table has the pairs of the Rust crate's file, and no other.
 
-use crate::aarch64::AARCH64;
-use crate::riscv64::RISCV64;
-use crate::x86_64::X86_64;
+use crate::files::file_of;
 use seccompiler::backend::TargetArch;
 use seccompiler::syscall_table::SyscallTable;
 
-// How many pairs the tables have that are searched.
-const X86_64_COUNT: usize = seccomp_tables::X86_64.len();
-
-const AARCH64_COUNT: usize = seccomp_tables::AARCH64.len();
-
-const RISCV64_COUNT: usize = seccomp_tables::RISCV64.len();
-
-pub(crate) const ARCHITECTURES: [TargetArch; 3] = [
-    TargetArch::x86_64,
-    TargetArch::aarch64,
-    TargetArch::riscv64,
-];
-
-// The pairs of the Rust crate's file, in its order.
-pub(crate) fn file_of(arch: TargetArch) -> &'static [(&'static str, i64)] {
-    match arch {
-        TargetArch::x86_64 => &X86_64,
-        TargetArch::aarch64 => &AARCH64,
-        TargetArch::riscv64 => &RISCV64,
-    }
-}
-
 #[test]
 fn no_name_stands_twice(rt: HostRuntime) {
-    for arch in ARCHITECTURES {
-        let file = file_of(arch);
+    for arch in TargetArch::all() {
+        let file = file_of(*arch);
         for (name, _) in file {
             let times = file.iter().filter(|pair| pair.0 == *name).count();
             assert_eq!(rt; times, 1, "how often {name} stands in the file of {arch}");
@@ -42,12 +18,13 @@ fn no_name_stands_twice(rt: HostRuntime) {
 // Since the pairs of the files are found, and no name stands twice, there is no room for another.
 #[test]
 fn the_tables_are_as_long_as_the_files(rt: HostRuntime) {
-    for (arch, count) in [
-        (TargetArch::x86_64, X86_64_COUNT),
-        (TargetArch::aarch64, AARCH64_COUNT),
-        (TargetArch::riscv64, RISCV64_COUNT),
-    ] {
-        assert_eq!(rt; count, file_of(arch).len(), "the number of pairs on {arch}");
+    for arch in TargetArch::all() {
+        let count = SyscallTable::new(*arch).pairs().len();
+        assert_eq!(rt;
+            count,
+            file_of(*arch).len(),
+            "the number of pairs on {arch}"
+        );
         assert!(rt; count < 512, "{count} pairs on {arch}");
     }
 }
@@ -69,8 +46,8 @@ fn riscv64_is_aarch64_but_for_three_names(rt: HostRuntime) {
         );
     }
     assert_eq!(rt;
-        RISCV64_COUNT,
-        AARCH64_COUNT + 1,
+        names.pairs().len(),
+        file_of(TargetArch::aarch64).len() + 1,
         "the number of pairs on riscv64"
     );
 }

@@ -7,7 +7,6 @@ ghost use Rattle.seccomptool.specs.LintTexts as spec;
 
 use crate::lint::fault::{Expected, Fault, Kind, Problem, Step};
 use seccomp_command_line::names::push_escaped;
-use seccompiler::TargetArch;
 use std::alloc::{AllocError, Global};
 
 // Adds a number in decimal digits.
@@ -79,31 +78,42 @@ fn push_path(text: &mut Vec<u8>, alloc: Global, path: &[Step]) -> Result<(), All
     }
 }
 
-// What may stand at a place.
-fn expected_text(expected: Expected) -> &'static str
-    ensures { result.now ≡ spec.expected_text expected }
+// What may stand at a place: a text, and a name behind it.
+fn expected_text(expected: Expected) -> (&'static str, &'static str)
+    ensures { result.0.now ++ result.1.now ≡ spec.expected_text expected }
 {
     match expected {
-        Expected::Filters => "an object of filters",
-        Expected::Filter => "an object with the actions and the entries of a filter",
-        Expected::Action =>
+        Expected::Filters => ("an object of filters", ""),
+        Expected::Filter => ("an object with the actions and the entries of a filter", ""),
+        Expected::Action => (
             "\"allow\", {\"errno\": N}, \"kill_process\", \"kill_thread\", \"log\", {\"trace\": N} or \"trap\"",
-        Expected::Entries => "an array of entries",
-        Expected::Entry => "an object with the call of an entry",
-        Expected::Name => "the name of a call, in quotes,",
-        Expected::Comment => "null or a text",
-        Expected::Conditions => "null or an array of conditions",
-        Expected::Condition => "an object with the four parts of a condition",
-        Expected::Index | Expected::Argument => "a number from 0 to 5",
-        Expected::Length => "\"dword\" or \"qword\"",
-        Expected::Operator =>
+            "",
+        ),
+        Expected::Entries => ("an array of entries", ""),
+        Expected::Entry => ("an object with the call of an entry", ""),
+        Expected::Name => ("the name of a call, in quotes,", ""),
+        Expected::Comment => ("null or a text", ""),
+        Expected::Conditions => ("null or an array of conditions", ""),
+        Expected::Condition => ("an object with the four parts of a condition", ""),
+        Expected::Index | Expected::Argument => ("a number from 0 to 5", ""),
+        Expected::Length => ("\"dword\" or \"qword\"", ""),
+        Expected::Operator => (
             "\"eq\", \"ge\", \"gt\", \"le\", \"lt\", {\"masked_eq\": N} or \"ne\"",
-        Expected::Number => "a whole number from 0 to 18446744073709551615",
-        Expected::Call(TargetArch::x86_64) => "the name of a call of x86_64",
-        Expected::Call(TargetArch::aarch64) => "the name of a call of aarch64",
-        Expected::Call(TargetArch::riscv64) => "the name of a call of riscv64",
-        Expected::SomeConditions => "null or at least one condition",
+            "",
+        ),
+        Expected::Number => ("a whole number from 0 to 18446744073709551615", ""),
+        Expected::Call(target) => ("the name of a call of ", target.name()),
+        Expected::SomeConditions => ("null or at least one condition", ""),
     }
+}
+
+// Adds what may stand at a place.
+fn push_expected(text: &mut Vec<u8>, expected: Expected) -> Result<(), AllocError>
+    ensures { OnOk result (text.new.items ≡ text.old.items ++ spec.expected_text expected) }
+{
+    let (front, name) = expected_text(expected);
+    text.extend_from_slice(front.as_bytes())?;
+    text.extend_from_slice(name.as_bytes())
 }
 
 // The names that an object of this kind may have.
@@ -123,7 +133,7 @@ fn push_stands(text: &mut Vec<u8>, shown: &str, expected: Expected) -> Result<()
 {
     text.extend_from_slice(shown.as_bytes())?;
     text.extend_from_slice(b" stands here, and ")?;
-    text.extend_from_slice(expected_text(expected).as_bytes())?;
+    push_expected(text, expected)?;
     text.extend_from_slice(b" may.")
 }
 

@@ -13,8 +13,7 @@ use Rattle.seccompiler.specs.JsonPrograms.{TellsFirstFault}
 use Rattle.seccompiler.specs.Reads.{Reads}
 use Rattle.seccompiler.specs.Texts.{IsInvalidArch}
 use Rattle.seccomptool.specs.Errors.{from_library}
-use Rattle.seccomptool.specs.ExplainSteps.{IsPolicyReadError}
-use Rattle.seccomptool.specs.Policies.{IsNameOf, IsNoArchitecture, IsBeforePrograms, IsTextFault, IsRefusedName, IsRefusedPolicy, IsRefusedText, no_architecture, of_policy}
+use Rattle.seccomptool.specs.Policies.{IsNameOf, IsNoArchitecture, IsBeforePrograms, IsTextFault, IsPolicyReadError, IsRefusedName, IsRefusedPolicy, IsRefusedText, no_architecture, of_policy}
 use Rattle.seccomptool.specs.declared.error.ToolError.{ToolError}
 use Rattle.seccomptool.specs.declared.error.ToolError.TheVariants as tool
 use Rattle.seccomptool.proofs.Readings.{reads_some}

@@ -1,12 +1,8 @@
 -- What the private steps of `explain` promise each other.
-use Rattle.std.specs.Prelude.{⊤, ◌≢◌}
+use Rattle.std.specs.Prelude.{⊤}
 use Rattle.std.specs.BTreeMap.{get_by_text}
-use Rattle.std.specs.IoError.{error_kind}
-use Rattle.std.specs.declared.io.ErrorKind.TheVariants as kind
 use Rattle.serde_json.specs.Data.{Data}
 use Rattle.seccompiler.specs.declared.backend.TargetArch.{TargetArch}
-use Rattle.seccompiler.specs.declared.error.Error.TheVariants as library
-use Rattle.seccompiler.specs.declared.json.error.JsonFrontendError.TheVariants as json
 use Rattle.seccompiler.specs.declared.json.types.JsonFilterMap.{JsonFilterMap}
 use Rattle.seccompiler.specs.JsonFilters.{AreAll, AreFound}
 use Rattle.seccompiler.specs.JsonPolicyOf.{IsPolicyOf}
@@ -14,16 +10,10 @@ use Rattle.seccompiler.specs.JsonShape.{IsFilter}
 use Rattle.seccompiler.specs.JsonTypes.{JsonFilter}
 use Rattle.seccompiler.specs.Policy.{Filter}
 use Rattle.seccomptool.specs.declared.error.ToolError.{ToolError}
-use Rattle.seccomptool.specs.declared.error.ToolError.TheVariants.{Library, ShortRecord, Read, Write, OutOfMemory}
+use Rattle.seccomptool.specs.declared.error.ToolError.TheVariants.{ShortRecord, Read, Write, OutOfMemory}
 use Rattle.seccomptool.specs.declared.words.Layout.TheVariants.{Chains}
 use Rattle.seccomptool.specs.Errors.{IsReadFault}
 use Rattle.seccomptool.specs.Raw.{HasSomeProgram}
-
--- An error of reading a policy.
-abbrev pub IsPolicyReadError : ToolError → Type 0
-IsPolicyReadError (Library (library.JsonFrontend (json.Read e))) = error_kind e ≢ kind.OutOfMemory
-IsPolicyReadError OutOfMemory = ⊤
-IsPolicyReadError e = ⊥
 
 -- The value is this filter, which has a policy on the architecture.
 pub record IsUsable (target : TargetArch) (value : Data) (filter : JsonFilter) : Type 0 where

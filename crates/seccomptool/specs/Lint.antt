@@ -64,9 +64,3 @@ IsRefusal target text (Library e) = (e ≢ library.OutOfMemory) × IsNoMemoryIns
 IsRefusal target text (Fault told) = IsPlaced target text (string_bytes told)
 IsRefusal target text OutOfMemory = ⊤
 IsRefusal target text e = ⊥
-
--- The reader failed, for another cause than want of memory, or for that.
-abbrev pub IsReadRefusal : ToolError → Type 0
-IsReadRefusal (Library e) = (e ≢ library.OutOfMemory) × IsNoMemoryInside e × ((target : TargetArch) (text : List ℕ) → TellsFirstFault target text e)
-IsReadRefusal OutOfMemory = ⊤
-IsReadRefusal e = ⊥

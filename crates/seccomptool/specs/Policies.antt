@@ -1,12 +1,15 @@
 -- What the engines that are given a policy read of it, and which fault they tell.
 use Rattle.std.specs.Prelude.{◌≡◌, ◌≢◌, ℕ, List, Option, String, string_bytes, ⊤}
+use Rattle.std.specs.IoError.{error_kind}
 use Rattle.std.specs.Str.{str_to_ascii_lowercase}
 use Rattle.std.specs.declared.alloc.Global.{Global}
+use Rattle.std.specs.declared.io.ErrorKind.TheVariants as kind
 use Rattle.serde_json.specs.Data.{Data}
 use Rattle.seccompiler.specs.declared.backend.TargetArch.{TargetArch}
 use Rattle.seccompiler.specs.declared.backend.BackendError.TheVariants.{InvalidTargetArch}
 use Rattle.seccompiler.specs.declared.error.Error.{Error}
 use Rattle.seccompiler.specs.declared.error.Error.TheVariants as library
+use Rattle.seccompiler.specs.declared.json.error.JsonFrontendError.TheVariants as json
 use Rattle.seccompiler.specs.Errors.{IsNoMemoryInside}
 use Rattle.seccompiler.specs.JsonAnswers.{OfValue}
 use Rattle.seccompiler.specs.JsonPrograms.{TellsFirstFault}
@@ -56,6 +59,12 @@ abbrev pub IsRefusedName : List ℕ → ToolError → Type 0
 IsRefusedName arch (Library e) = IsNoArchitecture arch e
 IsRefusedName arch OutOfMemory = ⊤
 IsRefusedName arch e = ⊥
+
+-- The error is that of a policy's reader, or want of memory.
+abbrev pub IsPolicyReadError : ToolError → Type 0
+IsPolicyReadError (Library (library.JsonFrontend (json.Read e))) = error_kind e ≢ kind.OutOfMemory
+IsPolicyReadError OutOfMemory = ⊤
+IsPolicyReadError e = ⊥
 
 -- The error is the first fault, the programs' among them, or want of memory.
 abbrev pub IsRefusedPolicy : List ℕ → Option (List ℕ) → ToolError → Type 0

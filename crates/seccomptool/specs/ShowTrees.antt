@@ -8,9 +8,6 @@ use Rattle.seccompiler.specs.declared.backend.TargetArch.{TargetArch}
 use Rattle.seccompiler.specs.declared.bpf.sock_filter.{sock_filter}
 use Rattle.seccompiler.specs.JsonTypes.{JsonFilter}
 use Rattle.seccompiler.specs.Policy.{Filter}
-use Rattle.seccompiler.specs.declared.error.Error.TheVariants as library
-use Rattle.seccompiler.specs.declared.json.error.JsonFrontendError.TheVariants as frontend
-use Rattle.seccompiler.specs.Errors.{IsNoMemoryInFrontend}
 use Rattle.seccompiler.specs.Tree.{IsTreeCompiled, IsTreeRefusal}
 use Rattle.seccomptool.specs.declared.error.ToolError.{ToolError}
 use Rattle.seccomptool.specs.declared.error.ToolError.TheVariants as tool
@@ -66,9 +63,3 @@ abbrev pub IsRefused : Layout → List ℕ → Option (List ℕ) → ToolError �
 IsRefused layout arch known (tool.Library e) = IsFault layout arch known e
 IsRefused layout arch known tool.OutOfMemory = ⊤
 IsRefused layout arch known e = ⊥
-
--- An error of reading.
-abbrev pub IsUnread : ToolError → Type 0
-IsUnread (tool.Library (library.JsonFrontend (frontend.Read e))) = IsNoMemoryInFrontend (frontend.Read e)
-IsUnread tool.OutOfMemory = ⊤
-IsUnread e = ⊥

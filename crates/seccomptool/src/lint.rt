@@ -5,7 +5,7 @@ ghost use Rattle.serde_json.specs.Data.{Data};
 ghost use Rattle.seccompiler.specs.Errors.{IsNoMemoryInside};
 ghost use Rattle.seccompiler.specs.JsonAnswers.{OfValue, IsReadAs};
 ghost use Rattle.seccompiler.specs.JsonPrograms.{TellsFirstFault};
-ghost use Rattle.seccomptool.specs.Lint.{AnswersLint, AreAllCompiled, IsRefusal, IsReadRefusal, cause_told};
+ghost use Rattle.seccomptool.specs.Lint.{AnswersLint, AreAllCompiled, IsRefusal, cause_told};
 ghost use Rattle.seccomptool.specs.LintFaults.{Tells};
 ghost use Rattle.seccomptool.specs.LintTexts as spec;
 
@@ -19,11 +19,12 @@ use crate::error::ToolError;
 use crate::lint::fault::{Cause, Fault, Finding};
 use crate::lint::text::fault_text;
 use crate::lint::walk::in_policy;
+use crate::policy::policy_text;
 use seccompiler::json::JsonFrontendError;
 use seccompiler::{BackendError, Error, TargetArch, compile_from_json_in_order};
 use serde_json::Value;
 use std::alloc::{AllocError, Global};
-use std::io::{ErrorKind, Read};
+use std::io::Read;
 
 /// Looks for the first fault of a policy, and tells its place.
 ///
@@ -49,21 +50,8 @@ pub fn lint<R: Read + Drop>(alloc: Global, arch: &str, policy: R) -> Result<(), 
     ensures answers { AnswersLint arch.now (R.remaining policy) result }
 {
     let target = TargetArch::from_text(alloc, arch)?;
-    let text = text_of(alloc, policy)?;
+    let text = policy_text(alloc, policy)?;
     judge(alloc, target, text.as_slice())
-}
-
-// The whole text of a reader.
-fn text_of<R: Read + Drop>(alloc: Global, mut reader: R) -> Result<Vec<u8>, ToolError>
-    ensures whole { IfOk result (λ text. IfSome (R.remaining reader) (λ known. text.items ≡ known)) }
-    ensures refused { IfErr result IsReadRefusal }
-{
-    let mut text = Vec::new(alloc);
-    match reader.read_to_end(&mut text) {
-        Ok(_) => Ok(text),
-        Err(error) if error.kind() == ErrorKind::OutOfMemory => Err(ToolError::OutOfMemory),
-        Err(error) => Err(ToolError::Library(Error::JsonFrontend(JsonFrontendError::Read(error)))),
-    }
 }
 
 // That the library compiles all filters of the text.

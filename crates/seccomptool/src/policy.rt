@@ -1,18 +1,35 @@
-// A policy's filters, and their programs.
+// A policy's text, its filters, and their programs.
 
-ghost use Rattle.std.specs.Prelude.{IfOk, IfErr};
+ghost use Rattle.std.specs.Prelude.{◌≡◌, IfOk, IfErr, IfSome};
 ghost use Rattle.std.specs.BTreeMap.{get_by_text};
 ghost use Rattle.seccompiler.specs.JsonAnswers.{ArePoliciesOf};
 ghost use Rattle.seccompiler.specs.JsonPrograms.{AreProgramsOf};
-ghost use Rattle.seccomptool.specs.Policies.{OfPolicy, IsRefusedPolicy, IsRefusedText};
+ghost use Rattle.seccomptool.specs.Policies.{OfPolicy, IsPolicyReadError, IsRefusedPolicy, IsRefusedText};
 
 use crate::error::ToolError;
+use seccompiler::json::JsonFrontendError;
 use seccompiler::{
-    BpfProgram, JsonCompiler, SeccompFilter, TargetArch, compile_from_json_in_order,
+    BpfProgram, Error, JsonCompiler, SeccompFilter, TargetArch, compile_from_json_in_order,
 };
 use std::alloc::Global;
 use std::collections::BTreeMap;
-use std::io::Read;
+use std::io::{ErrorKind, Read};
+
+// The whole text of a policy.
+pub(crate) fn policy_text<P: Read + Drop>(
+    alloc: Global,
+    mut policy: P,
+) -> Result<Vec<u8>, ToolError>
+    ensures text { IfOk result (λ text. IfSome (P.remaining policy) (λ known. text.items ≡ known)) }
+    ensures refused { IfErr result IsPolicyReadError }
+{
+    let mut text = Vec::new(alloc);
+    match policy.read_to_end(&mut text) {
+        Ok(_) => Ok(text),
+        Err(error) if error.kind() == ErrorKind::OutOfMemory => Err(ToolError::OutOfMemory),
+        Err(error) => Err(ToolError::Library(Error::JsonFrontend(JsonFrontendError::Read(error)))),
+    }
+}
 
 // The filters of a policy on the architecture of this name, which is looked at first, in byte order of
 // their names.

@@ -5,21 +5,21 @@ mod labels;
 mod listing;
 mod text;
 
-ghost use Rattle.std.specs.Prelude.{◌≡◌, IfOk, IfErr, IfSome};
+ghost use Rattle.std.specs.Prelude.{IfOk, IfErr};
 ghost use Rattle.seccomptool.specs.Errors.{KeepsOutput};
 ghost use Rattle.seccomptool.specs.Show.{AnswersShow, AreCompiled, IsShown};
-ghost use Rattle.seccomptool.specs.ShowTrees.{IsRefused, IsUnread};
+ghost use Rattle.seccomptool.specs.ShowTrees.{IsRefused};
 ghost use Rattle.seccomptool.specs.declared.words.Layout.TheVariants.{Chains, Tree};
 
 use crate::error::ToolError;
-use crate::policy::{filters, programs};
+use crate::policy::{filters, policy_text, programs};
 use crate::send::send;
 use crate::show::listing::{guard_labels, listing, trees};
 use crate::words::Layout;
+use seccompiler::TargetArch;
 use seccompiler::json::filters_from;
-use seccompiler::{JsonFrontendError, TargetArch};
 use std::alloc::Global;
-use std::io::{ErrorKind, Read, Write};
+use std::io::{Read, Write};
 
 /// Writes the programs of a policy's filters for people, in byte order of the filters' names.
 ///
@@ -81,23 +81,10 @@ fn chains_text<R: Read + Drop>(alloc: Global, arch: &str, policy: R) -> Result<V
     ensures refused { IfErr result (IsRefused Chains arch.now (R.remaining policy)) }
 {
     let target = TargetArch::from_text(alloc, arch)?;
-    let bytes = read_all(alloc, policy)?;
-    let programs = programs(alloc, arch, bytes.as_slice())?;
-    let filters = filters_from(alloc, bytes.as_slice())?;
+    let text = policy_text(alloc, policy)?;
+    let programs = programs(alloc, arch, text.as_slice())?;
+    let filters = filters_from(alloc, text.as_slice())?;
     Ok(listing(alloc, target, &programs, &filters)?)
-}
-
-// All that a reader gives.
-fn read_all<R: Read + Drop>(alloc: Global, mut policy: R) -> Result<Vec<u8>, ToolError>
-    ensures bytes { IfOk result (λ bytes. IfSome (R.remaining policy) (λ known. bytes.items ≡ known)) }
-    ensures refused { IfErr result IsUnread }
-{
-    let mut bytes = Vec::new(alloc);
-    match policy.read_to_end(&mut bytes) {
-        Ok(_) => Ok(bytes),
-        Err(error) if error.kind() == ErrorKind::OutOfMemory => Err(ToolError::OutOfMemory),
-        Err(error) => Err(JsonFrontendError::Read(error).into()),
-    }
 }
 
 // The text of the programs in the layout of a tree.

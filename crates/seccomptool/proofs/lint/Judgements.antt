@@ -13,18 +13,17 @@ use Rattle.seccompiler.specs.JsonAnswers.{IsReadAs, IsValueOf, OfValue}
 use Rattle.seccompiler.specs.JsonPrograms.{AreProgramsOf, TellsFirstFault}
 use Rattle.seccompiler.specs.Reads.{Reads}
 use Rattle.seccomptool.specs.Errors.{from_library}
-use Rattle.seccomptool.specs.Lint.{AnswersLint, AreAllCompiled, IsPlaced, IsReadRefusal, IsRefusal, cause_told}
+use Rattle.seccomptool.specs.Lint.{AnswersLint, AreAllCompiled, IsPlaced, IsRefusal, cause_told}
 use Rattle.seccomptool.specs.LintFaults.{IsFaultIn}
 use Rattle.seccomptool.specs.LintTexts.{fault_text}
 use Rattle.seccomptool.specs.Raw.{HasSomeProgram}
-use Rattle.seccomptool.specs.Policies.{IsNameOf, IsRefusedName, no_architecture, of_policy}
+use Rattle.seccomptool.specs.Policies.{IsNameOf, IsRefusedPolicy, of_policy}
 use Rattle.seccomptool.specs.declared.error.ToolError.{ToolError}
 use Rattle.seccomptool.specs.declared.error.ToolError.TheVariants as tool
 use Rattle.seccomptool.specs.declared.lint.fault.Cause.{Cause}
 use Rattle.seccomptool.specs.declared.lint.fault.Fault.{Fault}
 use Rattle.seccomptool.specs.declared.words.Layout.TheVariants.{Chains}
 use Rattle.seccomptool.proofs.Found.{has_program, all_values}
-use Rattle.seccomptool.proofs.Readings.{reads_some}
 
 -- Values that have programs are all compiled.
 pub all_compiled : (target : TargetArch) (text : List ℕ) (find : List ℕ → Option (Vec sock_filter Global)) → Reads (Some text) (λ t. OfValue t (AreProgramsOf target find)) → OfValue text (AreAllCompiled target)
@@ -56,19 +55,13 @@ module _ (target : TargetArch) (text : List ℕ) where
   is_plain e memory first = ((λ same. cc), memory, first)
 
 module _ (arch : List ℕ) (known : Option (List ℕ)) where
-  -- The answer where no architecture has the name.
-  pub name_answers : (e : ToolError) → IsRefusedName arch e → AnswersLint arch known (Err e)
-  name_answers (tool.Library e) refused = no_architecture refused
-  name_answers tool.OutOfMemory refused = tt
-  name_answers _ refused = absurd refused
+  -- The answer where no architecture has the name, or the policy's text can't be read.
+  pub refused_answers : (e : ToolError) → IsRefusedPolicy arch known e → AnswersLint arch known (Err e)
+  refused_answers (tool.Library e) refused = refused
+  refused_answers tool.OutOfMemory refused = tt
+  refused_answers _ refused = absurd refused
 
   module _ (target : TargetArch) (named : IsNameOf arch target) where
-    -- The answer where the policy's text can't be read.
-    pub read_answers : (e : ToolError) → IsReadRefusal e → AnswersLint arch known (Err e)
-    read_answers (tool.Library e) refused = of_policy target named refused.0 refused.1 (reads_some known (λ text. TellsFirstFault target text e) (refused.2 target))
-    read_answers tool.OutOfMemory refused = tt
-    read_answers _ refused = absurd refused
-
     -- The answer where it is read.
     pub judged : (text : List ℕ) (r : Result ⊤ ToolError) → IfSome known (λ k. text ≡ k) → OnOk r (OfValue text (AreAllCompiled target)) → IfErr r (IsRefusal target text) → AnswersLint arch known r
     judged text (Ok done) same fine refused = (target, named, (text, same, fine))

@@ -23,16 +23,13 @@ use Rattle.seccomptool.specs.Errors.{from_library, IsWriteError}
 use Rattle.seccomptool.specs.Policies.{OfPolicy, IsNameOf, IsRefusedPolicy, IsRefusedText, no_architecture, of_policy}
 use Rattle.seccomptool.specs.Raw.{HasProgram, HasSomeProgram, HasNoTree}
 use Rattle.seccompiler.specs.JsonTypes.{JsonFilter}
-use Rattle.seccompiler.specs.declared.error.Error.TheVariants as library
-use Rattle.seccompiler.specs.declared.json.error.JsonFrontendError.TheVariants as json
 use Rattle.seccomptool.specs.Show.{NamedProgram, guard_labels, shown, LabelledProgram, IsLabelledFor, AreChainsShown, IsShown, WritesPrograms, AreCompiled, IsLeastTreeless, of_text, of_tree, AnswersShow}
-use Rattle.seccomptool.specs.ShowTrees.{Entry, IsLabelled, AreLabelled, IsUnread, NamedFilter, IsTreeOf, AreTrees, HasTree, IsFirstTreeless, refused, no_memory, IsRefused}
+use Rattle.seccomptool.specs.ShowTrees.{Entry, IsLabelled, AreLabelled, NamedFilter, IsTreeOf, AreTrees, HasTree, IsFirstTreeless, refused, no_memory, IsRefused}
 use Rattle.seccomptool.specs.declared.error.ToolError.{ToolError}
 use Rattle.seccomptool.specs.declared.error.ToolError.TheVariants as tool
 use Rattle.seccomptool.specs.declared.words.Layout.{Layout}
 use Rattle.seccomptool.specs.declared.words.Layout.TheVariants.{Chains, Tree}
 use Rattle.seccomp_command_line.proofs.ByName.{names_ordered}
-use Rattle.seccomptool.proofs.Faults.{policy_unread}
 use Rattle.seccomptool.proofs.Found.{has_program, there, all_values, each_there, complete, all_listed, least_found}
 use Rattle.seccomptool.proofs.Pairs.{all_second, same_under}
 use Rattle.seccomptool.proofs.Readings.{reads_on, of_value, policy_shows}
@@ -161,12 +158,6 @@ given_refused arch known bytes (tool.Library e) gives (of_policy target named ot
     of_policy target named other memory (first.0, subst (λ b. IfSome known (λ k. b ≡ k)) (sym first.1) gives, first.2)
 given_refused arch known bytes tool.OutOfMemory gives is = tt
 given_refused arch known bytes e gives is = absurd is
-
--- A reader's fault is refused.
-pub unread_refused : (arch : List ℕ) (known : Option (List ℕ)) (target : TargetArch) (e : ToolError) → IsNameOf arch target → IsUnread e → IsRefused Chains arch known e
-unread_refused arch known target (tool.Library (library.JsonFrontend (json.Read e))) named is = policy_unread arch known target (tool.Library (library.JsonFrontend (json.Read e))) named is
-unread_refused arch known target tool.OutOfMemory named is = tt
-unread_refused arch known target e named is = absurd is
 
 -- What is refused of a policy's text before its programs is refused, of trees too.
 pub text_is_refused : (arch : List ℕ) (known : Option (List ℕ)) (e : ToolError) → IsRefusedText arch known e → IsRefused Tree arch known e

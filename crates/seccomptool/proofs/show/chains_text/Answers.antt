@@ -6,9 +6,9 @@ use Rattle.seccompiler.specs.JsonAnswers.{OfValue}
 use Rattle.seccompiler.specs.JsonSteps.{AreFilters}
 use Rattle.seccompiler.specs.Reads.{Reads}
 use Rattle.seccomptool.specs.Policies.{IsNameOf}
-use Rattle.seccomptool.proofs.Faults.{name_refused, name_is_text, text_is_policy, text_refused}
+use Rattle.seccomptool.proofs.Faults.{name_refused, name_is_text, policy_unread, text_is_policy, text_refused}
 use Rattle.seccomptool.proofs.Readings.{filters_of_value}
-use Rattle.seccomptool.proofs.show.Texts.{policy_is_refused, given_refused, unread_refused, programs_shown}
+use Rattle.seccomptool.proofs.show.Texts.{policy_is_refused, given_refused, programs_shown}
 use Rattle.seccomp_command_line.proofs.ByName.{by_text}
 use Rattle.seccomptool.proofs.show.chains_text.Goals as goal
 
@@ -19,15 +19,17 @@ returns-in_err-target-clause-refused g c =
     let known = g.R.Read.remaining c.args.policy in
     rw (error.1, error.2) (policy_is_refused arch known _ (text_is_policy arch known _ (name_is_text arch known _ (name_refused arch c.in_err-target.field-0.0 c.in_err-target.ensures.named c.in_err-target.ensures.refused))))
 
-pub returns-in_err-bytes-clause-refused : goal.returns-in_err-bytes-clause-refused
-returns-in_err-bytes-clause-refused g c =
-    let error = err_from_is_err_and c.from_residual-in_err-bytes.result c.from_residual-in_err-bytes.ensures.1 in
-    rw (error.1, error.2) (unread_refused c.args.arch.now (g.R.Read.remaining c.args.policy) c.in_ok-target.target _ c.in_ok-target.ensures.read c.in_err-bytes.ensures.refused)
+pub returns-in_err-text-clause-refused : goal.returns-in_err-text-clause-refused
+returns-in_err-text-clause-refused g c =
+    let error = err_from_is_err_and c.from_residual-in_err-text.result c.from_residual-in_err-text.ensures.1 in
+    let arch = c.args.arch.now in
+    let known = g.R.Read.remaining c.args.policy in
+    rw (error.1, error.2) (policy_is_refused arch known _ (policy_unread arch known c.in_ok-target.target _ c.in_ok-target.ensures.read c.in_err-text.ensures.refused))
 
 pub returns-in_err-programs-clause-refused : goal.returns-in_err-programs-clause-refused
 returns-in_err-programs-clause-refused g c =
     let error = err_from_is_err_and c.from_residual-in_err-programs.result c.from_residual-in_err-programs.ensures.1 in
-    let gives = subst (λ b. IfSome (g.R.Read.remaining c.args.policy) (λ k. b ≡ k)) (sym c.as_slice.ensures.value) c.in_ok-bytes.ensures.bytes in
+    let gives = subst (λ b. IfSome (g.R.Read.remaining c.args.policy) (λ k. b ≡ k)) (sym c.as_slice.ensures.value) c.in_ok-text.ensures.text in
     rw (error.1, error.2) (given_refused c.args.arch.now (g.R.Read.remaining c.args.policy) c.as_slice.result.now _ gives c.in_err-programs.ensures.refused)
 
 pub returns-in_err-filters-clause-refused : goal.returns-in_err-filters-clause-refused
@@ -37,7 +39,7 @@ returns-in_err-filters-clause-refused g c =
     let text = c.as_slice-2.result.now in
     let target = c.in_ok-target.target in
     let fault = c.in_err-filters.ensures in
-    let gives = subst (λ b. IfSome (g.R.Read.remaining c.args.policy) (λ k. b ≡ k)) (sym c.as_slice-2.ensures.value) c.in_ok-bytes.ensures.bytes in
+    let gives = subst (λ b. IfSome (g.R.Read.remaining c.args.policy) (λ k. b ≡ k)) (sym c.as_slice-2.ensures.value) c.in_ok-text.ensures.text in
     rw (error.1, error.2) (given_refused arch (g.R.Read.remaining c.args.policy) text _ gives (text_is_policy arch (Some text) _
     (text_refused arch (Some text) target c.in_err-filters.field-0.0 c.in_ok-target.ensures.read fault.memory (fault.fault.0, fault.fault.1, fault.fault.2 target))))
 
@@ -45,7 +47,7 @@ pub returns-clause-shown : goal.returns-clause-shown
 returns-clause-shown g c =
     let programs = c.in_ok-programs.programs in
     let only : (other : TargetArch) → IsNameOf c.args.arch.now other → c.in_ok-target.target ≡ other = λ other named. let same = c.in_ok-target.ensures.named other named in cc in
-    let gives = subst (λ b. IfSome (g.R.Read.remaining c.args.policy) (λ k. b ≡ k)) (sym c.as_slice.ensures.value) c.in_ok-bytes.ensures.bytes in
+    let gives = subst (λ b. IfSome (g.R.Read.remaining c.args.policy) (λ k. b ≡ k)) (sym c.as_slice.ensures.value) c.in_ok-text.ensures.text in
     let filters = c.in_ok-filters.filters in
     let same_text : c.as_slice-2.result.now ≡ c.as_slice.result.now = c.as_slice-2.ensures.value ∙ sym c.as_slice.ensures.value in
     let read = subst (λ t. Reads (Some t) (λ text. OfValue text (λ d. AreFilters d filters))) same_text c.in_ok-filters.ensures.filters in

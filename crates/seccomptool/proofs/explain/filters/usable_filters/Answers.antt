@@ -14,7 +14,7 @@ use Rattle.seccomptool.proofs.explain.filters.usable_filters.Goals as goal
 pub returns-in_err-text-clause-refused : goal.returns-in_err-text-clause-refused
 returns-in_err-text-clause-refused g c = λ arch named.
     let error = err_from_is_err_and c.from_residual.result c.from_residual.ensures.1 in
-    rw (error.1, error.2) (policy_unread arch (g.P.Read.remaining c.args.policy) c.args.target c.in_err-text.field-0.0 named c.in_err-text.ensures.cause)
+    rw (error.1, error.2) (policy_unread arch (g.P.Read.remaining c.args.policy) c.args.target c.in_err-text.field-0.0 named c.in_err-text.ensures.refused)
 
 pub returns-in_err-compile_from_json_in_order-clause-refused : goal.returns-in_err-compile_from_json_in_order-clause-refused
 returns-in_err-compile_from_json_in_order-clause-refused g c = λ arch named.

@@ -1,6 +1,5 @@
 -- For `SeccompCondition::holds`: what a condition on the low half of an argument does not depend on.
-use Rattle.std.proofs.Common.{◌≡◌, ◌↔◌, IsTrue, ℕ, ◌%◌, ◌^◌, List, Bool, sym, ap, ◌∙◌, subst}
-use Rattle.seccompiler.specs.declared.backend.SeccompCmpArgLen.TheVariants.{Dword}
+use Rattle.std.proofs.Common.{◌↔◌, IsTrue, ℕ, ◌%◌, ◌^◌, List, Bool, sym, ap, ◌∙◌, subst}
 use Rattle.seccompiler.specs.Record.{argument_at}
 use Rattle.seccompiler.specs.Condition.{Condition, part_of, operator_part, Compares, Holds}
 use Rattle.seccompiler.specs.LowHalf.{IsSameLowHalf, HasSameLowArgument}

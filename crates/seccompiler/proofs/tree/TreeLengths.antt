@@ -1,6 +1,6 @@
 -- For `CallRange::write_leaf` and `tree_len`: lengths of ranges that stop at the greatest number that a machine's
 -- number holds.
-use Rattle.std.proofs.Common.{◌≡◌, ℕ, ◌+◌, ◌-◌, ◌<◌, ◌≤◌, List, [], ◌∷◌, ◌++◌, length, Some, set, take, suc, Bool, true, false, nat_le, if◌then◌else◌, ◌⊎◌, inl, inr, ⊎_elim, min, refl, sym, ap, ◌∙◌, arith}
+use Rattle.std.proofs.Common.{◌≡◌, ℕ, ◌+◌, ◌<◌, ◌≤◌, List, [], ◌∷◌, ◌++◌, length, Some, set, take, suc, Bool, true, false, nat_le, if◌then◌else◌, ◌⊎◌, inl, inr, ⊎_elim, min, refl, sym, ap, ◌∙◌, arith}
 use Rattle.std.proofs.lemmas.Bool.Decides.{nat_tests}
 use Rattle.std.proofs.lemmas.List.{take_all}
 use Rattle.std.proofs.Math.ListN.{length-set}

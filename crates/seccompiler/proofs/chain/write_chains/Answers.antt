@@ -1,7 +1,6 @@
-use Rattle.std.proofs.Common.{◌≡◌, ℕ, ◌+◌, ◌-◌, ◌≤◌, ◌^◌, ◌++◌, ◌∷◌, [], List, length, take, min, sym, ap, ◌∙◌, arith}
+use Rattle.std.proofs.Common.{◌≡◌, ℕ, ◌+◌, ◌-◌, ◌≤◌, ◌++◌, ◌∷◌, [], List, length, take, sym, ap, ◌∙◌, arith}
 use lib.Seq.{length-take-le}
 use borrow.Rule.Slice.PartMut.{same_len_mid}
-use Rattle.seccompiler.specs.Checked.{greatest_length}
 use Rattle.seccompiler.specs.declared.bpf.sock_filter.{sock_filter}
 use Rattle.seccompiler.specs.Policy.{Chain, chains_of}
 use Rattle.seccompiler.specs.Layout.{chain_length, chains_length}

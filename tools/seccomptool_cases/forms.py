@@ -21,7 +21,7 @@ class Failing(NamedTuple):
 
 
 class Case(NamedTuple):
-    """What stands behind `./seccomptool`, the status, standard output, and standard error; where one of these
+    """What stands behind the program's name, the status, standard output, and standard error; where one of these
     ends with `..`, it only has to begin so. Standard input is empty where a case has none."""
 
     words: str

@@ -1,0 +1,11 @@
+"""What the built program seccompc is tried on by tools/check-documents beside tools/program_cases.py, and what it has
+to do: tables of policies and of calls. Forms of cases are those of tools/seccomptool_cases.
+
+Expected values come from the definitions in crates/seccompiler/specs and crates/seccompc/specs, arithmetic or a
+kernel's headers, and never from the program's output.
+"""
+
+MODULES = ()
+
+FILES = {}
+CASES = [case for module in MODULES for case in module.CASES]

@@ -5,7 +5,9 @@ Expected values come from the definitions in crates/seccompiler/specs and crates
 kernel's headers, and never from the program's output.
 """
 
-MODULES = ()
+from . import lists, probes, runs
 
-FILES = {}
+MODULES = (lists, probes, runs)
+
+FILES = {name: content for module in MODULES for name, content in module.FILES.items()}
 CASES = [case for module in MODULES for case in module.CASES]

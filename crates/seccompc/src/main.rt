@@ -8,8 +8,6 @@ mod probe;
 mod program_text;
 mod record_text;
 mod run;
-#[cfg(test)]
-mod tests;
 mod trace;
 mod words;
 

@@ -1,0 +1,100 @@
+"""What seccompc has to do where reads and writes pass few bytes a call, or fail behind some, and where few of its
+requests for memory are granted. tools/check-program runs these, with the calls of tools/short-calls.c; the files
+are those of this package, and FILE of `run` has a descriptor of its own."""
+
+import errno
+from typing import NamedTuple, Union
+
+from program_cases import INDEX, PROBED, UNREAD, UNWRITTEN, USAGE
+from seccomptool_cases.records import AARCH64, X86_64, record_of
+
+from .policies import LOGS, LOGS_LISTED, UNREAD_RECORDS
+from .probes import ALLOWED, LINE, PROBE
+from .runs import LINES
+
+INPUT, OUTPUT, FILE = 0, 1, 3
+OUT_OF_MEMORY = "Out of memory.\n"
+UNTRACED = "run x86_64 run-logs.json a"
+
+
+class Calls(NamedTuple):
+    """Reads from a descriptor, or writes to it: at most so many bytes a call, and behind so many bytes in all each
+    call fails with an error number; without one none fails."""
+
+    descriptor: int
+    at_once: int
+    passed: int = 0
+    error: int = 0
+
+
+class Short(NamedTuple):
+    """What stands behind the program's name, its standard input, the status, standard output and standard error;
+    and the calls that fall short, if any."""
+
+    words: str
+    given: Union[str, bytes]
+    status: int
+    output: str
+    errors: str
+    calls: Union[Calls, None] = None
+
+
+def slow(words, given, output, *calls):
+    """Returns the case of a command that writes this output all the same."""
+    return Short(words, given, 0, output, "", Calls(*calls))
+
+
+def unread(words, given, text, *calls):
+    """Returns the cases of a reading that fails, with this text, and that wants memory."""
+    return [
+        Short(words, given, 1, "", told, Calls(*calls, error))
+        for told, error in ((text, errno.EIO), (OUT_OF_MEMORY, errno.ENOMEM))
+    ]
+
+
+def unwritten(words, given, output, at_once, taken, error):
+    """Returns the case of a writing that fails behind so many bytes of this output."""
+    return Short(words, given, 1, output[:taken], UNWRITTEN, Calls(OUTPUT, at_once, taken, error))
+
+
+# The records of examples/records.bin.
+RECORDS = ALLOWED + b"".join([
+    record_of(72, X86_64, 0, 2), record_of(72, X86_64, 0, 4294967299), record_of(5, X86_64, 0, 4294967298),
+    record_of(72, AARCH64, 0, 4294967298),
+])
+
+CASES = [
+    # Little is read at once: records, the policy in FILE, the policy on standard input.
+    *[slow(PROBE, RECORDS, PROBED, INPUT, at_once) for at_once in (1, 63, 65)],
+    *[slow("run x86_64 run-complex.json main_thread", record_of(number, X86_64, *arguments), line, FILE, 1)
+      for number, arguments, line in LINES],
+    slow("list x86_64", LOGS, LOGS_LISTED, INPUT, 1),
+    # Reading fails, or wants memory, behind so many bytes.
+    *[case for length in (0, 1, 63, 64) for case in unread(PROBE, ALLOWED, UNREAD_RECORDS, INPUT, 64, length)],
+    *[case for length in (0, 1, len(LOGS)) for case in unread("list x86_64", LOGS, UNREAD, INPUT, 1, length)],
+    *unread(UNTRACED, "", UNREAD, FILE, 7, len(LOGS)),
+    *unread(UNTRACED, bytes(64), UNREAD_RECORDS, INPUT, 64, 64),
+    # Writing fails behind so many bytes, and does not where it takes each, a byte a call.
+    *[unwritten(PROBE, RECORDS, PROBED, 1, taken, error)
+      for error in (errno.EPIPE, errno.ENOMEM) for taken in range(len(PROBED))],
+    *[unwritten("list x86_64", LOGS, LOGS_LISTED, 1, taken, errno.ENOMEM) for taken in range(len(LOGS_LISTED))],
+    unwritten("list x86_64", LOGS, LOGS_LISTED, len(LOGS_LISTED), 0, errno.ENOMEM),
+    unwritten("list x86_64", LOGS, LOGS_LISTED, 3, 3, errno.ENOMEM),
+    slow(PROBE, RECORDS, PROBED, OUTPUT, 1, len(PROBED), errno.EIO),
+    slow("list x86_64", LOGS, LOGS_LISTED, OUTPUT, 1, len(LOGS_LISTED), errno.ENOMEM),
+    slow("list x86_64", LOGS, LOGS_LISTED, OUTPUT, len(LOGS_LISTED), len(LOGS_LISTED), errno.ENOMEM),
+]
+
+# Commands that are granted one request for memory more at each run, and what they answer once they have enough.
+GRANTED = [
+    Short(PROBE, ALLOWED, 0, LINE, ""),
+    Short("list x86_64", LOGS, 0, LOGS_LISTED, ""),
+    Short("run x86_64 run-complex.json main_thread", record_of(102, X86_64), 0, "000503e8 25\n", ""),
+]
+
+# Two commands of words of the same lengths, of which one is none. Reading words takes no memory, and neither does
+# an index that no argument has, so both have enough of as many requests.
+ALIKE = [
+    Short("probe x86_64 1 6 0", "", 1, "", "Backend error: " + INDEX),
+    Short("Probe x86_64 1 6 0", "", 2, "", USAGE),
+]

@@ -1,0 +1,71 @@
+/*
+ * Calls that stand before the C library's in a built program, and fall short as the environment says.
+ * tools/check-program builds and preloads them.
+ *
+ * GRANTED: so many requests for memory are granted, and each behind them is refused.
+ * DESCRIPTOR, AT_ONCE, BYTES and ERROR: a call that reads from this descriptor, or writes to it, passes at
+ * most AT_ONCE bytes; behind BYTES bytes in all each fails with this error number. Without ERROR none fails.
+ */
+#define _GNU_SOURCE
+#include <dlfcn.h>
+#include <errno.h>
+#include <stdlib.h>
+#include <sys/types.h>
+
+static long number(const char *name, long otherwise) {
+    const char *text = getenv(name);
+    return text ? atol(text) : otherwise;
+}
+
+static int is_refused(void) {
+    static long granted = -1, asked;
+    if (granted < 0) granted = number("GRANTED", 1L << 60);
+    if (asked++ < granted) return 0;
+    errno = ENOMEM;
+    return 1;
+}
+
+void *malloc(size_t size) {
+    static void *(*given)(size_t);
+    if (!given) given = (void *(*)(size_t))dlsym(RTLD_NEXT, "malloc");
+    return is_refused() ? NULL : given(size);
+}
+
+void *realloc(void *block, size_t size) {
+    static void *(*given)(void *, size_t);
+    if (!given) given = (void *(*)(void *, size_t))dlsym(RTLD_NEXT, "realloc");
+    return is_refused() ? NULL : given(block, size);
+}
+
+/* How many bytes a call of this size may pass, or -1 where it fails. */
+static ssize_t passes(int descriptor, size_t size) {
+    static long passed;
+    size_t at_once = number("AT_ONCE", 0), bytes = number("BYTES", 0);
+    int error = number("ERROR", 0);
+    if (descriptor != number("DESCRIPTOR", -1)) return size;
+    if (size > at_once) size = at_once;
+    if (error && size > bytes - passed) size = bytes - passed;
+    if (error && size == 0) {
+        errno = error;
+        return -1;
+    }
+    passed += size;
+    return size;
+}
+
+ssize_t read(int descriptor, void *buffer, size_t size) {
+    ssize_t (*given)(int, void *, size_t) = (ssize_t (*)(int, void *, size_t))dlsym(RTLD_NEXT, "read");
+    ssize_t most = passes(descriptor, size);
+    return most < 0 ? -1 : given(descriptor, buffer, most);
+}
+
+ssize_t write(int descriptor, const void *buffer, size_t size) {
+    ssize_t (*given)(int, const void *, size_t) = (ssize_t (*)(int, const void *, size_t))dlsym(RTLD_NEXT, "write");
+    ssize_t most = passes(descriptor, size);
+    return most < 0 ? -1 : given(descriptor, buffer, most);
+}
+
+/* The program calls this name too. */
+ssize_t __write(int descriptor, const void *buffer, size_t size) {
+    return write(descriptor, buffer, size);
+}

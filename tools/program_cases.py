@@ -1,5 +1,6 @@
 """What the built program seccompc, and the script that runs it, are tried on by tools/check-documents, and what
-they have to do. tools/seccomptool_cases has the same of seccomptool, and names files and texts of this table."""
+they have to do. tools/seccompc_cases has more of seccompc, and tools/seccomptool_cases the same of seccomptool;
+both name files and texts of this table."""
 
 READ = {"index": 0, "type": "dword", "op": "eq", "val": 5}
 LOGS = {"match_action": "allow", "mismatch_action": "log", "filter": []}

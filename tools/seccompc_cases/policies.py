@@ -11,8 +11,10 @@ LOGGED = "7ffc0000 3\n"
 COMPLEX = """{"main_thread":{"mismatch_action":{"errno":1000},"match_action":"allow","filter":[
 {"syscall":"rt_sigprocmask"},{"syscall":"sigaltstack"},{"syscall":"munmap"},{"syscall":"exit"},
 {"syscall":"rt_sigreturn"},{"syscall":"futex"},{"syscall":"getpid"},
-{"syscall":"ioctl","args":[{"index":2,"type":"dword","op":"le","val":14},{"index":2,"type":"dword","op":"ne","val":13}]},
-{"syscall":"ioctl","args":[{"index":2,"type":"dword","op":"gt","val":20},{"index":2,"type":"dword","op":"lt","val":40}]},
+{"syscall":"ioctl","args":[\
+{"index":2,"type":"dword","op":"le","val":14},{"index":2,"type":"dword","op":"ne","val":13}]},
+{"syscall":"ioctl","args":[\
+{"index":2,"type":"dword","op":"gt","val":20},{"index":2,"type":"dword","op":"lt","val":40}]},
 {"syscall":"ioctl","args":[{"index":0,"type":"dword","op":"eq","val":1},{"index":2,"type":"dword","op":"eq","val":15}]},
 {"syscall":"ioctl","args":[{"index":2,"type":"qword","op":"eq","val":4294967336}]},
 {"syscall":"madvise","args":[{"index":0,"type":"dword","op":"eq","val":0},{"index":1,"type":"dword","op":"eq","val":0}]}

@@ -39,30 +39,32 @@ void *realloc(void *block, size_t size) {
 
 /* How many bytes a call of this size may pass, or -1 where it fails. */
 static ssize_t passes(int descriptor, size_t size) {
-    static long passed;
-    size_t at_once = number("AT_ONCE", 0), bytes = number("BYTES", 0);
-    int error = number("ERROR", 0);
-    if (descriptor != number("DESCRIPTOR", -1)) return size;
-    if (size > at_once) size = at_once;
-    if (error && size > bytes - passed) size = bytes - passed;
-    if (error && size == 0) {
+    static ssize_t passed;
+    ssize_t most = (ssize_t)size, at_once = number("AT_ONCE", 0), left = number("BYTES", 0) - passed;
+    int error = (int)number("ERROR", 0);
+    if (descriptor != number("DESCRIPTOR", -1)) return most;
+    if (error && left == 0) {
         errno = error;
         return -1;
     }
-    passed += size;
-    return size;
+    if (most > at_once) most = at_once;
+    if (error && most > left) most = left;
+    passed += most;
+    return most;
 }
 
 ssize_t read(int descriptor, void *buffer, size_t size) {
-    ssize_t (*given)(int, void *, size_t) = (ssize_t (*)(int, void *, size_t))dlsym(RTLD_NEXT, "read");
+    static ssize_t (*given)(int, void *, size_t);
+    if (!given) given = (ssize_t (*)(int, void *, size_t))dlsym(RTLD_NEXT, "read");
     ssize_t most = passes(descriptor, size);
-    return most < 0 ? -1 : given(descriptor, buffer, most);
+    return most < 0 ? -1 : given(descriptor, buffer, (size_t)most);
 }
 
 ssize_t write(int descriptor, const void *buffer, size_t size) {
-    ssize_t (*given)(int, const void *, size_t) = (ssize_t (*)(int, const void *, size_t))dlsym(RTLD_NEXT, "write");
+    static ssize_t (*given)(int, const void *, size_t);
+    if (!given) given = (ssize_t (*)(int, const void *, size_t))dlsym(RTLD_NEXT, "write");
     ssize_t most = passes(descriptor, size);
-    return most < 0 ? -1 : given(descriptor, buffer, most);
+    return most < 0 ? -1 : given(descriptor, buffer, (size_t)most);
 }
 
 /* The program calls this name too. */

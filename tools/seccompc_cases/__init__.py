@@ -5,9 +5,9 @@ Expected values come from the definitions in crates/seccompiler/specs and crates
 kernel's headers, and never from the program's output.
 """
 
-from . import lists, probes, runs
+from . import filters, lists, numbers, probes, runs, shapes, texts
 
-MODULES = (lists, probes, runs)
+MODULES = (lists, probes, runs, texts, numbers, shapes, filters)
 
-FILES = {name: content for module in MODULES for name, content in module.FILES.items()}
+FILES = {name: content for module in MODULES for name, content in getattr(module, "FILES", {}).items()}
 CASES = [case for module in MODULES for case in module.CASES]

@@ -115,11 +115,3 @@ pub fn assert_accepted_from<R: Read + Drop>(rt: &impl Abort, alloc: Global, firs
     let programs = compile_from_json(alloc, second, TargetArch::x86_64);
     assert!(rt; programs.is_ok(), "compile_from_json refuses the text");
 }
-
-/// Asserts that both calls answer the text by this fault, or accept it where there is none.
-pub fn assert_answer(rt: &impl Abort, alloc: Global, text: &str, fault: Option<Fault>) {
-    match fault {
-        Some(fault) => assert_fault(rt, alloc, text, fault),
-        None => assert_accepted_from(rt, alloc, text.as_bytes(), text.as_bytes()),
-    }
-}

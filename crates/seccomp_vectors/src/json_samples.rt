@@ -1,13 +1,9 @@
-// The JSON texts that several tests read, what they give, and the filters to compare that with.
+// The JSON texts that several tests read, and their programs.
 
-use crate::builders::{Parts, rule};
-use seccompiler::backend::{SeccompAction, TargetArch};
+use seccompiler::backend::TargetArch;
 use seccompiler::bpf::BpfProgram;
 use seccompiler::compile_from_json;
-use seccompiler::filter::SeccompFilter;
-use seccompiler::json::JsonCompiler;
 use std::alloc::{AllocError, Global};
-use std::collections::BTreeMap;
 use std::test::Fail;
 
 /// An entry without arguments.
@@ -28,14 +24,9 @@ pub const MAIN_THREAD: &str =
     {"syscall":"ioctl","args":[{"index":2,"type":"qword","op":"eq","val":4294967336}]},
     {"syscall":"madvise","args":[{"index":0,"type":"dword","op":"eq","val":0},{"index":1,"type":"dword","op":"eq","val":0}]}]}}"#;
 
-/// Two calls, one with two rules and one with none, as the Rust crate's README writes them.
-pub const README: &str =
-    r#"{"main_thread":{"mismatch_action":"kill_process","match_action":"allow","filter":[
-    {"syscall":"accept4"},
-    {"syscall":"fcntl","args":[
-        {"index":1,"type":"dword","op":"eq","val":2,"comment":"F_SETFD"},
-        {"index":2,"type":"dword","op":"eq","val":1,"comment":"FD_CLOEXEC"}]},
-    {"syscall":"fcntl","args":[{"index":1,"type":"dword","op":"eq","val":1,"comment":"F_GETFD"}]}]}}"#;
+/// A filter with an entry for a call that there is not.
+pub const UNKNOWN: &str =
+    r#"{"mismatch_action":"trap","match_action":"allow","filter":[{"syscall":"nosyscall"}]}"#;
 
 /// The entry so many times, with commas between.
 pub fn repeated(alloc: Global, entry: &str, count: usize) -> Result<String, AllocError> {
@@ -47,8 +38,8 @@ pub fn repeated(alloc: Global, entry: &str, count: usize) -> Result<String, Allo
     Ok(entries)
 }
 
-/// A filter of these entries, which traps what they do not match.
-pub fn filter_text(alloc: Global, entries: &str) -> Result<String, Fail> {
+// A filter of these entries, which traps what they do not match.
+fn filter_text(alloc: Global, entries: &str) -> Result<String, Fail> {
     Ok(format!(in alloc;
         "{{\"mismatch_action\":\"trap\",\"match_action\":\"allow\",\"filter\":[{entries}]}}"
     )?)
@@ -66,46 +57,24 @@ pub fn compiled(alloc: Global, text: &str, name: &str) -> Result<BpfProgram, Fai
     Ok(programs.remove(name).ok_or("a program under the name")?)
 }
 
-/// The filter under a name of the text.
-pub fn one_filter(
+/// The text of two filters, the second named first.
+pub fn two_filters(
     alloc: Global,
-    arch: TargetArch,
-    text: &str,
-    name: &str,
-) -> Result<SeccompFilter, Fail> {
-    let mut filters = JsonCompiler::new(arch).compile(alloc, text.as_bytes())?;
-    Ok(filters.remove(name).ok_or("a filter under the name")?)
+    (first, of_first): (&str, &str),
+    (second, of_second): (&str, &str),
+) -> Result<String, Fail> {
+    Ok(format!(in alloc; r#"{{"{second}":{of_second},"{first}":{of_first}}}"#)?)
 }
 
-/// The chains of some call numbers: each the conditions of its rules.
-pub type Chains<'a> = &'a [(i64, &'a [&'a [Parts]])];
-
-/// The filter of these chains on an architecture.
-pub fn filter_for(
-    alloc: Global,
-    arch: TargetArch,
-    chains: Chains,
-    mismatch_action: SeccompAction,
-    match_action: SeccompAction,
-) -> Result<SeccompFilter, Fail> {
-    let mut rules = BTreeMap::new(alloc);
-    for (number, chain) in chains {
-        let mut made = Vec::new(alloc);
-        for conditions in *chain {
-            made.push(rule(alloc, conditions)?)?;
-        }
-        drop(rules.insert(*number, made)?);
-    }
-    Ok(SeccompFilter::new(rules, mismatch_action, match_action, arch)?)
+/// The filter of so many equal entries of one condition.
+pub fn large(alloc: Global, count: usize) -> Result<String, Fail> {
+    let entries = repeated(alloc, COMPARES, count)?;
+    filter_text(alloc, entries.as_str())
 }
 
-/// The same on x86_64.
-pub fn filter(
-    alloc: Global,
-    chains: Chains,
-    mismatch_action: SeccompAction,
-    match_action: SeccompAction,
-) -> Result<SeccompFilter, Fail> {
-    let arch = TargetArch::x86_64;
-    filter_for(alloc, arch, chains, mismatch_action, match_action)
+/// The text whose filter `b` has 818 entries, and `a` 819.
+pub fn two_too_large(alloc: Global) -> Result<String, Fail> {
+    let least = large(alloc, 819)?;
+    let other = large(alloc, 818)?;
+    two_filters(alloc, ("a", least.as_str()), ("b", other.as_str()))
 }

@@ -18,19 +18,13 @@ mod filters;
 #[cfg(test)]
 mod hostile_readers;
 #[cfg(test)]
-mod hostile_texts;
-#[cfg(test)]
 mod instructions;
 #[cfg(test)]
 mod json_faults;
 #[cfg(test)]
 mod json_policies;
 #[cfg(test)]
-mod json_programs;
-#[cfg(test)]
 mod json_samples;
-#[cfg(test)]
-mod json_shapes;
 #[cfg(test)]
 mod json_texts;
 #[cfg(test)]

@@ -1,8 +1,9 @@
 // Policies written as JSON where memory is refused.
 
 use crate::faults::{Fault, is_frontend_fault, is_library_fault};
-use crate::json_faults::{UNKNOWN, large, two_filters, two_too_large};
-use crate::json_samples::{COMPARES, MAIN_THREAD, READS, policy};
+use crate::json_samples::{
+    COMPARES, MAIN_THREAD, READS, UNKNOWN, large, policy, two_filters, two_too_large,
+};
 use crate::scarce::{Answer, Call, assert_refusals, assert_refusals_by, judged};
 use seccompiler::backend::TargetArch;
 use seccompiler::bpf::BpfProgram;

@@ -36,30 +36,38 @@ class Place(NamedTuple):
     given: Callable
 
 
+# The programs of the policy with a number in one of its places.
+
+
 def under_word(action):
     """Returns how a number gives the program whose mismatch action is of this kind, with the number's low 16 bits."""
     return lambda number: program((0, CODE_OF_EQUALS_5), mismatched=action + number % 2**16)
 
 
 def at_index(number):
+    """The argument of this index is compared."""
     return program((0, [load(16 + 8 * number), jump_equal(5, 0, 1)]))
 
 
 def equals_low(number):
+    """The low half of argument 0 is compared with the number's."""
     return program((0, [load(16), jump_equal(number % 2**32, 0, 1)]))
 
 
 def equals(number):
+    """Both halves of argument 0 are compared with the number's."""
     high, low = divmod(number, 2**32)
     return program((0, [load(20), jump_equal(high, 0, 3), load(16), jump_equal(low, 0, 1)]))
 
 
 def masks_low(number):
+    """The low half of argument 0 is compared with 5 under the number's."""
     low = number % 2**32
     return program((0, [load(16), mask(low), jump_equal(5 & low, 0, 1)]))
 
 
 def masks(number):
+    """Both halves of argument 0 are compared with those of 5 under the number's."""
     high, low = divmod(number, 2**32)
     code_of_high = [load(20), mask(high), jump_equal(0, 0, 4)]
     return program((0, [*code_of_high, load(16), mask(low), jump_equal(5 & low, 0, 1)]))

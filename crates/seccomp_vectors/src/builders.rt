@@ -114,6 +114,17 @@ pub fn one_rule(alloc: Global, rule: SeccompRule) -> Result<SeccompFilter, Fail>
     one_chain(alloc, 7, vec![in alloc; rule]?)
 }
 
+/// Whether the program passes the checker, and it and the filter's `decide` answer the record by the
+/// word.
+pub fn is_answered(
+    filter: &SeccompFilter,
+    program: &[sock_filter],
+    record: &[u8; 64],
+    word: u32,
+) -> bool {
+    check(program) && run(program, record).word == word && filter.decide(record) == word
+}
+
 /// Asserts that the filter's program passes the checker, and that it and `decide` answer the call by
 /// the word.
 pub fn assert_word(
@@ -124,18 +135,40 @@ pub fn assert_word(
     call: &SeccompData,
     word: u32,
 ) {
-    let record = call.record();
-    assert!(rt; check(program), "the program of {name} is refused");
-    assert_eq!(rt;
-        run(program, &record).word,
-        word,
-        "the program of {name} on {call:?}"
+    let is_answered = is_answered(filter, program, &call.record(), word);
+    assert!(rt; is_answered, "{name} on {call:?}");
+}
+
+/// Whether the program passes the checker, and it and the filter's `decide` answer the record by the
+/// outcome's word, the program in the outcome's steps.
+pub fn is_outcome(
+    filter: &SeccompFilter,
+    program: &[sock_filter],
+    record: &[u8; 64],
+    outcome: Outcome,
+) -> bool {
+    check(program) && run(program, record) == outcome && filter.decide(record) == outcome.word
+}
+
+// Asserts that the filter's program has the filter's length and passes the checker, and that it and
+// `decide` answer each call by the word, the program in so many steps.
+fn assert_outcomes(
+    rt: &impl Abort,
+    name: &str,
+    filter: &SeccompFilter,
+    program: &[sock_filter],
+    answers: &[(SeccompData, u32, usize)],
+) {
+    let is_filters = filter.program_len() == program.len() && check(program);
+    assert!(rt;
+        is_filters,
+        "the program of {name} is refused, or has another length"
     );
-    assert_eq!(rt;
-        filter.decide(&record),
-        word,
-        "the decision of {name} on {call:?}"
-    );
+    for (call, word, steps) in answers {
+        let (word, steps) = (*word, *steps);
+        let is_answered = is_outcome(filter, program, &call.record(), Outcome { word, steps });
+        assert!(rt; is_answered, "{name} on {call:?}");
+    }
 }
 
 /// Asserts that the filter compiles to a program of `program_len` instructions that passes the
@@ -149,20 +182,11 @@ pub fn assert_answers(
     answers: &[(SeccompData, u32, usize)],
 ) -> Result<(), Fail> {
     let program = filter.to_bpf(alloc)?;
-    assert_eq!(rt; filter.program_len(), program.len(), "the length of {name}");
-    assert!(rt; check(&program), "the program of {name} is refused");
-    for (call, word, steps) in answers {
-        let (record, word, steps) = (call.record(), *word, *steps);
-        assert_eq!(rt;
-            run(&program, &record),
-            Outcome { word, steps },
-            "{name} on {call:?}"
-        );
-        assert_eq!(rt;
-            filter.decide(&record),
-            word,
-            "the decision of {name} on {call:?}"
-        );
-    }
+    assert_outcomes(rt, name, filter, &program, answers);
     Ok(())
+}
+
+/// Asserts what is so, and names it where it isn't.
+pub fn assert_that(rt: &impl Abort, name: &str, is_so: bool) {
+    assert!(rt; is_so, "{name}");
 }

@@ -9,6 +9,7 @@ use seccompiler::backend::SeccompCmpOp::{Eq, Ge, Gt, Le, Lt, MaskedEq, Ne};
 use seccompiler::backend::{BackendError, SeccompCmpArgLen, SeccompCmpOp};
 use seccompiler::bpf::sock_filter;
 use seccompiler::condition::SeccompCondition;
+use seccompiler::filter::SeccompFilter;
 use std::alloc::Global;
 use std::process::Abort;
 use std::test::Fail;
@@ -39,28 +40,35 @@ const QWORD_GREATER: [u64; 5] = [
     0xffff_ffff_ffff_ffff,
 ];
 
+// What a condition on this argument is refused for.
+fn refusal(index: u8) -> Option<BackendError> {
+    SeccompCondition::new(index, Dword, Eq, 60).err()
+}
+
 #[test]
-fn indices_above_5_are_refused(rt: HostRuntime) -> Result<(), Fail> {
-    assert!(rt; SeccompCondition::new(5, Dword, Eq, 60).is_ok(), "index 5");
-    for index in [6, 7] {
-        assert_eq!(rt;
-            SeccompCondition::new(index, Dword, Eq, 60),
-            Err(BackendError::InvalidArgumentNumber),
-            "index {index}"
-        );
-    }
+fn indices_above_5_are_refused(rt: HostRuntime) {
+    assert!(rt; refusal(5).is_none());
+    assert!(rt; refusal(6) == Some(BackendError::InvalidArgumentNumber));
+    assert!(rt; refusal(7) == Some(BackendError::InvalidArgumentNumber));
+}
+
+#[test]
+fn offsets_and_halves_of_a_condition(rt: HostRuntime) -> Result<(), Fail> {
     let on_argument_1 = condition((1, Dword, Eq, 4294967296))?;
-    assert_eq!(rt;
-        on_argument_1.get_data_offsets(),
-        (28, 24),
-        "the offsets of argument 1"
-    );
-    assert_eq!(rt;
-        on_argument_1.split_value(),
-        (1, 0),
-        "the halves of 4294967296"
-    );
+    assert!(rt; on_argument_1.get_data_offsets() == (28, 24));
+    assert!(rt; on_argument_1.split_value() == (1, 0));
     Ok(())
+}
+
+// Whether the condition has this code at the offset, which has to be from 1 to 248.
+fn has_code(alloc: Global, made: SeccompCondition, offset: u8, want: &[sock_filter]) -> bool {
+    if offset < 1 || 248 < offset {
+        return false;
+    }
+    match made.to_bpf(alloc, offset) {
+        Ok(code) => code.as_slice() == want,
+        Err(_) => false,
+    }
 }
 
 // Asserts the code of the condition at the offset.
@@ -71,12 +79,8 @@ fn assert_code(
     offset: u8,
     want: &[sock_filter],
 ) -> Result<(), Fail> {
-    assert!(rt; 1 <= offset && offset <= 248, "offset {offset}");
-    let code = condition(parts)?.to_bpf(alloc, offset)?;
-    assert!(rt;
-        code.as_slice() == want,
-        "the code of {parts:?} at offset {offset} is {code:?}"
-    );
+    let has_code = has_code(alloc, condition(parts)?, offset, want);
+    assert!(rt; has_code, "the code of {parts:?} at offset {offset}");
     Ok(())
 }
 
@@ -93,16 +97,20 @@ fn assert_code_on_3(
 
 #[test]
 fn each_operator_on_low_halves_has_its_code(rt: HostRuntime) -> Result<(), Fail> {
-    let alloc = rt.alloc();
     let low = load(40);
-    assert_code_on_3(&rt, alloc, Dword, Eq, &[low, jump_equal(5, 0, 9)])?;
-    assert_code_on_3(&rt, alloc, Dword, Ne, &[low, jump_equal(5, 9, 0)])?;
-    assert_code_on_3(&rt, alloc, Dword, Ge, &[low, jump_at_least(5, 0, 9)])?;
-    assert_code_on_3(&rt, alloc, Dword, Gt, &[low, jump_greater(5, 0, 9)])?;
-    assert_code_on_3(&rt, alloc, Dword, Le, &[low, jump_greater(5, 9, 0)])?;
-    assert_code_on_3(&rt, alloc, Dword, Lt, &[low, jump_at_least(5, 9, 0)])?;
+    let codes = [
+        (Eq, [low, jump_equal(5, 0, 9)]),
+        (Ne, [low, jump_equal(5, 9, 0)]),
+        (Ge, [low, jump_at_least(5, 0, 9)]),
+        (Gt, [low, jump_greater(5, 0, 9)]),
+        (Le, [low, jump_greater(5, 9, 0)]),
+        (Lt, [low, jump_at_least(5, 9, 0)]),
+    ];
+    for (operator, code) in &codes {
+        assert_code_on_3(&rt, rt.alloc(), Dword, *operator, code)?;
+    }
     let masked = [low, mask(12), jump_equal(4, 0, 9)];
-    assert_code_on_3(&rt, alloc, Dword, MaskedEq(MASK), &masked)
+    assert_code_on_3(&rt, rt.alloc(), Dword, MaskedEq(MASK), &masked)
 }
 
 #[test]
@@ -180,92 +188,118 @@ fn call_with(index: u8, argument: u64) -> SeccompData {
     call(7, arguments)
 }
 
-// Asserts that the condition holds for each of these arguments, or for none: by itself, and as the
-// one rule of a filter, by the filter's program and decision.
-fn assert_holds(
+// Asserts that the condition holds for each of these arguments, or for none: by itself, and by the
+// program and the decision of the filter whose one rule it is.
+fn assert_arguments(
     rt: &impl Abort,
-    alloc: Global,
+    filter: &SeccompFilter,
+    program: &[sock_filter],
     parts: Parts,
     arguments: &[u64],
     holds: bool,
 ) -> Result<(), Fail> {
-    let (index, _, _, _) = parts;
+    let (made, word) = (condition(parts)?, if holds { ALLOW } else { TRAP });
+    for argument in arguments {
+        let asked = call_with(parts.0, *argument);
+        assert!(rt;
+            made.holds(&asked.record()) == holds,
+            "{parts:?} on {argument}"
+        );
+        assert_word(rt, "a condition", filter, program, &asked, word);
+    }
+    Ok(())
+}
+
+// Asserts that the condition holds for each of these arguments, or for none, where it says so: by
+// itself, and as the one rule of a filter, by the filter's program and decision.
+fn assert_holds(
+    rt: &impl Abort,
+    alloc: Global,
+    parts: Parts,
+    cases: &[(&[u64], bool)],
+) -> Result<(), Fail> {
     let filter = one_rule(alloc, rule(alloc, &[parts])?)?;
     let program = filter.to_bpf(alloc)?;
-    let word = if holds { ALLOW } else { TRAP };
-    for argument in arguments {
-        let asked = call_with(index, *argument);
-        let held = condition(parts)?.holds(&asked.record());
-        assert!(rt; held == holds, "{parts:?} on {argument}");
-        assert_word(rt, "a condition", &filter, &program, &asked, word);
+    for (arguments, holds) in cases {
+        assert_arguments(rt, &filter, &program, parts, arguments, *holds)?;
+    }
+    Ok(())
+}
+
+// Operators, with whether each holds for lesser, equal and greater arguments.
+const ORDERS: [(SeccompCmpOp, bool, bool, bool); 6] = [
+    (Eq, false, true, false),
+    (Ne, true, false, true),
+    (Ge, false, true, true),
+    (Gt, false, false, true),
+    (Le, true, true, false),
+    (Lt, true, false, false),
+];
+
+#[test]
+fn order_borders_of_low_halves(rt: HostRuntime) -> Result<(), Fail> {
+    for (operator, less, equal, greater) in &ORDERS {
+        let cases = [
+            (&DWORD_LESS[..], *less),
+            (&DWORD_EQUAL[..], *equal),
+            (&DWORD_GREATER[..], *greater),
+        ];
+        assert_holds(&rt, rt.alloc(), (0, Dword, *operator, VALUE), &cases)?;
     }
     Ok(())
 }
 
 #[test]
-fn order_borders(rt: HostRuntime) -> Result<(), Fail> {
-    let alloc = rt.alloc();
-    for (operator, less, equal, greater) in [
-        (Eq, false, true, false),
-        (Ne, true, false, true),
-        (Ge, false, true, true),
-        (Gt, false, false, true),
-        (Le, true, true, false),
-        (Lt, true, false, false),
-    ] {
-        let dword = (0, Dword, operator, VALUE);
-        assert_holds(&rt, alloc, dword, &DWORD_LESS, less)?;
-        assert_holds(&rt, alloc, dword, &DWORD_EQUAL, equal)?;
-        assert_holds(&rt, alloc, dword, &DWORD_GREATER, greater)?;
-        let qword = (5, Qword, operator, VALUE);
-        assert_holds(&rt, alloc, qword, &QWORD_LESS, less)?;
-        assert_holds(&rt, alloc, qword, &QWORD_EQUAL, equal)?;
-        assert_holds(&rt, alloc, qword, &QWORD_GREATER, greater)?;
+fn order_borders_of_both_halves(rt: HostRuntime) -> Result<(), Fail> {
+    for (operator, less, equal, greater) in &ORDERS {
+        let cases = [
+            (&QWORD_LESS[..], *less),
+            (&QWORD_EQUAL[..], *equal),
+            (&QWORD_GREATER[..], *greater),
+        ];
+        assert_holds(&rt, rt.alloc(), (5, Qword, *operator, VALUE), &cases)?;
     }
     Ok(())
 }
+
+// Conditions, with arguments for which each holds, and for which it doesn't.
+const MASKS_AND_GREATEST_VALUES: [(Parts, &[u64], &[u64]); 9] = [
+    // Under the mask the value's low half is 4, and its high half 6.
+    (
+        (3, Dword, MaskedEq(MASK), VALUE),
+        &[4, 5, 6, 7, 0x2_0000_0004],
+        &[0, 8, 12, 0x6_0000_0000, 0x6_0000_000c],
+    ),
+    (
+        (3, Qword, MaskedEq(MASK), VALUE),
+        &[0x6_0000_0004, 0x7_0000_0005, 0xf_0000_0007],
+        &[4, 0x2_0000_0004, 0x6_0000_0000, 0x6_0000_000c],
+    ),
+    (
+        (0, Qword, MaskedEq(u64::MAX), 0),
+        &[0],
+        &[1, 4294967296, u64::MAX],
+    ),
+    (
+        (2, Qword, Le, 4294967310),
+        &[4294967310, 14],
+        &[4294967311, 8589934592],
+    ),
+    ((0, Dword, Gt, 4294967295), &[], &[u64::MAX, 0]),
+    (
+        (0, Dword, Eq, 4294967297),
+        &[1, 4294967297],
+        &[0, 4294967296],
+    ),
+    ((0, Qword, Ne, 4294967296), &[0, 1], &[4294967296]),
+    ((0, Qword, Ge, 0), &[0, 4294967296, u64::MAX], &[]),
+    ((0, Qword, Gt, u64::MAX), &[], &[0, 4294967295, u64::MAX]),
+];
 
 #[test]
 fn masks_and_greatest_values(rt: HostRuntime) -> Result<(), Fail> {
-    let alloc = rt.alloc();
-    for (parts, holds, fails) in [
-        // Under the mask the value's low half is 4, and its high half 6.
-        (
-            (3, Dword, MaskedEq(MASK), VALUE),
-            &[4, 5, 6, 7, 0x2_0000_0004][..],
-            &[0, 8, 12, 0x6_0000_0000, 0x6_0000_000c][..],
-        ),
-        (
-            (3, Qword, MaskedEq(MASK), VALUE),
-            &[0x6_0000_0004, 0x7_0000_0005, 0xf_0000_0007][..],
-            &[4, 0x2_0000_0004, 0x6_0000_0000, 0x6_0000_000c][..],
-        ),
-        (
-            (0, Qword, MaskedEq(u64::MAX), 0),
-            &[0][..],
-            &[1, 4294967296, u64::MAX][..],
-        ),
-        (
-            (2, Qword, Le, 4294967310),
-            &[4294967310, 14][..],
-            &[4294967311, 8589934592][..],
-        ),
-        ((0, Dword, Gt, 4294967295), &[][..], &[u64::MAX, 0][..]),
-        (
-            (0, Dword, Eq, 4294967297),
-            &[1, 4294967297][..],
-            &[0, 4294967296][..],
-        ),
-        ((0, Qword, Ne, 4294967296), &[0, 1][..], &[4294967296][..]),
-        ((0, Qword, Ge, 0), &[0, 4294967296, u64::MAX][..], &[][..]),
-        (
-            (0, Qword, Gt, u64::MAX),
-            &[][..],
-            &[0, 4294967295, u64::MAX][..],
-        ),
-    ] {
-        assert_holds(&rt, alloc, parts, holds, true)?;
-        assert_holds(&rt, alloc, parts, fails, false)?;
+    for (parts, holds, fails) in &MASKS_AND_GREATEST_VALUES {
+        assert_holds(&rt, rt.alloc(), *parts, &[(*holds, true), (*fails, false)])?;
     }
     Ok(())
 }

@@ -1,69 +1,67 @@
 // How long a program may be, and which numbers a call may have.
 
-use crate::builders::{ALLOW, Parts, TRAP, assert_answers, assert_word, call, one_chain, rule};
-use seccompiler::backend::BackendError::{FilterTooLarge, InvalidSyscallNumber};
-use seccompiler::backend::SeccompAction::{Allow, Trap};
+use crate::builders::{ALLOW, Parts, SeccompData, TRAP, assert_answers, assert_word, call};
+use crate::policies::{Policy, refused_length, refused_number};
 use seccompiler::backend::SeccompCmpArgLen::Dword;
 use seccompiler::backend::SeccompCmpOp::{Eq, Le, MaskedEq};
-use seccompiler::backend::TargetArch;
+use seccompiler::bpf::sock_filter;
 use seccompiler::filter::SeccompFilter;
-use seccompiler::rule::SeccompRule;
 use std::alloc::Global;
-use std::collections::BTreeMap;
+use std::process::Abort;
 use std::test::Fail;
-
-// A chain of rules of one condition each, each rule as many times as it says.
-fn single_conditions(alloc: Global, rules: &[(usize, Parts)]) -> Result<Vec<SeccompRule>, Fail> {
-    let mut made = Vec::new(alloc);
-    for (count, parts) in rules {
-        for _ in 0..*count {
-            made.push(rule(alloc, &[*parts])?)?;
-        }
-    }
-    Ok(made)
-}
 
 #[test]
 fn the_longest_program_of_empty_chains(rt: HostRuntime) -> Result<(), Fail> {
-    let alloc = rt.alloc();
-    let mut chains = BTreeMap::new(alloc);
-    for number in 0..818 {
-        drop(chains.insert(number, Vec::new(alloc))?);
-    }
-    let filter = SeccompFilter::new(chains, Trap, Allow, TargetArch::x86_64)?;
-    assert_eq!(rt;
-        filter.program_len(),
-        4095,
-        "the length of 818 empty chains"
-    );
+    let (first, step, count) = (0, 1, 818);
+    let filter = Policy::Spread { first, step, count }.filter(rt.alloc())?;
+    assert!(rt; filter.program_len() == 4095);
     let answers = [
         (call(818, [0; 6]), TRAP, 1640),
         (call(4294967295, [0; 6]), TRAP, 1640),
         (call(0, [0; 6]), ALLOW, 6),
     ];
-    assert_answers(&rt, alloc, "818 empty chains", &filter, &answers)
+    assert_answers(&rt, rt.alloc(), "818 empty chains", &filter, &answers)
+}
+
+// Asserts the length of the filter's program, and its words.
+fn assert_words(
+    rt: &impl Abort,
+    filter: &SeccompFilter,
+    program: &[sock_filter],
+    length: usize,
+    words: &[(SeccompData, u32)],
+) {
+    assert!(rt; program.len() == length);
+    for (call, word) in words {
+        assert_word(rt, "a long program", filter, program, call, *word);
+    }
 }
 
 #[test]
 fn the_longest_program_of_rules(rt: HostRuntime) -> Result<(), Fail> {
-    let alloc = rt.alloc();
-    let equal = (0, Dword, Eq, 1);
-    let masked = (0, Dword, MaskedEq(1), 1);
-    let rules = single_conditions(alloc, &[(813, equal), (4, masked)])?;
-    let filter = one_chain(alloc, 7, rules)?;
-    let program = filter.to_bpf(alloc)?;
-    assert!(rt;
-        program.len() == 4096,
-        "817 rules are not 4096 instructions"
-    );
-    for (call, word) in [
+    let rules = &[(813, (0, Dword, Eq, 1)), (4, (0, Dword, MaskedEq(1), 1))];
+    let (number, others) = (7, &[]);
+    let filter = Policy::Rules {
+        number,
+        rules,
+        others,
+    }
+    .filter(rt.alloc())?;
+    let program = filter.to_bpf(rt.alloc())?;
+    let words = [
         (call(7, [1, 0, 0, 0, 0, 0]), ALLOW),
         (call(7, [2, 0, 0, 0, 0, 0]), TRAP),
         (call(8, [1, 0, 0, 0, 0, 0]), TRAP),
-    ] {
-        assert_word(&rt, "817 rules", &filter, &program, &call, word);
-    }
+    ];
+    assert_words(&rt, &filter, &program, 4096, &words);
     Ok(())
+}
+
+// Whether the policy's filter has this length, and is refused for it.
+fn is_too_large(alloc: Global, policy: Policy, length: usize) -> Result<bool, Fail> {
+    let filter = policy.filter(alloc)?;
+    let refused = refused_length(filter.to_bpf(alloc));
+    Ok(refused == Some(length) && filter.program_len() == length)
 }
 
 // A call number, how many rules of this one condition it has, and the length that is refused.
@@ -74,64 +72,52 @@ const TOO_LARGE: [(i64, usize, Parts, usize); 2] = [
 
 #[test]
 fn too_large(rt: HostRuntime) -> Result<(), Fail> {
-    let alloc = rt.alloc();
     for (number, count, parts, length) in &TOO_LARGE {
-        let rules = single_conditions(alloc, &[(*count, *parts)])?;
-        let filter = one_chain(alloc, *number, rules)?;
-        assert!(rt;
-            filter.program_len() == *length,
-            "the length of {count} rules"
-        );
-        let refused = filter.to_bpf(alloc) == Err(FilterTooLarge(*length));
-        assert!(rt;
-            refused,
-            "{count} rules are not refused as {length} instructions"
-        );
+        let (number, rules, others) = (*number, &[(*count, *parts)], &[]);
+        let policy = Policy::Rules {
+            number,
+            rules,
+            others,
+        };
+        let is_too_large = is_too_large(rt.alloc(), policy, *length)?;
+        assert!(rt; is_too_large, "{count} rules");
     }
+    Ok(())
+}
+
+// The call number for which the policy is refused.
+fn unfit_number(alloc: Global, policy: Policy) -> Result<Option<i64>, Fail> {
+    let filter = policy.filter(alloc)?;
+    Ok(refused_number(filter.to_bpf(alloc)))
+}
+
+// Asserts that the policy is refused for this number.
+fn assert_unfit(rt: &impl Abort, alloc: Global, policy: Policy, least: i64) -> Result<(), Fail> {
+    let found = unfit_number(alloc, policy)?;
+    assert!(rt; found == Some(least), "{least}");
     Ok(())
 }
 
 #[test]
 fn numbers_that_no_record_has(rt: HostRuntime) -> Result<(), Fail> {
     let alloc = rt.alloc();
-    for (keys, least) in [
-        (&[-1, 4294967296][..], -1),
-        (&[5, 4294967296][..], 4294967296),
-    ] {
-        let mut chains = BTreeMap::new(alloc);
-        for key in keys {
-            drop(chains.insert(*key, Vec::new(alloc))?);
-        }
-        let filter = SeccompFilter::new(chains, Trap, Allow, TargetArch::x86_64)?;
-        assert_eq!(rt;
-            filter.to_bpf(alloc),
-            Err(InvalidSyscallNumber(least)),
-            "keys {keys:?}"
-        );
-    }
-    let mut chains = BTreeMap::new(alloc);
-    drop(chains.insert(7, single_conditions(alloc, &[(999, (0, Dword, Le, 1))])?)?);
-    drop(chains.insert(-1, Vec::new(alloc))?);
-    drop(chains.insert(4294967296, Vec::new(alloc))?);
-    let filter = SeccompFilter::new(chains, Trap, Allow, TargetArch::x86_64)?;
-    assert_eq!(rt;
-        filter.to_bpf(alloc),
-        Err(InvalidSyscallNumber(-1)),
-        "beside 999 rules"
-    );
-    Ok(())
+    assert_unfit(&rt, alloc, Policy::Allowed(&[-1, 4294967296]), -1)?;
+    assert_unfit(&rt, alloc, Policy::Allowed(&[5, 4294967296]), 4294967296)?;
+    let (number, rules) = (7, &[(999, (0, Dword, Le, 1))]);
+    let others = &[-1, 4294967296];
+    let beside_999_rules = Policy::Rules {
+        number,
+        rules,
+        others,
+    };
+    assert_unfit(&rt, alloc, beside_999_rules, -1)
 }
 
 #[test]
 fn the_greatest_number(rt: HostRuntime) -> Result<(), Fail> {
-    let alloc = rt.alloc();
-    let filter = one_chain(alloc, 4294967295, Vec::new(alloc))?;
     let greatest = call(0xffff_ffff, [0; 6]);
-    assert_eq!(rt;
-        greatest.record().get(..4),
-        Some([0xff; 4].as_slice()),
-        "bytes 0 to 3"
-    );
+    assert!(rt; greatest.record().starts_with(&[0xff; 4]));
+    let filter = Policy::Allowed(&[4294967295]).filter(rt.alloc())?;
     let answers = [(greatest, ALLOW, 6), (call(0, [0; 6]), TRAP, 6)];
-    assert_answers(&rt, alloc, "call 4294967295", &filter, &answers)
+    assert_answers(&rt, rt.alloc(), "call 4294967295", &filter, &answers)
 }

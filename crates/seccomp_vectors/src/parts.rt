@@ -1,19 +1,15 @@
 // Code written into parts of a caller's buffer, and how much memory a filter's program asks for.
 
-use crate::builders::{Parts, condition, long_rule, one_chain, one_rule, rule};
+use crate::builders::{Parts, assert_that, condition, rule};
 use crate::instructions::{give, jump, jump_equal, load, mask};
-use crate::policies::{three_calls, two_calls};
+use crate::policies::{Policy, refused_length, refused_number};
 use crate::scarce::Hoard;
-use seccompiler::backend::BackendError::{self, FilterTooLarge, InvalidSyscallNumber, OutOfMemory};
-use seccompiler::backend::SeccompAction::{Allow, Trap};
+use seccompiler::backend::BackendError::{self, OutOfMemory};
 use seccompiler::backend::SeccompCmpArgLen::{Dword, Qword};
 use seccompiler::backend::SeccompCmpOp::{Eq, Ge, Le, MaskedEq};
-use seccompiler::backend::TargetArch;
 use seccompiler::bpf::sock_filter;
 use seccompiler::filter::SeccompFilter;
-use seccompiler::rule::SeccompRule;
 use std::alloc::{AllocError, Global};
-use std::collections::BTreeMap;
 use std::process::Abort;
 use std::test::Fail;
 
@@ -28,11 +24,7 @@ fn blank() -> sock_filter {
 fn a_condition_fills_its_part(rt: HostRuntime) -> Result<(), Fail> {
     let masked = condition(MASKED)?;
     let mut part = [blank(); 6];
-    assert_eq!(rt;
-        masked.code_len(),
-        part.len(),
-        "the length of a masked condition"
-    );
+    assert!(rt; masked.code_len() == part.len());
     masked.write(&mut part, 3);
     let want = [
         load(36),
@@ -42,7 +34,7 @@ fn a_condition_fills_its_part(rt: HostRuntime) -> Result<(), Fail> {
         mask(10),
         jump_equal(10, 0, 3),
     ];
-    assert_eq!(rt; part, want, "the code of a masked condition");
+    assert!(rt; part == want);
     Ok(())
 }
 
@@ -50,7 +42,7 @@ fn a_condition_fills_its_part(rt: HostRuntime) -> Result<(), Fail> {
 fn a_rule_fills_its_part_alone(rt: HostRuntime) -> Result<(), Fail> {
     let both = rule(rt.alloc(), &[(0, Dword, Eq, 1), MASKED])?;
     let mut buffer = [blank(); 15];
-    assert_eq!(rt; both.code_len(), 10, "the length of two conditions");
+    assert!(rt; both.code_len() == 10);
     both.write(&mut buffer[3..13]);
     let want = [
         blank(),
@@ -69,11 +61,7 @@ fn a_rule_fills_its_part_alone(rt: HostRuntime) -> Result<(), Fail> {
         blank(),
         blank(),
     ];
-    assert_eq!(rt;
-        buffer,
-        want,
-        "the buffer around the code of two conditions"
-    );
+    assert!(rt; buffer == want);
     Ok(())
 }
 
@@ -91,96 +79,102 @@ fn compiled_in(
     Ok(answer)
 }
 
+// Whether compiling answers by this program, where no memory can be had but one block of so many bytes.
+fn is_compiled_in(
+    alloc: Global,
+    filter: &SeccompFilter,
+    bytes: usize,
+    program: &[sock_filter],
+) -> Result<bool, AllocError> {
+    match compiled_in(alloc, filter, bytes)? {
+        Ok(compiled) => Ok(compiled.as_slice() == program),
+        Err(_) => Ok(false),
+    }
+}
+
+// Whether compiling succeeds where one block has room for the program.
+fn is_one_request(alloc: Global, filter: &SeccompFilter) -> Result<bool, Fail> {
+    let program = filter.to_bpf(alloc)?;
+    let bytes = size_of::<sock_filter>() * program.len();
+    Ok(is_compiled_in(alloc, filter, bytes, &program)?)
+}
+
+// Whether compiling is refused where no memory can be had.
+fn is_refused_without(alloc: Global, filter: &SeccompFilter) -> Result<bool, Fail> {
+    let refused = compiled_in(alloc, filter, 0)?;
+    Ok(refused == Err(OutOfMemory))
+}
+
 // Asserts that compiling is refused without memory, and not where one block has room for the program.
 fn assert_one_request(
     rt: &impl Abort,
     alloc: Global,
     name: &str,
-    filter: &SeccompFilter,
+    policy: Policy,
 ) -> Result<(), Fail> {
-    let program = filter.to_bpf(alloc)?;
-    let bytes = size_of::<sock_filter>() * program.len();
-    let refused = compiled_in(alloc, filter, 0)?;
-    assert_eq!(rt; refused, Err(OutOfMemory), "{name} without memory");
-    let given = compiled_in(alloc, filter, bytes)?;
-    assert_eq!(rt; given, Ok(program), "{name} in one block of {bytes} bytes");
-    Ok(())
-}
-
-// Asserts that compiling refuses so without memory as with it.
-fn assert_no_request(
-    rt: &impl Abort,
-    alloc: Global,
-    name: &str,
-    filter: &SeccompFilter,
-    refusal: BackendError,
-) -> Result<(), Fail> {
-    let with = filter.to_bpf(alloc);
-    let without = compiled_in(alloc, filter, 0)?;
-    assert_eq!(rt; without, with, "{name} without memory");
-    assert_eq!(rt; with, Err(refusal), "{name}");
+    let filter = policy.filter(alloc)?;
+    assert_that(rt, name, is_refused_without(alloc, &filter)?);
+    assert_that(rt, name, is_one_request(alloc, &filter)?);
     Ok(())
 }
 
 #[test]
 fn small_programs_are_one_request(rt: HostRuntime) -> Result<(), Fail> {
     let alloc = rt.alloc();
-    assert_one_request(&rt, alloc, "two calls", &two_calls(alloc)?)?;
-    assert_one_request(&rt, alloc, "three calls", &three_calls(alloc, Dword)?)
+    assert_one_request(&rt, alloc, "two calls", Policy::TwoCalls)?;
+    assert_one_request(&rt, alloc, "three calls", Policy::ThreeCalls(Dword))
 }
 
 #[test]
 fn a_program_of_4095_instructions_is_one_request(rt: HostRuntime) -> Result<(), Fail> {
-    let alloc = rt.alloc();
-    let long = long_rule(
-        alloc,
-        &[(672, (0, Qword, MaskedEq(0), 0)), (1, (0, Qword, Ge, 0))],
-    )?;
-    assert_one_request(&rt, alloc, "16 relays", &one_rule(alloc, long)?)
+    let conditions = &[(672, (0, Qword, MaskedEq(0), 0)), (1, (0, Qword, Ge, 0))];
+    assert_one_request(&rt, rt.alloc(), "16 relays", Policy::LongRule(conditions))
 }
 
-// So many rules of one condition each.
-fn single_conditions(alloc: Global, count: usize, parts: Parts) -> Result<Vec<SeccompRule>, Fail> {
-    let mut rules = Vec::new(alloc);
-    for _ in 0..count {
-        rules.push(rule(alloc, &[parts])?)?;
-    }
-    Ok(rules)
+// Whether compiling is refused for this length, with memory and without.
+fn is_too_large(alloc: Global, policy: Policy, length: usize) -> Result<bool, Fail> {
+    let filter = policy.filter(alloc)?;
+    let without = refused_length(compiled_in(alloc, &filter, 0)?);
+    Ok(without == Some(length) && refused_length(filter.to_bpf(alloc)) == Some(length))
 }
+
+// A call number, how many rules of this one condition it has, and the length that is refused.
+const TOO_LARGE: [(i64, usize, Parts, usize); 2] = [
+    (7, 999, (0, Dword, Le, 1), 5002),
+    (1, 818, (0, Dword, Eq, 1), 4097),
+];
 
 #[test]
 fn too_large_takes_no_memory(rt: HostRuntime) -> Result<(), Fail> {
-    let alloc = rt.alloc();
-    let at_most = single_conditions(alloc, 999, (0, Dword, Le, 1))?;
-    let filter = one_chain(alloc, 7, at_most)?;
-    assert_no_request(&rt, alloc, "999 rules", &filter, FilterTooLarge(5002))?;
-    let equal = single_conditions(alloc, 818, (0, Dword, Eq, 1))?;
-    let filter = one_chain(alloc, 1, equal)?;
-    assert_no_request(&rt, alloc, "818 rules", &filter, FilterTooLarge(4097))
+    for (number, count, parts, length) in &TOO_LARGE {
+        let (number, rules, others) = (*number, &[(*count, *parts)], &[]);
+        let policy = Policy::Rules {
+            number,
+            rules,
+            others,
+        };
+        assert_that(&rt, "too large", is_too_large(rt.alloc(), policy, *length)?);
+    }
+    Ok(())
 }
 
-// The filter that traps, with 999 rules for call 7 where asked, and two numbers that no record has.
-fn unfit(alloc: Global, beside_rules: bool) -> Result<SeccompFilter, Fail> {
-    let mut chains = BTreeMap::new(alloc);
-    if beside_rules {
-        drop(chains.insert(7, single_conditions(alloc, 999, (0, Dword, Le, 1))?)?);
-    }
-    drop(chains.insert(-1, Vec::new(alloc))?);
-    drop(chains.insert(4294967296, Vec::new(alloc))?);
-    Ok(SeccompFilter::new(chains, Trap, Allow, TargetArch::x86_64)?)
+// Whether compiling is refused for call number -1, with memory and without.
+fn is_unfit(alloc: Global, policy: Policy) -> Result<bool, Fail> {
+    let filter = policy.filter(alloc)?;
+    let without = refused_number(compiled_in(alloc, &filter, 0)?);
+    Ok(without == Some(-1) && refused_number(filter.to_bpf(alloc)) == Some(-1))
 }
 
 #[test]
 fn unfit_numbers_take_no_memory(rt: HostRuntime) -> Result<(), Fail> {
-    let alloc = rt.alloc();
-    let refusal = InvalidSyscallNumber(-1);
-    assert_no_request(&rt, alloc, "two numbers", &unfit(alloc, false)?, refusal)?;
-    let refusal = InvalidSyscallNumber(-1);
-    assert_no_request(
-        &rt,
-        alloc,
-        "beside 999 rules",
-        &unfit(alloc, true)?,
-        refusal,
-    )
+    let others = &[-1, 4294967296];
+    assert!(rt; is_unfit(rt.alloc(), Policy::Allowed(others))?);
+    let (number, rules) = (7, &[(999, (0, Dword, Le, 1))]);
+    let beside_999_rules = Policy::Rules {
+        number,
+        rules,
+        others,
+    };
+    assert!(rt; is_unfit(rt.alloc(), beside_999_rules)?);
+    Ok(())
 }

@@ -1,27 +1,26 @@
 // Whole programs: the instructions that filters compile to, and what they answer.
 
 use crate::builders::{
-    AARCH64, ALLOW, KILL_PROCESS, SeccompData, TRAP, X86_64, assert_answers, call,
+    AARCH64, ALLOW, KILL_PROCESS, SeccompData, TRAP, X86_64, assert_answers, assert_that, call,
 };
 use crate::instructions::{give, jump, jump_at_least, jump_equal, jump_greater, load, mask};
-use crate::policies::{empty_policy, three_calls, two_arguments, two_calls};
+use crate::policies::Policy;
 use seccompiler::backend::SeccompCmpArgLen::{Dword, Qword};
 use seccompiler::bpf::sock_filter;
-use seccompiler::filter::SeccompFilter;
 use std::alloc::Global;
 use std::process::Abort;
 use std::test::Fail;
 
-// Asserts that the filter compiles to these instructions.
+// Asserts that the policy's filter compiles to these instructions.
 fn assert_program(
     rt: &impl Abort,
     alloc: Global,
     name: &str,
-    filter: &SeccompFilter,
+    policy: Policy,
     want: &[sock_filter],
 ) -> Result<(), Fail> {
-    let program = filter.to_bpf(alloc)?;
-    assert_eq!(rt; program.as_slice(), want, "the program of {name}");
+    let program = policy.program(alloc)?;
+    assert_that(rt, name, program.as_slice() == want);
     Ok(())
 }
 
@@ -34,7 +33,7 @@ fn instructions_of_small_filters(rt: HostRuntime) -> Result<(), Fail> {
         give(KILL_PROCESS),
         give(ALLOW),
     ];
-    assert_program(&rt, alloc, "no chain", &empty_policy(alloc)?, &want)?;
+    assert_program(&rt, alloc, "no chain", Policy::Empty, &want)?;
     let want = [
         load(4),
         jump_equal(X86_64, 1, 0),
@@ -51,13 +50,7 @@ fn instructions_of_small_filters(rt: HostRuntime) -> Result<(), Fail> {
         give(KILL_PROCESS),
         give(KILL_PROCESS),
     ];
-    assert_program(
-        &rt,
-        alloc,
-        "one rule of two conditions",
-        &two_arguments(alloc)?,
-        &want,
-    )?;
+    assert_program(&rt, alloc, "two conditions", Policy::TwoArguments, &want)?;
     let want = [
         load(4),
         jump_equal(X86_64, 1, 0),
@@ -84,8 +77,7 @@ fn instructions_of_small_filters(rt: HostRuntime) -> Result<(), Fail> {
         give(KILL_PROCESS),
         give(KILL_PROCESS),
     ];
-    assert_program(&rt, alloc, "two calls", &two_calls(alloc)?, &want)?;
-    Ok(())
+    assert_program(&rt, alloc, "two calls", Policy::TwoCalls, &want)
 }
 
 #[test]
@@ -132,8 +124,8 @@ fn instructions_of_low_halves(rt: HostRuntime) -> Result<(), Fail> {
         give(TRAP),
         give(TRAP),
     ];
-    let filter = three_calls(alloc, Dword)?;
-    assert_program(&rt, alloc, "three calls, Dword", &filter, &want)
+    let policy = Policy::ThreeCalls(Dword);
+    assert_program(&rt, alloc, "three calls, Dword", policy, &want)
 }
 
 #[test]
@@ -197,32 +189,42 @@ fn instructions_of_both_halves(rt: HostRuntime) -> Result<(), Fail> {
         give(TRAP),
         give(TRAP),
     ];
-    let filter = three_calls(alloc, Qword)?;
-    assert_program(&rt, alloc, "three calls, Qword", &filter, &want)
+    let policy = Policy::ThreeCalls(Qword);
+    assert_program(&rt, alloc, "three calls, Qword", policy, &want)
+}
+
+// Asserts what the policy's filter answers.
+fn assert_policy(
+    rt: &impl Abort,
+    alloc: Global,
+    name: &str,
+    policy: Policy,
+    answers: &[(SeccompData, u32, usize)],
+) -> Result<(), Fail> {
+    assert_answers(rt, alloc, name, &policy.filter(alloc)?, answers)
 }
 
 #[test]
-fn words_and_steps(rt: HostRuntime) -> Result<(), Fail> {
+fn words_and_steps_of_small_filters(rt: HostRuntime) -> Result<(), Fail> {
     let alloc = rt.alloc();
     let of_aarch64 = SeccompData {
         arch: AARCH64,
         ..call(0, [0; 6])
     };
     let answers = [(call(0, [0; 6]), ALLOW, 3), (of_aarch64, KILL_PROCESS, 3)];
-    assert_answers(&rt, alloc, "no chain", &empty_policy(alloc)?, &answers)?;
+    assert_policy(&rt, alloc, "no chain", Policy::Empty, &answers)?;
     let answers = [
         (call(72, [1, 2, 0, 0, 0, 0]), ALLOW, 10),
         (call(72, [1, 3, 0, 0, 0, 0]), KILL_PROCESS, 8),
         (call(72, [2, 2, 0, 0, 0, 0]), KILL_PROCESS, 10),
         (call(5, [0; 6]), KILL_PROCESS, 6),
     ];
-    assert_answers(
-        &rt,
-        alloc,
-        "one rule of two conditions",
-        &two_arguments(alloc)?,
-        &answers,
-    )?;
+    assert_policy(&rt, alloc, "two conditions", Policy::TwoArguments, &answers)
+}
+
+#[test]
+fn words_and_steps_of_several_calls(rt: HostRuntime) -> Result<(), Fail> {
+    let alloc = rt.alloc();
     let answers = [
         (call(72, [0, 2, 1, 0, 0, 0]), ALLOW, 10),
         (call(72, [0, 1, 0, 0, 0, 0]), ALLOW, 11),
@@ -230,7 +232,7 @@ fn words_and_steps(rt: HostRuntime) -> Result<(), Fail> {
         (call(288, [0; 6]), ALLOW, 9),
         (call(5, [0; 6]), KILL_PROCESS, 9),
     ];
-    assert_answers(&rt, alloc, "two calls", &two_calls(alloc)?, &answers)?;
+    assert_policy(&rt, alloc, "two calls", Policy::TwoCalls, &answers)?;
     let answers = [
         (call(1, [0, 0, 12, 0, 0, 0]), ALLOW, 10),
         (call(1, [0, 0, 10, 0, 0, 0]), TRAP, 16),
@@ -239,12 +241,11 @@ fn words_and_steps(rt: HostRuntime) -> Result<(), Fail> {
         (call(9, [0, 36, 0, 0, 0, 0]), ALLOW, 13),
         (call(10, [0; 6]), ALLOW, 12),
     ];
-    assert_answers(
+    assert_policy(
         &rt,
         alloc,
         "three calls",
-        &three_calls(alloc, Dword)?,
+        Policy::ThreeCalls(Dword),
         &answers,
-    )?;
-    Ok(())
+    )
 }

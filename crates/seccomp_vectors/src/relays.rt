@@ -1,8 +1,8 @@
 // Rules whose conditions take more instructions than one jump reaches over, and their relays.
 
-use crate::builders::{ALLOW, Parts, SeccompData, TRAP, assert_answers, call, long_rule, one_rule};
+use crate::builders::{ALLOW, Parts, SeccompData, TRAP, assert_answers, call, long_rule};
 use crate::instructions::{jump, jump_equal, load, mask};
-use seccompiler::backend::BackendError;
+use crate::policies::{Policy, refused_length};
 use seccompiler::backend::SeccompCmpArgLen::{Dword, Qword};
 use seccompiler::backend::SeccompCmpOp::{Eq, Ge, MaskedEq};
 use seccompiler::bpf::sock_filter;
@@ -25,11 +25,9 @@ fn relays(code: &[sock_filter]) -> usize {
         .count()
 }
 
-#[test]
-fn a_relay_stands_before_the_condition_that_closes_a_group(rt: HostRuntime) -> Result<(), Fail> {
-    let alloc = rt.alloc();
-    let code = long_rule(alloc, &[(42, MASKED), (1, QWORD_EQUAL)])?.to_bpf(alloc)?;
-    let mut want = vec![in alloc;
+// Whether the code is that of 42 masked conditions, behind the front of a rule with one more condition.
+fn is_group_with_one_more(code: &[sock_filter]) -> bool {
+    let front = [
         jump(1),
         jump(6),
         load(20),
@@ -39,27 +37,52 @@ fn a_relay_stands_before_the_condition_that_closes_a_group(rt: HostRuntime) -> R
         jump(2),
         jump(254),
         jump(254),
-    ]?;
+    ];
+    let mut is_so = code.len() == 261 && code.starts_with(&front);
     for block in 0..42u8 {
         let offset = 247 - 6 * block;
-        want.extend_from_slice(&[
+        let want = [
             load(20),
             mask(0),
             jump_equal(0, 0, offset + 3),
             load(16),
             mask(0),
             jump_equal(0, 0, offset),
-        ])?;
+        ];
+        let start = 9 + 6 * usize::from(block);
+        is_so = is_so && code.get(start..start + 6) == Some(want.as_slice());
     }
-    assert_eq!(rt; code, want, "42 masked conditions and one more");
-    assert_eq!(rt; code.len(), 261, "their length");
+    is_so
+}
+
+#[test]
+fn a_relay_stands_before_the_condition_that_closes_a_group(rt: HostRuntime) -> Result<(), Fail> {
+    let alloc = rt.alloc();
+    let code = long_rule(alloc, &[(42, MASKED), (1, QWORD_EQUAL)])?.to_bpf(alloc)?;
+    assert!(rt; is_group_with_one_more(&code));
     Ok(())
 }
 
 // Conditions of a rule, each as many times as it says.
 type Conditions<'a> = &'a [(usize, Parts)];
 
-// Asserts the length of the code of these conditions, how many relays it has, and its front.
+// Asserts the length of a rule's code, how many relays it has, and its front.
+fn assert_rule_code(
+    rt: &impl Abort,
+    code: &[sock_filter],
+    length: usize,
+    count: usize,
+    front: &[sock_filter],
+) {
+    assert!(rt; code.len() == length, "the length is not {length}");
+    assert!(rt; relays(code) == count, "the relays are not {count}");
+    assert!(rt;
+        code.starts_with(front),
+        "the front of {length} instructions"
+    );
+}
+
+// The same of the code of these conditions.
 fn assert_rule(
     rt: &impl Abort,
     alloc: Global,
@@ -69,9 +92,7 @@ fn assert_rule(
     front: &[sock_filter],
 ) -> Result<(), Fail> {
     let code = long_rule(alloc, conditions)?.to_bpf(alloc)?;
-    assert!(rt; code.len() == length, "the length of {conditions:?}");
-    assert!(rt; relays(&code) == count, "the relays of {conditions:?}");
-    assert!(rt; code.starts_with(front), "the front of {conditions:?}");
+    assert_rule_code(rt, &code, length, count, front);
     Ok(())
 }
 
@@ -131,11 +152,8 @@ fn assert_filter(
     rule_length: usize,
     answers: &[(SeccompData, u32, usize)],
 ) -> Result<(), Fail> {
-    let filter = one_rule(alloc, long_rule(alloc, conditions)?)?;
-    assert!(rt;
-        filter.program_len() == rule_length.saturating_add(8),
-        "{conditions:?}"
-    );
+    let filter = Policy::LongRule(conditions).filter(alloc)?;
+    assert!(rt; filter.program_len() == rule_length.saturating_add(8));
     assert_answers(rt, alloc, "a long rule", &filter, answers)
 }
 
@@ -189,21 +207,17 @@ fn sixteen_relays_and_an_order(rt: HostRuntime) -> Result<(), Fail> {
 #[test]
 fn jumps_of_two_groups(rt: HostRuntime) -> Result<(), Fail> {
     let alloc = rt.alloc();
-    let rule = long_rule(alloc, &EQUALITIES)?;
-    let program = one_rule(alloc, rule)?.to_bpf(alloc)?;
-    let entry = [jump(1), jump(86)];
-    assert_eq!(rt;
-        program.get(5..7),
-        Some(entry.as_slice()),
-        "the rule's first two jumps"
-    );
-    let relay = [jump(2), jump(250), jump(250)];
-    assert_eq!(rt;
-        program.get(91..94),
-        Some(relay.as_slice()),
-        "the relay at places 91 to 93"
-    );
+    let program = Policy::LongRule(&EQUALITIES).program(alloc)?;
+    assert_jumps_of_two_groups(&rt, &program);
     Ok(())
+}
+
+// Asserts the rule's first two jumps, and the relay at places 91 to 93.
+fn assert_jumps_of_two_groups(rt: &impl Abort, program: &[sock_filter]) {
+    let entry = [jump(1), jump(86)];
+    assert!(rt; program.get(5..7) == Some(entry.as_slice()));
+    let relay = [jump(2), jump(250), jump(250)];
+    assert!(rt; program.get(91..94) == Some(relay.as_slice()));
 }
 
 // Asserts what the code of 100,000 masked conditions is, at its ends.
@@ -244,12 +258,8 @@ fn a_rule_of_100000_conditions(rt: HostRuntime) -> Result<(), Fail> {
 #[test]
 fn a_filter_of_100000_conditions(rt: HostRuntime) -> Result<(), Fail> {
     let alloc = rt.alloc();
-    let filter = one_rule(alloc, long_rule(alloc, &[(100_000, MASKED)])?)?;
-    assert!(rt; filter.program_len() == 607150, "the length of its program");
-    let refusal = filter.to_bpf(alloc);
-    assert!(rt;
-        refusal == Err(BackendError::FilterTooLarge(607150)),
-        "its program"
-    );
+    let filter = Policy::LongRule(&[(100_000, MASKED)]).filter(alloc)?;
+    assert!(rt; filter.program_len() == 607150);
+    assert!(rt; refused_length(filter.to_bpf(alloc)) == Some(607150));
     Ok(())
 }

@@ -1,7 +1,7 @@
 // Conditions, rules and filters where memory is refused.
 
-use crate::builders::{Parts, condition, long_rule, one_rule, rule};
-use crate::policies::{empty_policy, three_calls, two_calls};
+use crate::builders::{Parts, condition, long_rule};
+use crate::policies::Policy;
 use crate::scarce::{Answer, Call, assert_refusals, judged};
 use seccompiler::backend::SeccompCmpArgLen::{Dword, Qword};
 use seccompiler::backend::SeccompCmpOp::{Eq, MaskedEq};
@@ -132,24 +132,37 @@ impl Call for RuleClone<'_> {
     }
 }
 
-fn assert_code(rt: &impl Abort, alloc: Global, rule: &SeccompRule) -> Result<(), Fail> {
-    let copy = rule.clone(alloc)?;
+// Asserts refusals of the code of a rule that is equal to its copy.
+fn assert_rule(
+    rt: &impl Abort,
+    alloc: Global,
+    rule: &SeccompRule,
+    copy: &SeccompRule,
+) -> Result<(), Fail> {
     let ample = rule.to_bpf(alloc)?;
-    let call = RuleCode {
-        rule,
-        copy: &copy,
-        ample: &ample,
-    };
-    assert_refusals(rt, alloc, "a rule's code", &call)
+    let ample = ample.as_slice();
+    assert_refusals(rt, alloc, "a rule's code", &RuleCode { rule, copy, ample })
 }
 
-fn assert_clone(rt: &impl Abort, alloc: Global, rule: &SeccompRule) -> Result<(), Fail> {
+// The same of the rule of these conditions, each as many times as it says.
+fn assert_code(rt: &impl Abort, alloc: Global, conditions: &[(usize, Parts)]) -> Result<(), Fail> {
+    let rule = long_rule(alloc, conditions)?;
     let copy = rule.clone(alloc)?;
-    let call = RuleClone { rule, copy: &copy };
+    assert_rule(rt, alloc, &rule, &copy)
+}
+
+// Asserts refusals of copies of the rule.
+fn assert_clone(rt: &impl Abort, alloc: Global, conditions: &[(usize, Parts)]) -> Result<(), Fail> {
+    let rule = long_rule(alloc, conditions)?;
+    let copy = rule.clone(alloc)?;
+    let call = RuleClone {
+        rule: &rule,
+        copy: &copy,
+    };
     assert_refusals(rt, alloc, "a rule's copy", &call)
 }
 
-const TWO: [Parts; 2] = [(0, Dword, Eq, 1), (2, Qword, MaskedEq(10), 14)];
+const TWO: [(usize, Parts); 2] = [(1, (0, Dword, Eq, 1)), (1, (2, Qword, MaskedEq(10), 14))];
 
 const TWO_GROUPS: [(usize, Parts); 2] = [(42, (0, Qword, MaskedEq(0), 0)), (1, (0, Qword, Eq, 0))];
 
@@ -158,16 +171,16 @@ const FIVE_GROUPS: [(usize, Parts); 1] = [(200, (0, Qword, MaskedEq(0), 0))];
 #[test]
 fn codes_of_rules(rt: HostRuntime) -> Result<(), Fail> {
     let alloc = rt.alloc();
-    assert_code(&rt, alloc, &rule(alloc, &TWO)?)?;
-    assert_code(&rt, alloc, &long_rule(alloc, &TWO_GROUPS)?)?;
-    assert_code(&rt, alloc, &long_rule(alloc, &FIVE_GROUPS)?)
+    assert_code(&rt, alloc, &TWO)?;
+    assert_code(&rt, alloc, &TWO_GROUPS)?;
+    assert_code(&rt, alloc, &FIVE_GROUPS)
 }
 
 #[test]
 fn copies_of_rules(rt: HostRuntime) -> Result<(), Fail> {
     let alloc = rt.alloc();
-    assert_clone(&rt, alloc, &rule(alloc, &TWO)?)?;
-    assert_clone(&rt, alloc, &long_rule(alloc, &TWO_GROUPS)?)
+    assert_clone(&rt, alloc, &TWO)?;
+    assert_clone(&rt, alloc, &TWO_GROUPS)
 }
 
 #[derive(Clone, Copy)]
@@ -216,49 +229,74 @@ impl Call for FilterClone<'_> {
     }
 }
 
-fn assert_program(rt: &impl Abort, alloc: Global, filter: &SeccompFilter) -> Result<(), Fail> {
-    let copy = filter.clone(alloc)?;
+// Asserts refusals of the program of a filter that is equal to its copy.
+fn assert_filter(
+    rt: &impl Abort,
+    alloc: Global,
+    filter: &SeccompFilter,
+    copy: &SeccompFilter,
+) -> Result<(), Fail> {
     let ample = filter.to_bpf(alloc)?;
+    let ample = ample.as_slice();
     let call = FilterProgram {
         filter,
-        copy: &copy,
-        ample: &ample,
+        copy,
+        ample,
     };
     assert_refusals(rt, alloc, "a filter's program", &call)
+}
+
+// The same of the policy's filter.
+fn assert_program(rt: &impl Abort, alloc: Global, policy: Policy) -> Result<(), Fail> {
+    let filter = policy.filter(alloc)?;
+    let copy = filter.clone(alloc)?;
+    assert_filter(rt, alloc, &filter, &copy)
 }
 
 #[test]
 fn programs_of_filters(rt: HostRuntime) -> Result<(), Fail> {
     let alloc = rt.alloc();
-    assert_program(&rt, alloc, &empty_policy(alloc)?)?;
-    assert_program(&rt, alloc, &two_calls(alloc)?)?;
-    assert_program(&rt, alloc, &three_calls(alloc, Dword)?)?;
-    let filter = one_rule(alloc, long_rule(alloc, &FIVE_GROUPS)?)?;
-    assert_program(&rt, alloc, &filter)
+    assert_program(&rt, alloc, Policy::Empty)?;
+    assert_program(&rt, alloc, Policy::TwoCalls)?;
+    assert_program(&rt, alloc, Policy::ThreeCalls(Dword))?;
+    assert_program(&rt, alloc, Policy::LongRule(&FIVE_GROUPS))
 }
 
-fn assert_tree(rt: &impl Abort, alloc: Global, filter: &SeccompFilter) -> Result<(), Fail> {
-    let copy = filter.clone(alloc)?;
+// Asserts refusals of the program of the second layout, of a filter that is equal to its copy.
+fn assert_filter_tree(
+    rt: &impl Abort,
+    alloc: Global,
+    filter: &SeccompFilter,
+    copy: &SeccompFilter,
+) -> Result<(), Fail> {
     let ample = filter.to_tree_bpf(alloc)?;
+    let ample = ample.as_slice();
     let call = FilterTree {
         filter,
-        copy: &copy,
-        ample: &ample,
+        copy,
+        ample,
     };
     assert_refusals(rt, alloc, "a filter's program of the second layout", &call)
+}
+
+// The same of the policy's filter.
+fn assert_tree(rt: &impl Abort, alloc: Global, policy: Policy) -> Result<(), Fail> {
+    let filter = policy.filter(alloc)?;
+    let copy = filter.clone(alloc)?;
+    assert_filter_tree(rt, alloc, &filter, &copy)
 }
 
 #[test]
 fn trees_of_filters(rt: HostRuntime) -> Result<(), Fail> {
     let alloc = rt.alloc();
-    assert_tree(&rt, alloc, &empty_policy(alloc)?)?;
-    assert_tree(&rt, alloc, &three_calls(alloc, Dword)?)
+    assert_tree(&rt, alloc, Policy::Empty)?;
+    assert_tree(&rt, alloc, Policy::ThreeCalls(Dword))
 }
 
 #[test]
 fn copies_of_filters(rt: HostRuntime) -> Result<(), Fail> {
-    let filter = three_calls(rt.alloc(), Dword)?;
-    let copy = three_calls(rt.alloc(), Dword)?;
+    let filter = Policy::ThreeCalls(Dword).filter(rt.alloc())?;
+    let copy = Policy::ThreeCalls(Dword).filter(rt.alloc())?;
     let call = FilterClone {
         filter: &filter,
         copy: &copy,

@@ -2,63 +2,41 @@
 // it refuses.
 
 use crate::builders::{
-    AARCH64, ALLOW, KILL_PROCESS, Parts, SeccompData, TRAP, X86_64, call, one_chain, rule,
+    AARCH64, ALLOW, KILL_PROCESS, Parts, SeccompData, TRAP, X86_64, assert_that, call, is_answered,
 };
 use crate::instructions::{give, jump, jump_at_least, jump_equal, load};
-use crate::policies::{empty_policy, three_calls, two_calls};
-use seccompiler::backend::BackendError::{FilterTooLarge, InvalidSyscallNumber};
-use seccompiler::backend::SeccompAction::{Allow, Trap};
+use crate::policies::{Policy, refused_length, refused_number};
 use seccompiler::backend::SeccompCmpArgLen::{Dword, Qword};
 use seccompiler::backend::SeccompCmpOp::{Eq, MaskedEq};
-use seccompiler::backend::TargetArch;
 use seccompiler::bpf::sock_filter;
 use seccompiler::filter::SeccompFilter;
 use seccompiler::machine::{Outcome, check, run};
 use std::alloc::Global;
-use std::collections::BTreeMap;
 use std::process::Abort;
 use std::test::Fail;
 
-// The filter that allows these calls and traps all others.
-fn allowed(alloc: Global, numbers: &[i64]) -> Result<SeccompFilter, Fail> {
-    let mut chains = BTreeMap::new(alloc);
-    for number in numbers {
-        drop(chains.insert(*number, Vec::new(alloc))?);
-    }
-    Ok(SeccompFilter::new(chains, Trap, Allow, TargetArch::x86_64)?)
-}
-
-// The filter that allows `count` calls, every `step`th from the first on, and traps all others.
-fn spread(alloc: Global, first: i64, step: i64, count: i64) -> Result<SeccompFilter, Fail> {
-    let mut chains = BTreeMap::new(alloc);
-    for index in 0..count {
-        let number = first.saturating_add(step.saturating_mul(index));
-        drop(chains.insert(number, Vec::new(alloc))?);
-    }
-    Ok(SeccompFilter::new(chains, Trap, Allow, TargetArch::x86_64)?)
-}
-
-// Asserts that the filter compiles to the guard, a load of the call number, and these instructions.
-fn assert_tree(
-    rt: &impl Abort,
-    alloc: Global,
-    name: &str,
-    filter: &SeccompFilter,
-    tree: &[sock_filter],
-) -> Result<(), Fail> {
-    let program = filter.to_tree_bpf(alloc)?;
+// Whether the program is the guard, a load of the call number, and these instructions.
+fn is_tree(program: &[sock_filter], tree: &[sock_filter]) -> bool {
     let front = [
         load(4),
         jump_equal(X86_64, 1, 0),
         give(KILL_PROCESS),
         load(0),
     ];
-    assert_eq!(rt;
-        program.get(..4),
-        Some(front.as_slice()),
-        "the front of {name}"
-    );
-    assert_eq!(rt; program.get(4..), Some(tree), "the tree of {name}");
+    program.get(..4) == Some(front.as_slice()) && program.get(4..) == Some(tree)
+}
+
+// Asserts that the policy's filter compiles to the guard, a load of the call number, and these
+// instructions.
+fn assert_tree(
+    rt: &impl Abort,
+    alloc: Global,
+    name: &str,
+    policy: Policy,
+    tree: &[sock_filter],
+) -> Result<(), Fail> {
+    let program = policy.tree(alloc)?;
+    assert_that(rt, name, is_tree(&program, tree));
     Ok(())
 }
 
@@ -66,22 +44,22 @@ fn assert_tree(
 fn instructions_of_few_ranges(rt: HostRuntime) -> Result<(), Fail> {
     let alloc = rt.alloc();
     let none = [give(ALLOW), give(ALLOW)];
-    assert_tree(&rt, alloc, "no chain", &empty_policy(alloc)?, &none)?;
+    assert_tree(&rt, alloc, "no chain", Policy::Empty, &none)?;
     let least = [jump_at_least(1, 1, 0), give(ALLOW), give(TRAP), give(TRAP)];
-    assert_tree(&rt, alloc, "call 0", &allowed(alloc, &[0])?, &least)?;
+    assert_tree(&rt, alloc, "call 0", Policy::Allowed(&[0]), &least)?;
     let greatest = [
         jump_at_least(4294967295, 1, 0),
         give(TRAP),
         give(ALLOW),
         give(TRAP),
     ];
-    assert_tree(
-        &rt,
-        alloc,
-        "call 4294967295",
-        &allowed(alloc, &[4294967295])?,
-        &greatest,
-    )?;
+    let policy = Policy::Allowed(&[4294967295]);
+    assert_tree(&rt, alloc, "call 4294967295", policy, &greatest)
+}
+
+#[test]
+fn instructions_of_several_numbers(rt: HostRuntime) -> Result<(), Fail> {
+    let alloc = rt.alloc();
     let both = [
         jump_at_least(1, 1, 0),
         give(ALLOW),
@@ -90,13 +68,8 @@ fn instructions_of_few_ranges(rt: HostRuntime) -> Result<(), Fail> {
         give(ALLOW),
         give(TRAP),
     ];
-    assert_tree(
-        &rt,
-        alloc,
-        "calls 0 and 4294967295",
-        &allowed(alloc, &[0, 4294967295])?,
-        &both,
-    )?;
+    let policy = Policy::Allowed(&[0, 4294967295]);
+    assert_tree(&rt, alloc, "calls 0 and 4294967295", policy, &both)?;
     let neighbours = [
         jump_at_least(5, 1, 0),
         give(TRAP),
@@ -105,18 +78,12 @@ fn instructions_of_few_ranges(rt: HostRuntime) -> Result<(), Fail> {
         give(TRAP),
         give(TRAP),
     ];
-    assert_tree(
-        &rt,
-        alloc,
-        "calls 5 to 7",
-        &allowed(alloc, &[5, 6, 7])?,
-        &neighbours,
-    )
+    let policy = Policy::Allowed(&[5, 6, 7]);
+    assert_tree(&rt, alloc, "calls 5 to 7", policy, &neighbours)
 }
 
 #[test]
 fn instructions_of_ranges_with_rules(rt: HostRuntime) -> Result<(), Fail> {
-    let alloc = rt.alloc();
     let two = [
         jump_at_least(73, 15, 0),
         jump_at_least(72, 1, 0),
@@ -141,7 +108,11 @@ fn instructions_of_ranges_with_rules(rt: HostRuntime) -> Result<(), Fail> {
         give(KILL_PROCESS),
         give(KILL_PROCESS),
     ];
-    assert_tree(&rt, alloc, "two calls", &two_calls(alloc)?, &two)?;
+    assert_tree(&rt, rt.alloc(), "two calls", Policy::TwoCalls, &two)
+}
+
+#[test]
+fn instructions_of_a_rule_in_the_last_range(rt: HostRuntime) -> Result<(), Fail> {
     let last = [
         jump_at_least(4294967295, 1, 0),
         give(TRAP),
@@ -153,58 +124,64 @@ fn instructions_of_ranges_with_rules(rt: HostRuntime) -> Result<(), Fail> {
         give(TRAP),
         give(TRAP),
     ];
-    let equal = rule(alloc, &[(0, Dword, Eq, 1)])?;
-    assert_tree(
-        &rt,
-        alloc,
-        "rules in the last range",
-        &one_chain(alloc, 4294967295, vec![in alloc; equal]?)?,
-        &last,
-    )
+    let rules = &[(1, (0, Dword, Eq, 1))];
+    let (number, others) = (4294967295, &[]);
+    let policy = Policy::Rules {
+        number,
+        rules,
+        others,
+    };
+    assert_tree(&rt, rt.alloc(), "rules in the last range", policy, &last)
 }
 
-// The filter of one call, 7, with so many rules of four instructions and so many of five, each with
-// its return.
-fn long_chain(alloc: Global, of_four: usize, of_five: usize) -> Result<SeccompFilter, Fail> {
-    let mut rules = Vec::new(alloc);
-    for _ in 0..of_four {
-        rules.push(rule(alloc, &[(0, Dword, Eq, 1)])?)?;
-    }
-    for _ in 0..of_five {
-        rules.push(rule(alloc, &[(0, Dword, MaskedEq(1), 1)])?)?;
-    }
-    one_chain(alloc, 7, rules)
+// Whether the program passes the checker, and answers the call by the word in so many steps.
+fn ends_in(program: &[sock_filter], asked: &SeccompData, word: u32, steps: usize) -> bool {
+    check(program) && run(program, &asked.record()) == Outcome { word, steps }
 }
 
-// Asserts the filter's instructions from the sixth on, and its answers.
+// The conditions of rules of four instructions, and of five. Each rule has a return behind it.
+const OF_FOUR: Parts = (0, Dword, Eq, 1);
+
+const OF_FIVE: Parts = (0, Dword, MaskedEq(1), 1);
+
+// Call 7 has rules of one condition each, each rule as many times as it says.
+fn of_call_7(rules: &[(usize, Parts)]) -> Policy<'_> {
+    let (number, others) = (7, &[]);
+    Policy::Rules {
+        number,
+        rules,
+        others,
+    }
+}
+
+// Asserts the program's instructions from the sixth on, and its answers.
+fn assert_jumps_of(
+    rt: &impl Abort,
+    program: &[sock_filter],
+    jumps: &[sock_filter],
+    answers: &[(SeccompData, u32, usize)],
+) {
+    assert!(rt; program.get(6..6 + jumps.len()) == Some(jumps), "{jumps:?}");
+    for (asked, word, steps) in answers {
+        assert!(rt; ends_in(program, asked, *word, *steps), "{asked:?}");
+    }
+}
+
+// The same of the tree of a policy of call 7, which has these rules.
 fn assert_jumps(
     rt: &impl Abort,
     alloc: Global,
-    name: &str,
-    filter: &SeccompFilter,
+    rules: &[(usize, Parts)],
     jumps: &[sock_filter],
     answers: &[(SeccompData, u32, usize)],
 ) -> Result<(), Fail> {
-    let program = filter.to_tree_bpf(alloc)?;
-    assert_eq!(rt;
-        program.get(6..6 + jumps.len()),
-        Some(jumps),
-        "the jumps of {name}"
-    );
-    for (asked, word, steps) in answers {
-        let (word, steps) = (*word, *steps);
-        assert_eq!(rt;
-            run(&program, &asked.record()),
-            Outcome { word, steps },
-            "{name} on {asked:?}"
-        );
-    }
+    let program = of_call_7(rules).tree(alloc)?;
+    assert_jumps_of(rt, &program, jumps, answers);
     Ok(())
 }
 
 #[test]
-fn jumps_over_long_rules(rt: HostRuntime) -> Result<(), Fail> {
-    let alloc = rt.alloc();
+fn a_jump_over_255_instructions(rt: HostRuntime) -> Result<(), Fail> {
     let near = [jump_at_least(8, 255, 0), jump(1), jump(4)];
     let answers = [
         (call(6, [1; 6]), TRAP, 5),
@@ -214,12 +191,15 @@ fn jumps_over_long_rules(rt: HostRuntime) -> Result<(), Fail> {
     ];
     assert_jumps(
         &rt,
-        alloc,
-        "255 instructions",
-        &long_chain(alloc, 46, 4)?,
+        rt.alloc(),
+        &[(46, OF_FOUR), (4, OF_FIVE)],
         &near,
         &answers,
-    )?;
+    )
+}
+
+#[test]
+fn a_jump_over_256_instructions(rt: HostRuntime) -> Result<(), Fail> {
     let far = [jump_at_least(8, 0, 1), jump(256), jump(1), jump(4)];
     let answers = [
         (call(6, [1; 6]), TRAP, 5),
@@ -227,128 +207,138 @@ fn jumps_over_long_rules(rt: HostRuntime) -> Result<(), Fail> {
         (call(8, [1; 6]), TRAP, 7),
         (call(4294967295, [1; 6]), TRAP, 7),
     ];
-    assert_jumps(
-        &rt,
-        alloc,
-        "256 instructions",
-        &long_chain(alloc, 51, 0)?,
-        &far,
-        &answers,
-    )
+    assert_jumps(&rt, rt.alloc(), &[(51, OF_FOUR)], &far, &answers)
+}
+
+// Whether both programs answer the call number by the word of `decide`, with each of three arguments.
+fn is_decided(
+    filter: &SeccompFilter,
+    program: &[sock_filter],
+    tree: &[sock_filter],
+    asked: u32,
+) -> bool {
+    for argument in [0, 1, 2] {
+        let record = call(asked, [argument; 6]).record();
+        let word = filter.decide(&record);
+        if !is_answered(filter, tree, &record, word) {
+            return false;
+        }
+        if !is_answered(filter, program, &record, word) {
+            return false;
+        }
+    }
+    true
 }
 
 // Asserts that both programs of the filter answer each of these numbers, one less and one more by
-// the word of `decide`, and a record of another architecture by killing the process.
-fn assert_decides(
+// the word of `decide`, and that the tree answers a record of another architecture by killing the
+// process.
+fn assert_programs_decide(
     rt: &impl Abort,
-    alloc: Global,
-    name: &str,
     filter: &SeccompFilter,
+    program: &[sock_filter],
+    tree: &[sock_filter],
     numbers: &[u32],
-) -> Result<(), Fail> {
-    let tree = filter.to_tree_bpf(alloc)?;
-    assert!(rt; check(&tree), "the tree of {name} is refused");
-    let program = filter.to_bpf(alloc)?;
-    filter.layouts_agree(&program, &tree);
+) {
     for number in numbers {
         for asked in [number.saturating_sub(1), *number, number.saturating_add(1)] {
-            for argument in [0, 1, 2] {
-                let record = call(asked, [argument; 6]).record();
-                let word = filter.decide(&record);
-                assert_eq!(rt;
-                    run(&tree, &record).word,
-                    word,
-                    "the tree of {name} on {asked}"
-                );
-                assert_eq!(rt; run(&program, &record).word, word, "{name} on {asked}");
-            }
+            assert!(rt; is_decided(filter, program, tree, asked), "call {asked}");
         }
     }
     let other = SeccompData {
         arch: AARCH64,
         ..call(0, [0; 6])
     };
-    let (word, steps) = (KILL_PROCESS, 3);
-    assert_eq!(rt;
-        run(&tree, &other.record()),
-        Outcome { word, steps },
-        "the tree of {name} on another architecture"
-    );
+    assert!(rt; ends_in(tree, &other, KILL_PROCESS, 3));
+}
+
+// The same of both programs of the policy, which the library says to agree.
+fn assert_decides(
+    rt: &impl Abort,
+    alloc: Global,
+    policy: Policy,
+    numbers: &[u32],
+) -> Result<(), Fail> {
+    let filter = policy.filter(alloc)?;
+    let tree = filter.to_tree_bpf(alloc)?;
+    let program = filter.to_bpf(alloc)?;
+    filter.layouts_agree(&program, &tree);
+    assert_programs_decide(rt, &filter, &program, &tree, numbers);
     Ok(())
 }
 
 #[test]
-fn words_at_the_borders(rt: HostRuntime) -> Result<(), Fail> {
+fn words_at_the_borders_of_shared_policies(rt: HostRuntime) -> Result<(), Fail> {
     let alloc = rt.alloc();
-    assert_decides(
-        &rt,
-        alloc,
-        "no chain",
-        &empty_policy(alloc)?,
-        &[0, 7, 4294967295],
-    )?;
-    assert_decides(
-        &rt,
-        alloc,
-        "two calls",
-        &two_calls(alloc)?,
-        &[0, 72, 288, 4294967295],
-    )?;
+    assert_decides(&rt, alloc, Policy::Empty, &[0, 7, 4294967295])?;
+    assert_decides(&rt, alloc, Policy::TwoCalls, &[0, 72, 288, 4294967295])?;
     let numbers = [0, 1, 9, 10, 4294967295];
-    assert_decides(
-        &rt,
-        alloc,
-        "low halves",
-        &three_calls(alloc, Dword)?,
-        &numbers,
-    )?;
-    assert_decides(
-        &rt,
-        alloc,
-        "both halves",
-        &three_calls(alloc, Qword)?,
-        &numbers,
-    )?;
-    assert_decides(
-        &rt,
-        alloc,
-        "calls 0 and 4294967295",
-        &allowed(alloc, &[0, 4294967295])?,
-        &[0, 4294967295],
-    )?;
-    assert_decides(
-        &rt,
-        alloc,
-        "51 rules",
-        &long_chain(alloc, 51, 0)?,
-        &[0, 7, 4294967295],
-    )?;
-    let gaps = [0, 1, 3, 149, 299, 301, 597, 599, 600, 4294967295];
-    assert_decides(
-        &rt,
-        alloc,
-        "300 calls with gaps",
-        &spread(alloc, 1, 2, 300)?,
-        &gaps,
-    )
+    assert_decides(&rt, alloc, Policy::ThreeCalls(Dword), &numbers)?;
+    assert_decides(&rt, alloc, Policy::ThreeCalls(Qword), &numbers)
 }
 
-// How long the tree's program is, and the most steps that it takes on a call up to `last`.
+#[test]
+fn words_at_the_borders_of_many_ranges(rt: HostRuntime) -> Result<(), Fail> {
+    let alloc = rt.alloc();
+    let ends = Policy::Allowed(&[0, 4294967295]);
+    assert_decides(&rt, alloc, ends, &[0, 4294967295])?;
+    assert_decides(&rt, alloc, of_call_7(&[(51, OF_FOUR)]), &[0, 7, 4294967295])?;
+    let (first, step, count) = (1, 2, 300);
+    let with_gaps = Policy::Spread { first, step, count };
+    let numbers = [0, 1, 3, 149, 299, 301, 597, 599, 600, 4294967295];
+    assert_decides(&rt, alloc, with_gaps, &numbers)
+}
+
+// Asserts that the program answers each call up to `last` by the word of `decide`. Returns the most
+// steps that it takes for one of them, or for the greatest number.
+fn most_steps(
+    rt: &impl Abort,
+    filter: &SeccompFilter,
+    program: &[sock_filter],
+    last: u32,
+) -> usize {
+    assert!(rt; check(program));
+    let mut most = run(program, &call(4294967295, [0; 6]).record()).steps;
+    for number in 0..last {
+        let record = call(number, [0; 6]).record();
+        let answer = run(program, &record);
+        assert!(rt; answer.word == filter.decide(&record), "call {number}");
+        most = most.max(answer.steps);
+    }
+    most
+}
+
+// How long the tree's program is, and the most steps that it takes on a call up to 2100.
 fn measured(
     rt: &impl Abort,
     alloc: Global,
     filter: &SeccompFilter,
-    last: u32,
 ) -> Result<(usize, usize), Fail> {
     let program = filter.to_tree_bpf(alloc)?;
-    let mut most = run(&program, &call(4294967295, [0; 6]).record()).steps;
-    for number in 0..last {
-        let record = call(number, [0; 6]).record();
-        let answer = run(&program, &record);
-        assert_eq!(rt; answer.word, filter.decide(&record), "call {number}");
-        most = most.max(answer.steps);
-    }
-    Ok((program.len(), most))
+    Ok((program.len(), most_steps(rt, filter, &program, 2100)))
+}
+
+// Whether the first layout's program has so many instructions, or is refused for them.
+fn has_length(alloc: Global, filter: &SeccompFilter, length: usize) -> bool {
+    let refusal = if length > 4096 { Some(length) } else { None };
+    filter.program_len() == length && refused_length(filter.to_bpf(alloc)) == refusal
+}
+
+// Asserts the measures of the tree of `count` calls, one every `step`, and how long the program of the
+// other layout is.
+fn assert_spread(
+    rt: &impl Abort,
+    alloc: Global,
+    (step, count): (i64, i64),
+    measures: (usize, usize),
+    chains: usize,
+) -> Result<(), Fail> {
+    let first = 1;
+    let filter = Policy::Spread { first, step, count }.filter(alloc)?;
+    let found = measured(rt, alloc, &filter)?;
+    let is_so = found == measures && has_length(alloc, &filter, chains);
+    assert!(rt; is_so, "{count} calls");
+    Ok(())
 }
 
 // Spread calls: the distance between them, how many they are, the tree's instructions and its most
@@ -361,51 +351,38 @@ const SPREAD: [(i64, i64, usize, usize, usize); 3] = [
 
 #[test]
 fn trees_of_many_calls(rt: HostRuntime) -> Result<(), Fail> {
-    let alloc = rt.alloc();
     for (step, count, tree, most, chains) in &SPREAD {
-        let filter = spread(alloc, 1, *step, *count)?;
-        let found = measured(&rt, alloc, &filter, 2100)?;
-        assert_eq!(rt; found, (*tree, *most), "the tree of {count} calls");
-        assert_eq!(rt; filter.program_len(), *chains, "{count} calls");
-        if *chains > 4096 {
-            assert_eq!(rt;
-                filter.to_bpf(alloc),
-                Err(FilterTooLarge(*chains)),
-                "{count} calls"
-            );
-        }
+        assert_spread(&rt, rt.alloc(), (*step, *count), (*tree, *most), *chains)?;
     }
     Ok(())
+}
+
+// The length for which the tree of `count` calls, every second from the first, is refused.
+fn length_of_tree(alloc: Global, count: i64) -> Result<Option<usize>, Fail> {
+    let (first, step) = (1, 2);
+    let filter = Policy::Spread { first, step, count }.filter(alloc)?;
+    Ok(refused_length(filter.to_tree_bpf(alloc)))
 }
 
 #[test]
 fn trees_that_are_too_large(rt: HostRuntime) -> Result<(), Fail> {
-    let alloc = rt.alloc();
-    for (count, length) in [(1021, 4097), (1100, 4421)] {
-        let filter = spread(alloc, 1, 2, count)?;
-        assert_eq!(rt;
-            filter.to_tree_bpf(alloc),
-            Err(FilterTooLarge(length)),
-            "{count} calls"
-        );
-    }
+    assert!(rt; length_of_tree(rt.alloc(), 1021)? == Some(4097));
+    assert!(rt; length_of_tree(rt.alloc(), 1100)? == Some(4421));
     Ok(())
+}
+
+// The call number for which the policy's tree is refused.
+fn unfit_number(alloc: Global, policy: Policy) -> Result<Option<i64>, Fail> {
+    let filter = policy.filter(alloc)?;
+    Ok(refused_number(filter.to_tree_bpf(alloc)))
 }
 
 #[test]
 fn trees_of_numbers_that_no_record_has(rt: HostRuntime) -> Result<(), Fail> {
-    let alloc = rt.alloc();
-    let filter = allowed(alloc, &[-1, 4294967296])?;
-    assert_eq!(rt;
-        filter.to_tree_bpf(alloc),
-        Err(InvalidSyscallNumber(-1)),
-        "two numbers"
-    );
-    let filter = spread(alloc, -1, 2, 1100)?;
-    assert_eq!(rt;
-        filter.to_tree_bpf(alloc),
-        Err(InvalidSyscallNumber(-1)),
-        "beside 1099 others"
-    );
+    let two_numbers = Policy::Allowed(&[-1, 4294967296]);
+    assert!(rt; unfit_number(rt.alloc(), two_numbers)? == Some(-1));
+    let (first, step, count) = (-1, 2, 1100);
+    let beside_1099_others = Policy::Spread { first, step, count };
+    assert!(rt; unfit_number(rt.alloc(), beside_1099_others)? == Some(-1));
     Ok(())
 }

@@ -1,5 +1,6 @@
 // Memory that is refused: all address space taken, and given back block by block.
 
+use crate::builders::assert_that;
 use std::alloc::{AllocError, Global};
 use std::process::Abort;
 use std::test::Fail;
@@ -134,20 +135,11 @@ pub fn assert_refusals_by<C: Call>(
     blocks: usize,
     call: &C,
 ) -> Result<(), Fail> {
-    assert!(rt;
-        call.call(alloc) == Answer::Ample,
-        "{name} with ample memory"
-    );
+    assert_that(rt, name, call.call(alloc) == Answer::Ample);
     let (refused, last) = refusals(alloc, blocks, call)?;
-    assert!(rt; refused > 0, "{name} is never refused");
-    assert!(rt;
-        last == Answer::Ample,
-        "{name} is {last:?} behind {refused} refusals"
-    );
-    assert!(rt;
-        call.call(alloc) == Answer::Ample,
-        "{name} with ample memory again"
-    );
+    let is_so = refused > 0 && last == Answer::Ample;
+    assert!(rt; is_so, "{name} is {last:?} behind {refused} refusals");
+    assert_that(rt, name, call.call(alloc) == Answer::Ample);
     Ok(())
 }
 

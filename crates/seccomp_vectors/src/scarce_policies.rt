@@ -31,63 +31,74 @@ fn answer_of_error(error: &JsonFrontendError, wanted: Option<Fault>, is_unchange
     )
 }
 
-#[derive(Drop)]
-struct ReadFilters {
-    value: Value,
-    copy: Value,
-    wanted: Result<JsonFilterMap, Fault>,
+// What calls are wanted to answer is lent to them: a filter or program, or a fault.
+#[derive(Clone, Copy)]
+struct ReadFilters<'a> {
+    value: &'a Value,
+    copy: &'a Value,
+    wanted: Result<&'a JsonFilterMap, Fault>,
 }
 
-impl Call for ReadFilters {
+impl Call for ReadFilters<'_> {
     fn call(&self, alloc: Global) -> Answer {
-        let read = read_filters(alloc, &self.value);
-        let is_unchanged = self.value == self.copy;
-        match (&read, &self.wanted) {
-            (Ok(filters), Ok(wanted)) => judged(*filters == *wanted, false, is_unchanged),
-            (Ok(_), Err(_)) => Answer::Other,
-            (Err(error), Ok(_)) => answer_of_error(error, None, is_unchanged),
-            (Err(error), Err(fault)) => answer_of_error(error, Some(*fault), is_unchanged),
+        let read = read_filters(alloc, self.value);
+        let is_unchanged = *self.value == *self.copy;
+        match &read {
+            Ok(found) => {
+                let is_ample = matches!(self.wanted, Ok(wanted) if *found == *wanted);
+                judged(is_ample, false, is_unchanged)
+            }
+            Err(error) => answer_of_error(error, self.wanted.err(), is_unchanged),
         }
     }
 }
 
+// Asserts refusals where the value of the text is wanted to be read so.
+fn assert_value(
+    rt: &impl Abort,
+    alloc: Global,
+    text: &str,
+    value: &Value,
+    wanted: Result<&JsonFilterMap, Fault>,
+) -> Result<(), Fail> {
+    let copy = Value::from_str(alloc, text)?;
+    let copy = &copy;
+    assert_refusals(
+        rt,
+        alloc,
+        "a value",
+        &ReadFilters {
+            value,
+            copy,
+            wanted,
+        },
+    )
+}
+
 #[test]
 fn values_of_a_policy(rt: HostRuntime) -> Result<(), Fail> {
-    let alloc = rt.alloc();
-    let value = Value::from_str(alloc, MAIN_THREAD)?;
-    let copy = Value::from_str(alloc, MAIN_THREAD)?;
-    let filters = read_filters(alloc, &value)?;
-    let call = ReadFilters {
-        value,
-        copy,
-        wanted: Ok(filters),
-    };
-    assert_refusals(&rt, alloc, "the filters of a value", &call)
+    let value = Value::from_str(rt.alloc(), MAIN_THREAD)?;
+    let filters = read_filters(rt.alloc(), &value)?;
+    assert_value(&rt, rt.alloc(), MAIN_THREAD, &value, Ok(&filters))
 }
 
 #[test]
 fn values_of_no_filter(rt: HostRuntime) -> Result<(), Fail> {
     let text = r#"{"b":{},"main_thread":{"mismatch_action":"trap"},"a name":[]}"#;
     let value = Value::from_str(rt.alloc(), text)?;
-    let copy = Value::from_str(rt.alloc(), text)?;
-    let call = ReadFilters {
-        value,
-        copy,
-        wanted: Err(Fault::Shape("a name")),
-    };
-    assert_refusals(&rt, rt.alloc(), "a value of no filter", &call)
+    assert_value(&rt, rt.alloc(), text, &value, Err(Fault::Shape("a name")))
 }
 
-#[derive(Drop)]
+#[derive(Clone, Copy)]
 struct FiltersFrom<'a> {
     text: &'a str,
-    wanted: JsonFilterMap,
+    wanted: &'a JsonFilterMap,
 }
 
 impl Call for FiltersFrom<'_> {
     fn call(&self, alloc: Global) -> Answer {
         match filters_from(alloc, self.text.as_bytes()) {
-            Ok(filters) => judged(filters == self.wanted, false, true),
+            Ok(filters) => judged(filters == *self.wanted, false, true),
             Err(error) => answer_of_error(&error, None, true),
         }
     }
@@ -95,30 +106,29 @@ impl Call for FiltersFrom<'_> {
 
 #[test]
 fn json_filters_of_a_text(rt: HostRuntime) -> Result<(), Fail> {
-    let alloc = rt.alloc();
-    let call = FiltersFrom {
-        text: MAIN_THREAD,
-        wanted: filters_from(alloc, MAIN_THREAD.as_bytes())?,
-    };
-    assert_refusals(&rt, alloc, "the JSON filters of a text", &call)
+    let filters = filters_from(rt.alloc(), MAIN_THREAD.as_bytes())?;
+    let (text, wanted) = (MAIN_THREAD, &filters);
+    let call = FiltersFrom { text, wanted };
+    assert_refusals(&rt, rt.alloc(), "the JSON filters of a text", &call)
 }
 
-#[derive(Drop)]
-struct MakeFilter {
-    filter: JsonFilter,
-    copy: JsonFilter,
-    wanted: Result<SeccompFilter, Fault>,
+#[derive(Clone, Copy)]
+struct MakeFilter<'a> {
+    filter: &'a JsonFilter,
+    copy: &'a JsonFilter,
+    wanted: Result<&'a SeccompFilter, Fault>,
 }
 
-impl Call for MakeFilter {
+impl Call for MakeFilter<'_> {
     fn call(&self, alloc: Global) -> Answer {
-        let made = JsonCompiler::new(TargetArch::x86_64).make_seccomp_filter(alloc, &self.filter);
-        let is_unchanged = self.filter == self.copy;
-        match (&made, &self.wanted) {
-            (Ok(filter), Ok(wanted)) => judged(*filter == *wanted, false, is_unchanged),
-            (Ok(_), Err(_)) => Answer::Other,
-            (Err(error), Ok(_)) => answer_of_error(error, None, is_unchanged),
-            (Err(error), Err(fault)) => answer_of_error(error, Some(*fault), is_unchanged),
+        let made = JsonCompiler::new(TargetArch::x86_64).make_seccomp_filter(alloc, self.filter);
+        let is_unchanged = *self.filter == *self.copy;
+        match &made {
+            Ok(found) => {
+                let is_ample = matches!(self.wanted, Ok(wanted) if *found == *wanted);
+                judged(is_ample, false, is_unchanged)
+            }
+            Err(error) => answer_of_error(error, self.wanted.err(), is_unchanged),
         }
     }
 }
@@ -130,76 +140,83 @@ fn json_filter(alloc: Global, text: &str, name: &str) -> Result<JsonFilter, Fail
     Ok(filters.0.remove(name).ok_or("a filter of the name")?)
 }
 
-#[test]
-fn filters_of_entries(rt: HostRuntime) -> Result<(), Fail> {
-    let alloc = rt.alloc();
-    let filter = json_filter(alloc, MAIN_THREAD, "main_thread")?;
-    let copy = json_filter(alloc, MAIN_THREAD, "main_thread")?;
-    let made = JsonCompiler::new(TargetArch::x86_64).make_seccomp_filter(alloc, &filter)?;
-    let call = MakeFilter {
-        filter,
-        copy,
-        wanted: Ok(made),
-    };
-    assert_refusals(&rt, alloc, "the filter of twelve entries", &call)
+// Asserts refusals where the filter of this name in the text is wanted to be made so.
+fn assert_made(
+    rt: &impl Abort,
+    alloc: Global,
+    (text, name): (&str, &str),
+    filter: &JsonFilter,
+    wanted: Result<&SeccompFilter, Fault>,
+) -> Result<(), Fail> {
+    let copy = json_filter(alloc, text, name)?;
+    let copy = &copy;
+    assert_refusals(
+        rt,
+        alloc,
+        "a JSON filter",
+        &MakeFilter {
+            filter,
+            copy,
+            wanted,
+        },
+    )
 }
 
-// Asserts refusals where the filter `a` of the text has this fault.
+#[test]
+fn filters_of_entries(rt: HostRuntime) -> Result<(), Fail> {
+    let (alloc, of_twelve_entries) = (rt.alloc(), (MAIN_THREAD, "main_thread"));
+    let filter = json_filter(alloc, MAIN_THREAD, "main_thread")?;
+    let made = JsonCompiler::new(TargetArch::x86_64).make_seccomp_filter(alloc, &filter)?;
+    assert_made(&rt, alloc, of_twelve_entries, &filter, Ok(&made))
+}
+
+// Asserts refusals where the filter `a` of these entries has this fault.
 fn assert_faulty_filter(
     rt: &impl Abort,
     alloc: Global,
-    text: &str,
+    entries: &str,
     fault: Fault,
 ) -> Result<(), Fail> {
-    let filter = json_filter(alloc, text, "a")?;
-    let copy = json_filter(alloc, text, "a")?;
-    let call = MakeFilter {
-        filter,
-        copy,
-        wanted: Err(fault),
-    };
-    assert_refusals(rt, alloc, "a filter with a fault", &call)
+    let text = policy(alloc, entries)?;
+    let filter = json_filter(alloc, text.as_str(), "a")?;
+    assert_made(rt, alloc, (text.as_str(), "a"), &filter, Err(fault))
 }
 
 #[test]
 fn entries_with_a_fault(rt: HostRuntime) -> Result<(), Fail> {
-    let alloc = rt.alloc();
-    let entries = format!(in alloc; r#"{READS},{{"syscall":"nosyscall"}}"#)?;
-    let text = policy(alloc, entries.as_str())?;
+    let entries = format!(in rt.alloc(); r#"{READS},{{"syscall":"nosyscall"}}"#)?;
     let fault = Fault::SyscallName("nosyscall", TargetArch::x86_64);
-    assert_faulty_filter(&rt, alloc, text.as_str(), fault)
+    assert_faulty_filter(&rt, rt.alloc(), entries.as_str(), fault)
 }
 
 #[test]
 fn entries_with_no_condition(rt: HostRuntime) -> Result<(), Fail> {
-    let alloc = rt.alloc();
-    let entries = format!(in alloc; r#"{COMPARES},{{"syscall":"read","args":[]}}"#)?;
-    let text = policy(alloc, entries.as_str())?;
-    assert_faulty_filter(&rt, alloc, text.as_str(), Fault::EmptyRule)
+    let entries = format!(in rt.alloc(); r#"{COMPARES},{{"syscall":"read","args":[]}}"#)?;
+    assert_faulty_filter(&rt, rt.alloc(), entries.as_str(), Fault::EmptyRule)
 }
 
-#[derive(Drop)]
-struct Compile<'a> {
+#[derive(Clone, Copy)]
+struct Compile<'a, 'b> {
     text: &'a str,
-    wanted: Result<HashMap<String, SeccompFilter>, Fault>,
+    wanted: Result<&'b HashMap<String, SeccompFilter>, Fault>,
 }
 
-impl Call for Compile<'_> {
+impl Call for Compile<'_, '_> {
     fn call(&self, alloc: Global) -> Answer {
-        let made = JsonCompiler::new(TargetArch::x86_64).compile(alloc, self.text.as_bytes());
-        match (&made, &self.wanted) {
-            (Ok(found), Ok(wanted)) => { judged(*found == *wanted, false, true) }
-            (Ok(_), Err(_)) => Answer::Other,
-            (Err(error), Ok(_)) => answer_of_error(error, None, true),
-            (Err(error), Err(fault)) => answer_of_error(error, Some(*fault), true),
+        match JsonCompiler::new(TargetArch::x86_64).compile(alloc, self.text.as_bytes()) {
+            Ok(found) => {
+                let is_ample = matches!(self.wanted, Ok(wanted) if found == *wanted);
+                judged(is_ample, false, true)
+            }
+            Err(error) => answer_of_error(&error, self.wanted.err(), true),
         }
     }
 }
 
-#[derive(Drop)]
-struct CompileFromJson<'a> {
+#[derive(Clone, Copy)]
+struct CompileFromJson<'a, 'b> {
     text: &'a str,
-    wanted: Result<HashMap<String, BpfProgram>, Fault>,
+    wanted: Result<&'b HashMap<String, BpfProgram>, Fault>,
 }
 
 // What the library's error is where the fault is wanted.
@@ -211,32 +228,32 @@ fn answer_of_library(error: &Error, wanted: Option<Fault>) -> Answer {
     judged(is_ample, matches!(error, Error::OutOfMemory), true)
 }
 
-impl Call for CompileFromJson<'_> {
+impl Call for CompileFromJson<'_, '_> {
     fn call(&self, alloc: Global) -> Answer {
-        let made = compile_from_json(alloc, self.text.as_bytes(), TargetArch::x86_64);
-        match (&made, &self.wanted) {
-            (Ok(found), Ok(wanted)) => judged(*found == *wanted, false, true),
-            (Ok(_), Err(_)) => Answer::Other,
-            (Err(error), Ok(_)) => answer_of_library(error, None),
-            (Err(error), Err(fault)) => answer_of_library(error, Some(*fault)),
+        match compile_from_json(alloc, self.text.as_bytes(), TargetArch::x86_64) {
+            Ok(found) => {
+                let is_ample = matches!(self.wanted, Ok(wanted) if found == *wanted);
+                judged(is_ample, false, true)
+            }
+            Err(error) => answer_of_library(&error, self.wanted.err()),
         }
     }
 }
 
-#[derive(Drop)]
-struct CompileInOrder<'a> {
+#[derive(Clone, Copy)]
+struct CompileInOrder<'a, 'b> {
     text: &'a str,
-    wanted: Result<BTreeMap<String, BpfProgram>, Fault>,
+    wanted: Result<&'b BTreeMap<String, BpfProgram>, Fault>,
 }
 
-impl Call for CompileInOrder<'_> {
+impl Call for CompileInOrder<'_, '_> {
     fn call(&self, alloc: Global) -> Answer {
-        let made = compile_from_json_in_order(alloc, self.text.as_bytes(), TargetArch::x86_64);
-        match (&made, &self.wanted) {
-            (Ok(found), Ok(wanted)) => judged(*found == *wanted, false, true),
-            (Ok(_), Err(_)) => Answer::Other,
-            (Err(error), Ok(_)) => answer_of_library(error, None),
-            (Err(error), Err(fault)) => answer_of_library(error, Some(*fault)),
+        match compile_from_json_in_order(alloc, self.text.as_bytes(), TargetArch::x86_64) {
+            Ok(found) => {
+                let is_ample = matches!(self.wanted, Ok(wanted) if found == *wanted);
+                judged(is_ample, false, true)
+            }
+            Err(error) => answer_of_library(&error, self.wanted.err()),
         }
     }
 }
@@ -244,31 +261,22 @@ impl Call for CompileInOrder<'_> {
 // Asserts refusals of `compile` where the text has filters.
 fn assert_text(rt: &impl Abort, alloc: Global, text: &str) -> Result<(), Fail> {
     let filters = JsonCompiler::new(TargetArch::x86_64).compile(alloc, text.as_bytes())?;
-    let call = Compile {
-        text,
-        wanted: Ok(filters),
-    };
-    assert_refusals(rt, alloc, text, &call)
+    let wanted = Ok(&filters);
+    assert_refusals(rt, alloc, text, &Compile { text, wanted })
 }
 
 // The same of `compile_from_json`.
 fn assert_programs(rt: &impl Abort, alloc: Global, text: &str) -> Result<(), Fail> {
     let programs = compile_from_json(alloc, text.as_bytes(), TargetArch::x86_64)?;
-    let call = CompileFromJson {
-        text,
-        wanted: Ok(programs),
-    };
-    assert_refusals(rt, alloc, text, &call)
+    let wanted = Ok(&programs);
+    assert_refusals(rt, alloc, text, &CompileFromJson { text, wanted })
 }
 
 // The same of `compile_from_json_in_order`.
 fn assert_programs_in_order(rt: &impl Abort, alloc: Global, text: &str) -> Result<(), Fail> {
     let programs = compile_from_json_in_order(alloc, text.as_bytes(), TargetArch::x86_64)?;
-    let call = CompileInOrder {
-        text,
-        wanted: Ok(programs),
-    };
-    assert_refusals(rt, alloc, text, &call)
+    let wanted = Ok(&programs);
+    assert_refusals(rt, alloc, text, &CompileInOrder { text, wanted })
 }
 
 // Asserts refusals of all three where the text has a fault, so many blocks at a time.
@@ -279,30 +287,24 @@ fn assert_faulty_text(
     blocks: usize,
     fault: Fault,
 ) -> Result<(), Fail> {
-    let call = Compile {
-        text,
-        wanted: Err(fault),
-    };
-    assert_refusals_by(rt, alloc, text, blocks, &call)?;
-    let call = CompileFromJson {
-        text,
-        wanted: Err(fault),
-    };
-    assert_refusals_by(rt, alloc, text, blocks, &call)?;
-    let call = CompileInOrder {
-        text,
-        wanted: Err(fault),
-    };
-    assert_refusals_by(rt, alloc, text, blocks, &call)
+    let wanted = Err(fault);
+    assert_refusals_by(rt, alloc, text, blocks, &Compile { text, wanted })?;
+    let wanted = Err(fault);
+    assert_refusals_by(rt, alloc, text, blocks, &CompileFromJson { text, wanted })?;
+    let wanted = Err(fault);
+    assert_refusals_by(rt, alloc, text, blocks, &CompileInOrder { text, wanted })
+}
+
+// A policy whose entries are one without arguments and one with a condition.
+fn both_kinds(alloc: Global) -> Result<String, Fail> {
+    let entries = format!(in alloc; "{READS},{COMPARES}")?;
+    policy(alloc, entries.as_str())
 }
 
 #[test]
 fn texts_of_filters(rt: HostRuntime) -> Result<(), Fail> {
-    let alloc = rt.alloc();
-    assert_text(&rt, alloc, MAIN_THREAD)?;
-    let both = format!(in alloc; "{READS},{COMPARES}")?;
-    let text = policy(alloc, both.as_str())?;
-    assert_text(&rt, alloc, text.as_str())
+    assert_text(&rt, rt.alloc(), MAIN_THREAD)?;
+    assert_text(&rt, rt.alloc(), both_kinds(rt.alloc())?.as_str())
 }
 
 #[test]
@@ -312,11 +314,8 @@ fn texts_of_programs_in_order(rt: HostRuntime) -> Result<(), Fail> {
 
 #[test]
 fn texts_of_programs(rt: HostRuntime) -> Result<(), Fail> {
-    let alloc = rt.alloc();
-    assert_programs(&rt, alloc, MAIN_THREAD)?;
-    let both = format!(in alloc; "{READS},{COMPARES}")?;
-    let text = policy(alloc, both.as_str())?;
-    assert_programs(&rt, alloc, text.as_str())
+    assert_programs(&rt, rt.alloc(), MAIN_THREAD)?;
+    assert_programs(&rt, rt.alloc(), both_kinds(rt.alloc())?.as_str())
 }
 
 const FAULTS: [(&str, Fault); 8] = [
@@ -365,9 +364,7 @@ fn a_large_filter_before_an_unknown_call(rt: HostRuntime) -> Result<(), Fail> {
 #[test]
 fn filters_too_large(rt: HostRuntime) -> Result<(), Fail> {
     let text = two_too_large(rt.alloc())?;
-    let call = CompileFromJson {
-        text: text.as_str(),
-        wanted: Err(Fault::FilterTooLarge(4102)),
-    };
+    let (text, wanted) = (text.as_str(), Err(Fault::FilterTooLarge(4102)));
+    let call = CompileFromJson { text, wanted };
     assert_refusals_by(&rt, rt.alloc(), "two filters too large", 64, &call)
 }

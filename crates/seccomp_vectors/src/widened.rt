@@ -5,6 +5,7 @@ use crate::faults::{Fault, is_frontend_fault};
 use crate::json_samples::{COMPARES, MAIN_THREAD, READS, compiled, policy, repeated};
 use crate::scarce::{Answer, Call, assert_refusals, judged};
 use seccompiler::backend::TargetArch;
+use seccompiler::bpf::{BpfProgram, sock_filter};
 use seccompiler::json::{JsonCompiler, JsonFilter, JsonFrontendError, read_filters};
 use seccompiler::machine::{Outcome, check, run};
 use serde_json::Value;
@@ -19,21 +20,28 @@ fn json_filter(alloc: Global, text: &str, name: &str) -> Result<JsonFilter, Fail
     Ok(filters.0.remove(name).ok_or("a filter of the name")?)
 }
 
-// Asserts which numbers are widened in the filter of this name.
+// Asserts which numbers are widened in the filter.
+fn assert_numbers(
+    rt: &impl Abort,
+    alloc: Global,
+    filter: &JsonFilter,
+    wanted: &[i64],
+) -> Result<(), Fail> {
+    let numbers = JsonCompiler::new(TargetArch::x86_64).widened(alloc, filter)?;
+    assert!(rt; numbers.as_slice() == wanted, "{wanted:?}");
+    Ok(())
+}
+
+// Asserts which numbers are widened in the filter of these entries.
 fn assert_widened(
     rt: &impl Abort,
     alloc: Global,
-    text: &str,
-    name: &str,
+    entries: &str,
     wanted: &[i64],
 ) -> Result<(), Fail> {
-    let filter = json_filter(alloc, text, name)?;
-    let numbers = JsonCompiler::new(TargetArch::x86_64).widened(alloc, &filter)?;
-    assert!(rt;
-        numbers.as_slice() == wanted,
-        "{numbers:?} are widened in {text}"
-    );
-    Ok(())
+    let text = policy(alloc, entries)?;
+    let filter = json_filter(alloc, text.as_str(), "a")?;
+    assert_numbers(rt, alloc, &filter, wanted)
 }
 
 // `close` and `read` with and without arguments, and `openat` without.
@@ -43,71 +51,82 @@ const SEVERAL: &str =
 // An entry whose condition looks at argument 6.
 const ABOVE: &str = r#"{"syscall":"read","args":[{"index":6,"type":"dword","op":"eq","val":5}]}"#;
 
+// Entries, and the numbers of those that are widened.
+const WIDENED: [(&str, &[i64]); 3] = [(SEVERAL, &[0, 3]), (READS, &[]), ("", &[])];
+
 #[test]
 fn calls_of_both_kinds_are_widened(rt: HostRuntime) -> Result<(), Fail> {
-    let alloc = rt.alloc();
-    let both = format!(in alloc; "{READS},{COMPARES}")?;
-    let twice = repeated(alloc, COMPARES, 2)?;
-    let cases: [(&str, &[i64]); 5] = [
-        (both.as_str(), &[0]),
-        (SEVERAL, &[0, 3]),
-        (twice.as_str(), &[]),
-        (READS, &[]),
-        ("", &[]),
-    ];
-    for (entries, wanted) in &cases {
-        let text = policy(alloc, entries)?;
-        assert_widened(&rt, alloc, text.as_str(), "a", wanted)?;
+    for (entries, wanted) in &WIDENED {
+        assert_widened(&rt, rt.alloc(), entries, wanted)?;
     }
-    assert_widened(&rt, alloc, MAIN_THREAD, "main_thread", &[])
+    Ok(())
+}
+
+#[test]
+fn a_call_with_and_without_arguments_is_widened(rt: HostRuntime) -> Result<(), Fail> {
+    let both = format!(in rt.alloc(); "{READS},{COMPARES}")?;
+    assert_widened(&rt, rt.alloc(), both.as_str(), &[0])
+}
+
+#[test]
+fn a_call_with_arguments_twice_is_not_widened(rt: HostRuntime) -> Result<(), Fail> {
+    let twice = repeated(rt.alloc(), COMPARES, 2)?;
+    assert_widened(&rt, rt.alloc(), twice.as_str(), &[])
+}
+
+#[test]
+fn no_call_of_a_main_thread_is_widened(rt: HostRuntime) -> Result<(), Fail> {
+    let filter = json_filter(rt.alloc(), MAIN_THREAD, "main_thread")?;
+    assert_numbers(&rt, rt.alloc(), &filter, &[])
+}
+
+// The program of `read` without arguments, and so many times with.
+fn of_both_kinds(alloc: Global, count: usize) -> Result<BpfProgram, Fail> {
+    let many = repeated(alloc, COMPARES, count)?;
+    let entries = format!(in alloc; "{READS},{many}")?;
+    let text = policy(alloc, entries.as_str())?;
+    compiled(alloc, text.as_str(), "a")
+}
+
+// Whether the program allows `read` with this argument, in six steps.
+fn is_allowed(program: &[sock_filter], first: u64) -> bool {
+    let (word, steps) = (ALLOW, 6);
+    let record = call(0, [first, 0, 0, 0, 0, 0]).record();
+    check(program) && run(program, &record) == Outcome { word, steps }
 }
 
 #[test]
 fn a_call_of_both_kinds_matches_always(rt: HostRuntime) -> Result<(), Fail> {
-    let alloc = rt.alloc();
-    let both = format!(in alloc; "{READS},{COMPARES}")?;
-    let program = compiled(alloc, policy(alloc, both.as_str())?.as_str(), "a")?;
-    assert_eq!(rt; program.len(), 10, "the length");
-    assert!(rt; check(&program), "the program is refused");
-    for first in [5, 6] {
-        let record = call(0, [first, 0, 0, 0, 0, 0]).record();
-        let wanted = Outcome {
-            word: ALLOW,
-            steps: 6,
-        };
-        assert_eq!(rt; run(&program, &record), wanted, "argument {first}");
-    }
+    let program = of_both_kinds(rt.alloc(), 1)?;
+    assert!(rt; program.len() == 10);
+    assert!(rt; is_allowed(&program, 5) && is_allowed(&program, 6));
     Ok(())
 }
 
 #[test]
 fn one_entry_without_arguments_beside_many_with(rt: HostRuntime) -> Result<(), Fail> {
-    let alloc = rt.alloc();
-    let many = repeated(alloc, COMPARES, 818)?;
-    let entries = format!(in alloc; "{READS},{many}")?;
-    let program = compiled(alloc, policy(alloc, entries.as_str())?.as_str(), "a")?;
-    assert_eq!(rt; program.len(), 10, "the length");
+    let program = of_both_kinds(rt.alloc(), 818)?;
+    assert!(rt; program.len() == 10);
     Ok(())
 }
 
 // The widened numbers of a filter, or its fault.
-#[derive(Drop)]
-struct Widened {
-    filter: JsonFilter,
-    copy: JsonFilter,
-    wanted: Result<Vec<i64>, Fault>,
+#[derive(Clone, Copy)]
+struct Widened<'a> {
+    filter: &'a JsonFilter,
+    copy: &'a JsonFilter,
+    wanted: Result<&'a [i64], Fault>,
 }
 
-impl Call for Widened {
+impl Call for Widened<'_> {
     fn call(&self, alloc: Global) -> Answer {
-        let found = JsonCompiler::new(TargetArch::x86_64).widened(alloc, &self.filter);
-        let is_ample = match (&found, &self.wanted) {
-            (Ok(numbers), Ok(wanted)) => *numbers == *wanted,
-            (Err(error), Err(fault)) => is_frontend_fault(error, *fault),
-            _ => false,
+        let found = JsonCompiler::new(TargetArch::x86_64).widened(alloc, self.filter);
+        let is_ample = match &found {
+            Ok(numbers) => matches!(self.wanted, Ok(wanted) if numbers.as_slice() == wanted),
+            Err(error) => { matches!(self.wanted, Err(fault) if is_frontend_fault(error, fault)) }
         };
         let is_refused = matches!(found, Err(JsonFrontendError::OutOfMemory));
-        judged(is_ample, is_refused, self.filter == self.copy)
+        judged(is_ample, is_refused, *self.filter == *self.copy)
     }
 }
 
@@ -116,31 +135,32 @@ fn assert_entries(
     rt: &impl Abort,
     alloc: Global,
     entries: &str,
-    wanted: Result<Vec<i64>, Fault>,
+    wanted: Result<&[i64], Fault>,
 ) -> Result<(), Fail> {
     let text = policy(alloc, entries)?;
-    let call = Widened {
-        filter: json_filter(alloc, text.as_str(), "a")?,
-        copy: json_filter(alloc, text.as_str(), "a")?,
-        wanted,
-    };
-    assert_refusals(rt, alloc, entries, &call)
+    let filter = json_filter(alloc, text.as_str(), "a")?;
+    let copy = json_filter(alloc, text.as_str(), "a")?;
+    let (filter, copy) = (&filter, &copy);
+    assert_refusals(
+        rt,
+        alloc,
+        entries,
+        &Widened {
+            filter,
+            copy,
+            wanted,
+        },
+    )
 }
 
 #[test]
 fn widened_numbers_where_memory_is_refused(rt: HostRuntime) -> Result<(), Fail> {
-    let alloc = rt.alloc();
-    assert_entries(&rt, alloc, SEVERAL, Ok(vec![in alloc; 0, 3]?))
+    assert_entries(&rt, rt.alloc(), SEVERAL, Ok(&[0, 3]))
 }
 
 #[test]
 fn each_condition_is_checked(rt: HostRuntime) -> Result<(), Fail> {
-    let alloc = rt.alloc();
-    let entries = format!(in alloc; "{READS},{ABOVE}")?;
-    assert_entries(
-        &rt,
-        alloc,
-        entries.as_str(),
-        Err(Fault::InvalidArgumentNumber),
-    )
+    let entries = format!(in rt.alloc(); "{READS},{ABOVE}")?;
+    let wanted = Err(Fault::InvalidArgumentNumber);
+    assert_entries(&rt, rt.alloc(), entries.as_str(), wanted)
 }

@@ -15,16 +15,10 @@ fn assert_failing(rt: &impl Abort, alloc: Global, text: &[u8], kind: ErrorKind, 
     for before in 0..=text.len() {
         let reader = ScriptedReader::failing(text, before, kind);
         let told = compile_tells(alloc, reader, fault);
-        assert!(rt;
-            told,
-            "compile behind {before} bytes does not tell {fault:?}"
-        );
+        assert!(rt; told, "compile behind {before} bytes");
         let reader = ScriptedReader::failing(text, before, kind);
         let told = compile_from_json_tells(alloc, reader, fault);
-        assert!(rt;
-            told,
-            "compile_from_json behind {before} bytes does not tell {fault:?}"
-        );
+        assert!(rt; told, "compile_from_json behind {before} bytes");
     }
 }
 
@@ -78,15 +72,25 @@ const TEXTS: [(&str, Fault); 6] = [
     ),
 ];
 
+// Whether both calls tell the fault of the text, a byte at a time.
+fn is_told_when_slow(alloc: Global, text: &[u8], fault: Fault) -> bool {
+    compile_tells(alloc, ScriptedReader::slow(text), fault)
+        && compile_from_json_tells(alloc, ScriptedReader::slow(text), fault)
+}
+
 #[test]
 fn faults_a_byte_at_a_time(rt: HostRuntime) {
     for (text, fault) in &TEXTS {
-        let told = compile_tells(rt.alloc(), ScriptedReader::slow(text.as_bytes()), *fault);
-        assert!(rt; told, "compile of {text} does not tell {fault:?}");
-        let reader = ScriptedReader::slow(text.as_bytes());
-        let told = compile_from_json_tells(rt.alloc(), reader, *fault);
-        assert!(rt; told, "compile_from_json of {text} does not tell {fault:?}");
+        let is_told = is_told_when_slow(rt.alloc(), text.as_bytes(), *fault);
+        assert!(rt; is_told, "{text} does not tell {fault:?}");
     }
+}
+
+// The length of the program `a` of the policy's text, a byte at a time.
+fn length_when_slow(alloc: Global, text: &str) -> Result<Option<usize>, Fail> {
+    let reader = ScriptedReader::slow(text.as_bytes());
+    let programs = compile_from_json(alloc, reader, TargetArch::x86_64)?;
+    Ok(programs.get("a").map(|program| program.len()))
 }
 
 // Asserts that a policy of these entries gives one program, of this length, a byte at a time.
@@ -97,13 +101,8 @@ fn assert_length_when_slow(
     length: usize,
 ) -> Result<(), Fail> {
     let text = policy(alloc, entries)?;
-    let reader = ScriptedReader::slow(text.as_bytes());
-    let programs = compile_from_json(alloc, reader, TargetArch::x86_64)?;
-    let found = programs.get("a").map(|program| program.len());
-    assert!(rt;
-        found == Some(length),
-        "{entries} gives the length {found:?}"
-    );
+    let found = length_when_slow(alloc, text.as_str())?;
+    assert!(rt; found == Some(length), "the length is {found:?}");
     Ok(())
 }
 

@@ -54,30 +54,24 @@ fn check_takes(rt: HostRuntime) {
 
 #[test]
 fn run_ends_with_word_and_steps(rt: HostRuntime) {
-    let zeros = [0; 64];
+    let with_distances = [bpf_jump(0x06, 7, 9, 9)];
+    assert!(rt; check(&with_distances));
+    let outcome = Outcome { word: 7, steps: 1 };
+    assert!(rt; run(&with_distances, &[0; 64]) == outcome);
+}
+
+#[test]
+fn run_compares_the_last_byte(rt: HostRuntime) {
     let mut last_word_is_17 = [0; 64];
     last_word_is_17[60] = 0x11;
-    for (name, program, call, want) in [
-        (
-            "a return with distances",
-            &[bpf_jump(0x06, 7, 9, 9)][..],
-            zeros,
-            Outcome { word: 7, steps: 1 },
-        ),
-        (
-            "the last byte compared",
-            &[
-                load(60),
-                mask(255),
-                jump_greater(16, 1, 0),
-                give(1),
-                give(2),
-            ][..],
-            last_word_is_17,
-            Outcome { word: 2, steps: 4 },
-        ),
-    ] {
-        assert!(rt; check(program), "{name} is refused");
-        assert_eq!(rt; run(program, &call), want, "{name}");
-    }
+    let compared = [
+        load(60),
+        mask(255),
+        jump_greater(16, 1, 0),
+        give(1),
+        give(2),
+    ];
+    assert!(rt; check(&compared));
+    let outcome = Outcome { word: 2, steps: 4 };
+    assert!(rt; run(&compared, &last_word_is_17) == outcome);
 }

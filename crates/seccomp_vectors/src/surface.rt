@@ -2,7 +2,7 @@
 // module's, the constants with their numbers, the layout of an instruction, and the errors as errors of
 // any program.
 
-use crate::builders::call;
+use crate::builders::{assert_that, call};
 use crate::instructions::give;
 use seccompiler::bpf::{
     ARG_NUMBER_MAX, AUDIT_ARCH_AARCH64, AUDIT_ARCH_RISCV64, AUDIT_ARCH_X86_64, BPF_ABS, BPF_ALU,
@@ -45,37 +45,30 @@ const ARCHITECTURES: [(&str, u32, u32); 3] = [
     ("AUDIT_ARCH_RISCV64", AUDIT_ARCH_RISCV64, 0xc000_00f3),
 ];
 
+// Asserts the number of a constant.
+fn assert_number(rt: &impl Abort, name: &str, constant: u32, number: u32) {
+    assert!(rt; constant == number, "{name}");
+}
+
 #[test]
 fn constants(rt: HostRuntime) {
     for (name, constant, number) in &BYTES {
-        assert_eq!(rt; *constant, *number, "{name}");
+        assert_number(&rt, name, u32::from(*constant), u32::from(*number));
     }
     for (name, constant, number) in &CODES {
-        assert_eq!(rt; *constant, *number, "{name}");
+        assert_number(&rt, name, u32::from(*constant), u32::from(*number));
     }
     for (name, constant, number) in &ARCHITECTURES {
-        assert_eq!(rt; *constant, *number, "{name}");
+        assert_number(&rt, name, *constant, *number);
     }
-    assert_eq!(rt; BPF_MAX_LEN, 4096, "BPF_MAX_LEN");
+    assert!(rt; BPF_MAX_LEN == 4096);
 }
 
 #[test]
 fn layout_of_an_instruction(rt: HostRuntime) {
-    assert_eq!(rt;
-        size_of::<seccompiler::sock_filter>(),
-        8,
-        "the bytes of an instruction"
-    );
-    assert_eq!(rt;
-        align_of::<seccompiler::sock_filter>(),
-        4,
-        "the alignment of an instruction"
-    );
-    assert_eq!(rt;
-        size_of::<[seccompiler::sock_filter; 3]>(),
-        24,
-        "the bytes of three instructions"
-    );
+    assert!(rt; size_of::<seccompiler::sock_filter>() == 8);
+    assert!(rt; align_of::<seccompiler::sock_filter>() == 4);
+    assert!(rt; size_of::<[seccompiler::sock_filter; 3]>() == 24);
 }
 
 // `fcntl` is allowed where its second argument is 2, and each other call kills the process.
@@ -122,82 +115,105 @@ fn are_equal<T: seccompiler::EqualByParts>(first: &T, second: &T) -> bool {
     first == second
 }
 
-#[test]
-fn filters_by_the_root(rt: HostRuntime) -> Result<(), Fail> {
-    let alloc = rt.alloc();
-    let filter = duplicates(alloc)?;
-    let program: seccompiler::BpfProgram = filter.to_bpf(alloc)?;
-    let lent: seccompiler::BpfProgramRef = &program;
+// Whether the program passes the checker, ends in a return that kills, and allows `fcntl` with 2.
+fn is_of_duplicates(lent: seccompiler::BpfProgramRef) -> bool {
     let kill = seccompiler::sock_filter {
         code: 0x06,
         jt: 0,
         jf: 0,
         k: 0x8000_0000,
     };
-    assert_eq!(rt; lent.last(), Some(&kill), "the last instruction");
     let outcome = seccompiler::Outcome {
         word: 0x7fff_0000,
         steps: 8,
     };
     let record = call(72, [0, 2, 0, 0, 0, 0]).record();
-    assert!(rt; seccompiler::machine::check(lent), "the program is refused");
-    assert_eq!(rt;
-        seccompiler::machine::run(lent, &record),
-        outcome,
-        "fcntl with 2"
-    );
-    let table = seccompiler::SyscallTable::new(seccompiler::TargetArch::x86_64);
-    let found: seccompiler::Lookup = table.lookup("fcntl");
-    assert_eq!(rt; found.number, Some(72), "the number of fcntl");
+    seccompiler::machine::check(lent)
+        && seccompiler::machine::run(lent, &record) == outcome
+        && lent.last() == Some(&kill)
+}
+
+#[test]
+fn filters_by_the_root(rt: HostRuntime) -> Result<(), Fail> {
+    let filter = duplicates(rt.alloc())?;
+    let program: seccompiler::BpfProgram = filter.to_bpf(rt.alloc())?;
+    assert!(rt; is_of_duplicates(&program));
     Ok(())
 }
 
 #[test]
-fn json_by_the_root(rt: HostRuntime) -> Result<(), Fail> {
-    let alloc = rt.alloc();
+fn tables_by_the_root(rt: HostRuntime) {
+    let table = seccompiler::SyscallTable::new(seccompiler::TargetArch::x86_64);
+    let found: seccompiler::Lookup = table.lookup("fcntl");
+    assert!(rt; found.number == Some(72));
+}
+
+// Whether the JSON filter makes the same filter.
+fn is_made(alloc: Global, filter: &seccompiler::JsonFilter) -> Result<bool, Fail> {
+    let wanted = duplicates(alloc)?;
     let compiler = seccompiler::JsonCompiler::new(seccompiler::TargetArch::x86_64);
-    let made = compiler.make_seccomp_filter(alloc, &duplicates_in_json(alloc)?)?;
-    assert!(rt;
-        are_equal(&made, &duplicates(alloc)?),
-        "the filter of the JSON filter"
-    );
+    let made = compiler.make_seccomp_filter(alloc, filter)?;
+    Ok(are_equal(&made, &wanted))
+}
+
+#[test]
+fn json_filters_by_the_root(rt: HostRuntime) -> Result<(), Fail> {
+    let filter = duplicates_in_json(rt.alloc())?;
+    assert!(rt; is_made(rt.alloc(), &filter)?);
+    Ok(())
+}
+
+#[test]
+fn maps_of_json_filters_by_the_root(rt: HostRuntime) -> Result<(), Fail> {
+    let alloc = rt.alloc();
     let mut filters = BTreeMap::new(alloc);
     drop(filters.insert(String::from_str(alloc, "a")?, duplicates_in_json(alloc)?)?);
     let named = seccompiler::JsonFilterMap(filters);
-    assert!(rt; are_equal(&named, &named), "a map of filters and itself");
+    assert!(rt; are_equal(&named, &named));
+    Ok(())
+}
+
+// The text of no filters, and the architecture that it is compiled for.
+const NO_FILTERS: &[u8] = b"{}";
+
+const ARCHITECTURE: seccompiler::TargetArch = seccompiler::TargetArch::x86_64;
+
+#[test]
+fn texts_by_the_root(rt: HostRuntime) -> Result<(), Fail> {
+    let programs: seccompiler::BpfMap = seccompiler::compile_from_json(
+        rt.alloc(),
+        NO_FILTERS,
+        ARCHITECTURE,
+    )?;
+    assert!(rt; programs.len() == 0);
     Ok(())
 }
 
 #[test]
-fn texts_by_the_root(rt: HostRuntime) -> Result<(), Fail> {
-    let (alloc, arch) = (rt.alloc(), seccompiler::TargetArch::x86_64);
-    let programs: seccompiler::BpfMap = seccompiler::compile_from_json(
-        alloc,
-        b"{}".as_slice(),
-        arch,
-    )?;
-    assert_eq!(rt; programs.len(), 0, "the programs of no filters");
-    let programs = seccompiler::compile_from_json_in_order(alloc, b"{}".as_slice(), arch)?;
-    assert_eq!(rt; programs.len(), 0, "the programs of no filters, in order");
+fn texts_in_order_by_the_root(rt: HostRuntime) -> Result<(), Fail> {
+    let programs = seccompiler::compile_from_json_in_order(rt.alloc(), NO_FILTERS, ARCHITECTURE)?;
+    assert!(rt; programs.len() == 0);
     Ok(())
+}
+
+#[test]
+fn filters_of_a_text_by_their_module(rt: HostRuntime) -> Result<(), Fail> {
+    let named = seccompiler::json::filters_from(rt.alloc(), NO_FILTERS)?;
+    assert!(rt; named.0.len() == 0);
+    Ok(())
+}
+
+// Whether the value is read as a length, and as nothing else.
+fn is_length(value: &serde_json::Value) -> bool {
+    seccompiler::json::read_arg_len(value) == Some(seccompiler::SeccompCmpArgLen::Qword)
+        && seccompiler::json::read_action(value).is_none()
+        && seccompiler::json::read_operator(value).is_none()
 }
 
 #[test]
 fn readers_by_their_module(rt: HostRuntime) -> Result<(), Fail> {
-    let alloc = rt.alloc();
-    let named = seccompiler::json::filters_from(alloc, b"{}".as_slice())?;
-    assert_eq!(rt; named.0.len(), 0, "the filters of no names");
-    let qword = serde_json::Value::from_str(alloc, r#""qword""#)?;
-    let length = seccompiler::json::read_arg_len(&qword);
-    assert_eq!(rt;
-        length,
-        Some(seccompiler::SeccompCmpArgLen::Qword),
-        "a length"
-    );
-    let action = seccompiler::json::read_action(&qword);
-    assert!(rt; action.is_none(), "the action of a length");
-    let operator = seccompiler::json::read_operator(&qword);
-    assert!(rt; operator.is_none(), "the operator of a length");
+    let qword = serde_json::Value::from_str(rt.alloc(), r#""qword""#)?;
+    assert!(rt; is_length(&qword));
     Ok(())
 }
 
@@ -226,19 +242,26 @@ impl seccompiler::Kernel for WillingKernel {
     }
 }
 
-#[test]
-fn installing_by_the_root(rt: HostRuntime) {
+// Whether both ways of installing a program of one return succeed.
+fn is_installed() -> bool {
     let mut kernel = WillingKernel;
     let program = [give(0x7fff_0000)];
     let done: seccompiler::Result<()> = seccompiler::apply_filter(&mut kernel, &program);
-    assert!(rt; done.is_ok(), "installing for this thread");
-    let done = seccompiler::apply_filter_all_threads(&mut kernel, &program);
-    assert!(rt; done.is_ok(), "installing for all threads");
-    let refused = matches!(
-        seccompiler::apply_filter(&mut kernel, &[]),
+    done.is_ok() && seccompiler::apply_filter_all_threads(&mut kernel, &program).is_ok()
+}
+
+// Whether installing no instructions is refused.
+fn is_empty_refused() -> bool {
+    matches!(
+        seccompiler::apply_filter(&mut WillingKernel, &[]),
         Err(seccompiler::Error::EmptyFilter)
-    );
-    assert!(rt; refused, "installing no instructions");
+    )
+}
+
+#[test]
+fn installing_by_the_root(rt: HostRuntime) {
+    assert!(rt; is_installed());
+    assert!(rt; is_empty_refused());
 }
 
 // A backend's error, as a program passes it on.
@@ -276,7 +299,7 @@ fn assert_fails(
         Ok(()) => String::new(alloc),
         Err(error) => error.to_string(alloc)?,
     };
-    assert_eq!(rt; text.as_str(), want, "the text of any program's error");
+    assert_that(rt, want, text.as_str() == want);
     Ok(())
 }
 

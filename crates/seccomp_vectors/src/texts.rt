@@ -1,97 +1,115 @@
 // The texts of architectures and of the errors of the backend and of the crate's root.
 
+use crate::builders::assert_that;
 use seccompiler::json::JsonFrontendError;
 use seccompiler::{BackendError, Error, TargetArch};
 use std::alloc::Global;
+use std::process::Abort;
 use std::test::Fail;
 
 fn text(alloc: Global, text: &str) -> Result<String, Fail> {
     Ok(String::from_str(alloc, text)?)
 }
 
+const ARCHITECTURES: [(TargetArch, &str); 3] = [
+    (TargetArch::x86_64, "x86_64"),
+    (TargetArch::aarch64, "aarch64"),
+    (TargetArch::riscv64, "riscv64"),
+];
+
 #[test]
 fn architectures(rt: HostRuntime) -> Result<(), Fail> {
-    let alloc = rt.alloc();
-    for (arch, want) in [
-        (TargetArch::x86_64, "x86_64"),
-        (TargetArch::aarch64, "aarch64"),
-        (TargetArch::riscv64, "riscv64"),
-    ] {
-        assert_eq!(rt;
-            arch.to_string(alloc)?.as_str(),
-            want,
-            "the text of an architecture"
-        );
+    for (arch, want) in &ARCHITECTURES {
+        let text = arch.to_string(rt.alloc())?;
+        assert_that(&rt, want, text.as_str() == *want);
     }
     Ok(())
 }
+
+// Asserts the text of the backend's error.
+fn assert_backend(
+    rt: &impl Abort,
+    alloc: Global,
+    error: &BackendError,
+    want: &str,
+) -> Result<(), Fail> {
+    let text = error.to_string(alloc)?;
+    assert_that(rt, want, text.as_str() == want);
+    Ok(())
+}
+
+const BACKEND_ERRORS: [(BackendError, &str); 6] = [
+    (
+        BackendError::EmptyRule,
+        "The condition vector of a rule cannot be empty.",
+    ),
+    (
+        BackendError::FilterTooLarge(4097),
+        "The seccomp filter contains too many BPF instructions: 4097. Max length is 4096.",
+    ),
+    (
+        BackendError::IdenticalActions,
+        "`match_action` and `mismatch_action` are equal.",
+    ),
+    (
+        BackendError::InvalidArgumentNumber,
+        "The seccomp rule contains an invalid argument index. Maximum index value: 5",
+    ),
+    (
+        BackendError::InvalidSyscallNumber(-1),
+        "Invalid syscall number: -1.",
+    ),
+    (BackendError::OutOfMemory, "Out of memory."),
+];
 
 #[test]
 fn errors_of_the_backend(rt: HostRuntime) -> Result<(), Fail> {
-    let alloc = rt.alloc();
-    for (error, want) in [
-        (
-            BackendError::EmptyRule,
-            "The condition vector of a rule cannot be empty.",
-        ),
-        (
-            BackendError::FilterTooLarge(4097),
-            "The seccomp filter contains too many BPF instructions: 4097. Max length is 4096.",
-        ),
-        (
-            BackendError::IdenticalActions,
-            "`match_action` and `mismatch_action` are equal.",
-        ),
-        (
-            BackendError::InvalidArgumentNumber,
-            "The seccomp rule contains an invalid argument index. Maximum index value: 5",
-        ),
-        (
-            BackendError::InvalidTargetArch(text(alloc, "x8664")?),
-            "Invalid target arch: x8664.",
-        ),
-        (
-            BackendError::InvalidSyscallNumber(-1),
-            "Invalid syscall number: -1.",
-        ),
-        (BackendError::OutOfMemory, "Out of memory."),
-    ] {
-        assert_eq!(rt;
-            error.to_string(alloc)?.as_str(),
-            want,
-            "the text of a backend's error"
-        );
+    for (error, want) in &BACKEND_ERRORS {
+        assert_backend(&rt, rt.alloc(), error, want)?;
     }
     Ok(())
 }
 
 #[test]
+fn an_error_of_the_backend_with_a_name(rt: HostRuntime) -> Result<(), Fail> {
+    let error = BackendError::InvalidTargetArch(text(rt.alloc(), "x8664")?);
+    assert_backend(&rt, rt.alloc(), &error, "Invalid target arch: x8664.")
+}
+
+// Asserts the text of the root's error.
+fn assert_root(rt: &impl Abort, alloc: Global, error: &Error, want: &str) -> Result<(), Fail> {
+    let text = error.to_string(alloc)?;
+    assert_that(rt, want, text.as_str() == want);
+    Ok(())
+}
+
+const ROOT_ERRORS: [(Error, &str); 6] = [
+    (
+        Error::Backend(BackendError::FilterTooLarge(5002)),
+        "Backend error: The seccomp filter contains too many BPF instructions: 5002. Max length is 4096.",
+    ),
+    (Error::EmptyFilter, "Cannot install empty filter."),
+    (Error::Prctl(1), "Error calling `prctl`: 1"),
+    (Error::Seccomp(22), "Error calling `seccomp`: 22"),
+    (
+        Error::ThreadSync(4711),
+        "Seccomp filter synchronization failed in thread `4711`",
+    ),
+    (Error::OutOfMemory, "Out of memory."),
+];
+
+#[test]
 fn errors_of_the_root(rt: HostRuntime) -> Result<(), Fail> {
-    let alloc = rt.alloc();
-    let name = text(alloc, "nosyscall")?;
-    for (error, want) in [
-        (
-            Error::Backend(BackendError::FilterTooLarge(5002)),
-            "Backend error: The seccomp filter contains too many BPF instructions: 5002. Max length is 4096.",
-        ),
-        (Error::EmptyFilter, "Cannot install empty filter."),
-        (Error::Prctl(1), "Error calling `prctl`: 1"),
-        (Error::Seccomp(22), "Error calling `seccomp`: 22"),
-        (
-            Error::ThreadSync(4711),
-            "Seccomp filter synchronization failed in thread `4711`",
-        ),
-        (
-            Error::JsonFrontend(JsonFrontendError::SyscallName(name, TargetArch::aarch64)),
-            "Json Frontend error: Invalid syscall name: nosyscall for given arch: aarch64.",
-        ),
-        (Error::OutOfMemory, "Out of memory."),
-    ] {
-        assert_eq!(rt;
-            error.to_string(alloc)?.as_str(),
-            want,
-            "the text of an error"
-        );
+    for (error, want) in &ROOT_ERRORS {
+        assert_root(&rt, rt.alloc(), error, want)?;
     }
     Ok(())
+}
+
+#[test]
+fn an_error_of_the_root_with_a_name(rt: HostRuntime) -> Result<(), Fail> {
+    let name = text(rt.alloc(), "nosyscall")?;
+    let error = Error::JsonFrontend(JsonFrontendError::SyscallName(name, TargetArch::aarch64));
+    let want = "Json Frontend error: Invalid syscall name: nosyscall for given arch: aarch64.";
+    assert_root(&rt, rt.alloc(), &error, want)
 }

@@ -1,5 +1,7 @@
 // The example of README.md.
 
+use seccompiler::bpf::sock_filter;
+use seccompiler::machine::{check, run};
 use seccompiler::{
     BackendError, BpfProgram, SeccompAction, SeccompCmpArgLen, SeccompCmpOp, SeccompCondition,
     SeccompFilter, SeccompRule, TargetArch,
@@ -22,24 +24,21 @@ fn fcntl_alone(alloc: Global) -> Result<BpfProgram, BackendError> {
     filter.to_bpf(alloc)
 }
 
+// The word of the program for a call of this number, whose second argument is this, where it passes the
+// checker.
+fn word(program: &[sock_filter], number: u32, argument: u64) -> Option<u32> {
+    if !check(program) {
+        return None;
+    }
+    let call = crate::builders::call(number, [0, argument, 0, 0, 0, 0]).record();
+    Some(run(program, &call).word)
+}
+
 #[test]
 fn fcntl_with_2_alone_is_allowed(rt: HostRuntime) -> Result<(), std::test::Fail> {
     let program = fcntl_alone(rt.alloc())?;
-    assert!(rt;
-        seccompiler::machine::check(&program),
-        "the program is refused"
-    );
-    for (number, argument, word) in [
-        (72, 2, 0x7fff_0000),
-        (72, 3, 0x8000_0000),
-        (73, 2, 0x8000_0000),
-    ] {
-        let call = crate::builders::call(number, [0, argument, 0, 0, 0, 0]).record();
-        assert_eq!(rt;
-            seccompiler::machine::run(&program, &call).word,
-            word,
-            "call {number} with {argument}"
-        );
-    }
+    assert!(rt; word(&program, 72, 2) == Some(0x7fff_0000));
+    assert!(rt; word(&program, 72, 3) == Some(0x8000_0000));
+    assert!(rt; word(&program, 73, 2) == Some(0x8000_0000));
     Ok(())
 }

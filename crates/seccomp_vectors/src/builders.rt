@@ -97,21 +97,12 @@ pub fn long_rule(alloc: Global, conditions: &[(usize, Parts)]) -> Result<Seccomp
     Ok(SeccompRule::new(made)?)
 }
 
-/// The x86_64 filter of one chain, which traps what the chain does not match.
-pub fn one_chain(
-    alloc: Global,
-    number: i64,
-    rules: Vec<SeccompRule>,
-) -> Result<SeccompFilter, Fail> {
-    let mut chains = BTreeMap::new(alloc);
-    drop(chains.insert(number, rules)?);
-    let (trap, allow) = (SeccompAction::Trap, SeccompAction::Allow);
-    Ok(SeccompFilter::new(chains, trap, allow, TargetArch::x86_64)?)
-}
-
 /// The x86_64 filter of one rule on call 7, which traps what the rule does not match.
 pub fn one_rule(alloc: Global, rule: SeccompRule) -> Result<SeccompFilter, Fail> {
-    one_chain(alloc, 7, vec![in alloc; rule]?)
+    let mut chains = BTreeMap::new(alloc);
+    drop(chains.insert(7, vec![in alloc; rule]?)?);
+    let (trap, allow) = (SeccompAction::Trap, SeccompAction::Allow);
+    Ok(SeccompFilter::new(chains, trap, allow, TargetArch::x86_64)?)
 }
 
 /// Whether the program passes the checker, and it and the filter's `decide` answer the record by the
@@ -139,9 +130,9 @@ pub fn assert_word(
     assert!(rt; is_answered, "{name} on {call:?}");
 }
 
-/// Whether the program passes the checker, and it and the filter's `decide` answer the record by the
-/// outcome's word, the program in the outcome's steps.
-pub fn is_outcome(
+// Whether the program passes the checker, and it and the filter's `decide` answer the record by the
+// outcome's word, the program in the outcome's steps.
+fn is_outcome(
     filter: &SeccompFilter,
     program: &[sock_filter],
     record: &[u8; 64],
@@ -159,9 +150,9 @@ fn assert_outcomes(
     program: &[sock_filter],
     answers: &[(SeccompData, u32, usize)],
 ) {
-    let is_filters = filter.program_len() == program.len() && check(program);
+    let is_whole = filter.program_len() == program.len() && check(program);
     assert!(rt;
-        is_filters,
+        is_whole,
         "the program of {name} is refused, or has another length"
     );
     for (call, word, steps) in answers {

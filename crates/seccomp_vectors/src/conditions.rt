@@ -1,9 +1,8 @@
 // Conditions: what is refused, their instructions, and when they hold.
 
-use crate::builders::{
-    ALLOW, Parts, SeccompData, TRAP, assert_word, call, condition, one_rule, rule,
-};
+use crate::builders::{ALLOW, Parts, SeccompData, TRAP, call, condition, is_answered};
 use crate::instructions::{jump_at_least, jump_equal, jump_greater, load, mask};
+use crate::policies::Policy;
 use seccompiler::backend::SeccompCmpArgLen::{Dword, Qword};
 use seccompiler::backend::SeccompCmpOp::{Eq, Ge, Gt, Le, Lt, MaskedEq, Ne};
 use seccompiler::backend::{BackendError, SeccompCmpArgLen, SeccompCmpOp};
@@ -188,42 +187,49 @@ fn call_with(index: u8, argument: u64) -> SeccompData {
     call(7, arguments)
 }
 
-// Asserts that the condition holds for each of these arguments, or for none: by itself, and by the
-// program and the decision of the filter whose one rule it is.
-fn assert_arguments(
-    rt: &impl Abort,
+// Whether the condition holds for the call, or doesn't: by itself, and by the program and the decision
+// of the filter whose one rule it is.
+fn is_held(
+    made: SeccompCondition,
     filter: &SeccompFilter,
     program: &[sock_filter],
-    parts: Parts,
-    arguments: &[u64],
+    asked: &SeccompData,
     holds: bool,
+) -> bool {
+    let record = asked.record();
+    let word = if holds { ALLOW } else { TRAP };
+    made.holds(&record) == holds && is_answered(filter, program, &record, word)
+}
+
+// Asserts that the condition holds for each of these arguments, or for none, where it says so.
+fn assert_arguments(
+    rt: &impl Abort,
+    parts: Parts,
+    filter: &SeccompFilter,
+    program: &[sock_filter],
+    cases: &[(&[u64], bool)],
 ) -> Result<(), Fail> {
-    let (made, word) = (condition(parts)?, if holds { ALLOW } else { TRAP });
-    for argument in arguments {
-        let asked = call_with(parts.0, *argument);
-        assert!(rt;
-            made.holds(&asked.record()) == holds,
-            "{parts:?} on {argument}"
-        );
-        assert_word(rt, "a condition", filter, program, &asked, word);
+    let made = condition(parts)?;
+    for (arguments, holds) in cases {
+        for argument in *arguments {
+            let asked = call_with(parts.0, *argument);
+            let is_held = is_held(made, filter, program, &asked, *holds);
+            assert!(rt; is_held, "{parts:?} on {argument}");
+        }
     }
     Ok(())
 }
 
-// Asserts that the condition holds for each of these arguments, or for none, where it says so: by
-// itself, and as the one rule of a filter, by the filter's program and decision.
+// The same, where the filter has the condition as its one rule.
 fn assert_holds(
     rt: &impl Abort,
     alloc: Global,
     parts: Parts,
     cases: &[(&[u64], bool)],
 ) -> Result<(), Fail> {
-    let filter = one_rule(alloc, rule(alloc, &[parts])?)?;
+    let filter = Policy::LongRule(&[(1, parts)]).filter(alloc)?;
     let program = filter.to_bpf(alloc)?;
-    for (arguments, holds) in cases {
-        assert_arguments(rt, &filter, &program, parts, arguments, *holds)?;
-    }
-    Ok(())
+    assert_arguments(rt, parts, &filter, &program, cases)
 }
 
 // Operators, with whether each holds for lesser, equal and greater arguments.

@@ -1,8 +1,10 @@
 /*
  * Calls that stand before the C library's in a built program, and fall short as the environment says.
- * tools/check-program builds and preloads them.
+ * tools/short_calls.py builds and preloads them.
  *
  * GRANTED: so many requests for memory are granted, and each behind them is refused.
+ * REFUSED: the request for memory of this number, counted from 1, is refused alone.
+ * TOLD: a byte is written to this descriptor when the first request is refused.
  * DESCRIPTOR, AT_ONCE, BYTES and ERROR: a call that reads from this descriptor, or writes to it, passes at
  * most AT_ONCE bytes; behind BYTES bytes in all each fails with this error number. Without ERROR none fails.
  */
@@ -11,6 +13,7 @@
 #include <errno.h>
 #include <stdlib.h>
 #include <sys/types.h>
+#include <unistd.h>
 
 static long number(const char *name, long otherwise) {
     const char *text = getenv(name);
@@ -18,9 +21,14 @@ static long number(const char *name, long otherwise) {
 }
 
 static int is_refused(void) {
-    static long granted = -1, asked;
-    if (granted < 0) granted = number("GRANTED", 1L << 60);
-    if (asked++ < granted) return 0;
+    static long granted = -1, alone, asked, is_told;
+    if (granted < 0) {
+        granted = number("GRANTED", 1L << 60);
+        alone = number("REFUSED", 0);
+    }
+    asked++;
+    if (asked <= granted && asked != alone) return 0;
+    if (!is_told) is_told = write((int)number("TOLD", -1), "x", 1) != 0;
     errno = ENOMEM;
     return 1;
 }

@@ -97,6 +97,8 @@ pub enum Fault {
     NotAnObject,
     /// The filter `a` is none.
     Shape,
+    /// The filter `a name` is none.
+    ShapeOfAName,
     /// There is no call `nosyscall` on x86_64.
     SyscallName,
     /// A condition looks at an argument above 5.
@@ -105,6 +107,8 @@ pub enum Fault {
     EmptyRule,
     /// A filter's actions are equal.
     IdenticalActions,
+    /// A filter's program has 4102 instructions.
+    FilterTooLarge,
     /// Memory is refused.
     OutOfMemory,
     /// Anything else.
@@ -130,18 +134,20 @@ pub(crate) fn fault_of_frontend(error: &JsonFrontendError) -> Fault {
         JsonFrontendError::RepeatedKey => Fault::RepeatedKey,
         JsonFrontendError::NotAnObject => Fault::NotAnObject,
         JsonFrontendError::Shape(name) if name.as_str() == "a" => Fault::Shape,
+        JsonFrontendError::Shape(name) if name.as_str() == "a name" => Fault::ShapeOfAName,
         JsonFrontendError::OutOfMemory => Fault::OutOfMemory,
         _ => Fault::Other,
     }
 }
 
-/// The fault that the library tells: want of memory outside of all else, any other within
-/// `JsonFrontend`.
+/// The fault that the library tells: want of memory outside of all else, a program too large within
+/// `Backend`, any other within `JsonFrontend`.
 pub(crate) fn fault_of_library(error: &Error) -> Fault {
     match error {
         Error::OutOfMemory => Fault::OutOfMemory,
         Error::JsonFrontend(JsonFrontendError::OutOfMemory) => Fault::Other,
         Error::JsonFrontend(error) => fault_of_frontend(error),
+        Error::Backend(BackendError::FilterTooLarge(4102)) => Fault::FilterTooLarge,
         _ => Fault::Other,
     }
 }

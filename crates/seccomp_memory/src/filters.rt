@@ -1,7 +1,10 @@
 // Calls on conditions, rules and filters.
 
 use crate::answers::{Ending, Row, ensure, ensure_code, ensure_rows};
-use crate::lent::{Lent, MASKED, condition, too_large, two_calls, two_conditions};
+use crate::lent::Lent;
+use crate::samples::{EQUAL, MASKED, condition, long_rule, one_rule, rule, two_calls};
+use seccompiler::SeccompCmpArgLen::Dword;
+use seccompiler::SeccompCmpOp::Eq;
 use seccompiler::backend::build_arch_validation_sequence;
 use seccompiler::{BackendError, SeccompFilter, SeccompRule, TargetArch};
 use std::alloc::Global;
@@ -11,6 +14,8 @@ const GUARD: [Row; 3] = [
     (0x15, 1, 0, 0xc000_00b7),
     (0x06, 0, 0, 0x8000_0000),
 ];
+
+const EQUAL_CODE: [Row; 2] = [(0x20, 0, 0, 16), (0x15, 0, 3, 1)];
 
 const MASKED_CODE: [Row; 6] = [
     (0x20, 0, 0, 36),
@@ -34,8 +39,8 @@ const RULE_CODE: [Row; 10] = [
     (0x15, 0, 1, 1),
 ];
 
-/// The program of two calls.
-pub const PROGRAM: [Row; 24] = [
+// The program of two calls.
+const PROGRAM: [Row; 24] = [
     (0x20, 0, 0, 4),
     (0x15, 1, 0, 0xc000_003e),
     (0x06, 0, 0, 0x8000_0000),
@@ -104,8 +109,10 @@ fn ask_for_parts(alloc: Global) -> Result<(), Ending> {
     ask_for_an_architecture(alloc)?;
     let guard = build_arch_validation_sequence(alloc, TargetArch::aarch64);
     ensure_code("a guard", guard, &GUARD)?;
-    let masked = condition(MASKED)?;
-    ensure_code("a condition", masked.to_bpf(alloc, 3), &MASKED_CODE)
+    let equal = condition(EQUAL)?.to_bpf(alloc, 3);
+    ensure_code("a condition of one half", equal, &EQUAL_CODE)?;
+    let masked = condition(MASKED)?.to_bpf(alloc, 3);
+    ensure_code("a condition of both halves", masked, &MASKED_CODE)
 }
 
 fn ask_of_rule(alloc: Global, rule: &SeccompRule) -> Result<(), Ending> {
@@ -146,9 +153,9 @@ pub struct Filters {
 impl Lent for Filters {
     fn new(alloc: Global) -> Result<Self, BackendError> {
         Ok(Filters {
-            rule: two_conditions(alloc)?,
+            rule: rule(alloc, &[EQUAL, MASKED])?,
             filter: two_calls(alloc)?,
-            too_large: too_large(alloc)?,
+            too_large: one_rule(alloc, 0, long_rule(alloc, (0, Dword, Eq, 5), 5000)?)?,
         })
     }
 

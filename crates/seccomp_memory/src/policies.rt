@@ -1,37 +1,54 @@
-// Calls on policies, as values, as entries and as texts.
+// Calls on policies as values and as entries.
 
-use crate::answers::{
-    Ending, Fault, ensure, ensure_fault, ensure_rows, fault_of_frontend, fault_of_library,
+use crate::answers::{Ending, Fault, ensure, ensure_fault, fault_of_frontend};
+use crate::lent::Lent;
+use crate::samples::{
+    Entries, MAIN_THREAD_TEXT, TWO_CALLS_TEXT, entries, main_thread, main_thread_entries,
+    two_calls, two_calls_entries, value_of,
 };
-use crate::filters::PROGRAM;
-use crate::lent::{
-    Lent, TWO_CALLS_TEXT, both_kinds, faulty, two_calls, two_calls_entries, two_calls_value,
-};
-use seccompiler::json::{filters_from, read_filters};
+use seccompiler::SeccompAction::Trap;
+use seccompiler::SeccompCmpArgLen::Dword;
+use seccompiler::SeccompCmpOp::Eq;
+use seccompiler::json::{JsonFilterMap, filters_from, read_filters};
 use seccompiler::{
-    BackendError, BpfProgram, JsonCompiler, JsonFilter, SeccompFilter, TargetArch,
-    compile_from_json, compile_from_json_in_order,
+    BackendError, JsonCompiler, JsonFilter, JsonFrontendError, SeccompFilter, TargetArch,
 };
 use serde_json::Value;
 use std::alloc::Global;
 
-fn ask_of_value(alloc: Global, value: &Value, wanted: &JsonFilter) -> Result<(), Ending> {
-    match read_filters(alloc, value) {
-        Ok(filters) => {
-            ensure(filters.0.len() == 1, "how many filters a value gives")?;
-            ensure(filters.0.get("a") == Some(wanted), "the filter of a value")
-        }
-        Err(error) => ensure_fault("a value", fault_of_frontend(&error), None),
-    }
-}
+const BOTH_KINDS: Entries<'static> = &[("read", None), ("read", Some(&[(0, Dword, Eq, 5)]))];
 
-fn ask_of_text(alloc: Global, text: &'static str, wanted: &JsonFilter) -> Result<(), Ending> {
-    match filters_from(alloc, text.as_bytes()) {
-        Ok(filters) => {
-            ensure(filters.0.len() == 1, "how many filters a text gives")?;
-            ensure(filters.0.get("a") == Some(wanted), "the filter of a text")
-        }
-        Err(error) => ensure_fault("a text", fault_of_frontend(&error), None),
+// `close` and `read` with and without conditions, and `openat` without.
+const SEVERAL: Entries<'static> = &[
+    ("close", Some(&[(0, Dword, Eq, 5)])),
+    ("read", None),
+    ("close", None),
+    ("read", Some(&[(0, Dword, Eq, 5)])),
+    ("openat", None),
+];
+
+const ARGUMENT_6: Entries<'static> = &[("read", None), ("read", Some(&[(6, Dword, Eq, 5)]))];
+
+const NO_CALL: Entries<'static> = &[("read", None), ("nosyscall", None)];
+
+const NO_CONDITION: Entries<'static> = &[("read", Some(&[(0, Dword, Eq, 5)])), ("read", Some(&[]))];
+
+// The least name in byte order whose value is no filter is `a name`.
+const NO_FILTER: &str = r#"{"b":{},"main_thread":{"mismatch_action":"trap"},"a name":[]}"#;
+
+// Wants the only filter, and that under this name.
+fn ensure_filter(
+    what: &'static str,
+    read: Result<JsonFilterMap, JsonFrontendError>,
+    name: &str,
+    wanted: &JsonFilter,
+) -> Result<(), Ending> {
+    match read {
+        Ok(filters) => ensure(
+            filters.0.len() == 1 && filters.0.get(name) == Some(wanted),
+            what,
+        ),
+        Err(error) => ensure_fault(what, fault_of_frontend(&error), None),
     }
 }
 
@@ -46,98 +63,33 @@ fn ask_of_entries(
     }
 }
 
-fn ask_of_both_kinds(alloc: Global, entries: &JsonFilter) -> Result<(), Ending> {
+fn ask_of_widened(alloc: Global, entries: &JsonFilter, wanted: &[i64]) -> Result<(), Ending> {
     match JsonCompiler::new(TargetArch::x86_64).widened(alloc, entries) {
-        Ok(numbers) => ensure(numbers.as_slice() == [0].as_slice(), "the widened numbers"),
+        Ok(numbers) => ensure(numbers.as_slice() == wanted, "the widened numbers"),
         Err(error) => ensure_fault("both kinds", fault_of_frontend(&error), None),
     }
 }
 
-fn ask_of_faulty(alloc: Global, entries: &JsonFilter) -> Result<(), Ending> {
-    let compiler = JsonCompiler::new(TargetArch::x86_64);
-    let wanted = Some(Fault::InvalidArgumentNumber);
-    match compiler.make_seccomp_filter(alloc, entries) {
-        Ok(_) => return Err(Ending::Wrong("a filter of argument 6")),
-        Err(error) => ensure_fault("argument 6", fault_of_frontend(&error), wanted)?,
-    }
-    match compiler.widened(alloc, entries) {
-        Ok(_) => Err(Ending::Wrong("numbers of argument 6")),
-        Err(error) => ensure_fault("argument 6", fault_of_frontend(&error), wanted),
+fn ask_of_faulty(alloc: Global, entries: &JsonFilter, wanted: Fault) -> Result<(), Ending> {
+    match JsonCompiler::new(TargetArch::x86_64).make_seccomp_filter(alloc, entries) {
+        Ok(_) => Err(Ending::Wrong("the filter of a fault")),
+        Err(error) => ensure_fault("a faulty filter", fault_of_frontend(&error), Some(wanted)),
     }
 }
 
-fn compile(
-    alloc: Global,
-    text: &'static str,
-    wanted: Result<&SeccompFilter, Fault>,
-) -> Result<(), Ending> {
-    match JsonCompiler::new(TargetArch::x86_64).compile(alloc, text.as_bytes()) {
-        Ok(filters) => {
-            ensure(wanted.is_ok() && filters.len() == 1, text)?;
-            ensure(filters.get("a") == wanted.ok(), text)
-        }
-        Err(error) => ensure_fault(text, fault_of_frontend(&error), wanted.err()),
+fn ask_of_faulty_widened(alloc: Global, entries: &JsonFilter, wanted: Fault) -> Result<(), Ending> {
+    match JsonCompiler::new(TargetArch::x86_64).widened(alloc, entries) {
+        Ok(_) => Err(Ending::Wrong("the numbers of a fault")),
+        Err(error) => ensure_fault("faulty numbers", fault_of_frontend(&error), Some(wanted)),
     }
 }
 
-// Wants no fault, and one program, which is that of two calls.
-fn ensure_program(
-    text: &'static str,
-    count: usize,
-    found: Option<&BpfProgram>,
-    wanted: Option<Fault>,
-) -> Result<(), Ending> {
-    ensure(wanted.is_none() && count == 1, text)?;
-    match found {
-        Some(program) => ensure_rows(text, program, &PROGRAM),
-        None => Err(Ending::Wrong(text)),
+fn ask_of_faulty_value(alloc: Global, value: &Value, wanted: Fault) -> Result<(), Ending> {
+    match read_filters(alloc, value) {
+        Ok(_) => Err(Ending::Wrong("the filters of a fault")),
+        Err(error) => ensure_fault("a faulty value", fault_of_frontend(&error), Some(wanted)),
     }
 }
-
-fn compile_programs(
-    alloc: Global,
-    text: &'static str,
-    wanted: Option<Fault>,
-) -> Result<(), Ending> {
-    match compile_from_json(alloc, text.as_bytes(), TargetArch::x86_64) {
-        Ok(programs) => ensure_program(text, programs.len(), programs.get("a"), wanted),
-        Err(error) => ensure_fault(text, fault_of_library(&error), wanted),
-    }
-}
-
-fn compile_in_order(
-    alloc: Global,
-    text: &'static str,
-    wanted: Option<Fault>,
-) -> Result<(), Ending> {
-    match compile_from_json_in_order(alloc, text.as_bytes(), TargetArch::x86_64) {
-        Ok(programs) => ensure_program(text, programs.len(), programs.get("a"), wanted),
-        Err(error) => ensure_fault(text, fault_of_library(&error), wanted),
-    }
-}
-
-const FAULTS: [(&str, Fault); 8] = [
-    ("{1}", Fault::SerdeJson),
-    (r#"{"a":1,"a":1}"#, Fault::RepeatedKey),
-    ("[]", Fault::NotAnObject),
-    (r#"{"a":{}}"#, Fault::Shape),
-    (
-        r#"{"a":{"mismatch_action":"trap","match_action":"allow","filter":[{"syscall":"nosyscall"}]}}"#,
-        Fault::SyscallName,
-    ),
-    (
-        r#"{"a":{"mismatch_action":"trap","match_action":"allow","filter":[{"syscall":"read","args":[{"index":6,"type":"dword","op":"eq","val":5}]}]}}"#,
-        Fault::InvalidArgumentNumber,
-    ),
-    (
-        r#"{"a":{"mismatch_action":"trap","match_action":"allow","filter":[{"syscall":"read","args":[]}]}}"#,
-        Fault::EmptyRule,
-    ),
-    (
-        r#"{"a":{"mismatch_action":"log","match_action":"log","filter":[]}}"#,
-        Fault::IdenticalActions,
-    ),
-];
 
 /// The value and the entries of two calls.
 #[derive(Drop)]
@@ -149,7 +101,7 @@ pub struct TwoCalls {
 impl Lent for TwoCalls {
     fn new(alloc: Global) -> Result<Self, BackendError> {
         Ok(TwoCalls {
-            value: two_calls_value(alloc)?,
+            value: value_of(alloc, TWO_CALLS_TEXT)?,
             entries: two_calls_entries(alloc)?,
         })
     }
@@ -159,63 +111,103 @@ impl Lent for TwoCalls {
     }
 
     fn make_calls(&self, alloc: Global) -> Result<(), Ending> {
-        ask_of_value(alloc, &self.value, &self.entries)?;
-        ask_of_text(alloc, TWO_CALLS_TEXT, &self.entries)?;
+        let read = read_filters(alloc, &self.value);
+        ensure_filter("a value", read, "a", &self.entries)?;
+        let read = filters_from(alloc, TWO_CALLS_TEXT.as_bytes());
+        ensure_filter("a text", read, "a", &self.entries)?;
         ask_of_entries(alloc, &self.entries, &two_calls(alloc)?)
     }
 }
 
-/// Entries of one call of both kinds, and entries with a fault.
+/// The value and the entries of the main thread.
 #[derive(Drop)]
-pub struct OtherEntries {
+pub struct MainThread {
+    value: Value,
+    entries: JsonFilter,
+}
+
+impl Lent for MainThread {
+    fn new(alloc: Global) -> Result<Self, BackendError> {
+        Ok(MainThread {
+            value: value_of(alloc, MAIN_THREAD_TEXT)?,
+            entries: main_thread_entries(alloc)?,
+        })
+    }
+
+    fn equals(&self, other: &Self) -> bool {
+        self.value == other.value && self.entries == other.entries
+    }
+
+    fn make_calls(&self, alloc: Global) -> Result<(), Ending> {
+        let read = read_filters(alloc, &self.value);
+        ensure_filter(
+            "the main thread's value",
+            read,
+            "main_thread",
+            &self.entries,
+        )?;
+        let read = filters_from(alloc, MAIN_THREAD_TEXT.as_bytes());
+        ensure_filter("the main thread's text", read, "main_thread", &self.entries)?;
+        ask_of_entries(alloc, &self.entries, &main_thread(alloc)?)
+    }
+}
+
+/// Entries of calls of both kinds.
+#[derive(Drop)]
+pub struct WidenedEntries {
     both_kinds: JsonFilter,
-    faulty: JsonFilter,
+    several: JsonFilter,
 }
 
-impl Lent for OtherEntries {
+impl Lent for WidenedEntries {
     fn new(alloc: Global) -> Result<Self, BackendError> {
-        Ok(OtherEntries {
-            both_kinds: both_kinds(alloc)?,
-            faulty: faulty(alloc)?,
+        Ok(WidenedEntries {
+            both_kinds: entries(alloc, Trap, BOTH_KINDS)?,
+            several: entries(alloc, Trap, SEVERAL)?,
         })
     }
 
     fn equals(&self, other: &Self) -> bool {
-        self.both_kinds == other.both_kinds && self.faulty == other.faulty
+        self.both_kinds == other.both_kinds && self.several == other.several
     }
 
     fn make_calls(&self, alloc: Global) -> Result<(), Ending> {
-        ask_of_both_kinds(alloc, &self.both_kinds)?;
-        ask_of_faulty(alloc, &self.faulty)
+        ask_of_widened(alloc, &self.both_kinds, &[0])?;
+        ask_of_widened(alloc, &self.several, &[0, 3])
     }
 }
 
-/// The filter that a text gives; the texts themselves are constants.
+/// Entries with a fault, and a value of no filter.
 #[derive(Drop)]
-pub struct Texts {
-    wanted: SeccompFilter,
+pub struct FaultyEntries {
+    argument_6: JsonFilter,
+    no_call: JsonFilter,
+    no_condition: JsonFilter,
+    no_filter: Value,
 }
 
-impl Lent for Texts {
+impl Lent for FaultyEntries {
     fn new(alloc: Global) -> Result<Self, BackendError> {
-        Ok(Texts {
-            wanted: two_calls(alloc)?,
+        Ok(FaultyEntries {
+            argument_6: entries(alloc, Trap, ARGUMENT_6)?,
+            no_call: entries(alloc, Trap, NO_CALL)?,
+            no_condition: entries(alloc, Trap, NO_CONDITION)?,
+            no_filter: value_of(alloc, NO_FILTER)?,
         })
     }
 
     fn equals(&self, other: &Self) -> bool {
-        self.wanted == other.wanted
+        self.argument_6 == other.argument_6
+            && self.no_call == other.no_call
+            && self.no_condition == other.no_condition
+            && self.no_filter == other.no_filter
     }
 
     fn make_calls(&self, alloc: Global) -> Result<(), Ending> {
-        compile(alloc, TWO_CALLS_TEXT, Ok(&self.wanted))?;
-        compile_programs(alloc, TWO_CALLS_TEXT, None)?;
-        compile_in_order(alloc, TWO_CALLS_TEXT, None)?;
-        for (text, fault) in &FAULTS {
-            compile(alloc, text, Err(*fault))?;
-            compile_programs(alloc, text, Some(*fault))?;
-            compile_in_order(alloc, text, Some(*fault))?;
-        }
-        Ok(())
+        ask_of_faulty(alloc, &self.argument_6, Fault::InvalidArgumentNumber)?;
+        ask_of_faulty_widened(alloc, &self.argument_6, Fault::InvalidArgumentNumber)?;
+        ask_of_faulty(alloc, &self.no_call, Fault::SyscallName)?;
+        ask_of_faulty(alloc, &self.no_condition, Fault::EmptyRule)?;
+        ask_of_faulty_value(alloc, &self.no_filter, Fault::ShapeOfAName)
     }
 }

@@ -48,10 +48,6 @@ mod rules;
 #[cfg(test)]
 mod scarce;
 #[cfg(test)]
-mod scarce_policies;
-#[cfg(test)]
-mod scarce_programs;
-#[cfg(test)]
 mod scripted;
 #[cfg(test)]
 mod surface;

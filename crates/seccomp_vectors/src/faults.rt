@@ -62,9 +62,9 @@ pub fn is_frontend_fault(error: &JsonFrontendError, fault: Fault) -> bool {
     }
 }
 
-/// Whether the library's error is this fault: want of memory outside of all else, a filter too
-/// large as the backend's, any other within `JsonFrontend`.
-pub fn is_library_fault(error: &Error, fault: Fault) -> bool {
+// Whether the library's error is this fault: want of memory outside of all else, a filter too
+// large as the backend's, any other within `JsonFrontend`.
+fn is_library_fault(error: &Error, fault: Fault) -> bool {
     match error {
         Error::OutOfMemory => matches!(fault, Fault::OutOfMemory),
         Error::Backend(BackendError::FilterTooLarge(length)) => {

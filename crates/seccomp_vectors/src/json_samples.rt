@@ -24,10 +24,6 @@ pub const MAIN_THREAD: &str =
     {"syscall":"ioctl","args":[{"index":2,"type":"qword","op":"eq","val":4294967336}]},
     {"syscall":"madvise","args":[{"index":0,"type":"dword","op":"eq","val":0},{"index":1,"type":"dword","op":"eq","val":0}]}]}}"#;
 
-/// A filter with an entry for a call that there is not.
-pub const UNKNOWN: &str =
-    r#"{"mismatch_action":"trap","match_action":"allow","filter":[{"syscall":"nosyscall"}]}"#;
-
 /// The entry so many times, with commas between.
 pub fn repeated(alloc: Global, entry: &str, count: usize) -> Result<String, AllocError> {
     let mut entries = String::from_str(alloc, entry)?;
@@ -57,8 +53,8 @@ pub fn compiled(alloc: Global, text: &str, name: &str) -> Result<BpfProgram, Fai
     Ok(programs.remove(name).ok_or("a program under the name")?)
 }
 
-/// The text of two filters, the second named first.
-pub fn two_filters(
+// The text of two filters, the second named first.
+fn two_filters(
     alloc: Global,
     (first, of_first): (&str, &str),
     (second, of_second): (&str, &str),
@@ -66,8 +62,8 @@ pub fn two_filters(
     Ok(format!(in alloc; r#"{{"{second}":{of_second},"{first}":{of_first}}}"#)?)
 }
 
-/// The filter of so many equal entries of one condition.
-pub fn large(alloc: Global, count: usize) -> Result<String, Fail> {
+// The filter of so many equal entries of one condition.
+fn large(alloc: Global, count: usize) -> Result<String, Fail> {
     let entries = repeated(alloc, COMPARES, count)?;
     filter_text(alloc, entries.as_str())
 }

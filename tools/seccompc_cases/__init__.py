@@ -1,5 +1,6 @@
 """What the built program seccompc is tried on by tools/check-documents beside tools/program_cases.py, and what it has
-to do: tables of policies and of calls. Forms of cases are those of tools/seccomptool_cases.
+to do: tables of policies and of calls. Forms of cases are those of tools/seccomptool_cases; but short.py has cases of
+tools/check-program, of a form of its own.
 
 Expected values come from the definitions in crates/seccompiler/specs and crates/seccompc/specs, arithmetic or a
 kernel's headers, and never from the program's output.

@@ -68,6 +68,21 @@ fn compile(
     }
 }
 
+fn compile_filters_in_order(
+    alloc: Global,
+    text: &'static str,
+    name: &str,
+    wanted: &CompiledFilter,
+) -> Result<(), Ending> {
+    match JsonCompiler::new(TargetArch::x86_64).compile_in_order(alloc, text.as_bytes()) {
+        Ok(found) => ensure(
+            found.len() == 1 && found.get(name) == Some(&wanted.filter),
+            text,
+        ),
+        Err(error) => ensure_fault(text, fault_of_frontend(&error), None),
+    }
+}
+
 fn compile_programs(
     alloc: Global,
     text: &'static str,
@@ -99,6 +114,7 @@ fn ask_of_text(
     wanted: &CompiledFilter,
 ) -> Result<(), Ending> {
     compile(alloc, text, name, wanted)?;
+    compile_filters_in_order(alloc, text, name, wanted)?;
     compile_programs(alloc, text, name, &wanted.program)?;
     compile_in_order(alloc, text, name, &wanted.program)
 }
@@ -110,6 +126,18 @@ fn compile_faulty(
     wanted: Fault,
 ) -> Result<(), Ending> {
     match JsonCompiler::new(TargetArch::x86_64).compile(alloc, text.as_bytes()) {
+        Ok(_) => Err(Ending::Wrong(what)),
+        Err(error) => ensure_fault(what, fault_of_frontend(&error), Some(wanted)),
+    }
+}
+
+fn compile_faulty_filters_in_order(
+    alloc: Global,
+    what: &'static str,
+    text: &str,
+    wanted: Fault,
+) -> Result<(), Ending> {
+    match JsonCompiler::new(TargetArch::x86_64).compile_in_order(alloc, text.as_bytes()) {
         Ok(_) => Err(Ending::Wrong(what)),
         Err(error) => ensure_fault(what, fault_of_frontend(&error), Some(wanted)),
     }
@@ -148,6 +176,7 @@ pub(crate) fn ask_of_faulty_text(
     wanted: Fault,
 ) -> Result<(), Ending> {
     compile_faulty(alloc, what, text, wanted)?;
+    compile_faulty_filters_in_order(alloc, what, text, wanted)?;
     compile_faulty_programs(alloc, what, text, wanted)?;
     compile_faulty_in_order(alloc, what, text, wanted)
 }

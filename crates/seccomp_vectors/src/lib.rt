@@ -10,8 +10,6 @@ mod builders;
 #[cfg(test)]
 mod conditions;
 #[cfg(test)]
-mod examples;
-#[cfg(test)]
 mod faults;
 #[cfg(test)]
 mod filters;
@@ -25,8 +23,6 @@ mod json_faults;
 mod json_policies;
 #[cfg(test)]
 mod json_samples;
-#[cfg(test)]
-mod json_texts;
 #[cfg(test)]
 mod kernels;
 #[cfg(test)]
@@ -49,10 +45,6 @@ mod rules;
 mod scarce;
 #[cfg(test)]
 mod scripted;
-#[cfg(test)]
-mod surface;
-#[cfg(test)]
-mod texts;
 #[cfg(test)]
 mod trees;
 #[cfg(test)]

@@ -2,13 +2,12 @@
 // module's, the constants with their numbers, the layout of an instruction, and the errors as errors of
 // any program.
 
-use crate::builders::{assert_that, call};
-use crate::instructions::give;
+use crate::builders::{assert_that, record_of};
 use seccompiler::bpf::{
     ARG_NUMBER_MAX, AUDIT_ARCH_AARCH64, AUDIT_ARCH_RISCV64, AUDIT_ARCH_X86_64, BPF_ABS, BPF_ALU,
     BPF_AND, BPF_JA, BPF_JEQ, BPF_JGE, BPF_JGT, BPF_JMP, BPF_K, BPF_LD, BPF_MAX_LEN, BPF_RET,
     BPF_W, CONDITION_MAX_LEN, SECCOMP_DATA_ARCH_OFFSET, SECCOMP_DATA_ARG_SIZE,
-    SECCOMP_DATA_ARGS_OFFSET, SECCOMP_DATA_NR_OFFSET,
+    SECCOMP_DATA_ARGS_OFFSET, SECCOMP_DATA_NR_OFFSET, bpf_stmt,
 };
 use std::alloc::{AllocError, Global};
 use std::collections::BTreeMap;
@@ -127,7 +126,7 @@ fn is_of_duplicates(lent: seccompiler::BpfProgramRef) -> bool {
         word: 0x7fff_0000,
         steps: 8,
     };
-    let record = call(72, [0, 2, 0, 0, 0, 0]).record();
+    let record = record_of(72, [0, 2, 0, 0, 0, 0]);
     seccompiler::machine::check(lent)
         && seccompiler::machine::run(lent, &record) == outcome
         && lent.last() == Some(&kill)
@@ -245,7 +244,7 @@ impl seccompiler::Kernel for WillingKernel {
 // Whether both ways of installing a program of one return succeed.
 fn is_installed() -> bool {
     let mut kernel = WillingKernel;
-    let program = [give(0x7fff_0000)];
+    let program = [bpf_stmt(0x06, 0x7fff_0000)];
     let done: seccompiler::Result<()> = seccompiler::apply_filter(&mut kernel, &program);
     done.is_ok() && seccompiler::apply_filter_all_threads(&mut kernel, &program).is_ok()
 }

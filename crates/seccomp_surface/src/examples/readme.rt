@@ -30,7 +30,7 @@ fn word(program: &[sock_filter], number: u32, argument: u64) -> Option<u32> {
     if !check(program) {
         return None;
     }
-    let call = crate::builders::call(number, [0, argument, 0, 0, 0, 0]).record();
+    let call = crate::builders::record_of(number, [0, argument, 0, 0, 0, 0]);
     Some(run(program, &call).word)
 }
 

@@ -23,7 +23,7 @@ fn answer(alloc: Global, call: &[u8; 64]) -> Result<Outcome, BackendError> {
 #[test]
 fn getpid_alone_is_allowed(rt: HostRuntime) -> Result<(), std::test::Fail> {
     for (number, word) in &[(39, 0x7fff_0000), (40, 0x0003_0000)] {
-        let call = crate::builders::call(*number, [0; 6]).record();
+        let call = crate::builders::record_of(*number, [0; 6]);
         let outcome = answer(rt.alloc(), &call)?;
         assert!(rt; outcome.word == *word, "call {number}");
     }

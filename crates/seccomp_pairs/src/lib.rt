@@ -8,4 +8,6 @@ mod lookups;
 #[cfg(test)]
 mod pairs;
 #[cfg(test)]
+mod reading;
+#[cfg(test)]
 mod samples;

@@ -1,8 +1,8 @@
 // Looking names up by halving: what is found, and how many names are compared.
 
 use crate::files::file_of;
-use seccompiler::{Lookup, SyscallTable, TargetArch};
-use std::process::Abort;
+use crate::reading::{pair_of, walked};
+use seccompiler::{SyscallTable, TargetArch};
 
 // Texts that name no call on any architecture: before all names and behind them, and one byte, one
 // letter's case or the length away from a name.
@@ -18,50 +18,59 @@ const ORDERED: [(&str, &str); 3] = [
     ("_sysctl", "accept"),
 ];
 
-// Looks a name up, by both calls: the number is this one, after so many comparisons at least and
-// at most nine.
-fn assert_found(rt: &impl Abort, arch: TargetArch, name: &str, number: Option<i64>, least: usize) {
+// Whether both calls give this number, after so many comparisons at least and at most nine.
+fn finds(arch: TargetArch, name: &str, number: Option<i64>, least: usize) -> bool {
     let table = SyscallTable::new(arch);
     let found = table.lookup(name);
-    let compared = found.compared;
-    assert_eq!(rt;
-        found,
-        Lookup { number, compared },
-        "the look-up of `{name}` on {arch}"
-    );
-    assert_eq!(rt;
-        table.get_syscall_nr(name),
-        number,
-        "the number of `{name}` on {arch}"
-    );
-    assert!(rt;
-        least <= compared && compared <= 9,
-        "{compared} names compared with `{name}` on {arch}"
-    );
+    found.number == number
+        && least <= found.compared
+        && found.compared <= 9
+        && table.get_syscall_nr(name) == number
 }
 
-// The number that a walk over the pairs finds.
-fn walked(pairs: &[(&str, i64)], name: &str) -> Option<i64> {
-    for pair in pairs {
-        if pair.0 == name {
-            return Some(pair.1);
-        }
+// Whether the name of the line is found with the number of the line.
+fn finds_pair(arch: TargetArch, line: &str) -> bool {
+    match pair_of(line) {
+        Some((name, number)) => finds(arch, name, Some(number), 1),
+        None => false,
     }
-    None
+}
+
+// Whether the name of the line without its last letter gives what a walk over the file gives.
+fn finds_front(arch: TargetArch, line: &str) -> bool {
+    match pair_of(line) {
+        Some((name, _)) => match name.get(..name.len().saturating_sub(1)) {
+            Some(front) => finds(arch, front, walked(file_of(arch), front), 1),
+            None => false,
+        },
+        None => false,
+    }
 }
 
 // The place of a name in the table of x86_64.
 fn place(name: &str) -> Option<usize> {
-    seccomp_tables::X86_64
+    SyscallTable::new(TargetArch::x86_64)
+        .pairs()
         .iter()
         .position(|pair| pair.0 == name)
+}
+
+// Whether the table of x86_64 has both names, the first before the second.
+fn ascend(first: &str, second: &str) -> bool {
+    match (place(first), place(second)) {
+        (Some(before), Some(after)) => before < after,
+        _ => false,
+    }
 }
 
 #[test]
 fn each_pair_of_the_files(rt: HostRuntime) {
     for arch in TargetArch::all() {
-        for (name, number) in file_of(*arch) {
-            assert_found(&rt, *arch, name, Some(*number), 1);
+        for line in file_of(*arch).lines() {
+            assert!(rt;
+                finds_pair(*arch, line),
+                "the look-up of `{line}` on {arch}"
+            );
         }
     }
 }
@@ -70,11 +79,8 @@ fn each_pair_of_the_files(rt: HostRuntime) {
 #[test]
 fn fronts_of_the_names(rt: HostRuntime) {
     for arch in TargetArch::all() {
-        let pairs = file_of(*arch);
-        for (name, _) in pairs {
-            if let Some(front) = name.get(..name.len().saturating_sub(1)) {
-                assert_found(&rt, *arch, front, walked(pairs, front), 1);
-            }
+        for line in file_of(*arch).lines() {
+            assert!(rt; finds_front(*arch, line), "the front of `{line}` on {arch}");
         }
     }
 }
@@ -83,7 +89,10 @@ fn fronts_of_the_names(rt: HostRuntime) {
 fn texts_that_name_no_call(rt: HostRuntime) {
     for arch in TargetArch::all() {
         for name in ABSENT {
-            assert_found(&rt, *arch, name, None, 8);
+            assert!(rt;
+                finds(*arch, name, None, 8),
+                "the look-up of `{name}` on {arch}"
+            );
         }
     }
 }
@@ -91,10 +100,6 @@ fn texts_that_name_no_call(rt: HostRuntime) {
 #[test]
 fn names_stand_in_byte_order(rt: HostRuntime) {
     for (first, second) in ORDERED {
-        let (Some(before), Some(after)) = (place(first), place(second)) else {
-            assert!(rt; false, "`{first}` and `{second}` are names of x86_64");
-            return;
-        };
-        assert!(rt; before < after, "`{first}` before `{second}`");
+        assert!(rt; ascend(first, second), "`{first}` before `{second}`");
     }
 }

@@ -1,0 +1,47 @@
+// Reading the text of a file.
+
+// The name and the number of a line.
+pub(crate) fn pair_of(line: &str) -> Option<(&str, i64)> {
+    match line.split_once(' ') {
+        Some((name, number)) => match number.parse::<i64>() {
+            Ok(number) => Some((name, number)),
+            Err(_) => None,
+        },
+        None => None,
+    }
+}
+
+// Whether the line is a pair of this name.
+fn is_of(line: &str, name: &str) -> bool {
+    match pair_of(line) {
+        Some((other, _)) => other == name,
+        None => false,
+    }
+}
+
+// The number that a walk over the lines finds.
+pub(crate) fn walked(file: &str, name: &str) -> Option<i64> {
+    for line in file.lines() {
+        if is_of(line, name) {
+            return match pair_of(line) {
+                Some((_, number)) => Some(number),
+                None => None,
+            };
+        }
+    }
+    None
+}
+
+// Whether exactly one line of the file has the name.
+pub(crate) fn stands_once(file: &str, name: &str) -> bool {
+    let mut seen = false;
+    for line in file.lines() {
+        if is_of(line, name) {
+            if seen {
+                return false;
+            }
+            seen = true;
+        }
+    }
+    seen
+}

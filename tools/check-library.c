@@ -1,40 +1,21 @@
 /*
  * Calls the library for C as a program in C does: each function, each code, each text, with the figures
- * of the README and of docs/LAYOUTS.md; and each call that takes memory with each of its requests for
- * memory refused in turn. tools/check-library builds and runs it. Prints each answer that is another
- * than it should be, and as its last line 'N passed, M failed'.
+ * of the README and of docs/LAYOUTS.md; and each call that takes memory with all of its requests for
+ * memory refused, and with each in turn. tools/check-library-rows.h has what is asked and answered,
+ * tools/check-library builds and runs it. Prints each answer that is another than it should be, and as
+ * its last line 'N passed, M failed'.
  */
-#include <seccompiler.h>
+#include "check-library-rows.h"
 
 #include <inttypes.h>
-#include <linux/audit.h>
-#include <linux/seccomp.h>
+#include <limits.h>
 #include <stddef.h>
 #include <stdio.h>
 #include <stdlib.h>
 #include <string.h>
 
-static const char README[] =
-    "{\"main_thread\":{\"mismatch_action\":\"kill_process\",\"match_action\":\"allow\",\"filter\":["
-    "{\"syscall\":\"accept4\"},"
-    "{\"syscall\":\"fcntl\",\"args\":["
-    "{\"index\":1,\"type\":\"dword\",\"op\":\"eq\",\"val\":2},"
-    "{\"index\":2,\"type\":\"dword\",\"op\":\"eq\",\"val\":1}]},"
-    "{\"syscall\":\"fcntl\",\"args\":[{\"index\":1,\"type\":\"dword\",\"op\":\"eq\",\"val\":1}]}]}}";
-static const char NAME[] = "main_thread";
-static const char SHAPELESS[] = "{\"\xc2\xb5\":{}}";
 static const char ENTRY[] =
     "{\"syscall\":\"read\",\"args\":[{\"index\":0,\"type\":\"dword\",\"op\":\"eq\",\"val\":5}]}";
-
-/* The listing of the README's policy. */
-static const struct sock_filter LISTING[24] = {
-    {0x20, 0, 0, 4},    {0x15, 1, 0, 0xc000003e}, {0x06, 0, 0, 0x80000000}, {0x20, 0, 0, 0},
-    {0x15, 0, 1, 0x48}, {0x05, 0, 0, 1},          {0x05, 0, 0, 6},          {0x20, 0, 0, 0x20},
-    {0x15, 0, 3, 1},    {0x20, 0, 0, 0x18},       {0x15, 0, 1, 2},          {0x06, 0, 0, 0x7fff0000},
-    {0x05, 0, 0, 1},    {0x05, 0, 0, 4},          {0x20, 0, 0, 0x18},       {0x15, 0, 1, 1},
-    {0x06, 0, 0, 0x7fff0000}, {0x06, 0, 0, 0x80000000}, {0x15, 0, 1, 0x120}, {0x05, 0, 0, 1},
-    {0x05, 0, 0, 2},    {0x06, 0, 0, 0x7fff0000}, {0x06, 0, 0, 0x80000000}, {0x06, 0, 0, 0x80000000},
-};
 
 static int passed, failed;
 
@@ -60,11 +41,12 @@ void *__real_malloc(size_t size);
 void *__real_realloc(void *block, size_t size);
 void __real_free(void *block);
 
-static long requests, refused_at, held;
+static long requests, refused_from = 1, refused_to, held;
 
 static int is_refused(void)
 {
-    return ++requests == refused_at;
+    requests++;
+    return requests >= refused_from && requests <= refused_to;
 }
 
 void *__wrap_malloc(size_t size)
@@ -87,11 +69,12 @@ void __wrap_free(void *block)
     __real_free(block);
 }
 
-/* From here on the request of this number is refused, counted from 1; none at 0. */
-static void refuse(long number)
+/* From here on these requests are refused, counted from 1: none where the last is before the first. */
+static void refuse(long first, long last)
 {
     requests = 0;
-    refused_at = number;
+    refused_from = first;
+    refused_to = last;
 }
 
 /* ---- arrays that are as they were */
@@ -114,12 +97,13 @@ static int is_marked(size_t from)
 
 /* ---- records */
 
-static struct seccomp_data call_of(uint32_t arch, int number, uint64_t second, uint64_t third)
+static struct seccomp_data call_of(uint32_t arch, int number, uint64_t first, uint64_t second, uint64_t third)
 {
     struct seccomp_data call;
     memset(&call, 0, sizeof call);
     call.nr = number;
     call.arch = arch;
+    call.args[0] = first;
     call.args[1] = second;
     call.args[2] = third;
     return call;
@@ -139,25 +123,11 @@ static int64_t compile_readme(uint32_t layout, size_t room)
     return compile(README, strlen(README), AUDIT_ARCH_X86_64, NAME, strlen(NAME), layout, room);
 }
 
-static const struct {
-    uint32_t arch;
-    int number;
-    uint64_t second, third;
-    int64_t word;
-} CALLS[] = {
-    {AUDIT_ARCH_X86_64, 288, 0, 0, SECCOMP_RET_ALLOW},
-    {AUDIT_ARCH_X86_64, 72, 2, 1, SECCOMP_RET_ALLOW},
-    {AUDIT_ARCH_X86_64, 72, 2, 2, SECCOMP_RET_KILL_PROCESS},
-    {AUDIT_ARCH_X86_64, 72, 0x100000001, 7, SECCOMP_RET_ALLOW},
-    {AUDIT_ARCH_X86_64, 72, 3, 1, SECCOMP_RET_KILL_PROCESS},
-    {AUDIT_ARCH_X86_64, 0, 0, 0, SECCOMP_RET_KILL_PROCESS},
-    {AUDIT_ARCH_AARCH64, 288, 0, 0, SECCOMP_RET_KILL_PROCESS},
-};
-
 static void check_calls(int64_t count)
 {
     for (size_t i = 0; i < sizeof CALLS / sizeof *CALLS; i++) {
-        struct seccomp_data call = call_of(CALLS[i].arch, CALLS[i].number, CALLS[i].second, CALLS[i].third);
+        struct seccomp_data call =
+            call_of(CALLS[i].arch, CALLS[i].number, CALLS[i].first, CALLS[i].second, CALLS[i].third);
         equal(seccompiler_run(program, count, &call, sizeof call), CALLS[i].word, "a run");
         equal(seccompiler_decide(README, strlen(README), AUDIT_ARCH_X86_64, NAME, strlen(NAME), &call,
                                  sizeof call),
@@ -182,30 +152,6 @@ static void check_programs(void)
 
 /* ---- codes and texts */
 
-static const struct {
-    const char *text, *name;
-    uint32_t arch, layout;
-    size_t room;
-    int64_t code;
-    const char *said;
-} REFUSED[] = {
-    {"", "b", 0, 2, 0, SECCOMPILER_UNKNOWN_ARCHITECTURE, "Unknown architecture."},
-    {"", "b", AUDIT_ARCH_I386, 0, 0, SECCOMPILER_UNKNOWN_ARCHITECTURE, "Unknown architecture."},
-    {"", "b", AUDIT_ARCH_X86_64, 2, 0, SECCOMPILER_UNKNOWN_LAYOUT, "Unknown layout."},
-    {"[]", "b", AUDIT_ARCH_X86_64, 0, 0, SECCOMPILER_REFUSED, "Json is not an object of filters."},
-    {"{\"a\":{\"x\":1,\"x\":1}}", "b", AUDIT_ARCH_X86_64, 0, 0, SECCOMPILER_REFUSED, "Repeated key in Json."},
-    {SHAPELESS, "b", AUDIT_ARCH_X86_64, 1, 0, SECCOMPILER_REFUSED, "Json filter has a wrong shape: \xc2\xb5."},
-    {"{\"a\":{\"mismatch_action\":\"trap\",\"match_action\":\"allow\",\"filter\":[{\"syscall\":\"nosyscall\"}]}}",
-     "b", AUDIT_ARCH_AARCH64, 0, 0, SECCOMPILER_REFUSED,
-     "Invalid syscall name: nosyscall for given arch: aarch64."},
-    {README, "b", AUDIT_ARCH_X86_64, 0, 0, SECCOMPILER_NO_FILTER, "No filter has this name."},
-    {README, "\xff", AUDIT_ARCH_X86_64, 0, 0, SECCOMPILER_NO_FILTER, "No filter has this name."},
-    {README, NAME, AUDIT_ARCH_X86_64, 0, 23, SECCOMPILER_NO_ROOM,
-     "The array has too little room for the program: it has 24 instructions."},
-    {README, NAME, AUDIT_ARCH_X86_64, 1, 25, SECCOMPILER_NO_ROOM,
-     "The array has too little room for the program: it has 26 instructions."},
-};
-
 static void check_refusals(void)
 {
     for (size_t i = 0; i < sizeof REFUSED / sizeof *REFUSED; i++) {
@@ -222,15 +168,17 @@ static void check_refusals(void)
         check(memcmp(buffer, said, strlen(said)) == 0, said);
         check(buffer[strlen(said)] == '#', "behind the text of a refusal");
     }
-    char buffer[64];
+    char buffer[64] = "#";
     equal(seccompiler_refusal(README, strlen(README), AUDIT_ARCH_X86_64, NAME, strlen(NAME), 0, 24, buffer,
                               sizeof buffer),
           0, "no refusal");
+    check(buffer[0] == '#', "a buffer with no refusal");
+    equal(compile("", 0, AUDIT_ARCH_X86_64, "b", 1, 0, 0), SECCOMPILER_REFUSED, "no text");
+    check(is_marked(0), "an array after no text");
 }
 
 static void check_cuts(void)
 {
-    static const int64_t CUTS[][2] = {{0, 0}, {1, 1}, {31, 31}, {32, 31}, {33, 33}, {34, 34}, {35, 34}};
     for (size_t i = 0; i < sizeof CUTS / sizeof *CUTS; i++) {
         char buffer[64];
         memset(buffer, '#', sizeof buffer);
@@ -243,24 +191,41 @@ static void check_cuts(void)
 
 static void check_codes(void)
 {
-    struct seccomp_data call = call_of(AUDIT_ARCH_X86_64, 0, 0, 0);
-    const struct sock_filter returns = {6, 0, 0, 7};
-    const struct sock_filter jumps = {5, 0, 0, 0};
-    equal(seccompiler_run(&returns, 1, &call, 64), 7, "a run of one return");
-    equal(seccompiler_run(&jumps, 1, &call, 63), SECCOMPILER_NOT_CHECKED, "a run of a jump past the end");
-    equal(seccompiler_run(&returns, 0, &call, 64), SECCOMPILER_NOT_CHECKED, "a run of nothing");
-    equal(seccompiler_run(&returns, 1, &call, 63), SECCOMPILER_NOT_A_RECORD, "a run on 63 bytes");
-    equal(seccompiler_decide("", 0, 0, "b", 1, &call, 63), SECCOMPILER_UNKNOWN_ARCHITECTURE, "no architecture");
-    equal(seccompiler_decide("", 0, AUDIT_ARCH_X86_64, "b", 1, &call, 63), SECCOMPILER_NOT_A_RECORD, "63 bytes");
-    equal(seccompiler_decide("", 0, AUDIT_ARCH_X86_64, "b", 1, &call, 64), SECCOMPILER_REFUSED, "no text");
-    equal(seccompiler_decide("{}", 2, AUDIT_ARCH_X86_64, "b", 1, &call, 64), SECCOMPILER_NO_FILTER, "no filter");
-    equal(seccompiler_call_number(AUDIT_ARCH_X86_64, "accept4", 7), 288, "accept4");
-    equal(seccompiler_call_number(AUDIT_ARCH_AARCH64, "close", 5), 57, "close");
-    equal(seccompiler_call_number(AUDIT_ARCH_RISCV64, "riscv_flush_icache", 18), 259, "riscv_flush_icache");
-    equal(seccompiler_call_number(AUDIT_ARCH_X86_64, "accept4", 6), 43, "accept");
-    equal(seccompiler_call_number(AUDIT_ARCH_AARCH64, "open", 4), SECCOMPILER_UNKNOWN_CALL, "open");
-    equal(seccompiler_call_number(AUDIT_ARCH_AARCH64, "open\xff", 5), SECCOMPILER_UNKNOWN_CALL, "no text");
-    equal(seccompiler_call_number(0, "read", 4), SECCOMPILER_UNKNOWN_ARCHITECTURE, "no architecture");
+    for (size_t i = 0; i < sizeof CODES / sizeof *CODES; i++)
+        equal(CODES[i][0], CODES[i][1], "a name of the header");
+}
+
+static void check_runs(void)
+{
+    static const unsigned char record[65];
+    static const struct sock_filter returns = {6, 0, 0, 7};
+    static const struct sock_filter jumps = {5, 0, 0, 0};
+    static const struct sock_filter unknown = {0xffff, 0xff, 0xff, 0xffffffff};
+    equal(seccompiler_run(&returns, 1, record, 64), 7, "a run of one return");
+    equal(seccompiler_run(&jumps, 1, record, 63), SECCOMPILER_NOT_CHECKED, "a run of a jump past the end");
+    equal(seccompiler_run(&unknown, 1, record, 64), SECCOMPILER_NOT_CHECKED, "a run of an unknown instruction");
+    equal(seccompiler_run(&returns, 0, record, 64), SECCOMPILER_NOT_CHECKED, "a run of nothing");
+    equal(seccompiler_run(&returns, 0, record, 63), SECCOMPILER_NOT_CHECKED, "a run of nothing on 63 bytes");
+    equal(seccompiler_run(&returns, 1, record, 63), SECCOMPILER_NOT_A_RECORD, "a run on 63 bytes");
+    equal(seccompiler_run(&returns, 1, record, 65), SECCOMPILER_NOT_A_RECORD, "a run on 65 bytes");
+}
+
+static void check_undecided(void)
+{
+    struct seccomp_data call = call_of(AUDIT_ARCH_X86_64, 0, 0, 0, 0);
+    for (size_t i = 0; i < sizeof UNDECIDED / sizeof *UNDECIDED; i++) {
+        const char *text = UNDECIDED[i].text, *name = UNDECIDED[i].name;
+        equal(seccompiler_decide(text, strlen(text), UNDECIDED[i].arch, name, strlen(name), &call,
+                                 UNDECIDED[i].bytes),
+              UNDECIDED[i].code, "what is not decided");
+    }
+}
+
+static void check_numbers(void)
+{
+    for (size_t i = 0; i < sizeof NUMBERS / sizeof *NUMBERS; i++)
+        equal(seccompiler_call_number(NUMBERS[i].arch, NUMBERS[i].name, NUMBERS[i].bytes), NUMBERS[i].answer,
+              "the number of a call");
 }
 
 /* The filter `a` of so many entries, and a filter `b` of none. Its program has 5 n + 7 instructions. */
@@ -279,6 +244,8 @@ static char *long_text(size_t count)
 static void check_lengths(void)
 {
     char *fits = long_text(817), *large = long_text(818);
+    equal(compile(fits, strlen(fits), AUDIT_ARCH_X86_64, "a", 1, 0, 4096), 4092, "with room for any program");
+    check(is_marked(4092), "behind a program with room for any");
     equal(compile(fits, strlen(fits), AUDIT_ARCH_X86_64, "a", 1, 0, 4092), 4092, "the longest program");
     check(is_marked(4092), "behind the longest program");
     equal(seccompiler_check(program, 4092), 1, "a check of the longest program");
@@ -286,19 +253,30 @@ static void check_lengths(void)
     equal(compile(large, strlen(large), AUDIT_ARCH_X86_64, "a", 1, 0, 0), SECCOMPILER_TOO_LARGE, "too large");
     check(is_marked(0), "an array after a filter that is too large");
     equal(compile(large, strlen(large), AUDIT_ARCH_X86_64, "b", 1, 0, 4), 4, "beside a filter that is too large");
+    char buffer[128];
+    memset(buffer, '#', sizeof buffer);
+    equal(seccompiler_refusal(large, strlen(large), AUDIT_ARCH_X86_64, "a", 1, 0, 4096, buffer, sizeof buffer),
+          strlen(TOO_LARGE), TOO_LARGE);
+    check(memcmp(buffer, TOO_LARGE, strlen(TOO_LARGE)) == 0, TOO_LARGE);
+    check(buffer[strlen(TOO_LARGE)] == '#', "behind the text of a filter that is too large");
     free(fits);
     free(large);
 }
 
-/* ---- each request for memory refused in turn */
+/* ---- requests for memory refused: all, and each in turn */
 
-/* Makes a call once for each of its requests, that one refused. Each answer is want of memory or the
- * ample one, which comes where the call goes on without what was refused, and at the end. */
+/* Makes a call with all requests refused, which answers want of memory; then once for each of its
+ * requests, that one refused. Each answer is want of memory or the ample one, which comes where the call
+ * goes on without what was refused, and at the end. */
 static void sweep(int64_t (*call)(void), int64_t ample, int64_t refused)
 {
     long number = 0, scarce = 0;
+    refuse(1, LONG_MAX);
+    equal(call(), refused, "an answer with all requests refused");
+    equal(held, 0, "memory that is kept");
     do {
-        refuse(++number);
+        number++;
+        refuse(number, number);
         int64_t answer = call();
         scarce += answer != ample;
         check(answer == ample || answer == refused, "an answer with a refused request");
@@ -307,7 +285,7 @@ static void sweep(int64_t (*call)(void), int64_t ample, int64_t refused)
         equal(held, 0, "memory that is kept");
     } while (requests >= number && number < 10000);
     check(scarce > 0 && requests < number, "answers once no request is refused");
-    refuse(0);
+    refuse(1, 0);
 }
 
 static int64_t in_chains(void)
@@ -326,7 +304,7 @@ static int64_t as_tree(void)
 
 static int64_t decided(void)
 {
-    struct seccomp_data call = call_of(AUDIT_ARCH_X86_64, 288, 0, 0);
+    struct seccomp_data call = call_of(AUDIT_ARCH_X86_64, 288, 0, 0, 0);
     return seccompiler_decide(README, strlen(README), AUDIT_ARCH_X86_64, NAME, strlen(NAME), &call, 64);
 }
 
@@ -341,16 +319,27 @@ static int64_t refusal(void)
     return bytes;
 }
 
-/* The functions that take no memory make no request for any. */
+/* The refusal of a program that there is, where nothing is said; want of memory is, in 14 bytes. */
+static int64_t no_refusal(void)
+{
+    char buffer[32] = "#";
+    int64_t bytes = seccompiler_refusal(README, strlen(README), AUDIT_ARCH_X86_64, NAME, strlen(NAME),
+                                        SECCOMPILER_LAYOUT_TREE, 30, buffer, sizeof buffer);
+    check(memcmp(buffer, bytes == 0 ? "#" : "Out of memory.", bytes == 0 ? 1 : 14) == 0, "the text of no refusal");
+    return bytes;
+}
+
+/* The functions that take no memory make no request for any, and answer where none is granted. */
 static void without_memory(void)
 {
-    struct seccomp_data call = call_of(AUDIT_ARCH_X86_64, 288, 0, 0);
+    struct seccomp_data call = call_of(AUDIT_ARCH_X86_64, 288, 0, 0, 0);
     equal(compile_readme(SECCOMPILER_LAYOUT_CHAINS, 24), 24, "the README's policy");
-    refuse(0);
+    refuse(1, LONG_MAX);
     equal(seccompiler_check(program, 24), 1, "a check");
     equal(seccompiler_run(program, 24, &call, 64), SECCOMP_RET_ALLOW, "a run");
     equal(seccompiler_call_number(AUDIT_ARCH_X86_64, "accept4", 7), 288, "a call's number");
     equal(requests, 0, "requests of the functions that take no memory");
+    refuse(1, 0);
 }
 
 int main(void)
@@ -362,12 +351,16 @@ int main(void)
     check_refusals();
     check_cuts();
     check_codes();
+    check_runs();
+    check_undecided();
+    check_numbers();
     check_lengths();
     held = 0;
     sweep(in_chains, 24, SECCOMPILER_OUT_OF_MEMORY);
     sweep(as_tree, 26, SECCOMPILER_OUT_OF_MEMORY);
     sweep(decided, SECCOMP_RET_ALLOW, SECCOMPILER_OUT_OF_MEMORY);
     sweep(refusal, 34, 14);
+    sweep(no_refusal, 0, 14);
     without_memory();
     printf("%d passed, %d failed\n", passed, failed);
     return failed != 0;

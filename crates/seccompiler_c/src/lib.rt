@@ -6,8 +6,6 @@ mod codes;
 mod fault;
 mod policy;
 mod program;
-#[cfg(test)]
-mod tests;
 mod text;
 
 ghost use Rattle.std.specs.Prelude.{◌≡◌, ◌⊎◌, ◌↔◌, pos, length};

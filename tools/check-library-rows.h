@@ -1,0 +1,144 @@
+/*
+ * What tools/check-library.c asks the library for C, and what has to be answered: figures of the README
+ * and of docs/LAYOUTS.md, the kernel's words, and the codes and texts of the definitions.
+ */
+#ifndef CHECK_LIBRARY_ROWS_H
+#define CHECK_LIBRARY_ROWS_H
+
+#include <seccompiler.h>
+
+#include <linux/audit.h>
+#include <linux/seccomp.h>
+
+static const char README[] =
+    "{\"main_thread\":{\"mismatch_action\":\"kill_process\",\"match_action\":\"allow\",\"filter\":[\n"
+    "    {\"syscall\":\"accept4\"},\n"
+    "    {\"syscall\":\"fcntl\",\"args\":[\n"
+    "        {\"index\":1,\"type\":\"dword\",\"op\":\"eq\",\"val\":2,\"comment\":\"F_SETFD\"},\n"
+    "        {\"index\":2,\"type\":\"dword\",\"op\":\"eq\",\"val\":1,\"comment\":\"FD_CLOEXEC\"}]},\n"
+    "    {\"syscall\":\"fcntl\",\"args\":["
+    "{\"index\":1,\"type\":\"dword\",\"op\":\"eq\",\"val\":1,\"comment\":\"F_GETFD\"}]}]}}";
+static const char NAME[] = "main_thread";
+
+/* A filter without actions, whose name has two bytes. */
+static const char SHAPELESS[] = "{\"\xc2\xb5\":{}}";
+
+/* The filter `a` names a call that no architecture has, and the filter `b` is fine. */
+static const char UNKNOWN[] =
+    "{\"a\":{\"mismatch_action\":\"trap\",\"match_action\":\"allow\",\"filter\":[{\"syscall\":\"nosyscall\"}]},\n"
+    "\"b\":{\"mismatch_action\":\"trap\",\"match_action\":\"allow\",\"filter\":[]}}";
+
+/* The listing of the README's policy. */
+static const struct sock_filter LISTING[24] = {
+    {0x20, 0, 0, 4},    {0x15, 1, 0, 0xc000003e}, {0x06, 0, 0, 0x80000000}, {0x20, 0, 0, 0},
+    {0x15, 0, 1, 0x48}, {0x05, 0, 0, 1},          {0x05, 0, 0, 6},          {0x20, 0, 0, 0x20},
+    {0x15, 0, 3, 1},    {0x20, 0, 0, 0x18},       {0x15, 0, 1, 2},          {0x06, 0, 0, 0x7fff0000},
+    {0x05, 0, 0, 1},    {0x05, 0, 0, 4},          {0x20, 0, 0, 0x18},       {0x15, 0, 1, 1},
+    {0x06, 0, 0, 0x7fff0000}, {0x06, 0, 0, 0x80000000}, {0x15, 0, 1, 0x120}, {0x05, 0, 0, 1},
+    {0x05, 0, 0, 2},    {0x06, 0, 0, 0x7fff0000}, {0x06, 0, 0, 0x80000000}, {0x06, 0, 0, 0x80000000},
+};
+
+/* The names of the header, and their numbers. */
+static const int64_t CODES[][2] = {
+    {SECCOMPILER_OUT_OF_MEMORY, -1},
+    {SECCOMPILER_UNKNOWN_ARCHITECTURE, -2},
+    {SECCOMPILER_UNKNOWN_LAYOUT, -3},
+    {SECCOMPILER_REFUSED, -4},
+    {SECCOMPILER_NO_FILTER, -5},
+    {SECCOMPILER_TOO_LARGE, -6},
+    {SECCOMPILER_NO_ROOM, -7},
+    {SECCOMPILER_NOT_CHECKED, -8},
+    {SECCOMPILER_NOT_A_RECORD, -9},
+    {SECCOMPILER_UNKNOWN_CALL, -10},
+    {SECCOMPILER_LAYOUT_CHAINS, 0},
+    {SECCOMPILER_LAYOUT_TREE, 1},
+};
+
+/* Calls, and what the README's policy decides for them on x86_64. */
+static const struct {
+    uint32_t arch;
+    int number;
+    uint64_t first, second, third;
+    int64_t word;
+} CALLS[] = {
+    {AUDIT_ARCH_X86_64, 288, 0, 0, 0, SECCOMP_RET_ALLOW},
+    {AUDIT_ARCH_X86_64, 72, 9, 2, 1, SECCOMP_RET_ALLOW},
+    {AUDIT_ARCH_X86_64, 72, 9, 2, 2, SECCOMP_RET_KILL_PROCESS},
+    {AUDIT_ARCH_X86_64, 72, 9, 0x100000001, 7, SECCOMP_RET_ALLOW},
+    {AUDIT_ARCH_X86_64, 72, 9, 3, 1, SECCOMP_RET_KILL_PROCESS},
+    {AUDIT_ARCH_X86_64, 0, 0, 0, 0, SECCOMP_RET_KILL_PROCESS},
+    {AUDIT_ARCH_AARCH64, 288, 0, 0, 0, SECCOMP_RET_KILL_PROCESS},
+};
+
+/* What is not compiled. Each row has the faults of all later ones that it can have. */
+static const struct {
+    const char *text, *name;
+    uint32_t arch, layout;
+    size_t room;
+    int64_t code;
+    const char *said;
+} REFUSED[] = {
+    {"", "b", 0, 2, 0, SECCOMPILER_UNKNOWN_ARCHITECTURE, "Unknown architecture."},
+    {"", "b", AUDIT_ARCH_I386, 0, 0, SECCOMPILER_UNKNOWN_ARCHITECTURE, "Unknown architecture."},
+    {"", "b", 0xc000003f, 0, 0, SECCOMPILER_UNKNOWN_ARCHITECTURE, "Unknown architecture."},
+    {"", "b", AUDIT_ARCH_X86_64, 2, 0, SECCOMPILER_UNKNOWN_LAYOUT, "Unknown layout."},
+    {"[]", "b", AUDIT_ARCH_X86_64, 0, 0, SECCOMPILER_REFUSED, "Json is not an object of filters."},
+    {"{\"a\":{\"x\":1,\"x\":1}}", "b", AUDIT_ARCH_X86_64, 0, 0, SECCOMPILER_REFUSED, "Repeated key in Json."},
+    {SHAPELESS, "b", AUDIT_ARCH_X86_64, 1, 0, SECCOMPILER_REFUSED, "Json filter has a wrong shape: \xc2\xb5."},
+    {"{\"a\":{\"mismatch_action\":\"trap\",\"match_action\":\"allow\",\"filter\":[{\"syscall\":\"nosyscall\"}]}}",
+     "b", AUDIT_ARCH_AARCH64, 0, 0, SECCOMPILER_REFUSED,
+     "Invalid syscall name: nosyscall for given arch: aarch64."},
+    {UNKNOWN, "b", AUDIT_ARCH_X86_64, 0, 0, SECCOMPILER_REFUSED,
+     "Invalid syscall name: nosyscall for given arch: x86_64."},
+    {README, "b", AUDIT_ARCH_X86_64, 0, 0, SECCOMPILER_NO_FILTER, "No filter has this name."},
+    {README, "main", AUDIT_ARCH_X86_64, 0, 0, SECCOMPILER_NO_FILTER, "No filter has this name."},
+    {README, "\xff", AUDIT_ARCH_X86_64, 0, 0, SECCOMPILER_NO_FILTER, "No filter has this name."},
+    {README, NAME, AUDIT_ARCH_X86_64, 0, 23, SECCOMPILER_NO_ROOM,
+     "The array has too little room for the program: it has 24 instructions."},
+    {README, NAME, AUDIT_ARCH_X86_64, 1, 25, SECCOMPILER_NO_ROOM,
+     "The array has too little room for the program: it has 26 instructions."},
+};
+
+static const char TOO_LARGE[] =
+    "The seccomp filter contains too many BPF instructions: 4097. Max length is 4096.";
+
+/* How many bytes there is room for, and how many are written of "Json filter has a wrong shape: \xc2\xb5.". */
+static const int64_t CUTS[][2] = {{0, 0}, {1, 1}, {31, 31}, {32, 31}, {33, 33}, {34, 34}, {35, 34}};
+
+/* What is not decided. Each row has the faults of all later ones that it can have. */
+static const struct {
+    const char *text, *name;
+    uint32_t arch;
+    size_t bytes;
+    int64_t code;
+} UNDECIDED[] = {
+    {"", "b", 0, 0, SECCOMPILER_UNKNOWN_ARCHITECTURE},
+    {"", "b", 0, 63, SECCOMPILER_UNKNOWN_ARCHITECTURE},
+    {"", "b", AUDIT_ARCH_X86_64, 63, SECCOMPILER_NOT_A_RECORD},
+    {"", "b", AUDIT_ARCH_X86_64, 64, SECCOMPILER_REFUSED},
+    {UNKNOWN, "c", AUDIT_ARCH_X86_64, 64, SECCOMPILER_REFUSED},
+    {"{}", "b", AUDIT_ARCH_X86_64, 64, SECCOMPILER_NO_FILTER},
+    {README, "b", AUDIT_ARCH_X86_64, 64, SECCOMPILER_NO_FILTER},
+    {README, "\xc2", AUDIT_ARCH_X86_64, 64, SECCOMPILER_NO_FILTER},
+};
+
+/* Names of calls, and their numbers. */
+static const struct {
+    uint32_t arch;
+    const char *name;
+    size_t bytes;
+    int64_t answer;
+} NUMBERS[] = {
+    {AUDIT_ARCH_X86_64, "read", 4, 0},
+    {AUDIT_ARCH_X86_64, "accept4", 7, 288},
+    {AUDIT_ARCH_X86_64, "accept4", 6, 43},
+    {AUDIT_ARCH_AARCH64, "close", 5, 57},
+    {AUDIT_ARCH_RISCV64, "riscv_flush_icache", 18, 259},
+    {AUDIT_ARCH_X86_64, "Read", 4, SECCOMPILER_UNKNOWN_CALL},
+    {AUDIT_ARCH_X86_64, "read\xff", 5, SECCOMPILER_UNKNOWN_CALL},
+    {AUDIT_ARCH_AARCH64, "open", 4, SECCOMPILER_UNKNOWN_CALL},
+    {AUDIT_ARCH_AARCH64, "open\xff", 5, SECCOMPILER_UNKNOWN_CALL},
+    {0, "read", 4, SECCOMPILER_UNKNOWN_ARCHITECTURE},
+};
+
+#endif

@@ -1,68 +1,53 @@
 // Names with their known numbers, and texts that name no call.
 
-use seccompiler::backend::TargetArch::{self, aarch64, riscv64, x86_64};
+use seccompiler::backend::TargetArch;
 use seccompiler::syscall_table::SyscallTable;
 
-// A name, and its number on each architecture that has it.
-const SAMPLES: [(&str, &[(TargetArch, i64)]); 27] = [
-    ("accept4", &[(x86_64, 288), (aarch64, 242), (riscv64, 242)]),
-    ("close", &[(x86_64, 3), (aarch64, 57), (riscv64, 57)]),
-    ("exit", &[(x86_64, 60), (aarch64, 93), (riscv64, 93)]),
-    ("fcntl", &[(x86_64, 72), (aarch64, 25), (riscv64, 25)]),
-    ("futex", &[(x86_64, 202), (aarch64, 98), (riscv64, 98)]),
-    ("getpid", &[(x86_64, 39), (aarch64, 172), (riscv64, 172)]),
-    ("io_setup", &[(x86_64, 206), (aarch64, 0), (riscv64, 0)]),
-    ("ioctl", &[(x86_64, 16), (aarch64, 29), (riscv64, 29)]),
-    ("madvise", &[(x86_64, 28), (aarch64, 233), (riscv64, 233)]),
-    ("mseal", &[(x86_64, 462), (aarch64, 462), (riscv64, 462)]),
-    ("munmap", &[(x86_64, 11), (aarch64, 215), (riscv64, 215)]),
-    ("open", &[(x86_64, 2)]),
-    ("openat", &[(x86_64, 257), (aarch64, 56), (riscv64, 56)]),
-    ("read", &[(x86_64, 0), (aarch64, 63), (riscv64, 63)]),
-    ("renameat", &[(x86_64, 264), (aarch64, 38)]),
-    ("riscv_flush_icache", &[(riscv64, 259)]),
-    ("riscv_hwprobe", &[(riscv64, 258)]),
-    (
-        "rt_sigprocmask",
-        &[(x86_64, 14), (aarch64, 135), (riscv64, 135)],
-    ),
-    (
-        "rt_sigreturn",
-        &[(x86_64, 15), (aarch64, 139), (riscv64, 139)],
-    ),
-    (
-        "sigaltstack",
-        &[(x86_64, 131), (aarch64, 132), (riscv64, 132)],
-    ),
-    ("writev", &[(x86_64, 20), (aarch64, 66), (riscv64, 66)]),
-    ("_sysctl", &[(x86_64, 156)]),
-    ("Close", &[]),
-    ("close ", &[]),
-    ("nosyscall", &[]),
-    ("clos", &[]),
-    ("", &[]),
+// A name, and its number on x86_64, aarch64 and riscv64, or -1 where no call has it.
+const SAMPLES: [(&str, i64, i64, i64); 27] = [
+    ("accept4", 288, 242, 242),
+    ("close", 3, 57, 57),
+    ("exit", 60, 93, 93),
+    ("fcntl", 72, 25, 25),
+    ("futex", 202, 98, 98),
+    ("getpid", 39, 172, 172),
+    ("io_setup", 206, 0, 0),
+    ("ioctl", 16, 29, 29),
+    ("madvise", 28, 233, 233),
+    ("mseal", 462, 462, 462),
+    ("munmap", 11, 215, 215),
+    ("open", 2, -1, -1),
+    ("openat", 257, 56, 56),
+    ("read", 0, 63, 63),
+    ("renameat", 264, 38, -1),
+    ("riscv_flush_icache", -1, -1, 259),
+    ("riscv_hwprobe", -1, -1, 258),
+    ("rt_sigprocmask", 14, 135, 135),
+    ("rt_sigreturn", 15, 139, 139),
+    ("sigaltstack", 131, 132, 132),
+    ("writev", 20, 66, 66),
+    ("_sysctl", 156, -1, -1),
+    ("Close", -1, -1, -1),
+    ("close ", -1, -1, -1),
+    ("nosyscall", -1, -1, -1),
+    ("clos", -1, -1, -1),
+    ("", -1, -1, -1),
 ];
 
-// The number of the row's name on this architecture.
-fn number_on(arch: TargetArch, numbers: &[(TargetArch, i64)]) -> Option<i64> {
-    for (other, number) in numbers {
-        if *other == arch {
-            return Some(*number);
-        }
+// Whether a name has this number, or no call has it where the number is below 0.
+fn has_number(arch: TargetArch, name: &str, number: i64) -> bool {
+    match SyscallTable::new(arch).get_syscall_nr(name) {
+        Some(found) => found == number,
+        None => number < 0,
     }
-    None
 }
 
 #[test]
 fn knows_samples_on_each_architecture(rt: HostRuntime) {
-    for arch in TargetArch::all() {
-        let table = SyscallTable::new(*arch);
-        for (name, numbers) in &SAMPLES {
-            assert_eq!(rt;
-                table.get_syscall_nr(name),
-                number_on(*arch, numbers),
-                "the number of `{name}` on {arch}"
-            );
-        }
+    for (name, on_x86_64, on_aarch64, on_riscv64) in &SAMPLES {
+        let is_known = has_number(TargetArch::x86_64, name, *on_x86_64)
+            && has_number(TargetArch::aarch64, name, *on_aarch64)
+            && has_number(TargetArch::riscv64, name, *on_riscv64);
+        assert!(rt; is_known, "the numbers of `{name}`");
     }
 }

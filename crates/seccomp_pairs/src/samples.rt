@@ -34,8 +34,14 @@ const SAMPLES: [(&str, i64, i64, i64); 27] = [
     ("", -1, -1, -1),
 ];
 
-// Whether a name has this number, or no call has it where the number is below 0.
-fn has_number(arch: TargetArch, name: &str, number: i64) -> bool {
+// Whether the table gives the name of the row the number that the row has for this architecture.
+fn is_known(arch: TargetArch, row: &(&str, i64, i64, i64)) -> bool {
+    let (name, on_x86_64, on_aarch64, on_riscv64) = *row;
+    let number = match arch {
+        TargetArch::x86_64 => on_x86_64,
+        TargetArch::aarch64 => on_aarch64,
+        TargetArch::riscv64 => on_riscv64,
+    };
     match SyscallTable::new(arch).get_syscall_nr(name) {
         Some(found) => found == number,
         None => number < 0,
@@ -44,10 +50,9 @@ fn has_number(arch: TargetArch, name: &str, number: i64) -> bool {
 
 #[test]
 fn knows_samples_on_each_architecture(rt: HostRuntime) {
-    for (name, on_x86_64, on_aarch64, on_riscv64) in &SAMPLES {
-        let is_known = has_number(TargetArch::x86_64, name, *on_x86_64)
-            && has_number(TargetArch::aarch64, name, *on_aarch64)
-            && has_number(TargetArch::riscv64, name, *on_riscv64);
-        assert!(rt; is_known, "the numbers of `{name}`");
+    for arch in TargetArch::all() {
+        for row in &SAMPLES {
+            assert!(rt; is_known(*arch, row), "the number of `{}` on {arch}", row.0);
+        }
     }
 }

@@ -1,4 +1,4 @@
-// Worked examples of the whole library, as tests.
+// Worked examples of conditions, rules, filters and what installs them, as tests.
 #![tactic(auto)]
 
 #[cfg(test)]
@@ -10,19 +10,9 @@ mod builders;
 #[cfg(test)]
 mod conditions;
 #[cfg(test)]
-mod faults;
-#[cfg(test)]
 mod filters;
 #[cfg(test)]
-mod hostile_readers;
-#[cfg(test)]
 mod instructions;
-#[cfg(test)]
-mod json_faults;
-#[cfg(test)]
-mod json_policies;
-#[cfg(test)]
-mod json_samples;
 #[cfg(test)]
 mod kernels;
 #[cfg(test)]
@@ -44,8 +34,4 @@ mod rules;
 #[cfg(test)]
 mod scarce;
 #[cfg(test)]
-mod scripted;
-#[cfg(test)]
 mod trees;
-#[cfg(test)]
-mod widened;

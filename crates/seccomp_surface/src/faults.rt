@@ -92,8 +92,8 @@ pub fn compile_from_json_tells<R: Read + Drop>(alloc: Global, reader: R, fault: 
     }
 }
 
-/// Asserts that both calls refuse the text for this fault.
-pub fn assert_fault(rt: &impl Abort, alloc: Global, text: &str, fault: Fault) {
+// Asserts that both calls refuse the text for this fault.
+fn assert_fault(rt: &impl Abort, alloc: Global, text: &str, fault: Fault) {
     let told = compile_tells(alloc, text.as_bytes(), fault);
     assert!(rt; told, "compile of {text} does not tell {fault:?}");
     let told = compile_from_json_tells(alloc, text.as_bytes(), fault);

@@ -1,6 +1,6 @@
 // Calls that have entries with conditions and entries without.
 
-use crate::builders::{ALLOW, call};
+use crate::builders::record_of;
 use crate::faults::{Fault, is_frontend_fault};
 use crate::json_samples::{COMPARES, MAIN_THREAD, READS, compiled, policy, repeated};
 use seccompiler::backend::TargetArch;
@@ -89,8 +89,8 @@ fn of_both_kinds(alloc: Global, count: usize) -> Result<BpfProgram, Fail> {
 
 // Whether the program allows `read` with this argument, in six steps.
 fn is_allowed(program: &[sock_filter], first: u64) -> bool {
-    let (word, steps) = (ALLOW, 6);
-    let record = call(0, [first, 0, 0, 0, 0, 0]).record();
+    let record = record_of(0, [first, 0, 0, 0, 0, 0]);
+    let (word, steps) = (0x7fff_0000, 6);
     check(program) && run(program, &record) == Outcome { word, steps }
 }
 

@@ -7,5 +7,3 @@
 pub mod arguments;
 pub mod hexadecimal;
 pub mod names;
-#[cfg(test)]
-mod tests;

@@ -5,7 +5,7 @@ use crate::lent::Lent;
 use crate::samples::{Parts, long_rule, no_calls, one_rule, rule, three_calls};
 use seccompiler::SeccompCmpArgLen::Qword;
 use seccompiler::SeccompCmpOp::{Eq, MaskedEq};
-use seccompiler::{BackendError, BpfProgram, SeccompFilter, SeccompRule};
+use seccompiler::{BackendError, BpfProgram, Layout, SeccompFilter, SeccompRule};
 use std::alloc::Global;
 
 // Its code has 6 instructions, so that 42 are one group of a rule's.
@@ -65,7 +65,11 @@ impl CompiledFilter {
     fn make_calls(&self, alloc: Global) -> Result<(), Ending> {
         ensure(self.filter.clone(alloc)? == self.filter, "a filter's copy")?;
         ensure(self.filter.to_bpf(alloc)? == self.program, "a program")?;
-        ensure(self.filter.to_tree_bpf(alloc)? == self.tree, "a tree")
+        ensure(self.filter.to_tree_bpf(alloc)? == self.tree, "a tree")?;
+        let linear = self.filter.to_bpf_in(alloc, Layout::Linear)?;
+        ensure(linear == self.program, "a program in the linear layout")?;
+        let tree = self.filter.to_bpf_in(alloc, Layout::Tree)?;
+        ensure(tree == self.tree, "a program in the layout of a tree")
     }
 }
 

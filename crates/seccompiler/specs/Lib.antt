@@ -26,13 +26,14 @@ pub mod JsonPolicyOf
 pub mod JsonAnswers
 pub mod JsonPrograms
 pub mod Reads
--- What other calls promise: the code of conditions and rules; the second layout; each step from JSON to filters; entries
+-- What other calls promise: the code of conditions and rules; the second layout, and either layout; each step from JSON to filters; entries
 -- without conditions; errors and their texts; installing; the order of rules; the low half of an argument; equality.
 pub mod Code
 pub mod ConditionCode
 pub mod Pieces
 pub mod Ranges
 pub mod Tree
+pub mod Layouts
 pub mod JsonSteps
 pub mod JsonWidened
 pub mod Texts

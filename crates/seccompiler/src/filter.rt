@@ -2,10 +2,6 @@
 
 mod tree_layout;
 
-ghost use Rattle.std.specs.Prelude.{◌≡◌, ◌≤◌, vec_len, IfOk, IfErr};
-ghost use Rattle.seccompiler.specs.Checked.{greatest_length};
-ghost use Rattle.seccompiler.specs.BlankProgram.{RefusesLength};
-
 use crate::backend::{BackendError, GUARD_LEN, SeccompAction, TargetArch, arch_guard};
 use crate::bpf::{
     BPF_MAX_LEN, BpfProgram, SECCOMP_DATA_ARCH_OFFSET, SECCOMP_DATA_NR_OFFSET, load_word,
@@ -53,7 +49,6 @@ impl SeccompFilter {
     ghost use Rattle.seccompiler.specs.Policy.{Filter, chains_of, Matches, IsDecision};
     ghost use Rattle.seccompiler.specs.Reorder.{IsReordered, IsSameCall};
     ghost use Rattle.seccompiler.specs.Layout.{counted_length};
-    ghost use Rattle.seccompiler.specs.Checked.{greatest_length};
     ghost use Rattle.seccompiler.specs.Compiled.{IsCompiled, Passes};
     ghost use Rattle.seccompiler.specs.Refusal.{numbers_of, AreCallNumbers, IsLeastUnfit, IsCompilable, IsRefusal};
 
@@ -120,8 +115,7 @@ impl SeccompFilter {
         ensures compilable { OnOk result (IsCompilable self.now) }
         ensures refused { IfErr result (IsRefusal self.now) }
     {
-        self.check_numbers()?;
-        let mut program = blank_program(alloc, self.program_len())?;
+        let mut program = vec![in alloc; return_word(0); self.compiled_len()?]?;
         self.write(&mut program);
         Ok(program)
     }
@@ -215,11 +209,45 @@ impl SeccompFilter {
         Ok(())
     }
 
-    // Fills the part with the filter's program.
-    fn write(&self, program: &mut [sock_filter])
-        requires numbers { AreCallNumbers (numbers_of self.now.chains) }
+    /// How many instructions `to_bpf` gives, or why it gives none. Takes no memory.
+    ///
+    /// Who has a buffer of his own asks for the length here, and then has the program written into
+    /// a part of that length by [`write`](SeccompFilter::write).
+    ///
+    /// # Errors
+    ///
+    /// Those of `to_bpf` but for `OutOfMemory`: `InvalidSyscallNumber` with the least key that lies
+    /// outside 0 to 4294967295, where there is one; else `FilterTooLarge` with `program_len` where
+    /// that is more than 4096.
+    pub fn compiled_len(&self) -> Result<usize, BackendError>
+        ensures length { IfOk result (λ n. n ≡ counted_length self.now) }
+        ensures compilable { OnOk result (IsCompilable self.now) }
+        ensures refused { IfErr result (λ e. (e ≢ OutOfMemory) × IsRefusal self.now e) }
+    {
+        self.check_numbers()?;
+        let length = self.program_len();
+        if length > BPF_MAX_LEN {
+            return Err(BackendError::FilterTooLarge(length));
+        }
+        Ok(length)
+    }
+
+    /// Fills the part with the filter's program, the one that `to_bpf` gives. Takes no memory.
+    ///
+    /// The filter must be one that `to_bpf` compiles, and the part have as many places as its
+    /// program has instructions: [`compiled_len`](SeccompFilter::compiled_len) tells both.
+    ///
+    /// # Examples
+    ///
+    /// ```
+    /// let length = filter.compiled_len()?;
+    /// if length <= buffer.len() {
+    ///     filter.write(&mut buffer[..length]);
+    /// }
+    /// ```
+    pub fn write(&self, program: &mut [sock_filter])
+        requires compilable { IsCompilable self.now }
         requires room { length program.old ≡ counted_length self.now }
-        requires short { counted_length self.now ≤ greatest_length }
         ensures compiled { IsCompiled self.now program.new }
         ensures passes { Passes self.now program.new }
     {
@@ -239,17 +267,6 @@ impl SeccompFilter {
         );
         program[last] = return_word(mismatch);
     }
-}
-
-// A program of this length whose instructions are still to be written.
-fn blank_program(alloc: Global, length: usize) -> Result<BpfProgram, BackendError>
-    ensures long { IfOk result (λ program. (vec_len program ≡ length) × (length ≤ greatest_length)) }
-    ensures refused { IfErr result (RefusesLength length) }
-{
-    if length > BPF_MAX_LEN {
-        return Err(BackendError::FilterTooLarge(length));
-    }
-    Ok(vec![in alloc; return_word(0); length]?)
 }
 
 /// Filters are equal where their chains, their actions and their architectures are.

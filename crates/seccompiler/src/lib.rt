@@ -54,6 +54,7 @@ pub mod error;
 pub mod filter;
 pub mod install;
 pub mod json;
+pub mod layout;
 pub mod machine;
 pub(crate) mod record;
 pub mod rule;
@@ -71,6 +72,7 @@ pub use install::{Kernel, apply_filter, apply_filter_all_threads};
 pub use json::{
     JsonCompiler, JsonCondition, JsonFilter, JsonFilterMap, JsonFrontendError, JsonRule,
 };
+pub use layout::Layout;
 pub use machine::Outcome;
 pub use rule::SeccompRule;
 pub use syscall_table::{Lookup, SyscallTable};

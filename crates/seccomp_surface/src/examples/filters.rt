@@ -1,10 +1,10 @@
 // The examples of conditions, rules and filters.
 
 use seccompiler::bpf::{BPF_K, BPF_RET, bpf_stmt};
-use seccompiler::machine::check;
+use seccompiler::machine::{check, run};
 use seccompiler::{
-    SeccompAction, SeccompCmpArgLen, SeccompCmpOp, SeccompCondition, SeccompFilter, SeccompRule,
-    TargetArch,
+    Layout, SeccompAction, SeccompCmpArgLen, SeccompCmpOp, SeccompCondition, SeccompFilter,
+    SeccompRule, TargetArch,
 };
 use std::alloc::Global;
 use std::collections::BTreeMap;
@@ -95,5 +95,31 @@ fn a_decision(rt: HostRuntime) -> Result<(), Fail> {
     let mut call = [0; 64];
     call[..8].copy_from_slice(&[39, 0, 0, 0, 0x3e, 0, 0, 0xc0]);
     assert!(rt; filter.decide(&call) == u32::from(SeccompAction::Log));
+    Ok(())
+}
+
+#[test]
+fn a_program_in_either_layout(rt: HostRuntime) -> Result<(), Fail> {
+    let alloc = rt.alloc();
+    let filter = logging(alloc)?;
+    let call = [0; 64];
+    let linear = filter.to_bpf_in(alloc, Layout::Linear)?;
+    let tree = filter.to_bpf_in(alloc, Layout::Tree)?;
+    assert!(rt; run(&linear, &call).word == run(&tree, &call).word);
+    Ok(())
+}
+
+#[test]
+fn a_program_in_a_buffer(rt: HostRuntime) -> Result<(), Fail> {
+    let filter = logging(rt.alloc())?;
+    let mut buffer = [bpf_stmt(BPF_RET | BPF_K, 0); 16];
+    let length = filter.compiled_len()?;
+    if length <= buffer.len() {
+        filter.write(&mut buffer[..length]);
+    }
+    assert!(rt;
+        buffer[3].k == 0x7ffc_0000,
+        "the return of the mismatch action"
+    );
     Ok(())
 }

@@ -1,9 +1,14 @@
 // The second layout of a filter's program: a tree of tests over ranges of call numbers.
 
-use super::{PROGRAM_ENDS, SeccompFilter, blank_program};
+ghost use Rattle.std.specs.Prelude.{◌≡◌, ◌≤◌, vec_len, IfOk, IfErr};
+ghost use Rattle.seccompiler.specs.Checked.{greatest_length};
+ghost use Rattle.seccompiler.specs.BlankProgram.{RefusesLength};
+
+use super::{PROGRAM_ENDS, SeccompFilter};
 use crate::backend::{BackendError, GUARD_LEN, arch_guard};
 use crate::bpf::{
-    BpfProgram, BpfProgramRef, SECCOMP_DATA_NR_OFFSET, load_word, return_word, sock_filter,
+    BPF_MAX_LEN, BpfProgram, BpfProgramRef, SECCOMP_DATA_NR_OFFSET, load_word, return_word,
+    sock_filter,
 };
 use crate::tree::{CallRange, ranges_of, tree_len, write_tree};
 use std::alloc::Global;
@@ -90,4 +95,15 @@ impl SeccompFilter {
         );
         program[last] = return_word(mismatch);
     }
+}
+
+// A program of this length whose instructions are still to be written.
+fn blank_program(alloc: Global, length: usize) -> Result<BpfProgram, BackendError>
+    ensures long { IfOk result (λ program. (vec_len program ≡ length) × (length ≤ greatest_length)) }
+    ensures refused { IfErr result (RefusesLength length) }
+{
+    if length > BPF_MAX_LEN {
+        return Err(BackendError::FilterTooLarge(length));
+    }
+    Ok(vec![in alloc; return_word(0); length]?)
 }

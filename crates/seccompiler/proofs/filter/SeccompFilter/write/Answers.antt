@@ -21,7 +21,7 @@ returns-then-is_empty c =
 pub write_chains-requires-clause-numbers : goal.write_chains-requires-clause-numbers
 write_chains-requires-clause-numbers c =
     let same = sym (ap (λ (f : Filter). numbers_of f.chains) c.self.view_is) ∙ numbers_are_keys c.self.inside.rules.entries in
-    subst (λ numbers. All IsCallNumber numbers) same c.requires.numbers
+    subst (λ numbers. All IsCallNumber numbers) same c.requires.compilable.numbers
 
 pub returns : goal.returns
 returns c =
@@ -29,5 +29,5 @@ returns c =
     let long : length c.write_chains.new.part + 5 ≡ length c.args.program.now = omega (arith, c.write_chains.ensures.code.long, c.requires.room, counted_full c.self.inside.rules.entries c.args.self.now.chains (ap (λ (f : Filter). f.chains) c.self.view_is) some) in
     let written = headed c.copy_from_slice.new.self c.args.program.now c.write_chains.new.part _ (jump_equal (audit_word c.args.self.now.target_arch) 1 0) _ c.load_word.result c.return_word-2.result (c.copy_from_slice.ensures.after ∙ c.arch_guard.ensures ∙ ap (λ (f : Filter). guard_code (audit_word f.target_arch)) c.self.view_is) long in
     let words = words_of c.args.self.now c.self.inside.rules.entries c.self.inside.mismatch_action c.self.inside.match_action c.self.inside.target_arch c.from-mismatch.result c.into.result c.self.view_is c.from-mismatch.ensures c.into.ensures in
-    let both = written_full c.args.self.now c.self.inside.rules.entries c.from-mismatch.result c.into.result c.write_chains.new.part _ words some c.requires.short c.write_chains.ensures.code (written ∙ cc (c.load_word.ensures.instruction, c.from.ensures, c.return_word-2.ensures.instruction)) in
+    let both = written_full c.args.self.now c.self.inside.rules.entries c.from-mismatch.result c.into.result c.write_chains.new.part _ words some c.requires.compilable.short c.write_chains.ensures.code (written ∙ cc (c.load_word.ensures.instruction, c.from.ensures, c.return_word-2.ensures.instruction)) in
     record { compiled = both.0; passes = both.1 }

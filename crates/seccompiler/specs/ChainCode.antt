@@ -5,8 +5,8 @@ use Rattle.seccompiler.specs.Record.{IsRecord}
 use Rattle.seccompiler.specs.Machine.{Goes}
 use Rattle.seccompiler.specs.Checked.{AreInRange}
 use Rattle.seccompiler.specs.Pieces.{IsInside, Leads}
-use Rattle.seccompiler.specs.Policy.{Chain, RuleHolds, ChainMatches, chain_under}
-use Rattle.seccompiler.specs.Layout.{rule_steps, chain_length, chain_steps, chains_length, chains_steps, rules_length}
+use Rattle.seccompiler.specs.Policy.{Rule, Chain, RuleHolds, ChainMatches, chain_under}
+use Rattle.seccompiler.specs.Layout.{rule_length, rule_steps, chain_length, chain_steps, chains_length, chains_steps, rules_length}
 
 -- A run from a place and an accumulator returns this word, after so many steps and the return.
 pub record Returns (p : List sock_filter) (r : List ℕ) (place a w : ℕ) : Type 0 where
@@ -32,6 +32,15 @@ ReturnsBy code matched mismatch r a fact = (fact × Returns code r 0 a matched) 
 -- the two is so.
 abbrev pub ReturnsOrLeaves : List sock_filter → ℕ → List ℕ → ℕ → Type 0 → Type 0
 ReturnsOrLeaves code w r a fact = (fact × Returns code r 0 a w) ⊎ ((fact → ⊥) × Leads code r 0 a (length code))
+
+-- The code of a rule with its return behind it: entered at its first place it returns where the rule holds, and leaves at
+-- its end where it doesn't; entered at its second place it leaves one place behind its end, with the accumulator kept.
+pub record IsReturningRuleCode (q : Rule) (w : ℕ) (code : List sock_filter) : Type 0 where
+  pub long : length code ≡ rule_length q + 1
+  pub ranges : AreInRange code
+  pub block : IsBlock code (length code + 1)
+  pub enters : (r : List ℕ) → IsRecord r → (a : ℕ) → a < 2 ^ 32 → ReturnsOrLeaves code w r a (RuleHolds q r)
+  pub skips : (r : List ℕ) (a : ℕ) → a < 2 ^ 32 → Goes code r 1 a (rule_steps q) (length code + 1) a
 
 -- The code of rules, each with its return: entered at its first place it returns where some rule holds, and leaves at
 -- its end where none does; entered at its second place it leaves one place behind its end, with the accumulator kept.

@@ -1,13 +1,13 @@
 // The chains of a filter: rules of one call number, and their code.
 
-ghost use Rattle.std.specs.Prelude.{◌≡◌, ◌≤◌, ◌<◌, ◌^◌, ◌-◌, ◌↔◌, ℤ, pos, min, map, length, take, All, IsTrue, IsNone, IfOk, IfSome, IsOkUnless};
+ghost use Rattle.std.specs.Prelude.{◌≡◌, ◌≤◌, ◌<◌, ◌^◌, ◌+◌, ◌-◌, ◌↔◌, ℤ, pos, min, map, length, take, All, IsTrue, IsNone, IfOk, IfSome, IsOkUnless};
 ghost use Rattle.std.specs.BTreeMap.{keys};
 ghost use Rattle.seccompiler.specs.declared.backend.BackendError.TheVariants.{OutOfMemory};
 ghost use Rattle.seccompiler.specs.Checked.{greatest_length};
 ghost use Rattle.seccompiler.specs.Policy.{chains_of, IsCallNumber, ChainMatches};
-ghost use Rattle.seccompiler.specs.Layout.{chain_length, chains_length, rules_length};
+ghost use Rattle.seccompiler.specs.Layout.{rule_length, rules_length, chain_length, chains_length};
 ghost use Rattle.seccompiler.specs.Refusal.{AreCallNumbers, IsLeastUnfit};
-ghost use Rattle.seccompiler.specs.ChainCode.{IsRulesCode, IsChainCode, IsChainsCode};
+ghost use Rattle.seccompiler.specs.ChainCode.{IsReturningRuleCode, IsRulesCode, IsChainCode, IsChainsCode};
 
 use crate::backend::BackendError;
 use crate::bpf::{jump_if_equal, jump_over, return_word, sock_filter};
@@ -157,10 +157,20 @@ pub(crate) fn write_rules(part: &mut [sock_filter], chain: &[SeccompRule], match
 {
     let mut start = 0;
     for rule in chain {
-        let end = start + rule.code_len();
-        rule.write(&mut part[start..end]);
-        part[end] = return_word(matched);
-        start = end + 1;
+        start += write_rule(&mut part[start..], rule, matched);
     }
     start
+}
+
+// Fills the front of the part with a rule and its return, and gives their length.
+fn write_rule(part: &mut [sock_filter], rule: &SeccompRule, matched: u32) -> usize
+    requires room { rule_length rule.now + 1 ≤ length part.old }
+    requires short { length part.old ≤ greatest_length }
+    ensures length { result ≡ rule_length rule.now + 1 }
+    ensures code { IsReturningRuleCode rule.now matched (take result part.new) }
+{
+    let end = rule.code_len();
+    rule.write(&mut part[..end]);
+    part[end] = return_word(matched);
+    end + 1
 }

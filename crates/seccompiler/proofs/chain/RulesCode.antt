@@ -1,4 +1,4 @@
--- For `write_rules`: what the rules of a chain do, each with its return behind it, one after another.
+-- For `write_rule` and `write_rules`: what the rules of a chain do, each with its return behind it, one after another.
 use Rattle.std.proofs.Common.{◌≡◌, ℕ, ◌+◌, ◌<◌, ◌≤◌, ◌^◌, List, [], ◌∷◌, ◌++◌, length, refl, sym, ap, ◌∙◌, subst, arith, length-append, ◌⊎◌, inl, inr, ⊎_elim, get_or, take, drop}
 use Rattle.std.specs.Prelude.{Any, sum_by}
 use Rattle.std.proofs.lemmas.List.Quantifiers.{Any-push}
@@ -6,14 +6,12 @@ use Rattle.std.proofs.lemmas.List.Sums.{sum_by_push, sum_by-append, sum_by-cons}
 use Rattle.std.proofs.lemmas.List.{get_or_append_left, get_or_push, take_more, take_all}
 use Rattle.std.proofs.lemmas.Bool.{cases_lt}
 use Rattle.seccompiler.specs.declared.bpf.sock_filter.{sock_filter}
-use Rattle.seccompiler.specs.Record.{IsRecord}
 use Rattle.seccompiler.specs.Code.{give}
 use Rattle.seccompiler.specs.Machine.{Goes, stays}
-use Rattle.seccompiler.specs.Checked.{AreInRange}
 use Rattle.seccompiler.specs.Policy.{Rule, Chain, RuleHolds}
 use Rattle.seccompiler.specs.Layout.{rule_length, rule_steps, rules_length}
-use Rattle.seccompiler.specs.Pieces.{Leads, IsRuleCode}
-use Rattle.seccompiler.specs.ChainCode.{Returns, IsBlock, IsRulesCode}
+use Rattle.seccompiler.specs.Pieces.{IsRuleCode}
+use Rattle.seccompiler.specs.ChainCode.{IsReturningRuleCode, IsRulesCode}
 use Rattle.seccompiler.proofs.Blocks.{leads_join, leads_front, returns_front, returns_behind, returns_after, returns_here, block_join, block_from_closed, block_give, give_in_range}
 use Rattle.seccompiler.proofs.Runs.{goes_shift, goes_on, goes_front, stands_second, leads_to, leads_from, leads_second, stays_small}
 use Rattle.seccompiler.proofs.Parts.{around}
@@ -46,16 +44,10 @@ any_split P chain q h =
     inr (subst P same h.4))
     (cases_lt h.0 (length chain))
 
--- A rule with its return behind it.
-record Clause (q : Rule) (w : ℕ) (code : List sock_filter) : Type 0 where
-  long : length code ≡ rule_length q + 1
-  ranges : AreInRange code
-  block : IsBlock code (length code + 1)
-  enters : (r : List ℕ) → IsRecord r → (a : ℕ) → a < 2 ^ 32 → (RuleHolds q r × Returns code r 0 a w) ⊎ ((RuleHolds q r → ⊥) × Leads code r 0 a (length code))
-  skips : (r : List ℕ) (a : ℕ) → a < 2 ^ 32 → Goes code r 1 a (rule_steps q) (length code + 1) a
-
-clause_of : (q : Rule) (w : ℕ) (own : List sock_filter) → w < 2 ^ 32 → IsRuleCode q own → Clause q w (own ++ give w ∷ [])
-clause_of q w own fits h =
+-- the code of a rule and its return
+pub with_return : (q : Rule) (w : ℕ) (own : List sock_filter) → w < 2 ^ 32 → IsRuleCode q own
+    → IsReturningRuleCode q w (own ++ give w ∷ [])
+with_return q w own fits h =
     let p = own ++ give w ∷ [] in
     let len : length p ≡ length own + 1 = length-append own (give w ∷ []) in
     record {
@@ -73,7 +65,8 @@ clause_of q w own fits h =
     }
 
 -- one rule more
-rules_more : (chain : Chain) (w : ℕ) (code one : List sock_filter) (q : Rule) → Clause q w one → IsRulesCode chain w code → IsRulesCode (chain ++ q ∷ []) w (code ++ one)
+rules_more : (chain : Chain) (w : ℕ) (code one : List sock_filter) (q : Rule) → IsReturningRuleCode q w one → IsRulesCode chain w code
+    → IsRulesCode (chain ++ q ∷ []) w (code ++ one)
 unfolding leads_front
 rules_more chain w code one q last h =
     let p = code ++ one in
@@ -103,10 +96,11 @@ rules_more chain w code one q last h =
     }
 
 -- a step of the loop over the rules
-pub rules_step : (chain : Chain) (i w : ℕ) (q : Rule) (code own code' : List sock_filter) → w < 2 ^ 32 → i < length chain → q ≡ get_or chain i q → IsRuleCode q own → code' ≡ code ++ (own ++ give w ∷ []) → IsRulesCode (take i chain) w code → IsRulesCode (take (i + 1) chain) w code'
-rules_step chain i w q code own code' fits within is rule ec h =
+pub rules_step : (chain : Chain) (i w : ℕ) (q : Rule) (code one code' : List sock_filter) → i < length chain → q ≡ get_or chain i q
+    → IsReturningRuleCode q w one → code' ≡ code ++ one → IsRulesCode (take i chain) w code → IsRulesCode (take (i + 1) chain) w code'
+rules_step chain i w q code one code' within is rule ec h =
     let e : take (i + 1) chain ≡ take i chain ++ q ∷ [] = take_more chain i q within ∙ ap (λ x. take i chain ++ x ∷ []) (sym is) in
-    subst (λ x. IsRulesCode x w code') (sym e) (subst (λ x. IsRulesCode (take i chain ++ q ∷ []) w x) (sym ec) (rules_more (take i chain) w code (own ++ give w ∷ []) q (clause_of q w own fits rule) h))
+    rw (e, ec) (rules_more (take i chain) w code one q rule h)
 
 -- the end of the loop
 pub rules_all : (chain : Chain) (i w : ℕ) (code : List sock_filter) → length chain ≤ i → IsRulesCode (take i chain) w code → IsRulesCode chain w code

@@ -1,5 +1,5 @@
 -- The names of a table are ASCII, so that no other name is there.
-use Rattle.std.proofs.Common.{◌≡◌, ◌≢◌, ◌<◌, ℕ, List, All, subst}
+use Rattle.std.proofs.Common.{◌≢◌, ◌<◌, ℕ, List, All, subst}
 use Rattle.std.specs.Str.{IsUtf8}
 use Rattle.std.proofs.lemmas.List.Elements.{All-weaker}
 use Rattle.std.proofs.lemmas.Str.{IsUtf8-from_ascii}

@@ -6,9 +6,8 @@ use Rattle.seccompiler.specs.Policy.{Filter, IsDecision}
 use Rattle.seccompiler.specs.Reorder.{IsReordered, IsSameCall}
 use Rattle.seccompiler.specs.declared.bpf.sock_filter.{sock_filter}
 use Rattle.seccompiler_c.specs.Arguments.{IsNoArchitecture, OfArchitecture}
-use Rattle.seccompiler_c.specs.Codes.{code_of}
+use Rattle.seccompiler_c.specs.Codes.{code_of, not_checked_code}
 use Rattle.seccompiler_c.specs.Policies.{NamesPolicy, IsPolicyFault}
-use Rattle.seccompiler_c.specs.declared.codes.TheConstants.{SECCOMPILER_NOT_CHECKED, SECCOMPILER_NOT_A_RECORD}
 use Rattle.seccompiler_c.specs.declared.fault.Fault.{Fault}
 use Rattle.seccompiler_c.specs.declared.fault.Fault.TheVariants.{OutOfMemory, UnknownArchitecture, NotARecord}
 
@@ -22,8 +21,8 @@ pub record Returns (program : List sock_filter) (call : List ℕ) (word : ℕ) :
 
 -- What seccompiler_run answers: the first of these that is so.
 pub data AnswersRun (program : List sock_filter) (call : List ℕ) (answer : ℤ) : Type 0 where
-  not_checked : (IsChecked program → ⊥) → answer ≡ SECCOMPILER_NOT_CHECKED → AnswersRun program call answer
-  not_a_record : IsChecked program → length call ≢ 64 → answer ≡ SECCOMPILER_NOT_A_RECORD → AnswersRun program call answer
+  not_checked : (IsChecked program → ⊥) → answer ≡ not_checked_code → AnswersRun program call answer
+  not_a_record : IsChecked program → length call ≢ 64 → answer ≡ code_of NotARecord → AnswersRun program call answer
   returned : (word : ℕ) → IsChecked program → length call ≡ 64 → Returns program call word → answer ≡ pos word → AnswersRun program call answer
 
 -- The policy names this word for the record, and no other; it names it as well where the rules of a chain or the

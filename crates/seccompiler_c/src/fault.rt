@@ -1,6 +1,6 @@
 // Why an exported function has no other answer, its code and its text.
 
-ghost use Rattle.std.specs.Prelude.{◌≡◌};
+ghost use Rattle.std.specs.Prelude.{◌≡◌, ◌<ℤ◌, pos};
 ghost use Rattle.seccompiler_c.specs.Codes.{code_of};
 
 use crate::codes::{
@@ -35,7 +35,8 @@ pub(crate) enum Fault {
 impl Fault {
     /// The code that the exported functions answer.
     pub fn code(&self) -> i64
-        ensures { result ≡ code_of self.now }
+        ensures code { result ≡ code_of self.now }
+        ensures negative { result <ℤ pos 0 }
     {
         match self {
             Fault::OutOfMemory => SECCOMPILER_OUT_OF_MEMORY,

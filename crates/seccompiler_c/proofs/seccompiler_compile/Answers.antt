@@ -19,4 +19,4 @@ returns-in-Ok c =
     record { answers = compiled (programs_so request (λ program. program ≡ items) (Holds old _ _) written c.in-Ok.ensures.program) }
 
 pub returns-in-Err : goal.returns-in-Err
-returns-in-Err c = rw (to_z-of_z w64 c.code.result (record { sfits = c.code.type_inv })) (record { answers = refused c.in-Err.refusal c.in-Err.ensures.refused c.code.ensures refl })
+returns-in-Err c = rw (to_z-of_z w64 c.code.result (record { sfits = c.code.type_inv })) (record { answers = refused c.in-Err.refusal c.in-Err.ensures.refused c.code.ensures.code refl })

@@ -7,12 +7,12 @@ use Rattle.seccompiler_c.proofs.Programs.{named_so}
 use Rattle.seccompiler_c.proofs.seccompiler_decide.Goals as goal
 
 pub returns-in_default : goal.returns-in_default
-returns-in_default c = rw (to_z-of_z w64 c.code.result (record { sfits = c.code.type_inv })) (record { answers = undecided UnknownArchitecture c.in_default.ensures.not_found c.code.ensures })
+returns-in_default c = rw (to_z-of_z w64 c.code.result (record { sfits = c.code.type_inv })) (record { answers = undecided UnknownArchitecture c.in_default.ensures.not_found c.code.ensures.code })
 
 pub returns-in_default-as_array : goal.returns-in_default-as_array
 returns-in_default-as_array c =
     let code = c.code-in_default-as_array in
-    rw (to_z-of_z w64 code.result (record { sfits = code.type_inv })) (record { answers = undecided NotARecord (c.in-Some.target, c.in-Some.ensures.found, c.in_default-as_array.ensures.cases) code.ensures })
+    rw (to_z-of_z w64 code.result (record { sfits = code.type_inv })) (record { answers = undecided NotARecord (c.in-Some.target, c.in-Some.ensures.found, c.in_default-as_array.ensures.cases) code.ensures.code })
 
 pub returns-in-Ok : goal.returns-in-Ok
 returns-in-Ok c =
@@ -34,4 +34,4 @@ pub returns-in-Err : goal.returns-in-Err
 returns-in-Err c =
     let code = c.code-in-Err in
     let why = no_decision c.args.text.now c.args.architecture c.args.name.now c.args.call.now c.in-Some.target c.in-Some.ensures.found c.in-Some-as_array.ensures.cases.long c.in-Err.fault c.in-Err.ensures.fault in
-    rw (to_z-of_z w64 code.result (record { sfits = code.type_inv })) (record { answers = undecided c.in-Err.fault why code.ensures })
+    rw (to_z-of_z w64 code.result (record { sfits = code.type_inv })) (record { answers = undecided c.in-Err.fault why code.ensures.code })

@@ -1,7 +1,8 @@
 -- The definitions that the contracts cite.
 
 -- What is promised, in reading order: which words are which command, what goes wrong, and what each engine answers and
--- writes: lines of runs, listings, and the first fault of a policy; and what the statuses tell.
+-- writes: lines of runs, listings, and the first fault of a policy; which of these a command is; and what the statuses
+-- tell.
 pub mod Words
 pub mod Errors
 pub mod Lines
@@ -9,6 +10,7 @@ pub mod Answers
 pub mod Probe
 pub mod Listing
 pub mod Policies
+pub mod Commands
 pub mod Statuses
 -- Between layers: what the private steps of the engines promise each other.
 pub mod EngineSteps

@@ -3,6 +3,7 @@
 
 mod error;
 mod list;
+mod perform;
 mod policy;
 mod probe;
 mod program_text;
@@ -13,9 +14,11 @@ mod words;
 
 ghost use Rattle.std.specs.Prelude.{◌≡◌, ◌≤◌, IfSome, IfNone, OnOk, OnErr};
 ghost use Rattle.std.specs.Process.{exit_status};
+ghost use Rattle.seccompc.specs.Commands.{IsPerformed};
 ghost use Rattle.seccompc.specs.Statuses.{HasNoFault};
 
 use crate::error::ToolError;
+use crate::perform::perform;
 use crate::words::{Command, read_words};
 use seccomp_command_line::arguments::behind_the_name;
 use std::io::ErrorKind;
@@ -36,7 +39,7 @@ fn main(rt: HostRuntime) -> ExitCode {
 
 // Carries out a command, from standard input to standard output; where there is none, says how the
 // program is called.
-#[tactic(auto, using(crate::proofs::Statuses::list_faultless, crate::proofs::Statuses::run_faultless))]
+#[tactic(auto, using(crate::proofs::Statuses::performed, crate::proofs::Statuses::performed_faultless))]
 fn carry_out(
     rt: &(impl Files + Input + Print + Eprint + AllocGlobal),
     command: Option<Command<'_>>,
@@ -44,37 +47,27 @@ fn carry_out(
     ensures no_command { IfNone command.entry (exit_status result ≡ 2) }
     ensures carried_out { IfSome command.entry (λ asked. exit_status result ≤ 1) }
 
-    // Status 0 comes only where the command's own words have no fault.
+    // Status 0 comes only where the command is carried out without a fault, and then its own words have none.
+    ensures performed { IfSome command.entry (λ asked. exit_status result ≡ 0 → IsPerformed asked) }
     ensures faultless { IfSome command.entry (λ asked. exit_status result ≡ 0 → HasNoFault asked) }
 {
+    let Some(command) = command else {
+        return misused(rt);
+    };
     let alloc = rt.alloc();
     let mut out = io::writer(rt);
-    match command {
-        Some(
-            Command::Probe {
-                arch,
-                nr,
-                index,
-                value,
-            },
-        ) => answered(
+    let Command::Run { file, .. } = command else {
+        return answered(
             rt,
-            probe::probe(alloc, arch, nr, index, value, rt.reader(), &mut out),
-        ),
-        Some(Command::List { arch }) => {
-            answered(rt, list::list(alloc, arch, rt.reader(), &mut out))
+            perform(alloc, command, io::empty(), rt.reader(), &mut out),
+        );
+    };
+    match fs::open(rt, file) {
+        Ok(policy) => answered(rt, perform(alloc, command, policy, rt.reader(), &mut out)),
+        Err(error) if error.kind() == ErrorKind::OutOfMemory => {
+            answered(rt, Err(ToolError::OutOfMemory))
         }
-        Some(Command::Run { arch, file, name }) => match fs::open(rt, file) {
-            Ok(policy) => answered(
-                rt,
-                run::run_policy(alloc, arch, policy, name, rt.reader(), &mut out),
-            ),
-            Err(error) if error.kind() == ErrorKind::OutOfMemory => {
-                answered(rt, Err(ToolError::OutOfMemory))
-            }
-            Err(_) => unopened(rt),
-        },
-        None => misused(rt),
+        Err(_) => unopened(rt),
     }
 }
 

@@ -26,7 +26,10 @@ impl<R: Env> Env for BehindTheName<'_, R> {
     }
 }
 
-/// The words behind the program's name.
+/// The words behind the program's name, in order.
+///
+/// `env::args` of the kit has no contract, so this has none: that the words are the process's own is
+/// tested on the built programs.
 ///
 /// # Errors
 ///

@@ -1,13 +1,16 @@
 // Names of filters, as the programs write them.
 
-ghost use Rattle.std.specs.Prelude.{◌≡◌, ◌++◌, OnOk};
-ghost use Rattle.seccomp_command_line.specs.Names.{is_escaped, escaped_byte, escaped};
+ghost use Rattle.std.specs.Prelude.{◌≡◌, ◌++◌, map, OnOk};
+ghost use Rattle.std.specs.List.{concat};
+ghost use Rattle.seccomp_command_line.specs.Names.{is_escaped, byte_number, escaped_byte, escaped, is_numbered, readable_character, readable};
 
 use crate::hexadecimal::two_digits;
 use std::alloc::AllocError;
 
-/// Adds a name to a text: the bytes 00 to 1f, 7f and the backslash as `\x` and two lower-case hexadecimal
-/// digits, all others as they are. So no name steers a terminal, and no two names are written alike.
+/// Adds a name to a text in the form of a listing: the bytes 00 to 1f, 7f and the backslash as `\x` and
+/// two lower-case hexadecimal digits, all others as they are. So no two names are written alike. The
+/// control characters U+0080 to U+009F stay as they are, and some terminals heed them: in what people
+/// read, [`push_readable`] writes names.
 ///
 /// # Errors
 ///
@@ -17,6 +20,22 @@ pub fn push_escaped(text: &mut Vec<u8>, name: &[u8]) -> Result<(), AllocError>
 {
     for byte in name {
         push_byte(text, *byte)?;
+    }
+    Ok(())
+}
+
+/// Adds a name to a text for people: the control characters, those from U+0080 to U+009F too, and the
+/// backslash as `\x` and two lower-case hexadecimal digits for each of their bytes, all others as they
+/// are. So no name steers a terminal, and no two names are written alike.
+///
+/// # Errors
+///
+/// `AllocError` where memory is refused; the text may then have grown by a front of this.
+pub fn push_readable(text: &mut Vec<u8>, name: &str) -> Result<(), AllocError>
+    ensures { OnOk result (text.new.items ≡ text.old.items ++ readable name.now) }
+{
+    for character in name.chars() {
+        push_character(text, character)?;
     }
     Ok(())
 }
@@ -33,9 +52,46 @@ fn push_byte(text: &mut Vec<u8>, byte: u8) -> Result<(), AllocError>
     ensures { OnOk result (text.new.items ≡ text.old.items ++ escaped_byte byte) }
 {
     if is_escaped(byte) {
-        let [high, low] = two_digits(byte);
-        text.extend_from_slice(&[b'\\', b'x', high, low])
+        push_number(text, byte)
     } else {
         text.extend_from_slice(&[byte])
     }
+}
+
+// Whether people are told a character by the numbers of its bytes.
+fn is_numbered(character: char) -> bool
+    ensures { result ≡ is_numbered character }
+{
+    character.is_control() || character == '\\'
+}
+
+// Adds a character of a name.
+fn push_character(text: &mut Vec<u8>, character: char) -> Result<(), AllocError>
+    ensures { OnOk result (text.new.items ≡ text.old.items ++ readable_character character) }
+{
+    let mut room = [0; 4];
+    let bytes = character.encode_utf8(&mut room).as_bytes();
+    if is_numbered(character) {
+        push_numbers(text, bytes)
+    } else {
+        text.extend_from_slice(bytes)
+    }
+}
+
+// Adds bytes by their numbers.
+fn push_numbers(text: &mut Vec<u8>, bytes: &[u8]) -> Result<(), AllocError>
+    ensures { OnOk result (text.new.items ≡ text.old.items ++ concat (map byte_number bytes.now)) }
+{
+    for byte in bytes {
+        push_number(text, *byte)?;
+    }
+    Ok(())
+}
+
+// Adds a byte by its number.
+fn push_number(text: &mut Vec<u8>, byte: u8) -> Result<(), AllocError>
+    ensures { OnOk result (text.new.items ≡ text.old.items ++ byte_number byte) }
+{
+    let [high, low] = two_digits(byte);
+    text.extend_from_slice(&[b'\\', b'x', high, low])
 }

@@ -23,6 +23,7 @@ def denying(*entries):
 
 
 WIDE = 4294967298  # 2 to the 32, and 2: its low half is 2.
+FIONREAD = 0x541B  # A request of `ioctl` that a pipe answers, by EFAULT where its argument is 0.
 CALLS = denying("sched_yield")
 
 # The policies of the cases. A text or bytes stand as they are, anything else as JSON.
@@ -42,7 +43,13 @@ POLICIES = {
             when("sched_yield", (0, "dword", "le", 9), (5, "dword", "gt", 4)),
             when("sched_yield", (0, "dword", {"masked_eq": 255}, 16)),
         ),
+        "": CALLS,
+        "errno 38": filter_of({"errno": 38}, "allow", "sched_yield"),
+        "request of 64 bits": denying(when("ioctl", (1, "qword", "eq", FIONREAD))),
+        "request of 32 bits": denying(when("ioctl", (1, "dword", "eq", FIONREAD))),
         "no execve": filter_of({"errno": 13}, "allow", "execve"),
+        "no prctl": filter_of({"errno": 13}, "allow", "prctl"),
+        "no seccomp": filter_of({"errno": 13}, "allow", "seccomp"),
         "no memory to read": filter_of({"errno": 12}, "allow", when("read", (0, "dword", "eq", 0))),
     },
     "empty": "",
@@ -57,6 +64,7 @@ POLICIES = {
     "equal-actions.json": {"a": filter_of("log", "log")},
     "too-large.json": {"a": denying(when("read", *[(0, "dword", "eq", 5)] * 5000))},
     "no-filters.json": {},
+    "comma.json": {"a,b": CALLS, "a": CALLS},
 }
 
 INDEX = "The seccomp rule contains an invalid argument index. Maximum index value: 5"
@@ -80,6 +88,11 @@ REFUSED = [
     ("no-filters.json", "a", "No filter has this name."),
     ("no-filters.json", "", "No filter has this name."),
     ("actions.json", b"\xff", "No filter has this name."),
+    # Names are parted at commas, and the command isn't run where one of them is no filter's.
+    ("comma.json", "a,b", "No filter has this name."),
+    ("comma.json", "a,", "No filter has this name."),
+    ("actions.json", "errno,dog", "No filter has this name."),
+    ("actions.json", "dog,errno", "No filter has this name."),
     ("too-large.json", "a", LARGE),
 ]
 
@@ -102,6 +115,34 @@ CALLED = [
     ("two rules", "sched_yield 10 0 0 0 0 5", "0\n", 0),
     ("two rules", "sched_yield 0x110", "errno 1000: Unknown error 1000\n", 0),
     ("two rules", "sched_yield 0x111", "0\n", 0),
+    # The kernel takes 32 bits for the request, so a condition on 64 is passed by.
+    ("request of 64 bits", "ioctl 0 0x541b", "errno 1000: Unknown error 1000\n", 0),
+    ("request of 64 bits", "ioctl 0 0x10000541b", "errno 14: Bad address\n", 0),
+    ("request of 32 bits", "ioctl 0 0x541b", "errno 1000: Unknown error 1000\n", 0),
+    ("request of 32 bits", "ioctl 0 0x10000541b", "errno 1000: Unknown error 1000\n", 0),
+    # Of several filters the strictest answer holds, and of error numbers that of the last filter.
+    ("errno,errno 38", "sched_yield", "errno 38: Function not implemented\n", 0),
+    ("errno 38,errno", "sched_yield", "errno 1: Operation not permitted\n", 0),
+    ("errno,errno 0", "getpid", "0\n", 0),
+    ("errno 0,errno", "sched_yield", "errno 1: Operation not permitted\n", 0),
+    ("errno,log", "sched_yield", "errno 1: Operation not permitted\n", 0),
+    ("errno,trace", "sched_yield", "errno 1: Operation not permitted\n", 0),
+    ("errno,trap", "sched_yield", "", KILLED),
+    ("trap,errno", "sched_yield", "", KILLED),
+    ("kill_process,errno", "sched_yield", "", KILLED),
+    ("errno,kill_process,log", "sched_yield", "", KILLED),
+    ("errno,errno 0,large errno,log", "sched_yield", "errno 1000: Unknown error 1000\n", 0),
+    # The empty text is a name too.
+    ("errno,", "sched_yield", "errno 1000: Unknown error 1000\n", 0),
+    (",errno", "sched_yield", "errno 1: Operation not permitted\n", 0),
+    ("errno,no seccomp", "sched_yield", "errno 1: Operation not permitted\n", 0),
+]
+
+# Filters of actions.json that can't be installed one behind the other: the call that fails, of each jailer.
+UNINSTALLED = [
+    ("no seccomp,errno", {"jail": "seccomp", "jail-rs": "seccomp"}),
+    ("errno,no seccomp,errno 0", {"jail": "seccomp", "jail-rs": "seccomp"}),
+    ("no prctl,errno", {"jail": None, "jail-rs": "prctl"}),
 ]
 
 # Other commands under a filter of actions.json: standard output, and the status.
@@ -179,16 +220,32 @@ WEB_CALLS = [
     ("kill 0 0", 38),
 ]
 
-# Under the filter `deny` of examples/deny-policy.json: what is refused, where the first argument is 0 or a
-# flag of a namespace; and what isn't.
+# Under the filter `deny` of examples/deny-policy.json: what is refused, where the first argument is 0, a flag of a
+# namespace or, before a request, standard input; and what isn't.
 DENIED = [
-    "unshare", "setns", "clone 0x00020000", "clone 0x02000000", "clone 0x04000000", "clone 0x08000000",
-    "clone 0x10000000", "clone 0x20000000", "clone 0x40000000", "clone 0x7e020011",
-    "mount", "umount2", "pivot_root", "move_mount", "open_tree", "mount_setattr",
-    "fsopen", "fsconfig", "fsmount", "fspick", "init_module", "finit_module", "delete_module", "kexec_load", "kexec_file_load", "ptrace",
-    "process_vm_readv", "process_vm_writev", "pidfd_getfd", "kcmp", "keyctl", "add_key", "request_key",
+    "unshare", "setns", "clone3", "clone 0x00020000", "clone 0x02000000", "clone 0x04000000", "clone 0x08000000",
+    "clone 0x10000000", "clone 0x20000000", "clone 0x40000000", "clone 0x7e020011", "clone 0x110000000",
+    "mount", "umount2", "pivot_root", "chroot", "move_mount", "open_tree", "mount_setattr",
+    "fsopen", "fsconfig", "fsmount", "fspick", "open_by_handle_at",
+    "init_module", "finit_module", "delete_module", "kexec_load", "kexec_file_load",
+    "bpf", "perf_event_open", "userfaultfd", "io_uring_setup", "io_uring_enter", "io_uring_register",
+    "ptrace", "process_vm_readv", "process_vm_writev", "process_madvise", "pidfd_getfd", "kcmp",
+    "ioctl 0 0x5412", "ioctl 0 0x100005412", "ioctl 0 0xffffffff00005412", "ioctl 0 0x541c", "ioctl 0 0x10000541c",
+    "keyctl", "add_key", "request_key",
 ]
-NOT_DENIED = [("openat 0 0 1", 14), ("socket 99", 97), ("kill 0x7fffffff", 3)]
+NOT_DENIED = [
+    ("openat 0 0 1", 14), ("socket 99", 97), ("kill 0x7fffffff", 3), ("ioctl 99 0x5413", 9), ("ioctl 99 0x541b", 9),
+]
+
+# Numbers of x86_64 that no filter of this policy stops: that of `unshare` with the bit of the x32 calls, and a call
+# that the table has not got yet, `open_tree_attr`. A program for Python makes the call, and tells its error number.
+UNNAMED = [0x40000110, 467]
+UNNAMED_CALL = """
+import ctypes, sys
+library = ctypes.CDLL(None, use_errno=True)
+library.syscall(int(sys.argv[1]), 0, 0, 0, 0, 0, 0)
+print(ctypes.get_errno())
+"""
 
 # Under both filters of examples/deny-policy.json: a program for Python with a thread and a child.
 BUSY = """
@@ -198,6 +255,17 @@ thread.start()
 thread.join()
 print(subprocess.run(["echo", "a child"], capture_output=True, text=True).stdout, end="")
 """
+
+# Filters whose programs bubblewrap is given, the first one first; and its options, each of which takes one, with a call
+# and the error number that it answers, or None where it is made.
+WRAPPED = [denying("sched_yield", "getpgid"), filter_of({"errno": 1001}, "allow", "sched_yield")]
+WRAPPED_CALLS = [
+    (["--seccomp"], "sched_yield", 1000),
+    (["--seccomp"] * 2, "sched_yield", 1001),
+    (["--seccomp"] * 2, "getpgid", None),
+    (["--add-seccomp-fd"] * 2, "sched_yield", 1001),
+    (["--add-seccomp-fd"] * 2, "getpgid", 1000),
+]
 
 # What stands around the lines of C that the pages show: they are handed a policy as text.
 AROUND = """

@@ -1,21 +1,26 @@
 /*
- * jail [--tree] POLICY FILTER COMMAND [ARGUMENT]..
+ * jail [--tree] POLICY FILTER[,FILTER].. COMMAND [ARGUMENT]..
  *
- * Runs a command under a filter. POLICY is a file of filters as JSON text, FILTER the name of one of
- * them. The filter is compiled for the architecture that this program is built for, with --tree in the
- * layout of a tree. It holds for the command and for all that the command starts, and nothing can take
- * it off again.
+ * Runs a command under filters. POLICY is a file of filters as JSON text, each FILTER the name of one of
+ * them. They are compiled for the architecture that this program is built for, with --tree in the layout
+ * of a tree. They hold for the command and for all that the command starts, and nothing can take them off
+ * again.
+ *
+ * Of several filters the kernel takes the strictest answer, and of several error numbers that of the
+ * filter installed last. They are installed in the order in which they are named, so each but the last
+ * has to allow `seccomp`. Names are parted at every comma: an empty one is a name too, and a filter whose
+ * name holds a comma can't be named here.
  *
  * The command takes this process over, so its exit status is that of the command. Where it doesn't come
  * to that, a line on standard error says why, and the status is
  *
- *   125  the words are no command of this program, the policy can't be read or is refused, or the
- *        kernel doesn't take the filter: nothing was run
+ *   125  the words are no command of this program, the policy can't be read or one of the filters is
+ *        refused, or the kernel doesn't take one of them: nothing was run
  *   126  the command can't be run
  *   127  there is no such command
  *
- * as env(1) has them. The filter holds for the last steps of this program already: it makes execve, and
- * where that fails, write and exit_group.
+ * as env(1) has them. All filters are compiled before the first is installed. From then on they hold for
+ * the last steps of this program: it makes execve, and where that fails, write and exit_group.
  */
 
 #define _GNU_SOURCE
@@ -41,6 +46,13 @@ enum { FAILED = 125, CANNOT_RUN = 126, NOT_FOUND = 127 };
 struct text {
     char *bytes;
     size_t length;
+};
+
+/* A policy, the file that it is from, and the layout of what is compiled from it. */
+struct policy {
+    const char *path;
+    struct text text;
+    uint32_t layout;
 };
 
 /* What is to be installed: so many instructions of the array. */
@@ -94,44 +106,62 @@ static struct text read_whole(const char *path)
     return text;
 }
 
-/* Says why the filter is refused, and ends. */
-static _Noreturn void refuse(const char *path, struct text text, const char *name, uint32_t layout)
+/* Says why the filter of this name is refused, and ends. */
+static _Noreturn void refuse(const struct policy *policy, const char *name, size_t name_length)
 {
     char reason[4097] = {0};
-    int64_t length = seccompiler_refusal(text.bytes, text.length, ARCHITECTURE, name, strlen(name),
-                                         layout, BPF_MAXINSNS, reason, sizeof reason - 1);
+    int64_t length = seccompiler_refusal(policy->text.bytes, policy->text.length, ARCHITECTURE, name,
+                                         name_length, policy->layout, BPF_MAXINSNS, reason,
+                                         sizeof reason - 1);
 
     /* Only want of memory can have passed since. */
     if (length <= 0)
         strcpy(reason, "Out of memory.");
     else
         reason[length] = '\0';
-    fprintf(stderr, "jail: %s: %s\n", path, reason);
+    fprintf(stderr, "jail: %s: %s\n", policy->path, reason);
     exit(FAILED);
 }
 
 /* Compiles the filter of this name. */
-static void compile(const char *path, const char *name, uint32_t layout, struct program *program)
+static void compile(const struct policy *policy, const char *name, size_t name_length,
+                    struct program *program)
 {
-    struct text text = read_whole(path);
-    int64_t length = seccompiler_compile(text.bytes, text.length, ARCHITECTURE, name, strlen(name),
-                                         layout, program->instructions, BPF_MAXINSNS);
+    int64_t length = seccompiler_compile(policy->text.bytes, policy->text.length, ARCHITECTURE, name,
+                                         name_length, policy->layout, program->instructions,
+                                         BPF_MAXINSNS);
 
     if (length < 0)
-        refuse(path, text, name, layout);
+        refuse(policy, name, name_length);
     program->length = (unsigned short)length;
-    free(text.bytes);
 }
 
-/* Installs the program for all threads of this process. */
+/* Compiles each filter whose name stands between commas, and counts them. */
+static struct program *compile_each(const struct policy *policy, const char *names, size_t *count)
+{
+    struct program *programs;
+
+    *count = 1;
+    for (const char *at = names; *at != '\0'; at++)
+        *count += *at == ',';
+    programs = calloc(*count, sizeof *programs);
+    if (programs == NULL)
+        fail(FAILED, policy->path);
+    for (size_t k = 0; k < *count; k++) {
+        size_t length = strcspn(names, ",");
+
+        compile(policy, names, length, &programs[k]);
+        names += length + 1;
+    }
+    return programs;
+}
+
+/* Installs the program for all threads of this process, which has ruled new privileges out. */
 static void install(struct program *program)
 {
     struct sock_fprog lent = {.len = program->length, .filter = program->instructions};
-    long code;
+    long code = syscall(SYS_seccomp, SECCOMP_SET_MODE_FILTER, SECCOMP_FILTER_FLAG_TSYNC, &lent);
 
-    if (prctl(PR_SET_NO_NEW_PRIVS, 1, 0, 0, 0) != 0)
-        fail(FAILED, "prctl");
-    code = syscall(SYS_seccomp, SECCOMP_SET_MODE_FILTER, SECCOMP_FILTER_FLAG_TSYNC, &lent);
     if (code < 0)
         fail(FAILED, "seccomp");
     if (code > 0) {
@@ -142,20 +172,27 @@ static void install(struct program *program)
 
 int main(int count, char **words)
 {
-    static struct program program;
-    uint32_t layout = SECCOMPILER_LAYOUT_CHAINS;
+    struct policy policy = {.layout = SECCOMPILER_LAYOUT_CHAINS};
+    struct program *programs;
+    size_t program_count;
 
     if (count > 1 && strcmp(words[1], "--tree") == 0) {
-        layout = SECCOMPILER_LAYOUT_TREE;
+        policy.layout = SECCOMPILER_LAYOUT_TREE;
         count--;
         words++;
     }
     if (count < 4) {
-        fputs("usage: jail [--tree] POLICY FILTER COMMAND [ARGUMENT]..\n", stderr);
+        fputs("usage: jail [--tree] POLICY FILTER[,FILTER].. COMMAND [ARGUMENT]..\n", stderr);
         return FAILED;
     }
-    compile(words[1], words[2], layout, &program);
-    install(&program);
+    policy.path = words[1];
+    policy.text = read_whole(policy.path);
+    programs = compile_each(&policy, words[2], &program_count);
+    free(policy.text.bytes);
+    if (prctl(PR_SET_NO_NEW_PRIVS, 1, 0, 0, 0) != 0)
+        fail(FAILED, "prctl");
+    for (size_t k = 0; k < program_count; k++)
+        install(&programs[k]);
     execvp(words[3], words + 3);
     fail(errno == ENOENT ? NOT_FOUND : CANNOT_RUN, words[3]);
 }

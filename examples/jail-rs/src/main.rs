@@ -1,18 +1,19 @@
-//! `jail-rs [--tree] POLICY FILTER COMMAND [ARGUMENT]..`
+//! `jail-rs [--tree] POLICY FILTER[,FILTER].. COMMAND [ARGUMENT]..`
 //!
-//! Runs a command under the filter that has the name FILTER in the policy file POLICY: what
+//! Runs a command under the filters that have the names FILTER in the policy file POLICY: what
 //! `examples/jail/jail.c` does, in safe Rust. The exit status is that of the command. Where it doesn't
 //! come to that, a line on standard error says why, and the status is 125 where nothing was run, 126
 //! where the command can't be run and 127 where there is none.
 //!
-//! The filter holds for the last steps of this program already: it makes `rt_sigprocmask`, `rt_sigaction`
-//! and `execve`, and where that fails, `write` and `exit_group`.
+//! The filters are installed in the order in which they are named, so each but the last has to allow
+//! `prctl` and `seccomp`. They hold for the last steps of this program already: it makes
+//! `rt_sigprocmask`, `rt_sigaction` and `execve`, and where that fails, `write` and `exit_group`.
 
 #![forbid(unsafe_code)]
 
 use seccompiler_wrapper::{InstallError, Layout, Program, Refusal};
 use std::env;
-use std::ffi::OsString;
+use std::ffi::{OsStr, OsString};
 use std::fmt;
 use std::fs;
 use std::io;
@@ -26,9 +27,9 @@ enum Failure {
     Words,
     /// The policy can't be read.
     Policy(OsString, io::Error),
-    /// The filter is refused.
+    /// One of the filters is refused.
     Filter(OsString, Refusal),
-    /// The kernel doesn't take the program.
+    /// The kernel doesn't take one of the programs.
     Install(InstallError),
     /// The command can't be run.
     Command(OsString, io::Error),
@@ -49,7 +50,7 @@ impl fmt::Display for Failure {
     fn fmt(&self, f: &mut fmt::Formatter<'_>) -> fmt::Result {
         match self {
             Failure::Words => {
-                f.write_str("usage: jail-rs [--tree] POLICY FILTER COMMAND [ARGUMENT]..")
+                f.write_str("usage: jail-rs [--tree] POLICY FILTER[,FILTER].. COMMAND [ARGUMENT]..")
             }
             Failure::Policy(path, error) | Failure::Command(path, error) => {
                 write!(f, "jail-rs: {}: {error}", path.to_string_lossy())
@@ -62,6 +63,19 @@ impl fmt::Display for Failure {
     }
 }
 
+/// Returns the programs of the filters whose names stand between commas.
+fn compiled(path: OsString, names: &OsStr, layout: Layout) -> Result<Vec<Program>, Failure> {
+    let policy = match fs::read(&path) {
+        Ok(policy) => policy,
+        Err(error) => return Err(Failure::Policy(path, error)),
+    };
+    let names = names.as_bytes().split(|byte| *byte == b',');
+    names
+        .map(|name| Program::compile(&policy, name, layout))
+        .collect::<Result<_, _>>()
+        .map_err(|refusal| Failure::Filter(path, refusal))
+}
+
 /// Does what the words ask for. Where it goes well this program is gone, and the command in its place.
 fn jail(mut words: impl Iterator<Item = OsString>) -> Result<(), Failure> {
     let mut first = words.next();
@@ -70,16 +84,13 @@ fn jail(mut words: impl Iterator<Item = OsString>) -> Result<(), Failure> {
         layout = Layout::Tree;
         first = words.next();
     }
-    let (path, name, command) = match (first, words.next(), words.next()) {
-        (Some(path), Some(name), Some(command)) => (path, name, command),
+    let (path, names, command) = match (first, words.next(), words.next()) {
+        (Some(path), Some(names), Some(command)) => (path, names, command),
         _ => return Err(Failure::Words),
     };
-    let program = match fs::read(&path) {
-        Ok(policy) => Program::compile(&policy, name.as_bytes(), layout)
-            .map_err(|refusal| Failure::Filter(path, refusal))?,
-        Err(error) => return Err(Failure::Policy(path, error)),
-    };
-    program.install().map_err(Failure::Install)?;
+    for program in &compiled(path, &names, layout)? {
+        program.install().map_err(Failure::Install)?;
+    }
     let error = Command::new(&command).args(words).exec();
     Err(Failure::Command(command, error))
 }

@@ -39,6 +39,8 @@ NO_FILTERS = [
     '{"match_action":"allow","mismatch_action":"log","default_action":"log","filter":[]}',
     '{"match_action":"allow","filter":[]}',
     '{"match_action":"allow","mismatch_action":"log","filter":[],"comment":"c"}',
+    '{"default_action":"allow","filter_action":"logs","filter":[]}',
+    '{"default_action":"logs","filter_action":"allow","filter":[]}',
     '{"match_action":"allow","mismatch_action":"log","filter":{}}',
     '{"match_action":"allow","mismatch_action":"log","filter":null}',
     # The same with spaces.
@@ -150,6 +152,8 @@ NO_CONDITION = [
     '{"index":0,"type":"dword","op":"EQ","val":5}',
     '{"index":0,"type":"dword","op":"masked_eq","val":5}',
     '{"index":0,"type":"dword","op":{"eq":null},"val":5}',
+    '{"index":0,"type":"dword","op":{},"val":5}',
+    '{"index":0,"type":"dword","op":{"masked_eq":1,"eq":null},"val":5}',
     '{"index":0,"type":"dword","op":"eq"}',
     '{"index":0,"type":"dword","val":5}',
     '{"index":0,"op":"eq","val":5}',

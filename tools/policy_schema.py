@@ -1,0 +1,148 @@
+"""Whether docs/policy.schema.json says of the policies of all cases what the built programs do.
+
+Each policy that a case has accepted is valid, and each of which a case tells a wrong shape is not. The schema is then
+changed in each of its words and numbers: there has to be a policy of which each changed one says something else.
+
+What JSON Schema can't say, and so is asked of no policy: that a text is no JSON (UNPARSED), repeats a key, names no
+call of the architecture, has two equal actions, or takes too many instructions; and that a whole number is written
+with a fraction, an exponent or as -0, which JSON Schema takes for the same number. Without Python's `jsonschema`
+(Debian: python3-jsonschema) nothing is compared, which is said.
+"""
+
+import copy
+import json
+import pathlib
+import re
+import shlex
+
+import seccompc_cases
+import seccomptool_cases
+from program_cases import CASES, FILES, FRONTEND, INDEX
+from seccompc_cases.policy_texts import NO_CONDITIONS, NO_OBJECT
+from seccomptool_cases.forms import Case
+
+TOP = pathlib.Path(__file__).resolve().parent.parent
+SCHEMA = TOP / "docs/policy.schema.json"
+
+# The commands that read a policy from standard input, and those that are given its file.
+READING = ("list", "raw", "show", "steps", "widened", "lint")
+GIVEN_A_FILE = ("run", "explain")
+
+# What is told of a policy of wrong shape; by `lint` with its place in front, but for the faults of LATER.
+WRONG = tuple(FRONTEND + it for it in ("Json filter has a wrong shape: ", NO_OBJECT, INDEX, NO_CONDITIONS))
+OF_LINT = re.compile(r"(.*: .* stands? here, and .* may|.*: `.*` is missing)\.\n", re.DOTALL)
+LATER = ("the name of a call of x86_64 may.\n", "two that differ may.\n", "one of at most 4096 may.\n")
+
+# So much of a policy is shown of which the schema says something else.
+SHOWN = 200
+
+# Words of the schema that say nothing of a policy.
+ANNOTATIONS = ("$schema", "title", "description")
+
+# Words of the schema whose values are numbers.
+BOUNDS = ("minimum", "maximum", "minItems")
+
+# What no policy shows where it is left out: that a filter is an object also follows from its actions.
+FOLLOWS = ("$defs.filter.type",)
+
+
+def content_of(name, files):
+    """Returns a file of the tables or of the examples, as a text or bytes; None where it is neither."""
+    path = TOP / name
+    if name not in files:
+        return path.read_bytes() if name.startswith("examples/") and path.is_file() else None
+    content = files[name]
+    return content if isinstance(content, (str, bytes)) else json.dumps(content)
+
+
+def policy_of(case, files):
+    """Returns the text of the policy that a case's command reads; None where it reads none, or reading fails."""
+    words = shlex.split(case.words)
+    if words[:1] and words[0] in GIVEN_A_FILE and len(words) > 2:
+        return content_of(words[2], files)
+    if not words or words[0] not in READING:
+        return None
+    if "<" in words:
+        return content_of(words[words.index("<") + 1], files)
+    return case.given if isinstance(case.given, (str, bytes)) else None
+
+
+def is_wrong(case):
+    """Returns whether a case tells that its policy has a wrong shape."""
+    of_lint = case.words.startswith("lint") and OF_LINT.fullmatch(case.errors)
+    return case.errors.startswith(WRONG) or (of_lint and not case.errors.endswith(LATER))
+
+
+def has_loose_numbers(text):
+    """Returns whether a whole number of a text is written with a fraction, with an exponent or as -0."""
+    loose = []
+    json.loads(
+        text, parse_float=lambda it: loose.append(float(it).is_integer()), parse_int=lambda it: loose.append(it == "-0")
+    )
+    return any(loose)
+
+
+def judged_policies():
+    """Returns the values of the policies of all cases and of the examples, each with whether it is valid; the
+    shortest first."""
+    tables = (FILES, seccompc_cases.FILES, seccomptool_cases.FILES)
+    files = {name: content for table in tables for name, content in table.items()}
+    judged = {path.read_bytes(): True for path in sorted((TOP / "examples").glob("*.json"))}
+    for case in (Case(*it) for it in (*CASES, *seccompc_cases.CASES, *seccomptool_cases.CASES)):
+        text = policy_of(case, files)
+        if text is not None and (case.status == 0 or is_wrong(case)) and not has_loose_numbers(text):
+            judged[text] = case.status == 0
+    return [(json.loads(it), judged[it]) for it in sorted(judged, key=len)]
+
+
+def places_of(value, place=()):
+    """Yields the place of each part of a schema that says something of policies: the keys and indices that lead to
+    it."""
+    parts = value.items() if isinstance(value, dict) else enumerate(value) if isinstance(value, list) else ()
+    for key, part in parts:
+        if key not in ANNOTATIONS:
+            yield (*place, key)
+            yield from places_of(part, (*place, key))
+
+
+def changed(schema, place, difference):
+    """Returns the schema with a number changed by the difference, or with a part left out where that is 0."""
+    around = schema = copy.deepcopy(schema)
+    for key in place[:-1]:
+        around = around[key]
+    if difference:
+        around[place[-1]] += difference
+    else:
+        del around[place[-1]]
+    return schema
+
+
+def changes_of(schema):
+    """Yields each change of a schema: what it is, and the schema so changed."""
+    for place in places_of(schema):
+        name = ".".join(map(str, place))
+        # What is defined is changed in its parts alone, since others refer to it.
+        if "$defs" in place[-2:] or name in FOLLOWS:
+            continue
+        yield f"without {name}", changed(schema, place, 0)
+        if place[-1] in BOUNDS:
+            yield f"{name} less by 1", changed(schema, place, -1)
+            yield f"{name} more by 1", changed(schema, place, 1)
+
+
+def compare_schema(results):
+    """Compares what the schema says of each policy, and looks for a policy that shows each change of the schema."""
+    try:
+        from jsonschema import Draft202012Validator as Validator
+    except ImportError:
+        print("Python's jsonschema isn't installed, so docs/policy.schema.json is compared with no policy")
+        return
+    name, schema = SCHEMA.relative_to(TOP), json.loads(SCHEMA.read_text(encoding="utf-8"))
+    Validator.check_schema(schema)
+    validator, judged = Validator(schema), judged_policies()
+    for value, valid in judged:
+        results.compare(f"{name} on {json.dumps(value)[:SHOWN]}", (valid,), (validator.is_valid(value),))
+    for what, other in changes_of(schema):
+        changed_one = Validator(other)
+        shown = any(changed_one.is_valid(value) != valid for value, valid in judged)
+        results.compare(f"{name} {what}: whether a policy shows it", (True,), (shown,))

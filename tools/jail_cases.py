@@ -48,6 +48,7 @@ POLICIES = {
         "request of 64 bits": denying(when("ioctl", (1, "qword", "eq", FIONREAD))),
         "request of 32 bits": denying(when("ioctl", (1, "dword", "eq", FIONREAD))),
         "no execve": filter_of({"errno": 13}, "allow", "execve"),
+        "no write": filter_of("kill_process", "allow", "write"),
         "no prctl": filter_of({"errno": 13}, "allow", "prctl"),
         "no seccomp": filter_of({"errno": 13}, "allow", "seccomp"),
         "no memory to read": filter_of({"errno": 12}, "allow", when("read", (0, "dword", "eq", 0))),
@@ -93,6 +94,8 @@ REFUSED = [
     ("comma.json", "a,", "No filter has this name."),
     ("actions.json", "errno,dog", "No filter has this name."),
     ("actions.json", "dog,errno", "No filter has this name."),
+    # No filter is installed before the next is compiled: this one would kill the jailer, which writes the line.
+    ("actions.json", "no write,dog", "No filter has this name."),
     ("too-large.json", "a", LARGE),
 ]
 

@@ -1,6 +1,5 @@
 -- What a program must be before it is run.
 use Rattle.std.specs.Prelude.{◌≡◌, ℕ, ◌+◌, ◌-◌, ◌%◌, ◌^◌, ◌<◌, ◌≤◌, List, length, Some, slice_get}
-use Rattle.seccompiler.specs.declared.bpf.TheConstants.{BPF_MAX_LEN}
 use Rattle.seccompiler.specs.declared.bpf.sock_filter.{sock_filter}
 
 -- An instruction that may stand at this place of a program of n instructions: it is one of the seven, loads an
@@ -25,9 +24,9 @@ pub record IsInRange (i : sock_filter) : Type 0 where
 pub record AreInRange (piece : List sock_filter) : Type 0 where
   pub each : (place : ℕ) (i : sock_filter) → slice_get piece place ≡ Some i → IsInRange i
 
--- How many instructions a program may have: as many as a kernel takes.
+-- How many instructions a program may have: as many as a kernel takes (BPF_MAXINSNS of linux/bpf_common.h).
 abbrev pub greatest_length : ℕ
-greatest_length = BPF_MAX_LEN
+greatest_length = 4096
 
 -- A program that may be run: one instruction to the greatest length, each fine at its place, and the last one returns.
 pub record IsChecked (p : List sock_filter) : Type 0 where

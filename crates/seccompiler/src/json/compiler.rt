@@ -205,6 +205,7 @@ impl JsonCompiler {
         reader: R,
     ) -> Result<BTreeMap<String, SeccompFilter>, JsonFrontendError>
         ensures policies { IfOk result (λ m. Reads (R.remaining reader) (λ text. OfValue text (ArePoliciesOf self.now (tree.get_by_text m)))) }
+        ensures numbers { IfOk result (λ m. (name : List ℕ) → IfSome (tree.get_by_text m name) (λ f. All IsTableNumber (numbers_of f.chains))) }
         ensures fault { IfErr result (λ e. Reads (R.remaining reader) (λ text. TellsFrontendFault self.now text e)) }
         ensures memory { IfErr result IsNoMemoryInFrontend }
     {

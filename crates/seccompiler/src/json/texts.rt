@@ -1,6 +1,6 @@
 // From a reader to the filters of its text.
 
-ghost use Rattle.std.specs.Prelude.{◌≡◌, IfOk, IfErr, OnOk};
+ghost use Rattle.std.specs.Prelude.{◌≡◌, IfOk, IfErr};
 ghost use Rattle.serde_json.specs.Data.{Data};
 ghost use Rattle.serde_json.specs.View.{view};
 ghost use Rattle.seccompiler.specs.Errors.{IsNoMemoryInFrontend};
@@ -51,6 +51,7 @@ use std::io::{ErrorKind, Read};
 /// let main = filters.0.get("main").ok_or("no filter has this name")?;
 /// assert!(rt; main.match_action == SeccompAction::Allow);
 /// ```
+#[tactic(auto, using(crate::proofs::json::parts::OneFilter::one_filter))]
 pub fn filters_from<R: Read + Drop>(
     alloc: Global,
     mut reader: R,
@@ -62,7 +63,7 @@ pub fn filters_from<R: Read + Drop>(
     ensures memory { IfErr result IsNoMemoryInFrontend }
 
     // A value is at most one filter.
-    ensures one_filter { OnOk result ((d : Data) (f g : JsonFilter) → IsFilter d f → IsFilter d g → f ≡ g) }
+    ensures one_filter { (d : Data) (f g : JsonFilter) → IsFilter d f → IsFilter d g → f ≡ g }
 {
     let mut text = Vec::new(alloc);
     match reader.read_to_end(&mut text) {
@@ -78,7 +79,6 @@ fn filters_in_text(alloc: Global, text: &[u8]) -> Result<JsonFilterMap, JsonFron
     ensures fault { IfErr result (λ e. (arch : TargetArch) → TellsFrontendFault arch text.now e) }
     ensures cause { IfErr result IsBeforePolicies }
     ensures memory { IfErr result IsNoMemoryInFrontend }
-    ensures one_filter { OnOk result ((d : Data) (f g : JsonFilter) → IsFilter d f → IsFilter d g → f ≡ g) }
 {
     let value = value_of(alloc, text)?;
     read_filters(alloc, &value)

@@ -1,12 +1,12 @@
 -- The errors: how a refusal of one module becomes one of another, the text of the crate's, and where want of memory stands.
-use Rattle.std.specs.Prelude.{◌≢◌, ℕ, List, ◌++◌, Option, Some, option_map, codes, ⊤}
+use Rattle.std.specs.Prelude.{◌≡◌, ◌≢◌, ℕ, List, ◌++◌, Option, Some, option_map, codes, ⊤}
 use Rattle.std.specs.Fmt.{signed_decimal}
 use Rattle.std.specs.IoError.{error_kind}
 use Rattle.serde_json.specs.Errors.{IsMemory}
 use Rattle.seccompiler.specs.declared.backend.BackendError.{BackendError}
 use Rattle.seccompiler.specs.declared.error.Error.{Error}
 use Rattle.seccompiler.specs.declared.json.error.JsonFrontendError.{JsonFrontendError}
-use Rattle.seccompiler.specs.Texts.{json_text, backend_text}
+use Rattle.seccompiler.specs.Texts.{json_text, IsJsonText, backend_text}
 use Rattle.std.specs.declared.io.ErrorKind.TheVariants as kind
 use Rattle.seccompiler.specs.declared.backend.BackendError.TheVariants as backend
 use Rattle.seccompiler.specs.declared.error.Error.TheVariants as whole
@@ -27,7 +27,7 @@ abbrev pub from_frontend : JsonFrontendError → Error
 from_frontend frontend.OutOfMemory = whole.OutOfMemory
 from_frontend refusal = whole.JsonFrontend refusal
 
--- The text of an error, where it is known: that of JSON that can't be read ends in serde_json's own words.
+-- The text of an error, where all of it is known: that of JSON that can't be read ends in serde_json's own words.
 abbrev pub error_text : Error → Option (List ℕ)
 error_text (whole.Backend e) = Some (codes "Backend error: " ++ backend_text e)
 error_text whole.EmptyFilter = Some (codes "Cannot install empty filter.")
@@ -36,6 +36,11 @@ error_text (whole.Seccomp number) = Some (codes "Error calling `seccomp`: " ++ s
 error_text (whole.ThreadSync thread) = Some (codes "Seccomp filter synchronization failed in thread `" ++ signed_decimal thread ++ codes "`")
 error_text (whole.JsonFrontend e) = option_map (λ text. codes "Json Frontend error: " ++ text) (json_text e)
 error_text whole.OutOfMemory = Some (codes "Out of memory.")
+
+-- The text is that of the error; where it ends in serde_json's own words, it is known how it begins.
+abbrev pub IsErrorText : Error → List ℕ → Type 0
+IsErrorText (whole.JsonFrontend e) text = (inner : List ℕ) × IsJsonText e inner × (text ≡ codes "Json Frontend error: " ++ inner)
+IsErrorText e text = error_text e ≡ Some text
 
 -- Want of memory stands in the front end's error itself, if it is at fault, and nowhere inside.
 abbrev pub IsNoMemoryInFrontend : JsonFrontendError → Type 0

@@ -1,6 +1,8 @@
 -- The texts of the errors of the backend and of the front end, byte for byte.
-use Rattle.std.specs.Prelude.{◌≡◌, ℕ, List, ◌++◌, codes, decimal, string_bytes, Option, Some, None}
-use Rattle.std.specs.Fmt.{signed_decimal}
+use Rattle.std.specs.Prelude.{◌≡◌, ℕ, List, ◌++◌, codes, decimal, string_bytes, Option, Some, None, Result, IsOk, ⊤}
+use Rattle.std.specs.Fmt.{signed_decimal, IsPlainFormatter, HasWritten}
+use Rattle.std.specs.declared.fmt.Formatter.{Formatter}
+use Rattle.std.specs.declared.fmt.Error as fmt
 use Rattle.seccompiler.specs.Architecture.{arch_text}
 use Rattle.seccompiler.specs.declared.backend.BackendError.{BackendError}
 use Rattle.seccompiler.specs.declared.backend.BackendError.TheVariants.{EmptyRule, FilterTooLarge, IdenticalActions, InvalidArgumentNumber, InvalidTargetArch, InvalidSyscallNumber, OutOfMemory}
@@ -22,7 +24,7 @@ abbrev pub IsInvalidArch : BackendError → List ℕ → Type 0
 IsInvalidArch (InvalidTargetArch t) text = string_bytes t ≡ text
 IsInvalidArch _ text = ⊥
 
--- The text of an error of the front end. That of `SerdeJson` ends in serde_json's own words, of which nothing is known.
+-- The text of an error of the front end, where all of it is known: that of `SerdeJson` ends in serde_json's own words.
 abbrev pub json_text : JsonFrontendError → Option (List ℕ)
 json_text (frontend.Backend e) = Some (backend_text e)
 json_text (frontend.SerdeJson e) = None
@@ -32,3 +34,12 @@ json_text frontend.RepeatedKey = Some (codes "Repeated key in Json.")
 json_text frontend.NotAnObject = Some (codes "Json is not an object of filters.")
 json_text (frontend.Shape name) = Some (codes "Json filter has a wrong shape: " ++ string_bytes name ++ codes ".")
 json_text frontend.OutOfMemory = Some (codes "Out of memory.")
+
+-- The text is that of the error of the front end; of `SerdeJson` it is known how it begins, and that further words may follow.
+abbrev pub IsJsonText : JsonFrontendError → List ℕ → Type 0
+IsJsonText (frontend.SerdeJson e) text = (words : List ℕ) × (text ≡ codes "Error parsing Json: " ++ words)
+IsJsonText e text = json_text e ≡ Some text
+
+-- Where Ok is answered to a formatter without options, it then has written a text of which P holds, and nothing else.
+abbrev pub WritesOne : {W : Type 0} → (W → List ℕ → W → Type 0) → (List ℕ → Type 0) → Formatter W → Result ⊤ fmt.Error → Formatter W → Type 0
+WritesOne took P before answer after = IsPlainFormatter before → IsOk answer → (text : List ℕ) × P text × HasWritten took before text after

@@ -104,6 +104,31 @@ pub const BPF_JGE: u16 = 0x30;
 /// The source of an operand: the instruction's own `k`.
 pub const BPF_K: u16 = 0x00;
 
+// Each number as `linux/bpf_common.h` has it: a code that is joined of some doesn't tell them all.
+const _: () = prove!(BPF_LD == 0x00);
+
+const _: () = prove!(BPF_ALU == 0x04);
+
+const _: () = prove!(BPF_JMP == 0x05);
+
+const _: () = prove!(BPF_RET == 0x06);
+
+const _: () = prove!(BPF_W == 0x00);
+
+const _: () = prove!(BPF_ABS == 0x20);
+
+const _: () = prove!(BPF_AND == 0x50);
+
+const _: () = prove!(BPF_JA == 0x00);
+
+const _: () = prove!(BPF_JEQ == 0x10);
+
+const _: () = prove!(BPF_JGT == 0x20);
+
+const _: () = prove!(BPF_JGE == 0x30);
+
+const _: () = prove!(BPF_K == 0x00);
+
 /// Loads the word at byte `k` of the record.
 pub(crate) const LOAD: u16 = BPF_LD | BPF_W | BPF_ABS;
 

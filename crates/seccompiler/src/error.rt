@@ -31,11 +31,16 @@ pub type Result<T> = std::result::Result<T, Error>;
 
 /// The error's text.
 impl fmt::Display for Error {
-    ghost use Rattle.seccompiler.specs.Errors.{error_text};
+    ghost use Rattle.std.specs.Fmt.{DisplaysOnOk};
+    ghost use Rattle.seccompiler.specs.Errors.{error_text, IsErrorText};
+    ghost use Rattle.seccompiler.specs.Texts.{WritesOne};
 
     ghost output = { error_text };
 
-    fn fmt<W: fmt::Write>(&self, f: &mut fmt::Formatter<W>) -> fmt::Result {
+    fn fmt<W: fmt::Write>(&self, f: &mut fmt::Formatter<W>) -> fmt::Result
+        ensures writes { DisplaysOnOk W.write_str_gives f.old result (error_text self.now) f.new }
+        ensures text { WritesOne W.write_str_gives (IsErrorText self.now) f.old result f.new }
+    {
         match self {
             Error::Backend(error) => write!(f, "Backend error: {error}"),
             Error::EmptyFilter => f.write_str("Cannot install empty filter."),
@@ -45,7 +50,10 @@ impl fmt::Display for Error {
                 f,
                 "Seccomp filter synchronization failed in thread `{thread}`"
             ),
-            Error::JsonFrontend(error) => write!(f, "Json Frontend error: {error}"),
+            Error::JsonFrontend(error) => {
+                f.write_str("Json Frontend error: ")?;
+                error.fmt(f)
+            }
             Error::OutOfMemory => f.write_str("Out of memory."),
         }
     }

@@ -2,7 +2,11 @@
 
 use crate::backend::{BackendError, TargetArch};
 use std::alloc::{AllocError, AllocFailed};
+use std::fmt::InlineText;
 use std::{error, fmt, io};
+
+// More bytes than any error of `serde_json` says: at most 50, and a line and a column behind them.
+const WORDS_CAPACITY: usize = 128;
 
 /// Why the JSON front end refuses.
 ///
@@ -30,16 +34,24 @@ pub enum JsonFrontendError {
     OutOfMemory,
 }
 
-/// The error's text.
+/// The error's text. That of `SerdeJson` is `Error parsing Json: `, and then what `serde_json` says.
 impl fmt::Display for JsonFrontendError {
-    ghost use Rattle.seccompiler.specs.Texts.{json_text};
+    ghost use Rattle.std.specs.Fmt.{DisplaysOnOk};
+    ghost use Rattle.seccompiler.specs.Texts.{json_text, IsJsonText, WritesOne};
 
     ghost output = { json_text };
 
-    fn fmt<W: fmt::Write>(&self, f: &mut fmt::Formatter<W>) -> fmt::Result {
+    fn fmt<W: fmt::Write>(&self, f: &mut fmt::Formatter<W>) -> fmt::Result
+        ensures writes { DisplaysOnOk W.write_str_gives f.old result (json_text self.now) f.new }
+        ensures text { WritesOne W.write_str_gives (IsJsonText self.now) f.old result f.new }
+    {
         match self {
             JsonFrontendError::Backend(error) => write!(f, "{error}"),
-            JsonFrontendError::SerdeJson(error) => write!(f, "Error parsing Json: {error}"),
+            JsonFrontendError::SerdeJson(error) => {
+                // They are put aside first, since no contract says what they leave of what a formatter has.
+                let words = InlineText::<WORDS_CAPACITY>::of(error);
+                write!(f, "Error parsing Json: {}", words.as_str())
+            }
             JsonFrontendError::SyscallName(name, arch) => {
                 write!(f, "Invalid syscall name: {name} for given arch: {arch}.")
             }

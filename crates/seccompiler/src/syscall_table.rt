@@ -1,8 +1,8 @@
 // From the names of system calls to their numbers.
 
-ghost use Rattle.std.specs.Prelude.{◌≡◌, ◌≢◌, ◌≤◌, All, IfSome, IfNone};
+ghost use Rattle.std.specs.Prelude.{◌≡◌, ◌≢◌, ℕ, ◌≤◌, All, IfSome, IfNone};
 ghost use Rattle.seccompiler.specs.Architecture.{table_of};
-ghost use Rattle.seccompiler.specs.SyscallTable.{IsTableNumber, IsCallTable, IsFirstNumber, number_of, pairs_of};
+ghost use Rattle.seccompiler.specs.SyscallTable.{HalvingCompares, IsTableNumber, IsCallTable, IsFirstNumber, number_of, pairs_of};
 
 use crate::backend::TargetArch;
 use crate::equality::EqualByParts;
@@ -14,7 +14,8 @@ use std::marker::Model;
 pub struct Lookup {
     /// The number of the system call with exactly this name, if the table has it.
     pub number: Option<i64>,
-    /// How many of the table's names were compared with the asked one.
+    /// How many of the table's names were compared with the asked one: exactly as many as halving
+    /// the table takes.
     pub compared: usize,
 }
 
@@ -74,14 +75,18 @@ impl SyscallTable {
     /// Looks the system call with exactly this name up, case included, by halving the table.
     ///
     /// `number` is `None` where the table has no such name, and otherwise lies within 0 to 462.
-    /// `compared` is 1 to 9; where the table has no such name, it is 8 or 9. It takes no memory.
+    /// `compared` is how many names are compared where the table is halved at its middle name, and
+    /// then the half on whose side the asked name stands: 1 to 9, and 8 or 9 where the table has no
+    /// such name. It takes no memory.
     /// `SyscallTable::new(TargetArch::aarch64).lookup("close").number` is `Some(57)`.
     pub fn lookup(&self, name: &str) -> Lookup
         ensures number { result.number ≡ number_of (table_of self.now) name.now }
         ensures found { IfSome result.number (IsFirstNumber (table_of self.now) name.now) }
         ensures not_found { IfNone result.number (All (λ pair. pair.0 ≢ name.now) (table_of self.now)) }
         ensures in_range { IfSome result.number IsTableNumber }
-        ensures compared { (1 ≤ result.compared) × (result.compared ≤ 9) }
+        ensures compared { HalvingCompares name.now (table_of self.now) result.compared }
+        ensures only { (n : ℕ) → HalvingCompares name.now (table_of self.now) n → n ≡ result.compared }
+        ensures few { (1 ≤ result.compared) × (result.compared ≤ 9) }
         ensures missed { IfNone result.number (8 ≤ result.compared) }
     {
         let mut part = self.pairs();

@@ -1,5 +1,5 @@
 -- For `SyscallTable::lookup`: what one comparison with the middle of a part of a table tells of the look-up in it.
-use Rattle.std.proofs.Common.{◌≡◌, ◌≢◌, ℕ, zero, suc, ◌+◌, ◌-◌, ◌*◌, ◌/◌, ◌^◌, ◌<◌, ◌≤◌, ℤ, pos, List, [], ◌∷◌, true, false, Option, Some, None, Ordering, Less, Equal, Greater, nat_cmp, length, take, drop, get_or, AllPairs, bytes_eq, if◌then◌else◌, inl, inr, refl, sym, ap, ◌∙◌, subst, arith}
+use Rattle.std.proofs.Common.{◌≡◌, ◌≢◌, ℕ, zero, suc, ◌+◌, ◌-◌, ◌*◌, ◌/◌, ◌^◌, ◌<◌, ◌≤◌, ℤ, pos, List, [], ◌∷◌, true, false, Option, Some, None, Ordering, Less, Equal, Greater, nat_cmp, length, ◌++◌, ◌⊎◌, take, drop, get_or, AllPairs, bytes_eq, if◌then◌else◌, inl, inr, refl, sym, ap, ◌∙◌, subst, arith}
 use Rattle.std.specs.Borrow.{Bor}
 use Rattle.std.specs.Cmp.Lexicographic.{slice_cmp}
 use Rattle.std.specs.Ordering.{is_eq}
@@ -7,11 +7,11 @@ use Rattle.std.proofs.Math.Nat.{pow-succ'}
 use Rattle.std.proofs.Math.Seq.{drop-cons}
 use Rattle.std.proofs.lemmas.Bool.{cases_lt}
 use Rattle.std.proofs.lemmas.Cmp.{nat_list_cmp_total, tied_itself}
-use Rattle.std.proofs.lemmas.List.{get_or-take, get_or-drop, get_or-map, take-map, drop-map, length-take-le, length-drop, length-map}
+use Rattle.std.proofs.lemmas.List.{take-append-drop, get_or-take, get_or-drop, get_or-map, take-map, drop-map, length-take-le, length-drop, length-map}
 use Rattle.std.proofs.lemmas.Map.Text.{is_eq-slice_cmp}
 use Rattle.std.proofs.lemmas.Nat.{pow_pos}
 use Rattle.std.proofs.lemmas.Slice.Eq.{bytes_eq-Decides}
-use Rattle.seccompiler.specs.SyscallTable.{Pair, IsCallTable, StandsBefore, number_of, pairs_of}
+use Rattle.seccompiler.specs.SyscallTable.{Pair, IsCallTable, StandsBefore, number_of, pairs_of, IsMiddle, HalvingCompares, none_left, at_middle, before_middle, behind_middle}
 
 -- These places of a table have other names.
 abbrev HasNot : List Pair → List ℕ → (ℕ → Type 0) → Type 0
@@ -99,6 +99,7 @@ pub record IsHalf (table : List Pair) (name : List ℕ) (compared : ℕ) (part :
   pub few : compared ≤ 9
   pub most : length part < 2 ^ (9 - compared)
   pub least : 2 ^ (8 - compared) ≤ length part + 1
+  pub counted : (n : ℕ) → HalvingCompares name part n → HalvingCompares name table (compared + n)
 
 -- the whole table before any comparison
 pub whole : (table : List Pair) (name : List ℕ) → IsCallTable table → IsHalf table name 0 table
@@ -108,6 +109,7 @@ whole table name is = record {
   few = omega arith;
   most = is.short;
   least = omega (arith, is.long);
+  counted = λ n compares. let all : n ≡ 0 + n = omega arith in subst (HalvingCompares name table) all compares;
 }
 
 -- half of fewer than a power of two are fewer than the power below
@@ -137,13 +139,14 @@ below_nine compared n few some most = elim (cases_lt compared 9) [
 ]
 
 -- one more comparison leaves this half of the part
-pub halved : (table : List Pair) (name : List ℕ) (compared : ℕ) (part half : List Pair) → IsHalf table name compared part → 0 < length part → number_of half name ≡ number_of part name → AllPairs StandsBefore half → length half ≤ length part / 2 → (length part + 1) / 2 ≤ length half + 1 → IsHalf table name (compared + 1) half
-halved table name compared part half is some same ascends most least = record {
+pub halved : (table : List Pair) (name : List ℕ) (compared : ℕ) (part half : List Pair) → IsHalf table name compared part → 0 < length part → number_of half name ≡ number_of part name → AllPairs StandsBefore half → length half ≤ length part / 2 → (length part + 1) / 2 ≤ length half + 1 → ((n : ℕ) → HalvingCompares name half n → HalvingCompares name part (suc n)) → IsHalf table name (compared + 1) half
+halved table name compared part half is some same ascends most least counts = record {
   same = same ∙ is.same;
   ascending = ascends;
   few = omega (arith, below_nine compared (length part) is.few some is.most);
   most = let next : 9 - (compared + 1) ≡ 9 - compared - 1 = omega arith in rw next (fewer (9 - compared) (length part) (length half) some is.most most);
   least = let next : 8 - (compared + 1) ≡ 8 - compared - 1 = omega arith in rw next (enough (8 - compared) (length part) (length half) is.least least);
+  counted = λ n compares. let one_more : compared + suc n ≡ compared + 1 + n = omega arith in subst (HalvingCompares name table) one_more (is.counted (suc n) (counts n compares));
 }
 
 -- A part as the program holds it, its names behind references.
@@ -177,6 +180,25 @@ compared_with part name e order some is =
       order = λ d. rw (get_or-map (λ (pair : Bor (List ℕ) × ℤ). (pair.0.now, pair.1)) part (length part / 2) e d inside) is;
     }
 
+-- one half of a number less one is the other, or one less
+halves_of : (n : ℕ) → 0 < n → (n / 2 ≡ n - (n / 2 + 1)) ⊎ (n / 2 ≡ n - (n / 2 + 1) + 1)
+halves_of n some = elim (cases_lt (n - (n / 2 + 1)) (n / 2)) [
+  | inl less ↦ inr (omega arith)
+  | inr from ↦ inl (omega arith)
+]
+
+-- the pair at half the length is the middle one
+middle_of : (pairs : List Pair) (middle : ℕ) (d : Pair) → middle < length pairs → middle ≡ length pairs / 2 → IsMiddle pairs (take middle pairs) (get_or pairs middle d) (drop (middle + 1) pairs)
+middle_of pairs middle d here half =
+    let front : length (take middle pairs) ≡ middle = length-take-le middle pairs (omega (arith, here)) in
+    let back : length (drop (middle + 1) pairs) ≡ length pairs - (middle + 1) = length-drop (middle + 1) pairs in
+    let next : suc middle ≡ middle + 1 = omega arith in
+    let cut : drop middle pairs ≡ get_or pairs middle d ∷ drop (middle + 1) pairs = subst (λ k. drop middle pairs ≡ get_or pairs middle d ∷ drop k pairs) next (drop-cons pairs middle d here) in
+    record {
+      whole = sym (take-append-drop middle pairs) ∙ ap (λ behind. take middle pairs ++ behind) cut;
+      halves = rw (front, back, half) (halves_of (length pairs) (omega (arith, here)));
+    }
+
 -- what is left where the asked name comes before the middle one
 pub lower : (table : List Pair) (name : List ℕ) (compared middle : ℕ) (part : Slice) → IsHalf table name compared (pairs_of part) → IsCompared part name middle Less → IsHalf table name (compared + 1) (pairs_of (take middle part))
 lower table name compared middle part is less =
@@ -186,7 +208,7 @@ lower table name compared middle part is less =
     let same = number_of-take pairs name middle (none_from pairs name middle is.ascending less.order less.here) in
     let ascending : AllPairs StandsBefore (take middle pairs) = λ i j d i<j inside.
     rw (get_or-take middle pairs i d (omega arith), get_or-take middle pairs j d (omega arith)) (is.ascending i j d i<j (omega (arith, less.here))) in
-    subst (IsHalf table name (compared + 1)) cut (halved table name compared pairs (take middle pairs) is (omega (arith, less.here)) same ascending (omega (arith, less.half)) (omega (arith, less.half)))
+    subst (IsHalf table name (compared + 1)) cut (halved table name compared pairs (take middle pairs) is (omega (arith, less.here)) same ascending (omega (arith, less.half)) (omega (arith, less.half)) (λ n compares. before_middle (middle_of pairs middle ([], pos 0) less.here less.half) (less.order ([], pos 0)) compares))
 
 -- what is left where the asked name comes after the middle one
 pub upper : (table : List Pair) (name : List ℕ) (compared middle : ℕ) (part : Slice) → IsHalf table name compared (pairs_of part) → IsCompared part name middle Greater → IsHalf table name (compared + 1) (pairs_of (drop (middle + 1) part))
@@ -198,7 +220,7 @@ upper table name compared middle part is greater =
     let same = number_of-drop pairs name (middle + 1) (λ k d before inside. passed k d (omega arith) inside) in
     let ascending : AllPairs StandsBefore (drop (middle + 1) pairs) = λ i j d i<j inside.
     rw (get_or-drop (middle + 1) pairs i d, get_or-drop (middle + 1) pairs j d) (is.ascending (middle + 1 + i) (middle + 1 + j) d (omega arith) (omega arith)) in
-    subst (IsHalf table name (compared + 1)) cut (halved table name compared pairs (drop (middle + 1) pairs) is (omega (arith, greater.here)) same ascending (omega (arith, greater.half)) (omega (arith, greater.half)))
+    subst (IsHalf table name (compared + 1)) cut (halved table name compared pairs (drop (middle + 1) pairs) is (omega (arith, greater.here)) same ascending (omega (arith, greater.half)) (omega (arith, greater.half)) (λ n compares. behind_middle (middle_of pairs middle ([], pos 0) greater.here greater.half) (turned name (get_or pairs middle ([], pos 0)).0 (greater.order ([], pos 0))) compares))
 
 -- the number where the asked name is the middle one
 pub found : (table : List Pair) (name : List ℕ) (compared middle : ℕ) (part : Slice) (e : Bor (List ℕ) × ℤ) → IsHalf table name compared (pairs_of part) → middle < length part → IsCompared part name middle Equal → number_of table name ≡ Some (get_or part middle e).1
@@ -226,3 +248,14 @@ missed table name compared part is none = elim (cases_lt compared 8) [
       absurd (omega (arith, pow_pos (7 - compared)))
   | inr from ↦ from
 ]
+
+-- how many names were compared where the asked name is the middle one
+pub counted_here : (table : List Pair) (name : List ℕ) (compared middle : ℕ) (part : Slice) → IsHalf table name compared (pairs_of part) → IsCompared part name middle Equal → HalvingCompares name table (compared + 1)
+counted_here table name compared middle part is equal =
+    let d : Pair = ([], pos 0) in
+    is.counted 1 (at_middle (middle_of (pairs_of part) middle d equal.here equal.half) (tied name (get_or (pairs_of part) middle d).0 (equal.order d)))
+
+-- how many names were compared where nothing is left
+pub counted_all : (table : List Pair) (name : List ℕ) (compared : ℕ) (part : Slice) → IsHalf table name compared (pairs_of part) → length part ≡ 0 → HalvingCompares name table compared
+counted_all table name compared [] is none = let same : compared + 0 ≡ compared = omega arith in subst (HalvingCompares name table) same (is.counted 0 none_left)
+counted_all table name compared (pair ∷ part) is none = absurd (omega arith)

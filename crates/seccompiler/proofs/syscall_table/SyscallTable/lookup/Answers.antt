@@ -1,4 +1,4 @@
-use Rattle.std.proofs.Common.{◌≡◌, ℕ, ◌+◌, ◌-◌, ◌/◌, ◌<◌, length, take, drop, get_or, Less, Equal, Greater, nat_cmp, sym, ap, subst, arith}
+use Rattle.std.proofs.Common.{◌≡◌, ℕ, ◌+◌, ◌-◌, ◌/◌, ◌<◌, length, take, drop, get_or, Less, Equal, Greater, nat_cmp, refl, sym, ap, subst, arith}
 use Rattle.std.proofs.lemmas.Grind.{common_steps}
 use Rattle.std.proofs.lemmas.List.{take_all, length-take, length-drop}
 use Rattle.std.specs.Cmp.Lexicographic.{slice_cmp}
@@ -6,7 +6,8 @@ use Rattle.seccompiler.specs.Architecture.{table_of}
 use Rattle.seccompiler.specs.SyscallTable.{IsTableNumber, pairs_of}
 use Rattle.seccompiler.proofs.TableFacts.{is_call_table}
 use Rattle.seccompiler.proofs.TableNames.{found_first, found_among, found_nowhere}
-use Rattle.seccompiler.proofs.syscall_table.Halving.{IsHalf, lower, upper, found, missed, absent, whole, as_short, compared_with, nothing}
+use Rattle.seccompiler.proofs.syscall_table.Halving.{IsHalf, lower, upper, found, missed, absent, whole, as_short, compared_with, counted_here, counted_all, nothing}
+use Rattle.seccompiler.proofs.syscall_table.HalvingOnly.{compares_only}
 use Rattle.seccompiler.proofs.syscall_table.SyscallTable.lookup.Goals as goal
 
 pub loop-part-init : goal.loop-part-init
@@ -35,6 +36,16 @@ returns-in-Equal-clause-in_range c =
     let is = is_call_table c.args.self.now in
     found_among IsTableNumber (table_of c.args.self.now) c.args.name.now _ is.in_range (returns-in-Equal-clause-number c)
 
+pub returns-in-Equal-clause-compared : goal.returns-in-Equal-clause-compared
+returns-in-Equal-clause-compared c =
+    let some : 0 < length c.loop-part.part.now = grind (arith, common_steps) in
+    let is : slice_cmp nat_cmp c.args.name.now (get_or c.loop-part.part.now (length c.loop-part.part.now / 2) nothing).0.now ≡ Equal = cc in
+    let middle : ℕ = length c.loop-part.part.now / 2 in
+    counted_here (table_of c.args.self.now) c.args.name.now c.loop-part.compared middle c.loop-part.part.now c.loop-part.invariant.half (compared_with c.loop-part.part.now c.args.name.now nothing Equal some is)
+
+pub returns-in-Equal-clause-only : goal.returns-in-Equal-clause-only
+returns-in-Equal-clause-only c n compares = compares_only c.args.name.now compares (returns-in-Equal-clause-compared c) refl
+
 pub loop-part-preserved-in-Less : goal.loop-part-preserved-in-Less
 loop-part-preserved-in-Less c =
     let some : 0 < length c.loop-part.part.now = grind (arith, common_steps) in
@@ -62,3 +73,9 @@ returns-clause-not_found c = found_nowhere (table_of c.args.self.now) c.args.nam
 
 pub returns-clause-missed : goal.returns-clause-missed
 returns-clause-missed c = missed (table_of c.args.self.now) c.args.name.now c.loop-part.compared c.loop-part.part.now c.loop-part.invariant.half (grind (arith, common_steps))
+
+pub returns-clause-compared : goal.returns-clause-compared
+returns-clause-compared c = counted_all (table_of c.args.self.now) c.args.name.now c.loop-part.compared c.loop-part.part.now c.loop-part.invariant.half (grind (arith, common_steps))
+
+pub returns-clause-only : goal.returns-clause-only
+returns-clause-only c n compares = compares_only c.args.name.now compares (returns-clause-compared c) refl

@@ -12,7 +12,8 @@ use crate::equality::EqualByParts;
 ///
 /// Its layout is that of `struct sock_filter` of `linux/filter.h`: 8 bytes, aligned to 4, with
 /// `code` at byte 0, `jt` at 2, `jf` at 3 and `k` at 4. So a program can be handed to a kernel, or
-/// to C, as it stands.
+/// to C, as it stands. Size and alignment are proved; the order comes of the declaration, as C lays
+/// it out, and a program in C tests it.
 #[allow(non_camel_case_types)]
 #[derive(Clone, Copy, Debug, PartialEq, Eq)]
 #[repr(C)]

@@ -31,6 +31,9 @@ pub record IsMiddle (part front : List Pair) (middle : Pair) (back : List Pair) 
 -- else with the middle one, and, where that is another, with those of the half on whose side the asked name stands.
 pub data HalvingCompares (name : List ℕ) : List Pair → ℕ → Type 0 where
   none_left : HalvingCompares name [] 0
-  at_middle : {part front back : List Pair} {middle : Pair} → IsMiddle part front middle back → name ≡ middle.0 → HalvingCompares name part 1
-  before_middle : {part front back : List Pair} {middle : Pair} {n : ℕ} → IsMiddle part front middle back → ComesBefore name middle.0 → HalvingCompares name front n → HalvingCompares name part (suc n)
-  behind_middle : {part front back : List Pair} {middle : Pair} {n : ℕ} → IsMiddle part front middle back → ComesBefore middle.0 name → HalvingCompares name back n → HalvingCompares name part (suc n)
+  at_middle : {part front back : List Pair} {middle : Pair} → IsMiddle part front middle back → name ≡ middle.0
+      → HalvingCompares name part 1
+  before_middle : {part front back : List Pair} {middle : Pair} {n : ℕ} → IsMiddle part front middle back → ComesBefore name middle.0
+      → HalvingCompares name front n → HalvingCompares name part (suc n)
+  behind_middle : {part front back : List Pair} {middle : Pair} {n : ℕ} → IsMiddle part front middle back → ComesBefore middle.0 name
+      → HalvingCompares name back n → HalvingCompares name part (suc n)

@@ -41,5 +41,7 @@ IsJsonText (frontend.SerdeJson e) text = (words : List ℕ) × (text ≡ codes "
 IsJsonText e text = json_text e ≡ Some text
 
 -- Where Ok is answered to a formatter without options, it then has written a text of which P holds, and nothing else.
-abbrev pub WritesOne : {W : Type 0} → (W → List ℕ → W → Type 0) → (List ℕ → Type 0) → Formatter W → Result ⊤ fmt.Error → Formatter W → Type 0
-WritesOne took P before answer after = IsPlainFormatter before → IsOk answer → (text : List ℕ) × P text × HasWritten took before text after
+abbrev pub WritesOne : {W : Type 0} → (W → List ℕ → W → Type 0) → (List ℕ → Type 0) → Formatter W → Result ⊤ fmt.Error
+    → Formatter W → Type 0
+WritesOne took P before answer after =
+    IsPlainFormatter before → IsOk answer → (text : List ℕ) × P text × HasWritten took before text after

@@ -66,8 +66,8 @@ pub fn compile_from_json<R: Read + Drop>(
     Ok(programs.into_iter().collect(alloc)?)
 }
 
-/// The same programs as [`compile_from_json`] gives, and the same errors, with the names in byte
-/// order.
+/// Compiles a text as [`compile_from_json`] does, with the same promises and errors, and the names in
+/// byte order.
 pub fn compile_from_json_in_order<R: Read + Drop>(
     alloc: Global,
     reader: R,

@@ -139,14 +139,17 @@ below_nine compared n few some most = elim (cases_lt compared 9) [
 ]
 
 -- one more comparison leaves this half of the part
-pub halved : (table : List Pair) (name : List ℕ) (compared : ℕ) (part half : List Pair) → IsHalf table name compared part → 0 < length part → number_of half name ≡ number_of part name → AllPairs StandsBefore half → length half ≤ length part / 2 → (length part + 1) / 2 ≤ length half + 1 → ((n : ℕ) → HalvingCompares name half n → HalvingCompares name part (suc n)) → IsHalf table name (compared + 1) half
+pub halved : (table : List Pair) (name : List ℕ) (compared : ℕ) (part half : List Pair) → IsHalf table name compared part → 0 < length part → number_of half name ≡ number_of part name → AllPairs StandsBefore half → length half ≤ length part / 2 → (length part + 1) / 2 ≤ length half + 1
+    → ((n : ℕ) → HalvingCompares name half n → HalvingCompares name part (suc n)) → IsHalf table name (compared + 1) half
 halved table name compared part half is some same ascends most least counts = record {
   same = same ∙ is.same;
   ascending = ascends;
   few = omega (arith, below_nine compared (length part) is.few some is.most);
   most = let next : 9 - (compared + 1) ≡ 9 - compared - 1 = omega arith in rw next (fewer (9 - compared) (length part) (length half) some is.most most);
   least = let next : 8 - (compared + 1) ≡ 8 - compared - 1 = omega arith in rw next (enough (8 - compared) (length part) (length half) is.least least);
-  counted = λ n compares. let one_more : compared + suc n ≡ compared + 1 + n = omega arith in subst (HalvingCompares name table) one_more (is.counted (suc n) (counts n compares));
+  counted = λ n compares.
+      let one_more : compared + suc n ≡ compared + 1 + n = omega arith in
+      subst (HalvingCompares name table) one_more (is.counted (suc n) (counts n compares));
 }
 
 -- A part as the program holds it, its names behind references.
@@ -188,12 +191,14 @@ halves_of n some = elim (cases_lt (n - (n / 2 + 1)) (n / 2)) [
 ]
 
 -- the pair at half the length is the middle one
-middle_of : (pairs : List Pair) (middle : ℕ) (d : Pair) → middle < length pairs → middle ≡ length pairs / 2 → IsMiddle pairs (take middle pairs) (get_or pairs middle d) (drop (middle + 1) pairs)
+middle_of : (pairs : List Pair) (middle : ℕ) (d : Pair) → middle < length pairs → middle ≡ length pairs / 2
+    → IsMiddle pairs (take middle pairs) (get_or pairs middle d) (drop (middle + 1) pairs)
 middle_of pairs middle d here half =
     let front : length (take middle pairs) ≡ middle = length-take-le middle pairs (omega (arith, here)) in
     let back : length (drop (middle + 1) pairs) ≡ length pairs - (middle + 1) = length-drop (middle + 1) pairs in
     let next : suc middle ≡ middle + 1 = omega arith in
-    let cut : drop middle pairs ≡ get_or pairs middle d ∷ drop (middle + 1) pairs = subst (λ k. drop middle pairs ≡ get_or pairs middle d ∷ drop k pairs) next (drop-cons pairs middle d here) in
+    let cut : drop middle pairs ≡ get_or pairs middle d ∷ drop (middle + 1) pairs =
+    subst (λ k. drop middle pairs ≡ get_or pairs middle d ∷ drop k pairs) next (drop-cons pairs middle d here) in
     record {
       whole = sym (take-append-drop middle pairs) ∙ ap (λ behind. take middle pairs ++ behind) cut;
       halves = rw (front, back, half) (halves_of (length pairs) (omega (arith, here)));
@@ -208,7 +213,11 @@ lower table name compared middle part is less =
     let same = number_of-take pairs name middle (none_from pairs name middle is.ascending less.order less.here) in
     let ascending : AllPairs StandsBefore (take middle pairs) = λ i j d i<j inside.
     rw (get_or-take middle pairs i d (omega arith), get_or-take middle pairs j d (omega arith)) (is.ascending i j d i<j (omega (arith, less.here))) in
-    subst (IsHalf table name (compared + 1)) cut (halved table name compared pairs (take middle pairs) is (omega (arith, less.here)) same ascending (omega (arith, less.half)) (omega (arith, less.half)) (λ n compares. before_middle (middle_of pairs middle ([], pos 0) less.here less.half) (less.order ([], pos 0)) compares))
+    let d : Pair = ([], pos 0) in
+    let counts : (n : ℕ) → HalvingCompares name (take middle pairs) n → HalvingCompares name pairs (suc n) = λ n compares.
+    before_middle (middle_of pairs middle d less.here less.half) (less.order d) compares in
+    subst (IsHalf table name (compared + 1)) cut (halved table name compared pairs (take middle pairs) is (omega (arith, less.here))
+    same ascending (omega (arith, less.half)) (omega (arith, less.half)) counts)
 
 -- what is left where the asked name comes after the middle one
 pub upper : (table : List Pair) (name : List ℕ) (compared middle : ℕ) (part : Slice) → IsHalf table name compared (pairs_of part) → IsCompared part name middle Greater → IsHalf table name (compared + 1) (pairs_of (drop (middle + 1) part))
@@ -220,7 +229,12 @@ upper table name compared middle part is greater =
     let same = number_of-drop pairs name (middle + 1) (λ k d before inside. passed k d (omega arith) inside) in
     let ascending : AllPairs StandsBefore (drop (middle + 1) pairs) = λ i j d i<j inside.
     rw (get_or-drop (middle + 1) pairs i d, get_or-drop (middle + 1) pairs j d) (is.ascending (middle + 1 + i) (middle + 1 + j) d (omega arith) (omega arith)) in
-    subst (IsHalf table name (compared + 1)) cut (halved table name compared pairs (drop (middle + 1) pairs) is (omega (arith, greater.here)) same ascending (omega (arith, greater.half)) (omega (arith, greater.half)) (λ n compares. behind_middle (middle_of pairs middle ([], pos 0) greater.here greater.half) (turned name (get_or pairs middle ([], pos 0)).0 (greater.order ([], pos 0))) compares))
+    let d : Pair = ([], pos 0) in
+    let after = turned name (get_or pairs middle d).0 (greater.order d) in
+    let counts : (n : ℕ) → HalvingCompares name (drop (middle + 1) pairs) n → HalvingCompares name pairs (suc n) = λ n compares.
+    behind_middle (middle_of pairs middle d greater.here greater.half) after compares in
+    subst (IsHalf table name (compared + 1)) cut (halved table name compared pairs (drop (middle + 1) pairs) is (omega (arith, greater.here))
+    same ascending (omega (arith, greater.half)) (omega (arith, greater.half)) counts)
 
 -- the number where the asked name is the middle one
 pub found : (table : List Pair) (name : List ℕ) (compared middle : ℕ) (part : Slice) (e : Bor (List ℕ) × ℤ) → IsHalf table name compared (pairs_of part) → middle < length part → IsCompared part name middle Equal → number_of table name ≡ Some (get_or part middle e).1
@@ -250,12 +264,17 @@ missed table name compared part is none = elim (cases_lt compared 8) [
 ]
 
 -- how many names were compared where the asked name is the middle one
-pub counted_here : (table : List Pair) (name : List ℕ) (compared middle : ℕ) (part : Slice) → IsHalf table name compared (pairs_of part) → IsCompared part name middle Equal → HalvingCompares name table (compared + 1)
+pub counted_here : (table : List Pair) (name : List ℕ) (compared middle : ℕ) (part : Slice) → IsHalf table name compared (pairs_of part)
+    → IsCompared part name middle Equal → HalvingCompares name table (compared + 1)
 counted_here table name compared middle part is equal =
     let d : Pair = ([], pos 0) in
-    is.counted 1 (at_middle (middle_of (pairs_of part) middle d equal.here equal.half) (tied name (get_or (pairs_of part) middle d).0 (equal.order d)))
+    let same = tied name (get_or (pairs_of part) middle d).0 (equal.order d) in
+    is.counted 1 (at_middle (middle_of (pairs_of part) middle d equal.here equal.half) same)
 
 -- how many names were compared where nothing is left
-pub counted_all : (table : List Pair) (name : List ℕ) (compared : ℕ) (part : Slice) → IsHalf table name compared (pairs_of part) → length part ≡ 0 → HalvingCompares name table compared
-counted_all table name compared [] is none = let same : compared + 0 ≡ compared = omega arith in subst (HalvingCompares name table) same (is.counted 0 none_left)
+pub counted_all : (table : List Pair) (name : List ℕ) (compared : ℕ) (part : Slice) → IsHalf table name compared (pairs_of part)
+    → length part ≡ 0 → HalvingCompares name table compared
+counted_all table name compared [] is none =
+    let same : compared + 0 ≡ compared = omega arith in
+    subst (HalvingCompares name table) same (is.counted 0 none_left)
 counted_all table name compared (pair ∷ part) is none = absurd (omega arith)

@@ -25,11 +25,12 @@ no_middle {part} {front} {back} {middle} is empty =
     omega (arith, ap length is.whole)
 
 -- a part has one middle
-middle_only : {part other front front' back back' : List Pair} {middle middle' : Pair} → IsMiddle part front middle back → IsMiddle other front' middle' back' → part ≡ other → (front ≡ front') × (middle ≡ middle') × (back ≡ back')
+middle_only : {part other front front' back back' : List Pair} {middle middle' : Pair} → IsMiddle part front middle back
+    → IsMiddle other front' middle' back' → part ≡ other → (front ≡ front') × (middle ≡ middle') × (back ≡ back')
 middle_only {part} {other} {front} {front'} {back} {back'} {middle} {middle'} is also same =
     let joined : front ++ middle ∷ back ≡ front' ++ middle' ∷ back' = sym is.whole ∙ same ∙ also.whole in
-    let long : length (front ++ middle ∷ back) ≡ length front + length (middle ∷ back) = length-append front (middle ∷ back) in
-    let also_long : length (front' ++ middle' ∷ back') ≡ length front' + length (middle' ∷ back') = length-append front' (middle' ∷ back') in
+    let long = length-append front (middle ∷ back) in
+    let also_long = length-append front' (middle' ∷ back') in
     let as_long : length front ≡ length front' = elim is.halves [
       | inl even ↦ elim also.halves [
         | inl also_even ↦ omega (arith, ap length joined)
@@ -40,12 +41,15 @@ middle_only {part} {other} {front} {front'} {back} {back'} {middle} {middle'} is
         | inr also_odd ↦ omega (arith, ap length joined)
       ]
     ] in
-    let fronts : front ≡ front' = sym (take-append_seam front (middle ∷ back)) ∙ ap (λ pairs. take (length front) pairs) joined ∙ ap (λ n. take n (front' ++ middle' ∷ back')) as_long ∙ take-append_seam front' (middle' ∷ back') in
-    let behind : middle ∷ back ≡ middle' ∷ back' = append_cancel_left front' (middle ∷ back) (middle' ∷ back') (ap (λ pairs. pairs ++ middle ∷ back) (sym fronts) ∙ joined) in
+    let as_many : take (length front) (front ++ middle ∷ back) ≡ take (length front') (front' ++ middle' ∷ back') = cc (joined, as_long) in
+    let fronts : front ≡ front' = sym (take-append_seam front (middle ∷ back)) ∙ as_many ∙ take-append_seam front' (middle' ∷ back') in
+    let with_same : front' ++ middle ∷ back ≡ front' ++ middle' ∷ back' = ap (λ pairs. pairs ++ middle ∷ back) (sym fronts) ∙ joined in
+    let behind : middle ∷ back ≡ middle' ∷ back' = append_cancel_left front' (middle ∷ back) (middle' ∷ back') with_same in
     (fronts, cc, cc)
 
 -- what comes before or behind the middle one isn't that, and not both
-module _ (name : List ℕ) {part other front front' back back' : List Pair} {middle middle' : Pair} (is : IsMiddle part front middle back) (also : IsMiddle other front' middle' back') (same : part ≡ other) where
+module _ (name : List ℕ) {part other front front' back back' : List Pair} {middle middle' : Pair}
+    (is : IsMiddle part front middle back) (also : IsMiddle other front' middle' back') (same : part ≡ other) where
   one : middle.0 ≡ middle'.0
   one = ap (λ pair. pair.0) (middle_only is also same).1
 
@@ -59,7 +63,8 @@ module _ (name : List ℕ) {part other front front' back back' : List Pair} {mid
   not_before_behind before after = not_both name middle'.0 (subst (ComesBefore name) one before) after
 
 -- a look-up in a part compares one number of names
-pub compares_only : (name : List ℕ) {part other : List Pair} {n m : ℕ} → HalvingCompares name part n → HalvingCompares name other m → part ≡ other → n ≡ m
+pub compares_only : (name : List ℕ) {part other : List Pair} {n m : ℕ} → HalvingCompares name part n → HalvingCompares name other m
+    → part ≡ other → n ≡ m
 compares_only name none_left none_left same = refl
 compares_only name none_left (at_middle is _) same = absurd (no_middle is (ap length (sym same)))
 compares_only name none_left (before_middle is _ _) same = absurd (no_middle is (ap length (sym same)))
@@ -70,9 +75,12 @@ compares_only name (at_middle is here) (before_middle also before _) same = absu
 compares_only name (at_middle is here) (behind_middle also after _) same = absurd (not_at_behind name is also same here after)
 compares_only name (before_middle is _ _) none_left same = absurd (no_middle is (ap length same))
 compares_only name (before_middle is before _) (at_middle also there) same = absurd (not_at_before name also is (sym same) there before)
-compares_only name (before_middle is _ rest) (before_middle also _ more) same = ap suc (compares_only name rest more (middle_only is also same).0)
+compares_only name (before_middle is _ rest) (before_middle also _ more) same =
+    ap suc (compares_only name rest more (middle_only is also same).0)
 compares_only name (before_middle is before _) (behind_middle also after _) same = absurd (not_before_behind name is also same before after)
 compares_only name (behind_middle is _ _) none_left same = absurd (no_middle is (ap length same))
 compares_only name (behind_middle is after _) (at_middle also there) same = absurd (not_at_behind name also is (sym same) there after)
-compares_only name (behind_middle is after _) (before_middle also before _) same = absurd (not_before_behind name also is (sym same) before after)
-compares_only name (behind_middle is _ rest) (behind_middle also _ more) same = ap suc (compares_only name rest more (middle_only is also same).2)
+compares_only name (behind_middle is after _) (before_middle also before _) same =
+    absurd (not_before_behind name also is (sym same) before after)
+compares_only name (behind_middle is _ rest) (behind_middle also _ more) same =
+    ap suc (compares_only name rest more (middle_only is also same).2)

@@ -6,4 +6,5 @@ pub returns-in_ok-write_str-in-JsonFrontend-clause-text : goal.returns-in_ok-wri
 returns-in_ok-write_str-in-JsonFrontend-clause-text g c plain ok =
     let began = c.write_str-in-JsonFrontend.ensures.writes plain (search rules) in
     let inner = c.fmt.ensures.text began.plain ok in
-    rw c.in-JsonFrontend.is (codes "Json Frontend error: " ++ inner.0, (inner.0, inner.1, refl), has_written_append _ _ _ _ _ _ began inner.2)
+    let whole = has_written_append _ _ _ _ _ _ began inner.2 in
+    rw c.in-JsonFrontend.is (codes "Json Frontend error: " ++ inner.0, (inner.0, inner.1, refl), whole)

@@ -41,7 +41,9 @@ returns-in-Equal-clause-compared c =
     let some : 0 < length c.loop-part.part.now = grind (arith, common_steps) in
     let is : slice_cmp nat_cmp c.args.name.now (get_or c.loop-part.part.now (length c.loop-part.part.now / 2) nothing).0.now ≡ Equal = cc in
     let middle : ℕ = length c.loop-part.part.now / 2 in
-    counted_here (table_of c.args.self.now) c.args.name.now c.loop-part.compared middle c.loop-part.part.now c.loop-part.invariant.half (compared_with c.loop-part.part.now c.args.name.now nothing Equal some is)
+    let with_middle = compared_with c.loop-part.part.now c.args.name.now nothing Equal some is in
+    let half = c.loop-part.invariant.half in
+    counted_here (table_of c.args.self.now) c.args.name.now c.loop-part.compared middle c.loop-part.part.now half with_middle
 
 pub returns-in-Equal-clause-only : goal.returns-in-Equal-clause-only
 returns-in-Equal-clause-only c n compares = compares_only c.args.name.now compares (returns-in-Equal-clause-compared c) refl
@@ -75,7 +77,9 @@ pub returns-clause-missed : goal.returns-clause-missed
 returns-clause-missed c = missed (table_of c.args.self.now) c.args.name.now c.loop-part.compared c.loop-part.part.now c.loop-part.invariant.half (grind (arith, common_steps))
 
 pub returns-clause-compared : goal.returns-clause-compared
-returns-clause-compared c = counted_all (table_of c.args.self.now) c.args.name.now c.loop-part.compared c.loop-part.part.now c.loop-part.invariant.half (grind (arith, common_steps))
+returns-clause-compared c =
+    let half = c.loop-part.invariant.half in
+    counted_all (table_of c.args.self.now) c.args.name.now c.loop-part.compared c.loop-part.part.now half (grind (arith, common_steps))
 
 pub returns-clause-only : goal.returns-clause-only
 returns-clause-only c n compares = compares_only c.args.name.now compares (returns-clause-compared c) refl

@@ -8,8 +8,11 @@ returns-in-SyscallName-clause-writes g c = rw c.in-SyscallName.is (simp append_a
 
 pub returns-in-SyscallName-clause-text : goal.returns-in-SyscallName-clause-text
 returns-in-SyscallName-clause-text g c plain ok =
-    let all : List ℕ = codes "Invalid syscall name: " ++ string_bytes c.in-SyscallName.name ++ codes " for given arch: " ++ arch_text c.in-SyscallName.arch ++ codes "." in
-    rw c.in-SyscallName.is (all, refl, has_written_of_eq _ _ _ _ _ (simp append_assoc refl) (c.write-in-SyscallName.ensures.writes plain ok))
+    let name : List ℕ = string_bytes c.in-SyscallName.name in
+    let arch : List ℕ = arch_text c.in-SyscallName.arch in
+    let all : List ℕ = codes "Invalid syscall name: " ++ name ++ codes " for given arch: " ++ arch ++ codes "." in
+    let wrote = c.write-in-SyscallName.ensures.writes plain ok in
+    rw c.in-SyscallName.is (all, refl, has_written_of_eq _ _ _ _ _ (simp append_assoc refl) wrote)
 
 pub returns-in-SerdeJson-clause-text : goal.returns-in-SerdeJson-clause-text
 returns-in-SerdeJson-clause-text g c plain ok =

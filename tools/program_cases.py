@@ -129,19 +129,38 @@ CASES = [
 ]
 
 # The script with a program that writes `ran` and its words and ends with status 7, and an `rt` that
-# is told how to end: what is done before, the status, standard output, and standard error.
+# is told how to end: what is done before, the words, the status, standard output, and standard error.
 BUILDS = "seccompc: proving and building the program\n"
-OLD = "touch -d 2001-01-01 crates/seccompc/out/seccompc; "
-FAILS = "echo 'exit 1' > bin/touch; echo 'exit 1' > bin/mktemp; chmod +x bin/*; "
+ONCE = "(PATH=$PWD/bin:$PATH ./seccompc list; rm bin/rt) > /dev/null 2>&1; "
+TOLD = "tools/run-program --built seccompc; rm bin/rt; "
+FAILS = "mkdir -p crates/seccompc/out/seccompc.checksums.new; "
+SOURCE = "crates/seccompc/src/main.rt"
+LIST, RAN, THERE_IS_NO_RT = "list x86_64", "ran list x86_64\n", BUILDS + ".."
 SCRIPT_CASES = [
-    ("fresh", "rm bin/rt;", 7, "ran list x86_64\n", ""),
-    ("old, and rt builds it", OLD, 7, "ran list x86_64\n", BUILDS),
-    ("old, and no time can be set", OLD + FAILS, 7, "ran list x86_64\n", BUILDS),
-    ("old, and rt fails", OLD + "echo 'echo why; exit 1' > bin/rt;", 3, "",
+    ("not built before, and rt builds it", "", LIST, 7, RAN, BUILDS),
+    ("built, and nothing has changed", ONCE, LIST, 7, RAN, ""),
+    ("built, and each source looks newer", ONCE + f"touch -d 2101-01-01 crates.txt {SOURCE};", LIST, 7, RAN, ""),
+    ("built, and another source that looks older",
+     ONCE + f"echo more >> {SOURCE}; touch -d 2001-01-01 {SOURCE};", LIST, 3, "", THERE_IS_NO_RT),
+    ("built, and a source of another name", ONCE + f"mv {SOURCE} crates/seccompc/src/other.rt;",
+     LIST, 3, "", THERE_IS_NO_RT),
+    ("built, and another source of a library", ONCE + "mkdir -p crates/seccompiler/proofs;"
+     " echo more > crates/seccompiler/proofs/More.antt;", LIST, 3, "", THERE_IS_NO_RT),
+    ("built, and another program", ONCE + "echo '# more' >> crates/seccompc/out/seccompc;",
+     LIST, 3, "", THERE_IS_NO_RT),
+    ("built by rt ci", TOLD, LIST, 7, RAN, ""),
+    ("built by rt ci, and a source written since", f"touch -d 2101-01-01 {SOURCE}; " + TOLD,
+     LIST, 3, "", THERE_IS_NO_RT),
+    ("of other sources, asked for help", "rm bin/rt;", "--help", 7, "ran --help\n", ""),
+    ("of other sources, asked for its version", "rm bin/rt;", "--version", 7, "ran --version\n", ""),
+    ("of other sources, asked for its usage", "rm bin/rt;", "", 7, "ran\n", ""),
+    ("of other sources, with a command's words", "rm bin/rt;", "list --help", 3, "", THERE_IS_NO_RT),
+    ("not built before, and no checksums can be kept", FAILS, LIST, 7, RAN, BUILDS),
+    ("not built before, and rt fails", "echo 'echo why; exit 1' > bin/rt;", LIST, 3, "",
      BUILDS + "why\nseccompc: the program cannot be built\n"),
-    ("old, and there is no rt", OLD + "rm bin/rt;", 3, "", BUILDS + ".."),
-    ("missing, and rt builds none", "rm crates/seccompc/out/seccompc;", 3, "",
+    ("missing, asked for help", "rm crates/seccompc/out/seccompc bin/rt;", "--help", 3, "", THERE_IS_NO_RT),
+    ("missing, and rt builds none", "rm crates/seccompc/out/seccompc;", LIST, 3, "",
      BUILDS + "\nseccompc: the program cannot be built\n"),
-    ("without what it runs", "rm tools/run-program;", 3, "", ".."),
-    ("without sources that can be listed", "rm crates.txt bin/rt;", 3, "", ".."),
+    ("without what it runs", "rm tools/run-program;", LIST, 3, "", ".."),
+    ("without sources that can be listed", ONCE + "rm crates.txt;", LIST, 3, "", THERE_IS_NO_RT),
 ]

@@ -12,7 +12,7 @@
  *
  *     // Writes the program of a text's filter "main_thread" into the array, or why there is none
  *     // onto standard error. Returns the number of instructions, or -1.
- *     static int program_of(const char *text, size_t length, struct sock_filter program[4096])
+ *     int program_of(const char *text, size_t length, struct sock_filter program[4096])
  *     {
  *         int64_t count = seccompiler_compile(text, length, AUDIT_ARCH_X86_64, "main_thread", 11,
  *                                             SECCOMPILER_LAYOUT_CHAINS, program, 4096);

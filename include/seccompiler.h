@@ -1,8 +1,9 @@
 /*
  * seccompiler: seccomp filters, compiled from JSON policies to classic BPF programs.
  *
- * The functions of the static library libseccompiler_c.a. Each is proved to answer as it is described
- * here; docs/C.md says how the library is built and linked.
+ * The functions of the static library libseccompiler_c.a. What each answers, and what it then leaves in
+ * the caller's memory, is proved: docs/C.md has the clauses, and says how the library is built and linked.
+ * What is said here of memory, threads, stack and system calls, and of how long sentences are, is not proved.
  *
  * EXAMPLE
  *
@@ -69,8 +70,8 @@
  * and answer SECCOMPILER_OUT_OF_MEMORY where malloc refuses; the others take none. Nothing is kept
  * between calls, no system call is made but those of malloc, and no file is opened. So the functions may
  * be called from several threads at once. They mustn't be called from a signal handler, nor in the child
- * that a process with several threads forked. A text may nest 127 deep, for which a call takes about
- * 150 KB of stack.
+ * that a process with several threads forked. A text may nest 127 deep, for which a call takes up to
+ * 180 KB of stack.
  */
 #ifndef SECCOMPILER_H
 #define SECCOMPILER_H

@@ -20,6 +20,7 @@ pub mod Reasons
 pub mod ExplainLines
 pub mod Explain
 pub mod Record
+pub mod Commands
 pub mod Statuses
 -- Between layers: what the private steps of the engines promise each other.
 pub mod ShowTrees

@@ -6,6 +6,7 @@ mod error;
 mod explain;
 mod lint;
 mod numbers;
+mod perform;
 mod policy;
 mod raw;
 mod record;

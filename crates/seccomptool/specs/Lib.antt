@@ -13,6 +13,7 @@ pub mod Show
 pub mod Ways
 pub mod Steps
 pub mod Widened
+pub mod LintParts
 pub mod LintFaults
 pub mod LintTexts
 pub mod Lint

@@ -1,19 +1,14 @@
 -- The faults of a policy that have a place: where they are, and what is wrong there.
-use Rattle.std.specs.Prelude.{◌≡◌, ◌≢◌, ◌==◌, if◌then◌else◌, ℕ, suc, ◌^◌, ◌-◌, ◌⊎◌, List, [], ◌∷◌, ◌++◌, Contains, Option, Some, None, false, option_and_then, codes, decimal, string_bytes, ⊤}
-use Rattle.serde_json.specs.Data.{Data, null, string, array, object, Items, no_items, item}
+use Rattle.std.specs.Prelude.{◌≡◌, ◌≢◌, ◌==◌, if◌then◌else◌, ℕ, suc, List, [], ◌∷◌, ◌++◌, Contains, Option, Some, false, option_and_then, codes, decimal, string_bytes, ⊤}
+use Rattle.serde_json.specs.Data.{Data, array, object, Items, no_items, item}
 use Rattle.serde_json.specs.Find.{get, at}
 use Rattle.serde_json.specs.Read.{read}
 use Rattle.serde_json.specs.Written.{compact_text, has_float}
 use Rattle.seccompiler.specs.declared.backend.SeccompAction.{SeccompAction}
-use Rattle.seccompiler.specs.declared.backend.SeccompCmpOp.{SeccompCmpOp}
-use Rattle.seccompiler.specs.declared.backend.SeccompCmpArgLen.{SeccompCmpArgLen}
-use Rattle.seccompiler.specs.declared.backend.TargetArch.{TargetArch}
 use Rattle.seccompiler.specs.JsonAnswers.{HasPolicy}
-use Rattle.seccompiler.specs.JsonShape.{IsObject, Has, Lacks, IsWhole, IsAction, IsOperator, IsArgLen, IsComment, IsOneAction}
+use Rattle.seccompiler.specs.JsonShape.{IsObject, Has, Lacks, IsWhole, IsOneAction}
 use Rattle.seccompiler.specs.Policy.{Filter}
 use Rattle.seccompiler.specs.Refusal.{IsTooLarge}
-use Rattle.seccompiler.specs.Architecture.{table_of}
-use Rattle.seccompiler.specs.SyscallTable.{number_of}
 use Rattle.seccomptool.specs.declared.lint.fault.Cause.{Cause}
 use Rattle.seccomptool.specs.declared.lint.fault.Cause.TheVariants as cause
 use Rattle.seccomptool.specs.declared.lint.fault.Expected.{Expected}
@@ -21,12 +16,15 @@ use Rattle.seccomptool.specs.declared.lint.fault.Expected.TheVariants as expecte
 use Rattle.seccomptool.specs.declared.lint.fault.Fault.{Fault}
 use Rattle.seccomptool.specs.declared.lint.fault.Finding.{Finding}
 use Rattle.seccomptool.specs.declared.lint.fault.Finding.TheVariants as finding
-use Rattle.seccomptool.specs.declared.lint.fault.Kind.{Kind}
-use Rattle.seccomptool.specs.declared.lint.fault.Kind.TheVariants as kind
 use Rattle.seccomptool.specs.declared.lint.fault.Problem.{Problem}
 use Rattle.seccomptool.specs.declared.lint.fault.Problem.TheVariants as problem
+use Rattle.seccomptool.specs.declared.lint.part.Kind.{Kind}
+use Rattle.seccomptool.specs.declared.lint.part.Kind.TheVariants as kind
+use Rattle.seccomptool.specs.declared.lint.part.Part.{Part}
+use Rattle.seccomptool.specs.declared.lint.part.Part.TheVariants as parts
 use Rattle.seccomptool.specs.declared.lint.fault.Step.{Step}
 use Rattle.seccomptool.specs.declared.lint.fault.Step.TheVariants as step
+use Rattle.seccomptool.specs.LintParts.{IsPart, IsCallOf, names_of, required_of, pairs_of, part_at}
 
 -- ---- places
 
@@ -42,42 +40,19 @@ follow (first ∷ path) d = option_and_then (follow path) (step_to first d)
 
 -- ---- what may stand at a place
 
--- The value is an array.
-abbrev pub IsArray : Data → Type 0
-IsArray d = (items : Items) × (d ≡ array items)
-
--- The value is a text.
-abbrev pub IsText : Data → Type 0
-IsText d = (text : List ℕ) × (d ≡ string text)
-
--- The value is the name of a call of the architecture.
-abbrev pub IsCallOf : TargetArch → Data → Type 0
-IsCallOf target d = (text : List ℕ) × (d ≡ string text) × (number_of (table_of target) text ≢ None)
-
 -- The value may stand there.
 abbrev pub IsAllowed : Expected → Data → Type 0
-IsAllowed expected.Filters d = IsObject d
-IsAllowed expected.Filter d = IsObject d
-IsAllowed expected.Action d = (a : SeccompAction) × IsAction d a
-IsAllowed expected.Entries d = IsArray d
-IsAllowed expected.Entry d = IsObject d
-IsAllowed expected.Name d = IsText d
-IsAllowed expected.Comment d = IsComment (Some d)
-IsAllowed expected.Conditions d = (d ≡ null) ⊎ IsArray d
-IsAllowed expected.Condition d = IsObject d
-IsAllowed expected.Index d = (n : ℕ) × IsWhole 255 d n
-IsAllowed expected.Length d = (l : SeccompCmpArgLen) × IsArgLen d l
-IsAllowed expected.Operator d = (o : SeccompCmpOp) × IsOperator d o
-IsAllowed expected.Number d = (n : ℕ) × IsWhole (2 ^ 64 - 1) d n
+IsAllowed (expected.Form part) d = IsPart part d
 IsAllowed (expected.Call target) d = IsCallOf target d
 IsAllowed expected.Argument d = (n : ℕ) × IsWhole 5 d n
 IsAllowed expected.SomeConditions d = d ≢ array no_items
 
--- The names that an object of this kind may have.
-abbrev pub keys_of : Kind → List (List ℕ)
-keys_of kind.Filter = codes "mismatch_action" ∷ codes "default_action" ∷ codes "match_action" ∷ codes "filter_action" ∷ codes "filter" ∷ []
-keys_of kind.Entry = codes "syscall" ∷ codes "args" ∷ codes "comment" ∷ []
-keys_of kind.Condition = codes "index" ∷ codes "type" ∷ codes "op" ∷ codes "val" ∷ codes "comment" ∷ []
+-- The part where it may.
+abbrev pub part_of : Expected → Part
+part_of (expected.Form part) = part
+part_of (expected.Call target) = parts.Name
+part_of expected.Argument = parts.Index
+part_of expected.SomeConditions = parts.Conditions
 
 -- ---- what is wrong there
 
@@ -106,19 +81,29 @@ abbrev pub HasActions : Data → SeccompAction → SeccompAction → Type 0
 HasActions d a b = IsOneAction (get (codes "mismatch_action") d) (get (codes "default_action") d) a
     × IsOneAction (get (codes "match_action") d) (get (codes "filter_action") d) b
 
--- The problem is there.
-abbrev pub IsBroken : Data → Problem → Type 0
-IsBroken d (problem.Stands text expected) = IsShown d (string_bytes text) × (IsAllowed expected d → ⊥)
-IsBroken d (problem.Strange key kind) = (value : Data) × Has d (string_bytes key) value × (Contains (keys_of kind) (string_bytes key) → ⊥)
-IsBroken d (problem.Missing key) = Lacks d key.now
-IsBroken d (problem.Neither key other) = Lacks d key.now × Lacks d other.now
-IsBroken d (problem.Both key other) = ((value : Data) × Has d key.now value) × ((value : Data) × Has d other.now value)
-IsBroken d problem.SameActions = (action : SeccompAction) × HasActions d action action
-IsBroken d (problem.TooLong n target) = (policy : Filter) × HasPolicy target d policy × IsTooLarge policy n
+-- The part is an object of a kind of which P holds.
+abbrev pub OfObject : Part → (Kind → Type 0) → Type 0
+OfObject (parts.Object kind) P = P kind
+OfObject part P = ⊥
+
+-- The problem is there, and it is one of the part that stands there: what may stand there is what this part has to be,
+-- and the names that are told are those that this part may have, has to have, or has to have one of.
+abbrev pub IsBroken : Part → Data → Problem → Type 0
+IsBroken part d (problem.Stands text e) = (part_of e ≡ part) × IsShown d (string_bytes text) × (IsAllowed e d → ⊥)
+IsBroken part d (problem.Strange key kind) = (part ≡ parts.Object kind) × ((value : Data) × Has d (string_bytes key) value)
+    × (Contains (names_of kind) (string_bytes key) → ⊥)
+IsBroken part d (problem.Missing key) = OfObject part (λ kind. Contains (required_of kind) key.now) × IsObject d × Lacks d key.now
+IsBroken part d (problem.Neither key other) = OfObject part (λ kind. Contains (pairs_of kind) (key.now, other.now)) × IsObject d
+    × Lacks d key.now × Lacks d other.now
+IsBroken part d (problem.Both key other) = OfObject part (λ kind. Contains (pairs_of kind) (key.now, other.now))
+    × ((value : Data) × Has d key.now value) × ((value : Data) × Has d other.now value)
+IsBroken part d problem.SameActions = (part ≡ parts.Object kind.Filter) × ((action : SeccompAction) × HasActions d action action)
+IsBroken part d (problem.TooLong n target) = (part ≡ parts.Object kind.Filter)
+    × ((policy : Filter) × HasPolicy target d policy × IsTooLarge policy n)
 
 -- The kind of fault that it is where something else may stand there.
 abbrev pub cause_of_expected : Expected → Cause
-cause_of_expected expected.Filters = cause.Top
+cause_of_expected (expected.Form parts.Policy) = cause.Top
 cause_of_expected (expected.Call target) = cause.Call target
 cause_of_expected expected.Argument = cause.Argument
 cause_of_expected expected.SomeConditions = cause.Empty
@@ -131,14 +116,21 @@ cause_of problem.SameActions = cause.Actions
 cause_of (problem.TooLong n target) = cause.Length target
 cause_of p = cause.Shape
 
--- The fault's path leads from the value to one where the problem is there, which is of this kind.
-pub record IsFaultIn (cause : Cause) (d : Data) (fault : Fault) : Type 0 where
+-- The fault's path leads from the value of a part to one where the problem is there, which is of this kind, and one of
+-- the part that stands behind the path.
+pub record IsFaultBehind (cause : Cause) (outer : Part) (d : Data) (fault : Fault) : Type 0 where
   pub value : Data
   pub leads : follow fault.path.items d ≡ Some value
-  pub broken : IsBroken value fault.problem
+  pub part : Part
+  pub stands : part_at fault.path.items outer ≡ Some part
+  pub broken : IsBroken part value fault.problem
   pub kind : cause_of fault.problem ≡ cause
 
--- What is found is a fault of this kind in the value. Want of memory may come in place of it.
-abbrev pub Tells : Cause → Data → Finding → Type 0
-Tells cause d (finding.Fault fault) = IsFaultIn cause d fault
-Tells cause d finding.OutOfMemory = ⊤
+-- The same of the policy's value.
+abbrev pub IsFaultIn : Cause → Data → Fault → Type 0
+IsFaultIn cause d fault = IsFaultBehind cause parts.Policy d fault
+
+-- What is found is a fault of this kind in the value of a part. Want of memory may come in place of it.
+abbrev pub Tells : Cause → Part → Data → Finding → Type 0
+Tells cause outer d (finding.Fault fault) = IsFaultBehind cause outer d fault
+Tells cause outer d finding.OutOfMemory = ⊤

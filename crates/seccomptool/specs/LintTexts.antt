@@ -6,10 +6,12 @@ use Rattle.seccompiler.specs.Architecture.{arch_text}
 use Rattle.seccomptool.specs.declared.lint.fault.Expected.{Expected}
 use Rattle.seccomptool.specs.declared.lint.fault.Expected.TheVariants as expected
 use Rattle.seccomptool.specs.declared.lint.fault.Fault.{Fault}
-use Rattle.seccomptool.specs.declared.lint.fault.Kind.{Kind}
-use Rattle.seccomptool.specs.declared.lint.fault.Kind.TheVariants as kind
 use Rattle.seccomptool.specs.declared.lint.fault.Problem.{Problem}
 use Rattle.seccomptool.specs.declared.lint.fault.Problem.TheVariants as problem
+use Rattle.seccomptool.specs.declared.lint.part.Kind.{Kind}
+use Rattle.seccomptool.specs.declared.lint.part.Kind.TheVariants as kind
+use Rattle.seccomptool.specs.declared.lint.part.Part.{Part}
+use Rattle.seccomptool.specs.declared.lint.part.Part.TheVariants as parts
 use Rattle.seccomptool.specs.declared.lint.fault.Step.{Step}
 use Rattle.seccomptool.specs.declared.lint.fault.Step.TheVariants as step
 
@@ -28,21 +30,26 @@ abbrev pub path_text : List Step → List ℕ
 path_text [] = codes "the policy"
 path_text (first ∷ path) = first_text first ++ concat (map step_text path)
 
+-- The form that a part has to be of.
+abbrev pub form_text : Part → List ℕ
+form_text parts.Policy = codes "an object of filters"
+form_text (parts.Object kind.Filter) = codes "an object with the actions and the entries of a filter"
+form_text (parts.Object kind.Entry) = codes "an object with the call of an entry"
+form_text (parts.Object kind.Condition) = codes "an object with the four parts of a condition"
+form_text parts.Action = codes "\"allow\", {\"errno\": N}, \"kill_process\", \"kill_thread\", \"log\", {\"trace\": N} or \"trap\""
+form_text parts.Entries = codes "an array of entries"
+form_text parts.Name = codes "the name of a call, in quotes,"
+form_text parts.Comment = codes "null or a text"
+form_text parts.Conditions = codes "null or an array of conditions"
+form_text parts.Index = codes "a number from 0 to 5"
+form_text parts.Length = codes "\"dword\" or \"qword\""
+form_text parts.Operator = codes "\"eq\", \"ge\", \"gt\", \"le\", \"lt\", {\"masked_eq\": N} or \"ne\""
+form_text parts.ActionNumber = codes "a whole number from 0 to 4294967295"
+form_text parts.Number = codes "a whole number from 0 to 18446744073709551615"
+
 -- What may stand there.
 abbrev pub expected_text : Expected → List ℕ
-expected_text expected.Filters = codes "an object of filters"
-expected_text expected.Filter = codes "an object with the actions and the entries of a filter"
-expected_text expected.Action = codes "\"allow\", {\"errno\": N}, \"kill_process\", \"kill_thread\", \"log\", {\"trace\": N} or \"trap\""
-expected_text expected.Entries = codes "an array of entries"
-expected_text expected.Entry = codes "an object with the call of an entry"
-expected_text expected.Name = codes "the name of a call, in quotes,"
-expected_text expected.Comment = codes "null or a text"
-expected_text expected.Conditions = codes "null or an array of conditions"
-expected_text expected.Condition = codes "an object with the four parts of a condition"
-expected_text expected.Index = codes "a number from 0 to 5"
-expected_text expected.Length = codes "\"dword\" or \"qword\""
-expected_text expected.Operator = codes "\"eq\", \"ge\", \"gt\", \"le\", \"lt\", {\"masked_eq\": N} or \"ne\""
-expected_text expected.Number = codes "a whole number from 0 to 18446744073709551615"
+expected_text (expected.Form part) = form_text part
 expected_text (expected.Call target) = codes "the name of a call of " ++ arch_text target
 expected_text expected.Argument = codes "a number from 0 to 5"
 expected_text expected.SomeConditions = codes "null or at least one condition"

@@ -8,10 +8,12 @@ ghost use Rattle.seccompiler.specs.JsonPrograms.{TellsFirstFault};
 ghost use Rattle.seccomptool.specs.Lint.{AnswersLint, AreAllCompiled, IsRefusal, cause_told};
 ghost use Rattle.seccomptool.specs.LintFaults.{Tells};
 ghost use Rattle.seccomptool.specs.LintTexts as spec;
+ghost use Rattle.seccomptool.specs.declared.lint.part.Part.TheVariants.{Policy};
 
 mod allowed;
 mod fault;
 mod length;
+mod part;
 mod text;
 mod walk;
 
@@ -119,7 +121,7 @@ fn told(alloc: Global, fault: &Fault) -> Result<Option<String>, AllocError>
 
 // The first fault of this kind in a text.
 fn search(alloc: Global, cause: Cause, text: &[u8]) -> Result<(), Finding>
-    ensures found { (d : Data) → IsReadAs text.now d → IfErr result (Tells cause d) }
+    ensures found { (d : Data) → IsReadAs text.now d → IfErr result (Tells cause Policy d) }
 {
     match Value::from_slice(alloc, text) {
         Ok(value) => in_policy(alloc, cause, &value),

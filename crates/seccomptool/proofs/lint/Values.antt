@@ -1,5 +1,5 @@
 -- For `is_empty` of `allowed` and the functions of `walk`: what JSON values have under names and at places.
-use Rattle.std.proofs.Common.{◌≡◌, ℕ, suc, ◌<◌, List, [], ◌∷◌, ◌++◌, length, get_or, Option, Some, option_map, Vec, Global, Bor, Less, Greater, Bool, IfSome, Contains, bytes_eq, string_bytes, string_cmp, nat_cmp, arith, refl, sym, ap, ◌∙◌, ◌↔◌}
+use Rattle.std.proofs.Common.{◌≡◌, ℕ, suc, ◌<◌, List, [], ◌∷◌, ◌++◌, length, get_or, Option, Some, None, option_map, Vec, Global, Bor, Less, Greater, Bool, IfSome, Contains, bytes_eq, string_bytes, string_cmp, nat_cmp, arith, refl, sym, ap, ◌∙◌, ◌↔◌}
 use Rattle.std.specs.Prelude.{IsTrue, ◌==◌}
 use Rattle.std.specs.Cmp.Lexicographic.{slice_cmp}
 use Rattle.std.specs.List.{AllByRecursion, list_any}
@@ -61,6 +61,10 @@ item_there vs i v inside is = sym (get_item_within vs i v inside) ∙ ap (λ w. 
 -- What is found by reference is what is there.
 pub found_value : (o : Option (Bor Value)) (r : Bor Value) (found : Option Data) → option_map (λ v. view v.now) o ≡ found → o ≡ Some r → found ≡ Some (view r.now)
 found_value o r found is some = sym is ∙ ap (option_map (λ v. view v.now)) some
+
+-- Where nothing is found by reference, nothing is there.
+pub lacks_value : (o : Option (Bor Value)) (found : Option Data) → option_map (λ v. view v.now) o ≡ found → o ≡ None → found ≡ None
+lacks_value o found is none = sym is ∙ ap (option_map (λ v. view v.now)) none
 
 -- The same of an array.
 pub found_array : (o : Option (Bor Value)) (r : Bor Value) (items : Vec Value Global) (found : Option Data) → option_map (λ v. view v.now) o ≡ found → o ≡ Some r → r.now ≡ Array items → found ≡ Some (array (items_view items.items))

@@ -6,9 +6,11 @@ ghost use Rattle.std.specs.Str.{bytes_eq};
 ghost use Rattle.serde_json.specs.Data.{null, array, no_items};
 ghost use Rattle.serde_json.specs.View.{view};
 ghost use Rattle.seccompiler.specs.JsonShape.{IsObject, IsWhole, IsOneAction, IsComment};
-ghost use Rattle.seccomptool.specs.LintFaults.{IsAllowed, IsArray, IsText, IsCallOf};
+ghost use Rattle.seccomptool.specs.LintFaults.{IsAllowed};
+ghost use Rattle.seccomptool.specs.LintParts.{IsPart, IsArray, IsText, IsCallOf};
 
 use crate::lint::fault::Expected;
+use crate::lint::part::Part;
 use seccompiler::json::{read_action, read_arg_len, read_operator};
 use seccompiler::{SeccompAction, SyscallTable, TargetArch};
 use serde_json::Value;
@@ -97,23 +99,31 @@ fn is_empty(value: &Value) -> bool
     }
 }
 
+// Whether the value is of the part's form.
+fn is_part(part: Part, value: &Value) -> bool
+    ensures { IsTrue result ↔ IsPart part (view value.now) }
+{
+    match part {
+        Part::Policy | Part::Object(_) => is_object(value),
+        Part::Action => read_action(value).is_some(),
+        Part::Entries => is_array(value),
+        Part::Name => is_text(value),
+        Part::Comment => is_comment(value),
+        Part::Conditions => is_null(value) || is_array(value),
+        Part::Index => whole_of(value, 255).is_some(),
+        Part::Length => read_arg_len(value).is_some(),
+        Part::Operator => read_operator(value).is_some(),
+        Part::ActionNumber => whole_of(value, 4294967295).is_some(),
+        Part::Number => whole_of(value, u64::MAX).is_some(),
+    }
+}
+
 // Whether the value may stand there.
 pub(crate) fn is_allowed(expected: Expected, value: &Value) -> bool
     ensures { IsTrue result ↔ IsAllowed expected (view value.now) }
 {
     match expected {
-        Expected::Filters | Expected::Filter | Expected::Entry | Expected::Condition => {
-            is_object(value)
-        }
-        Expected::Action => read_action(value).is_some(),
-        Expected::Entries => is_array(value),
-        Expected::Name => is_text(value),
-        Expected::Comment => is_comment(value),
-        Expected::Conditions => is_null(value) || is_array(value),
-        Expected::Index => whole_of(value, 255).is_some(),
-        Expected::Length => read_arg_len(value).is_some(),
-        Expected::Operator => read_operator(value).is_some(),
-        Expected::Number => whole_of(value, u64::MAX).is_some(),
+        Expected::Form(part) => is_part(part, value),
         Expected::Call(target) => is_call(target, value),
         Expected::Argument => whole_of(value, 5).is_some(),
         Expected::SomeConditions => !is_empty(value),

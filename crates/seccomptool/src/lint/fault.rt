@@ -5,8 +5,11 @@ ghost use Rattle.serde_json.specs.Data.{Data, Items, array};
 ghost use Rattle.serde_json.specs.Find.{get_item};
 ghost use Rattle.seccompiler.specs.JsonShape.{Has};
 ghost use Rattle.seccomptool.specs.LintFaults.{Tells, IsBroken, cause_of};
+ghost use Rattle.seccomptool.specs.LintParts.{part_under, part_in};
 ghost use Rattle.seccomptool.specs.declared.lint.fault.Cause.{Cause};
+ghost use Rattle.seccomptool.specs.declared.lint.part.Part.{Part};
 
+use crate::lint::part::{Kind, Part};
 use seccompiler::TargetArch;
 use std::alloc::{AllocError, AllocFailed, Global};
 
@@ -22,49 +25,14 @@ pub enum Step {
 /// What may stand at a place.
 #[derive(Clone, Copy)]
 pub enum Expected {
-    /// An object of filters.
-    Filters,
-    /// A filter, which is an object.
-    Filter,
-    /// An action.
-    Action,
-    /// An array of entries.
-    Entries,
-    /// An entry, which is an object.
-    Entry,
-    /// A call's name, which is a text.
-    Name,
-    /// A comment: null or a text.
-    Comment,
-    /// Conditions: null or an array.
-    Conditions,
-    /// A condition, which is an object.
-    Condition,
-    /// An index that a byte holds.
-    Index,
-    /// The length of an argument.
-    Length,
-    /// An operator.
-    Operator,
-    /// A number that 64 bits hold.
-    Number,
+    /// A value of this part's form.
+    Form(Part),
     /// The name of a call of this architecture.
     Call(TargetArch),
     /// An argument's index.
     Argument,
     /// No array without values.
     SomeConditions,
-}
-
-/// An object of which the names are told.
-#[derive(Clone, Copy)]
-pub enum Kind {
-    /// A filter.
-    Filter,
-    /// An entry of a filter.
-    Entry,
-    /// A condition of an entry.
-    Condition,
 }
 
 /// What is wrong with a value.
@@ -145,7 +113,7 @@ impl<T: Drop> From<AllocFailed<T>> for Finding {
 
 // Ends the search with what is wrong with the value that is looked at.
 pub(crate) fn refuse(alloc: Global, problem: Problem) -> Result<(), Finding>
-    ensures found { (d : Data) → IsBroken d problem → IfErr result (Tells (cause_of problem) d) }
+    ensures found { (part : Part) (d : Data) → IsBroken part d problem → IfErr result (Tells (cause_of problem) part d) }
     ensures ends { OnOk result ⊥ }
 {
     Err(Finding::Fault(Fault {
@@ -161,7 +129,7 @@ pub(crate) fn under_key(
     answer: Result<(), Finding>,
 ) -> Result<(), Finding>
     ensures fine { OnOk result (IsTrue (is_ok answer)) }
-    ensures led { (cause : Cause) (d inner : Data) → Has d key.now inner → IfErr answer (Tells cause inner) → IfErr result (Tells cause d) }
+    ensures led { (cause : Cause) (outer part : Part) (d inner : Data) → part_under outer key.now ≡ Some part → Has d key.now inner → IfErr answer (Tells cause part inner) → IfErr result (Tells cause outer d) }
 {
     match answer {
         Err(Finding::Fault(mut fault)) => {
@@ -177,7 +145,7 @@ pub(crate) fn under_key(
 // The answer on an item, as one on the array.
 pub(crate) fn under_item(place: usize, answer: Result<(), Finding>) -> Result<(), Finding>
     ensures fine { OnOk result (IsTrue (is_ok answer)) }
-    ensures led { (cause : Cause) (items : Items) (inner : Data) → get_item place items ≡ Some inner → IfErr answer (Tells cause inner) → IfErr result (Tells cause (array items)) }
+    ensures led { (cause : Cause) (outer part : Part) (items : Items) (inner : Data) → part_in outer ≡ Some part → get_item place items ≡ Some inner → IfErr answer (Tells cause part inner) → IfErr result (Tells cause outer (array items)) }
 {
     match answer {
         Err(Finding::Fault(mut fault)) => {

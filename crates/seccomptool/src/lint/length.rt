@@ -6,6 +6,8 @@ ghost use Rattle.serde_json.specs.View.{view, members_view};
 ghost use Rattle.seccompiler.specs.JsonShape.{IsFilter};
 ghost use Rattle.seccompiler.specs.JsonSteps.{AreFilters};
 ghost use Rattle.seccomptool.specs.declared.lint.fault.Cause.TheVariants as cause;
+ghost use Rattle.seccomptool.specs.declared.lint.part.Kind.TheVariants as kind;
+ghost use Rattle.seccomptool.specs.declared.lint.part.Part.TheVariants as parts;
 ghost use Rattle.seccomptool.specs.LintFaults.{Tells};
 
 use crate::lint::fault::{Finding, Problem, refuse, under_key};
@@ -17,7 +19,7 @@ use std::alloc::Global;
 
 // That the program of the filter is not too long.
 fn check_length(alloc: Global, target: TargetArch, filter: &JsonFilter) -> Result<(), Finding>
-    ensures found { (d : Data) → IsFilter d filter.now → IfErr result (Tells (cause.Length target) d) }
+    ensures found { (d : Data) → IsFilter d filter.now → IfErr result (Tells (cause.Length target) (parts.Object kind.Filter) d) }
 {
     match JsonCompiler::new(target).make_seccomp_filter(alloc, filter) {
         Ok(policy) => match policy.to_bpf(alloc) {
@@ -39,7 +41,7 @@ fn check_lengths(
     members: &Map<String, Value>,
     filters: &JsonFilterMap,
 ) -> Result<(), Finding>
-    ensures found { (d : Data) → AreFilters d filters.now → IfErr result (Tells (cause.Length target) d) }
+    ensures found { (d : Data) → AreFilters d filters.now → IfErr result (Tells (cause.Length target) parts.Policy d) }
 {
     for (name, _) in members.iter() {
         if let Some(filter) = filters.0.get(name.as_str()) {
@@ -51,7 +53,7 @@ fn check_lengths(
 
 // The first filter of a policy whose program would be too long.
 pub(crate) fn in_lengths(alloc: Global, target: TargetArch, value: &Value) -> Result<(), Finding>
-    ensures found { IfErr result (Tells (cause.Length target) (view value.now)) }
+    ensures found { IfErr result (Tells (cause.Length target) parts.Policy (view value.now)) }
 {
     match (value, read_filters(alloc, value)) {
         (Value::Object(members), Ok(filters)) => check_lengths(alloc, target, members, &filters),

@@ -5,7 +5,8 @@ ghost use Rattle.std.specs.List.{concat};
 ghost use Rattle.seccomp_command_line.specs.Names.{escaped};
 ghost use Rattle.seccomptool.specs.LintTexts as spec;
 
-use crate::lint::fault::{Expected, Fault, Kind, Problem, Step};
+use crate::lint::fault::{Expected, Fault, Problem, Step};
+use crate::lint::part::{Kind, Part};
 use seccomp_command_line::names::push_escaped;
 use std::alloc::{AllocError, Global};
 
@@ -78,31 +79,38 @@ fn push_path(text: &mut Vec<u8>, alloc: Global, path: &[Step]) -> Result<(), All
     }
 }
 
+// The form that a part has to be of.
+fn form_text(part: Part) -> &'static str
+    ensures { result.now ≡ spec.form_text part }
+{
+    match part {
+        Part::Policy => "an object of filters",
+        Part::Object(Kind::Filter) => "an object with the actions and the entries of a filter",
+        Part::Object(Kind::Entry) => "an object with the call of an entry",
+        Part::Object(Kind::Condition) => "an object with the four parts of a condition",
+        Part::Action => {
+            "\"allow\", {\"errno\": N}, \"kill_process\", \"kill_thread\", \"log\", {\"trace\": N} or \"trap\""
+        }
+        Part::Entries => "an array of entries",
+        Part::Name => "the name of a call, in quotes,",
+        Part::Comment => "null or a text",
+        Part::Conditions => "null or an array of conditions",
+        Part::Index => "a number from 0 to 5",
+        Part::Length => "\"dword\" or \"qword\"",
+        Part::Operator => { "\"eq\", \"ge\", \"gt\", \"le\", \"lt\", {\"masked_eq\": N} or \"ne\"" }
+        Part::ActionNumber => "a whole number from 0 to 4294967295",
+        Part::Number => "a whole number from 0 to 18446744073709551615",
+    }
+}
+
 // What may stand at a place: a text, and a name behind it.
 fn expected_text(expected: Expected) -> (&'static str, &'static str)
     ensures { result.0.now ++ result.1.now ≡ spec.expected_text expected }
 {
     match expected {
-        Expected::Filters => ("an object of filters", ""),
-        Expected::Filter => ("an object with the actions and the entries of a filter", ""),
-        Expected::Action => (
-            "\"allow\", {\"errno\": N}, \"kill_process\", \"kill_thread\", \"log\", {\"trace\": N} or \"trap\"",
-            "",
-        ),
-        Expected::Entries => ("an array of entries", ""),
-        Expected::Entry => ("an object with the call of an entry", ""),
-        Expected::Name => ("the name of a call, in quotes,", ""),
-        Expected::Comment => ("null or a text", ""),
-        Expected::Conditions => ("null or an array of conditions", ""),
-        Expected::Condition => ("an object with the four parts of a condition", ""),
-        Expected::Index | Expected::Argument => ("a number from 0 to 5", ""),
-        Expected::Length => ("\"dword\" or \"qword\"", ""),
-        Expected::Operator => (
-            "\"eq\", \"ge\", \"gt\", \"le\", \"lt\", {\"masked_eq\": N} or \"ne\"",
-            "",
-        ),
-        Expected::Number => ("a whole number from 0 to 18446744073709551615", ""),
+        Expected::Form(part) => (form_text(part), ""),
         Expected::Call(target) => ("the name of a call of ", target.name()),
+        Expected::Argument => ("a number from 0 to 5", ""),
         Expected::SomeConditions => ("null or at least one condition", ""),
     }
 }

@@ -1,7 +1,9 @@
-use Rattle.std.proofs.Common.{rules, sym}
+use Rattle.std.proofs.Common.{rules, refl, sym}
 use Rattle.std.specs.BTreeMap.{get_by_text}
 use Rattle.seccompiler.specs.JsonShape.{IsFilter, Has}
 use Rattle.seccomptool.specs.declared.lint.fault.Cause.TheVariants as cause
+use Rattle.seccomptool.specs.declared.lint.part.Kind.TheVariants as kind
+use Rattle.seccomptool.specs.declared.lint.part.Part.TheVariants as parts
 use Rattle.seccomptool.proofs.Found.{there}
 use Rattle.seccomptool.proofs.lint.length.check_lengths.Goals as goal
 
@@ -13,6 +15,6 @@ returns-in_err-under_key c = record {
       let name = c.as_str.result.now in
       let value = there IsFilter find d are name filter (sym c.in-Some-get.ensures.value) in
       let has : Has d c.as_str-in-Some-get.result.now value.0 = rw (c.as_str-in-Some-get.ensures.value, ← c.as_str.ensures.value) value.1 in
-      let told = c.under_key.ensures.led (cause.Length c.args.target) d value.0 has (c.check_length.ensures.found value.0 value.2) in
+      let told = c.under_key.ensures.led (cause.Length c.args.target) parts.Policy (parts.Object kind.Filter) d value.0 refl has (c.check_length.ensures.found value.0 value.2) in
       search (rules, told);
 }

@@ -1,11 +1,23 @@
+use Rattle.serde_json.specs.Data.{Data}
 use Rattle.serde_json.specs.View.{view}
-use Rattle.seccomptool.proofs.lint.Values.{found_value}
+use Rattle.seccompiler.specs.JsonShape.{Has, Lacks}
+use Rattle.seccomptool.specs.declared.lint.part.Kind.TheVariants as kind
+use Rattle.seccomptool.specs.declared.lint.part.Part.TheVariants as parts
+use Rattle.seccomptool.proofs.lint.Values.{found_value, lacks_value}
 use Rattle.seccomptool.proofs.lint.walk.check_action.Goals as goal
 
 pub returns-in-Some-Some : goal.returns-in-Some-Some
 returns-in-Some-Some c =
     let one = c.in-Some-Some.field-0-0 in
     let other = c.in-Some-Some.field-0-1 in
-    record {
-      found = c.refuse.ensures.found (view c.args.value.now) ((view one.now, found_value c.get.result one _ c.get.ensures c.in-Some-Some.is-0), (view other.now, found_value c.get-2.result other _ c.get-2.ensures c.in-Some-Some.is-1));
-    }
+    let d = view c.args.value.now in
+    let has_one : (value : Data) × Has d c.args.key.now value = (view one.now, found_value c.get.result one _ c.get.ensures c.in-Some-Some.is-0) in
+    let has_other : (value : Data) × Has d c.args.other.now value = (view other.now, found_value c.get-2.result other _ c.get-2.ensures c.in-Some-Some.is-1) in
+    record { found = λ paired is_object first second. c.refuse.ensures.found (parts.Object kind.Filter) d (paired, has_one, has_other) }
+
+pub returns-in-None-None : goal.returns-in-None-None
+returns-in-None-None c =
+    let d = view c.args.value.now in
+    let no_one : Lacks d c.args.key.now = lacks_value c.get.result _ c.get.ensures c.in-None-None.is-0 in
+    let no_other : Lacks d c.args.other.now = lacks_value c.get-2.result _ c.get-2.ensures c.in-None-None.is-1 in
+    record { found = λ paired is_object first second. c.refuse-in-None-None.ensures.found (parts.Object kind.Filter) d (paired, is_object, no_one, no_other) }

@@ -1,7 +1,9 @@
-use Rattle.std.proofs.Common.{◌≡◌, rules, sym, subst}
+use Rattle.std.proofs.Common.{◌≡◌, rules, refl, sym, subst}
 use Rattle.std.specs.Cmp.Rules.{comparing}
 use Rattle.serde_json.specs.View.{view}
 use Rattle.seccomptool.specs.LintFaults.{HasActions}
+use Rattle.seccomptool.specs.declared.lint.part.Kind.TheVariants as kind
+use Rattle.seccomptool.specs.declared.lint.part.Part.TheVariants as parts
 use Rattle.seccomptool.proofs.lint.Values.{actions_are}
 use Rattle.seccomptool.proofs.lint.walk.check_actions.Goals as goal
 
@@ -13,4 +15,4 @@ returns-in-Some-Some c =
     let same : a ≡ b = search (comparing, rules) in
     let first = actions_are _ _ _ _ c.one_action-mismatch.result a c.one_action-mismatch.ensures.found c.in-Some-Some.is-0 c.get.ensures c.get-2.ensures in
     let second = actions_are _ _ _ _ c.one_action-matching.result b c.one_action-matching.ensures.found c.in-Some-Some.is-1 c.get-3.ensures c.get-4.ensures in
-    record { found = c.refuse.ensures.found d (a, subst (HasActions d a) (sym same) (first, second)) }
+    record { found = c.refuse.ensures.found (parts.Object kind.Filter) d (refl, (a, subst (HasActions d a) (sym same) (first, second))) }

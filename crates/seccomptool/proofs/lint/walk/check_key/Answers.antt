@@ -1,9 +1,10 @@
 use Rattle.serde_json.specs.View.{view}
-use Rattle.seccomptool.specs.LintFaults.{cause_of_expected}
+use Rattle.seccomptool.specs.LintFaults.{cause_of_expected, part_of}
 use Rattle.seccomptool.proofs.lint.Values.{found_value}
 use Rattle.seccomptool.proofs.lint.walk.check_key.Goals as goal
 
-pub returns-in-Some-clause-found : goal.returns-in-Some-clause-found
-returns-in-Some-clause-found c =
+pub returns-in-Some : goal.returns-in-Some
+returns-in-Some c =
     let inner = c.in-Some.inner in
-    c.under_key.ensures.led (cause_of_expected c.args.expected) (view c.args.value.now) (view inner.now) (found_value c.get.result inner _ c.get.ensures c.in-Some.is) c.check.ensures.found
+    let there = found_value c.get.result inner _ c.get.ensures c.in-Some.is in
+    record { found = λ outer under. c.under_key.ensures.led (cause_of_expected c.args.expected) outer (part_of c.args.expected) (view c.args.value.now) (view inner.now) under there c.check.ensures.found }

@@ -1,10 +1,11 @@
-use Rattle.std.proofs.Common.{◌≡◌, ◌∷◌, ◌++◌, [], Contains, string_bytes, string_cmp, sym, ap, ◌∙◌, subst, append_assoc}
+use Rattle.std.proofs.Common.{◌≡◌, ◌∷◌, ◌++◌, [], Contains, string_bytes, string_cmp, refl, sym, ap, ◌∙◌, subst, append_assoc}
 use Rattle.std.specs.List.Sorted.{IsStrictlySortedBy}
 use Rattle.std.specs.Map.{keys_of}
 use Rattle.serde_json.specs.Data.{object}
 use Rattle.serde_json.specs.View.{view, members_view}
 use Rattle.serde_json.proofs.Views.{Entry}
-use Rattle.seccomptool.specs.LintFaults as lint
+use Rattle.seccomptool.specs.LintParts.{names_of}
+use Rattle.seccomptool.specs.declared.lint.part.Part.TheVariants as parts
 use Rattle.seccomptool.proofs.lint.Values.{member_there}
 use Rattle.seccomptool.proofs.lint.walk.check_keys.Goals as goal
 
@@ -16,9 +17,9 @@ returns-then-not-is_key c =
     let all : c.args.members.now.entries ≡ done ++ e ∷ left = c.loop-name.invariant.1 ∙ ap (λ es. done ++ es) c.in-Some.ensures.steps in
     let sorted : IsStrictlySortedBy string_cmp (keys_of (done ++ e ∷ left)) = subst (λ es. IsStrictlySortedBy string_cmp (keys_of es)) all c.iter-name-items.ensures.ordered in
     let same : string_bytes c.in_ok-name.name ≡ string_bytes e.0 = c.in_ok-name.ensures.ok ∙ c.as_str-then-not-is_key.ensures.value in
-    let no : Contains (lint.keys_of c.args.kind) c.as_str.result.now → ⊥ = λ among. let yes = c.is_key.ensures.1 among in cc in
-    let other : Contains (lint.keys_of c.args.kind) (string_bytes c.in_ok-name.name) → ⊥ = λ among. no (subst (Contains (lint.keys_of c.args.kind)) (same ∙ sym c.as_str.ensures.value) among) in
-    record { found = c.refuse.ensures.found (object (members_view c.args.members.now.entries)) (view e.1, rw (all, same) (member_there done e left sorted), other) }
+    let no : Contains (names_of c.args.kind) c.as_str.result.now → ⊥ = λ among. let yes = c.is_key.ensures.1 among in cc in
+    let other : Contains (names_of c.args.kind) (string_bytes c.in_ok-name.name) → ⊥ = λ among. no (subst (Contains (names_of c.args.kind)) (same ∙ sym c.as_str.ensures.value) among) in
+    record { found = c.refuse.ensures.found (parts.Object c.args.kind) (object (members_view c.args.members.now.entries)) (refl, (view e.1, rw (all, same) (member_there done e left sorted)), other) }
 
 pub loop-name-preserved : goal.loop-name-preserved
 loop-name-preserved c =

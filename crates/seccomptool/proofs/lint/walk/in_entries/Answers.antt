@@ -1,6 +1,8 @@
-use Rattle.std.proofs.Common.{◌≡◌, Some, subst, rules}
+use Rattle.std.proofs.Common.{◌≡◌, Some, refl, subst, rules}
 use Rattle.serde_json.specs.Find.{get_item}
 use Rattle.serde_json.specs.View.{view, items_view}
+use Rattle.seccomptool.specs.declared.lint.part.Kind.TheVariants as kind
+use Rattle.seccomptool.specs.declared.lint.part.Part.TheVariants as parts
 use Rattle.seccomptool.proofs.lint.Values.{item_there}
 use Rattle.seccomptool.proofs.lint.walk.in_entries.Goals as goal
 
@@ -10,5 +12,5 @@ returns-in_err-under_item c =
     let item = c.item-item.result in
     let here = item_there c.deref-item-items.result.now place item c.loop-place-test.true c.item-item.is in
     let there = subst (λ vs. get_item place (items_view vs) ≡ Some (view item)) c.deref-item-items.ensures.value here in
-    let told = c.under_item.ensures.led c.args.cause (items_view c.args.items.now.items) (view item) there c.in_entry.ensures.found in
+    let told = c.under_item.ensures.led c.args.cause parts.Entries (parts.Object kind.Entry) (items_view c.args.items.now.items) (view item) refl there c.in_entry.ensures.found in
     record { found = search (rules, told) }

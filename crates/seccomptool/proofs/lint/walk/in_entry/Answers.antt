@@ -1,5 +1,8 @@
+use Rattle.std.proofs.Common.{refl}
 use Rattle.serde_json.specs.Data.{array}
 use Rattle.serde_json.specs.View.{view, items_view}
+use Rattle.seccomptool.specs.declared.lint.part.Kind.TheVariants as kind
+use Rattle.seccomptool.specs.declared.lint.part.Part.TheVariants as parts
 use Rattle.seccomptool.proofs.lint.Values.{found_array}
 use Rattle.seccomptool.proofs.lint.walk.in_entry.Goals as goal
 
@@ -7,4 +10,4 @@ pub returns-in-Some-Array : goal.returns-in-Some-Array
 returns-in-Some-Array c =
     let at = c.in-Some-Array in
     let there = found_array c.get.result at.field-0 at.items _ c.get.ensures at.is at.field-0-is in
-    record { found = c.under_key.ensures.led c.args.cause (view c.args.value.now) (array (items_view at.items.items)) there (rw at.items-is at c.in_conditions.ensures.found) }
+    record { found = c.under_key.ensures.led c.args.cause (parts.Object kind.Entry) parts.Conditions (view c.args.value.now) (array (items_view at.items.items)) refl there (rw at.items-is at c.in_conditions.ensures.found) }

@@ -1,10 +1,12 @@
-use Rattle.std.proofs.Common.{◌≡◌, ◌∷◌, ◌++◌, [], Some, string_cmp, sym, ap, ◌∙◌, subst, append_assoc, rules}
+use Rattle.std.proofs.Common.{◌≡◌, ◌∷◌, ◌++◌, [], Some, string_cmp, refl, sym, ap, ◌∙◌, subst, append_assoc, rules}
 use Rattle.std.specs.List.Sorted.{IsStrictlySortedBy}
 use Rattle.std.specs.Map.{keys_of}
 use Rattle.serde_json.specs.Data.{object}
 use Rattle.serde_json.specs.Find.{get_member}
 use Rattle.serde_json.specs.View.{view, members_view}
 use Rattle.serde_json.proofs.Views.{Entry}
+use Rattle.seccomptool.specs.declared.lint.part.Kind.TheVariants as kind
+use Rattle.seccomptool.specs.declared.lint.part.Part.TheVariants as parts
 use Rattle.seccomptool.proofs.lint.Values.{member_there}
 use Rattle.seccomptool.proofs.lint.walk.in_filters.Goals as goal
 
@@ -16,7 +18,7 @@ returns-in_err-under_key c =
     let all : c.args.members.now.entries ≡ done ++ e ∷ left = c.loop-name.invariant.1 ∙ ap (λ es. done ++ es) c.in-Some.ensures.steps in
     let sorted : IsStrictlySortedBy string_cmp (keys_of (done ++ e ∷ left)) = subst (λ es. IsStrictlySortedBy string_cmp (keys_of es)) all c.iter-name-items.ensures.ordered in
     let there : get_member c.as_str.result.now (members_view c.args.members.now.entries) ≡ Some (view e.1) = rw (all, c.as_str.ensures.value) (member_there done e left sorted) in
-    let told = c.under_key.ensures.led c.args.cause (object (members_view c.args.members.now.entries)) (view e.1) there c.in_filter.ensures.found in
+    let told = c.under_key.ensures.led c.args.cause parts.Policy (parts.Object kind.Filter) (object (members_view c.args.members.now.entries)) (view e.1) refl there c.in_filter.ensures.found in
     record { found = search (rules, told) }
 
 pub loop-name-preserved : goal.loop-name-preserved

@@ -1,10 +1,10 @@
-use Rattle.seccomptool.specs.LintFaults.{keys_of}
-use Rattle.seccomptool.specs.declared.lint.fault.Kind.TheVariants as kind
+use Rattle.seccomptool.specs.LintParts.{names_of}
+use Rattle.seccomptool.specs.declared.lint.part.Kind.TheVariants as kind
 use Rattle.seccomptool.proofs.lint.Values.{among}
 use Rattle.seccomptool.proofs.lint.walk.is_key.Goals as goal
 
 pub returns-in-Filter : goal.returns-in-Filter
-returns-in-Filter c = rw (c.in-Filter.is, c.is_among.ensures) (among c.args.name.now (keys_of kind.Filter))
+returns-in-Filter c = rw (c.in-Filter.is, c.is_among.ensures) (among c.args.name.now (names_of kind.Filter))
 
 pub returns-in-Condition : goal.returns-in-Condition
-returns-in-Condition c = rw (c.in-Condition.is, c.is_among-in-Condition.ensures) (among c.args.name.now (keys_of kind.Condition))
+returns-in-Condition c = rw (c.in-Condition.is, c.is_among-in-Condition.ensures) (among c.args.name.now (names_of kind.Condition))

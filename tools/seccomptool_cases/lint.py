@@ -9,7 +9,7 @@ FINE = (
     '{"syscall":"read"},'
     '{"syscall":"write","args":[{"index":5,"type":"qword","op":{"masked_eq":255},'
     '"val":18446744073709551615,"comment":null}],"comment":"c"}]},'
-    '"a":{"default_action":"trap","filter_action":{"trace":0},"filter":[]}}'
+    '"a":{"default_action":{"errno":4294967295},"filter_action":{"trace":0},"filter":[]}}'
 )
 
 # A condition without a fault, and a rule of 5000, which take two instructions each, and more than one jump
@@ -41,12 +41,24 @@ def condition(text):
     return entries('{"syscall":"read"},{"syscall":"read","args":[' + FAULTLESS + "," + text + "]}")
 
 
+def mismatch(text):
+    """Returns the policy whose one filter has this mismatch action."""
+    return '{"a":{"mismatch_action":' + text + ',"match_action":"log","filter":[]}}'
+
+
+def compared(text):
+    """Returns the policy whose last condition has this operator."""
+    return condition('{"index":0,"type":"dword","op":' + text + ',"val":0}')
+
+
 CONDITION = "a.filter[1].args[1]"
 
 FILTER = "an object with the actions and the entries of a filter"
 CALL = "the name of a call of x86_64"
 INDEX = "a number from 0 to 5"
 TWO_EQUAL = ": two equal actions stand here, and two that differ may"
+ACTION_NUMBER = "a whole number from 0 to 4294967295"
+NUMBER = "a whole number from 0 to 18446744073709551615"
 ACTIONS = '"allow", {"errno": N}, "kill_process", "kill_thread", "log", {"trace": N} or "trap"'
 OPERATORS = '"eq", "ge", "gt", "le", "lt", {"masked_eq": N} or "ne"'
 
@@ -60,8 +72,16 @@ IN_FILTERS = [
          ": `mismatch_action` or `default_action` is missing"),
     told('{"a":{"match_action":"log","mismatch_action":"log","filter_action":"log","filter":[]}}', "a",
          ": `match_action` and `filter_action` stand here, and only one of them may"),
-    stands('{"a":{"match_action":"log","default_action":{"errno":-1},"filter":[]}}', "a.default_action",
-           "an object", ACTIONS),
+    # An object of one name is an action by that name, and its number is at fault.
+    stands(mismatch('{"errno":4294967296}'), "a.mismatch_action.errno", "4294967296", ACTION_NUMBER),
+    stands('{"a":{"match_action":"log","default_action":{"errno":-1},"filter":[]}}',
+           "a.default_action.errno", "-1", ACTION_NUMBER),
+    stands('{"a":{"filter_action":{"trace":"1"},"mismatch_action":"log","filter":[]}}',
+           "a.filter_action.trace", '"1"', ACTION_NUMBER),
+    stands(mismatch('{"errno":{"trace":1}}'), "a.mismatch_action.errno", "an object", ACTION_NUMBER),
+    stands(mismatch('{"errno":4294967296,"trace":1}'), "a.mismatch_action", "an object", ACTIONS),
+    stands(mismatch('{"masked_eq":1}'), "a.mismatch_action", "an object", ACTIONS),
+    stands(mismatch('"errno"'), "a.mismatch_action", '"errno"', ACTIONS),
     told('{"a":{"match_action":"log","mismatch_action":"trap"}}', "a", ": `filter` is missing"),
     stands('{"a":{"match_action":"log","mismatch_action":"trap","filter":null}}', "a.filter",
            "null", "an array of entries"),
@@ -96,9 +116,12 @@ IN_A_CONDITION = [
     stands(condition('{"index":0,"type":"byte"}'), CONDITION + ".type", '"byte"', '"dword" or "qword"'),
     told(condition('{"index":0,"type":"dword"}'), CONDITION, ": `op` is missing"),
     stands(condition('{"index":0,"type":"dword","op":17}'), CONDITION + ".op", "17", OPERATORS),
+    stands(compared('{"masked_eq":-1}'), CONDITION + ".op.masked_eq", "-1", NUMBER),
+    stands(compared('{"masked_eq":null}'), CONDITION + ".op.masked_eq", "null", NUMBER),
+    stands(compared('{"masked_eq":1,"eq":2}'), CONDITION + ".op", "an object", OPERATORS),
+    stands(compared('{"errno":-1}'), CONDITION + ".op", "an object", OPERATORS),
     told(condition('{"index":0,"type":"dword","op":"eq"}'), CONDITION, ": `val` is missing"),
-    stands(condition('{"index":0,"type":"dword","op":"eq","val":-1}'), CONDITION + ".val", "-1",
-           "a whole number from 0 to 18446744073709551615"),
+    stands(condition('{"index":0,"type":"dword","op":"eq","val":-1}'), CONDITION + ".val", "-1", NUMBER),
     stands(condition('{"index":6,"type":"dword","op":"eq","val":0}'), CONDITION + ".index", "6", INDEX),
 ]
 

@@ -10,12 +10,12 @@ use crate::program_text::listing;
 use std::alloc::Global;
 use std::io::{Read, Write};
 
-/// Lists the programs of a policy's filters, in byte order of the filters' names.
+/// Lists a program for each of a policy's filters, in byte order of the filters' names.
 ///
-/// For each filter come a line `filter LENGTH NAME` and a line for each instruction: code in 4, jt in
-/// 2, jf in 2 and k in 8 lower-case hexadecimal digits, separated by one space. In the name the bytes
-/// 00 to 1f, 7f and the backslash are written as `\x` and two lower-case hexadecimal digits, all others
-/// as they are. The whole listing is written at once.
+/// For each filter come a line `filter LENGTH NAME` and a line for each instruction of a program that
+/// is compiled for it: code in 4, jt in 2, jf in 2 and k in 8 lower-case hexadecimal digits, separated
+/// by one space. In the name the bytes 00 to 1f, 7f and the backslash are written as `\x` and two
+/// lower-case hexadecimal digits, all others as they are. The whole listing is written at once.
 ///
 /// The policy's text is what its reader gives; of a reader whose type doesn't tell its bytes, as that
 /// of standard input, the contract says that there is such a text.

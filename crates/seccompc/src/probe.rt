@@ -19,8 +19,8 @@ use std::alloc::Global;
 use std::collections::BTreeMap;
 use std::io::{Read, Write};
 
-/// Shows what the program of a filter of one condition does with records: for each whole record of
-/// 64 bytes the line of the word that the program returns and the steps that it takes.
+/// Shows what a program that is compiled for a filter of one condition does with records: for each
+/// whole record of 64 bytes the line of the word that the program returns and the steps that it takes.
 ///
 /// The filter allows call `nr` where all 8 bytes of argument `index`, numbered from 0, equal
 /// `value`, and kills the process at any other call and on any other architecture than `arch`. A

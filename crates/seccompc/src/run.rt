@@ -10,8 +10,8 @@ use crate::trace::trace;
 use std::alloc::Global;
 use std::io::{Read, Write};
 
-/// Shows what the program of a policy's filter does with records: for each whole record of 64 bytes the
-/// line of the word that the program returns and the steps that it takes.
+/// Shows what a program that is compiled for a policy's filter does with records: for each whole record
+/// of 64 bytes the line of the word that the program returns and the steps that it takes.
 ///
 /// A line is the word in 8 lower-case hexadecimal digits, a space, the steps in decimal, a line feed.
 /// The policy is read to its end and compiled, and its filter under `name` looked up, before the records

@@ -26,14 +26,15 @@ pub mod JsonPolicyOf
 pub mod JsonAnswers
 pub mod JsonPrograms
 pub mod Reads
--- What other calls promise: the code of conditions and rules; the second layout, and either layout; each step from JSON to filters; entries
--- without conditions; errors and their texts; installing; the order of rules; the low half of an argument; equality.
+-- What other calls promise: the code of conditions and rules; the second layout, and either layout; programs and filters
+-- compared; each step from JSON to filters; entries without conditions; errors and their texts; installing; the order of rules; the low half of an argument; equality.
 pub mod Code
 pub mod ConditionCode
 pub mod Pieces
 pub mod Ranges
 pub mod Tree
 pub mod Layouts
+pub mod Compare
 pub mod JsonSteps
 pub mod JsonWidened
 pub mod Texts
@@ -48,6 +49,9 @@ pub mod JsonEquality
 pub mod Relay
 pub mod ChainCode
 pub mod TreeCode
+pub mod WordSets
+pub mod RecordSets
+pub mod CompareTasks
 pub mod BlankProgram
 pub mod JsonGathered
 pub mod ByName

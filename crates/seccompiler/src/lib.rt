@@ -47,6 +47,7 @@
 pub mod backend;
 pub mod bpf;
 pub(crate) mod chain;
+pub mod compare;
 pub mod compile;
 pub mod condition;
 pub mod equality;
@@ -63,6 +64,7 @@ pub(crate) mod tree;
 
 pub use backend::{BackendError, SeccompAction, SeccompCmpArgLen, SeccompCmpOp, TargetArch};
 pub use bpf::{BpfProgram, BpfProgramRef, sock_filter};
+pub use compare::{Calls, Comparison, Relation};
 pub use compile::{BpfMap, compile_from_json, compile_from_json_in_order};
 pub use condition::SeccompCondition;
 pub use equality::EqualByParts;

@@ -1,0 +1,14 @@
+use Rattle.std.proofs.Common.{ℕ, ◌^◌, ◌<◌, ◌≤◌, ◌-◌}
+use Rattle.seccompiler.specs.WordSets.{HasValue}
+use Rattle.seccompiler.proofs.compare.values.tightened.Given as goal
+
+-- none of the words is below the bound so far
+abbrev pub invariant-loop-least : goal.invariant-loop-least
+invariant-loop-least l = record {
+  first : (x : ℕ) → x < 2 ^ 32 → HasValue l.values x → l.least ≤ x;
+  later : l.values.least ≤ l.least;
+  fits : l.least < 2 ^ 32;
+}
+
+abbrev pub decreases-loop-least : goal.decreases-loop-least
+decreases-loop-least l = 2 ^ 32 - l.least

@@ -1,0 +1,113 @@
+// Whether two programs answer alike, or one of them permits no more than the other, on all calls of a set.
+
+mod calls;
+mod follow;
+mod sets;
+mod tasks;
+mod values;
+
+ghost use Rattle.std.specs.Prelude.{◌≡◌, ◌↔◌, IsTrue, IfOk, IsOkUnless};
+ghost use Rattle.seccompiler.specs.declared.backend.BackendError.TheVariants.{OutOfMemory};
+ghost use Rattle.seccompiler.specs.Checked.{IsChecked};
+ghost use Rattle.seccompiler.specs.Compare.{Compares, Related, rank};
+
+use crate::backend::{
+    BackendError, SECCOMP_RET_ACTION_FULL, SECCOMP_RET_ALLOW, SECCOMP_RET_ERRNO,
+    SECCOMP_RET_KILL_THREAD, SECCOMP_RET_LOG, SECCOMP_RET_TRACE, SECCOMP_RET_TRAP,
+    SECCOMP_RET_USER_NOTIF,
+};
+use crate::bpf::BpfProgramRef;
+pub use calls::Calls;
+use std::alloc::Global;
+use tasks::compare_on;
+
+/// What is asked of the words that two programs return for a call.
+#[derive(Clone, Copy, Debug)]
+pub enum Relation {
+    /// Both words are the same.
+    Alike,
+    /// The action of the first permits as much as that of the second, or less.
+    ///
+    /// From the least that is permitted: killing the process, killing the thread, trap, error
+    /// number, user notification, trace, log, allow, as `seccomp(2)` ranks them. The data of the
+    /// words doesn't count. A word that names none of these actions kills the process.
+    AtMostAsPermissive,
+}
+
+/// What a comparison says.
+#[derive(Clone, Copy, Debug)]
+pub enum Comparison {
+    /// The relation holds for every call of the set.
+    Holds,
+    /// It doesn't for the call of this record, which is one of the set.
+    Fails([u8; 64]),
+    /// As many sets of records were looked at as was allowed, and neither was found.
+    Undecided,
+}
+
+/// Compares the answers of two programs for each call of a set.
+///
+/// The programs must pass [`machine::check`](crate::machine::check), and may be of any compiler. The
+/// comparison splits the calls by the tests of both programs, into sets of which it knows what the
+/// programs return, and looks at `most` such sets at most. Most pairs of programs take a few sets for
+/// each test, some microseconds in all; tests under masks of several arguments in one rule may take
+/// many. A million sets take about a tenth of a second.
+///
+/// The sets that are left stand in memory, some 300 bytes each; the stack that it takes doesn't
+/// depend on the programs.
+///
+/// # Errors
+///
+/// `OutOfMemory` where memory is refused.
+///
+/// # Examples
+///
+/// ```
+/// let calls = Calls::of_arch(TargetArch::x86_64);
+/// match compare(alloc, &new, &old, &calls, Relation::AtMostAsPermissive, 1_000_000)? {
+///     Comparison::Holds => println!(rt; "The new program permits no more than the old.")?,
+///     Comparison::Fails(call) => println!(rt; "It permits more of {call:?}.")?,
+///     Comparison::Undecided => println!(rt; "Too many sets.")?,
+/// }
+/// ```
+pub fn compare(
+    alloc: Global,
+    p: BpfProgramRef<'_>,
+    q: BpfProgramRef<'_>,
+    calls: &Calls,
+    relation: Relation,
+    most: usize,
+) -> Result<Comparison, BackendError>
+    requires p_checked { IsChecked p.now }
+    requires q_checked { IsChecked q.now }
+    ensures compares { IfOk result (λ answer. Compares calls.now relation p.now q.now answer) }
+    ensures memory { IsOkUnless result OutOfMemory }
+{
+    Ok(compare_on(alloc, p, q, &calls.records(), relation, most)?)
+}
+
+// Whether the relation holds of two words.
+fn is_related(relation: Relation, word: u32, other: u32) -> bool
+    ensures { IsTrue result ↔ Related relation word other }
+{
+    match relation {
+        Relation::Alike => word == other,
+        Relation::AtMostAsPermissive => rank(word) <= rank(other),
+    }
+}
+
+// How much the action of a word permits.
+fn rank(word: u32) -> u32
+    ensures { result ≡ rank word }
+{
+    match word & SECCOMP_RET_ACTION_FULL {
+        SECCOMP_RET_ALLOW => 7,
+        SECCOMP_RET_LOG => 6,
+        SECCOMP_RET_TRACE => 5,
+        SECCOMP_RET_USER_NOTIF => 4,
+        SECCOMP_RET_ERRNO => 3,
+        SECCOMP_RET_TRAP => 2,
+        SECCOMP_RET_KILL_THREAD => 1,
+        _ => 0,
+    }
+}

@@ -1,0 +1,85 @@
+// Sets of calls, which a comparison speaks of.
+
+ghost use Rattle.std.specs.Prelude.{ℕ, List};
+ghost use Rattle.seccompiler.specs.Record.{IsRecord};
+ghost use Rattle.seccompiler.specs.RecordSets.{IsIn, AreTight};
+
+use super::sets::narrowed;
+use super::values::{ALL, Values, between, only};
+use crate::backend::TargetArch;
+
+/// A set of calls: all, those of an architecture, or those of one or more call numbers of one.
+///
+/// Whatever the set, their instruction pointers and arguments are any.
+#[derive(Clone, Copy, Debug)]
+pub struct Calls {
+    arch: Option<TargetArch>,
+    least: u32,
+    greatest: u32,
+}
+
+impl Calls {
+    ghost use Rattle.std.specs.Prelude.{◌≡◌, ◌≤◌, ◌↔◌, ℕ, List};
+    ghost use Rattle.seccompiler.specs.Record.{IsRecord, word_at};
+    ghost use Rattle.seccompiler.specs.Architecture.{audit_word};
+    ghost use Rattle.seccompiler.specs.Compare.{IsCallOf};
+    ghost use Rattle.seccompiler.specs.RecordSets.{IsIn, AreTight};
+
+    /// All calls, of whatever architecture: every record.
+    pub fn all() -> Self
+        ensures { (r : List ℕ) → (IsCallOf result r ↔ IsRecord r) }
+    {
+        Calls {
+            arch: None,
+            least: 0,
+            greatest: u32::MAX,
+        }
+    }
+
+    /// All calls of an architecture, the numbers included that no call has.
+    pub fn of_arch(arch: TargetArch) -> Self
+        ensures { (r : List ℕ) → (IsCallOf result r ↔ (IsRecord r × (word_at r 4 ≡ audit_word arch))) }
+    {
+        Calls::of_numbers(arch, 0, u32::MAX)
+    }
+
+    /// The calls of one number of an architecture.
+    pub fn of_number(arch: TargetArch, number: u32) -> Self
+        ensures { (r : List ℕ) → (IsCallOf result r ↔ (IsRecord r × (word_at r 4 ≡ audit_word arch) × (word_at r 0 ≡ number))) }
+    {
+        Calls::of_numbers(arch, number, number)
+    }
+
+    /// The calls of the numbers from `least` to `greatest` of an architecture, both included; none
+    /// where `greatest` is less.
+    pub fn of_numbers(arch: TargetArch, least: u32, greatest: u32) -> Self
+        ensures { (r : List ℕ) → (IsCallOf result r ↔ (IsRecord r × (word_at r 4 ≡ audit_word arch) × (least ≤ word_at r 0) × (word_at r 0 ≤ greatest))) }
+    {
+        Calls {
+            arch: Some(arch),
+            least,
+            greatest,
+        }
+    }
+
+    // What is known of the words of their records.
+    pub(crate) fn records(&self) -> [Values; 16]
+        ensures to { (r : List ℕ) → IsCallOf self.now r → IsIn result r }
+        ensures back { (r : List ℕ) → IsRecord r → IsIn result r → IsCallOf self.now r }
+        ensures tight { AreTight result }
+    {
+        let numbered = narrowed(&whole(), 0, between(self.least, self.greatest));
+        match self.arch {
+            Some(arch) => narrowed(&numbered, 1, only(arch.get_audit_value())),
+            None => numbered,
+        }
+    }
+}
+
+// What is known of the words of all records: nothing.
+fn whole() -> [Values; 16]
+    ensures all { (r : List ℕ) → IsRecord r → IsIn result r }
+    ensures tight { AreTight result }
+{
+    [ALL; 16]
+}

@@ -1,0 +1,244 @@
+// Sets of 32-bit words, by bits that are known and by bounds, and what a test says of them.
+
+ghost use Rattle.std.specs.Prelude.{◌≡◌, ◌≢◌, ℕ, ◌^◌, ◌<◌, ◌≤◌, ◌↔◌, ◌⊎◌, IfSome, MatchOption, IsTrue, bit_and};
+ghost use Rattle.seccompiler.specs.WordSets.{HasValue, KeepsKnown, AreSame, AreHalves, IsTight, IsTest, Passes};
+
+use crate::bpf::{JUMP_EQUAL, JUMP_GREATER, sock_filter};
+
+/// Words of which some bits are known, within bounds.
+#[derive(Clone, Copy, Debug, PartialEq, Eq)]
+pub struct Values {
+    /// The bits that are known.
+    pub known: u32,
+    /// Their values; the other bits are 0.
+    pub value: u32,
+    /// The least word.
+    pub least: u32,
+    /// The greatest word.
+    pub most: u32,
+}
+
+/// All words.
+pub const ALL: Values = Values {
+    known: 0,
+    value: 0,
+    least: 0,
+    most: u32::MAX,
+};
+
+// A number that none of them is below, under a mask.
+fn least_under(values: Values, mask: u32) -> u32
+    ensures { (x : ℕ) → x < 2 ^ 32 → HasValue values x → result ≤ bit_and x mask }
+{
+    let by_bits = values.value & mask;
+    if mask == u32::MAX {
+        by_bits.max(values.least)
+    } else {
+        by_bits
+    }
+}
+
+// A number that none of them is above, under a mask.
+fn most_under(values: Values, mask: u32) -> u32
+    ensures { (x : ℕ) → x < 2 ^ 32 → HasValue values x → bit_and x mask ≤ result }
+{
+    let unknown = mask - (values.known & mask);
+    unknown.saturating_add(values.value & mask).min(values.most)
+}
+
+// Whether each of them is k under the mask, or none is.
+fn is_equal(values: Values, mask: u32, k: u32) -> Option<bool>
+    ensures { IfSome result (λ holds. (x : ℕ) → x < 2 ^ 32 → HasValue values x → (IsTrue holds ↔ bit_and x mask ≡ k)) }
+{
+    let least = least_under(values, mask);
+    let most = most_under(values, mask);
+    if k < least || most < k {
+        return Some(false);
+    }
+    if k & values.known != values.value & mask {
+        return Some(false);
+    }
+    (least == most).then_some(true)
+}
+
+// Whether each of them is above k under the mask, or none is.
+fn is_greater(values: Values, mask: u32, k: u32) -> Option<bool>
+    ensures { IfSome result (λ holds. (x : ℕ) → x < 2 ^ 32 → HasValue values x → (IsTrue holds ↔ k < bit_and x mask)) }
+{
+    if k < least_under(values, mask) {
+        Some(true)
+    } else if most_under(values, mask) <= k {
+        Some(false)
+    } else {
+        None
+    }
+}
+
+// Whether each of them is k at least under the mask, or none is.
+fn is_at_least(values: Values, mask: u32, k: u32) -> Option<bool>
+    ensures { IfSome result (λ holds. (x : ℕ) → x < 2 ^ 32 → HasValue values x → (IsTrue holds ↔ k ≤ bit_and x mask)) }
+{
+    if k <= least_under(values, mask) {
+        Some(true)
+    } else if most_under(values, mask) < k {
+        Some(false)
+    } else {
+        None
+    }
+}
+
+// What the test of an instruction says of each of them under the mask, if it says one thing.
+pub(crate) fn outcome(values: Values, mask: u32, test: sock_filter) -> Option<bool>
+    requires { IsTest test }
+    ensures { IfSome result (λ holds. (x : ℕ) → x < 2 ^ 32 → HasValue values x → Passes test (bit_and x mask) holds) }
+{
+    match test.code {
+        JUMP_EQUAL => is_equal(values, mask, test.k),
+        JUMP_GREATER => is_greater(values, mask, test.k),
+        _ => is_at_least(values, mask, test.k),
+    }
+}
+
+// Those of which this bit is 0, and those of which it is 1, where it isn't known.
+fn by_bit(values: Values, place: u32) -> (Values, Values)
+    requires place { place < 32 }
+    requires kept { KeepsKnown values }
+    ensures halves { AreHalves values result.0 result.1 }
+    ensures lower { KeepsKnown result.0 }
+    ensures upper { KeepsKnown result.1 }
+{
+    let bit = 1 << place;
+    if values.known & bit != 0 {
+        return (values, values);
+    }
+    let known = values.known | bit;
+    let value = values.value | bit;
+    (
+        Values { known, ..values },
+        Values {
+            known,
+            value,
+            ..values
+        },
+    )
+}
+
+// Those up to this word, and those above it.
+fn by_order(values: Values, last: u32) -> (Values, Values)
+    requires { KeepsKnown values }
+    ensures halves { AreHalves values result.0 result.1 }
+    ensures lower { KeepsKnown result.0 }
+    ensures upper { KeepsKnown result.1 }
+{
+    let most = last.min(values.most);
+    let least = last.saturating_add(1).max(values.least);
+    (Values { most, ..values }, Values { least, ..values })
+}
+
+// A greater number that none of them is below, given one which has a known bit wrong: they lie behind the next number in
+// which the highest such bit is right.
+fn raised(values: Values, least: u32) -> Option<u32>
+    requires kept { KeepsKnown values }
+    requires wrong { bit_and least values.known ≢ values.value }
+    ensures behind { MatchOption result
+        ((x : ℕ) → x < 2 ^ 32 → HasValue values x → least ≤ x → ⊥)
+        (λ next. (x : ℕ) → x < 2 ^ 32 → HasValue values x → least ≤ x → next ≤ x) }
+    ensures greater { IfSome result (λ next. least < next) }
+{
+    let wrong = (least & values.known) ^ values.value;
+    let bit = 1 << 31u32.saturating_sub(wrong.leading_zeros());
+    (least - least % bit).checked_add(bit)
+}
+
+// The same words from this one on, which none of them is below and which agrees with the known bits; all bits are known
+// where one word is left.
+fn from(values: Values, least: u32) -> Values
+    requires bits { bit_and least values.known ≡ values.value }
+    requires later { values.least ≤ least }
+    requires first { (x : ℕ) → x < 2 ^ 32 → HasValue values x → least ≤ x }
+    ensures same { AreSame values result }
+    ensures tight { IsTight result }
+{
+    if least == values.most {
+        return Values {
+            known: u32::MAX,
+            value: least,
+            least,
+            most: least,
+        };
+    }
+    Values { least, ..values }
+}
+
+// The same words, of which the least bound is one; or, where there are none, with bounds that leave none.
+fn tightened(values: Values) -> Values
+    requires { KeepsKnown values }
+    ensures same { AreSame values result }
+    ensures tight { IsTight result }
+{
+    let mut least = values.least;
+    while least & values.known != values.value {
+        let Some(next) = raised(values, least) else {
+            return Values {
+                least: 1,
+                most: 0,
+                ..values
+            };
+        };
+        least = next;
+    }
+    from(values, least)
+}
+
+/// Two halves of them, by what the test of an instruction depends on under a mask.
+pub(crate) fn halves(values: Values, mask: u32, test: sock_filter) -> (Values, Values)
+    requires { HasValue values values.least }
+    ensures halves { AreHalves values result.0 result.1 }
+    ensures lower { IsTight result.0 }
+    ensures upper { IsTight result.1 }
+{
+    let (lower, upper) = raw_halves(values, mask, test);
+    (tightened(lower), tightened(upper))
+}
+
+// The same, with bounds as they come.
+fn raw_halves(values: Values, mask: u32, test: sock_filter) -> (Values, Values)
+    requires { KeepsKnown values }
+    ensures halves { AreHalves values result.0 result.1 }
+    ensures lower { KeepsKnown result.0 }
+    ensures upper { KeepsKnown result.1 }
+{
+    if mask != u32::MAX {
+        let unknown = mask & !values.known;
+        return by_bit(values, 31u32.saturating_sub(unknown.leading_zeros()));
+    }
+    let is_above = test.code == JUMP_GREATER || test.code == JUMP_EQUAL && test.k <= values.least;
+    let last = if is_above {
+        test.k
+    } else {
+        test.k.saturating_sub(1)
+    };
+    by_order(values, last)
+}
+
+/// The words from `least` to `most`, both included.
+pub(crate) fn between(least: u32, most: u32) -> Values
+    ensures words { (x : ℕ) → (HasValue result x ↔ ((least ≤ x) × (x ≤ most))) }
+    ensures tight { IsTight result }
+{
+    Values { least, most, ..ALL }
+}
+
+/// This word alone.
+pub(crate) fn only(word: u32) -> Values
+    ensures has { HasValue result word }
+    ensures only { (x : ℕ) → HasValue result x → x ≡ word }
+    ensures tight { IsTight result }
+{
+    Values {
+        known: u32::MAX,
+        value: word,
+        least: word,
+        most: word,
+    }
+}

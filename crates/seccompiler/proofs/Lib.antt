@@ -6,6 +6,7 @@ pub mod Parts
 pub mod Searches
 pub mod Runs
 pub mod Steps
+pub mod Determinism
 pub mod Closed
 pub mod Blocks
 pub mod CappedLengths

@@ -4,3 +4,4 @@ pub mod Chains
 pub mod FilterEquality
 pub mod Reordering
 pub mod TreeProgram
+pub mod ComparedDecisions

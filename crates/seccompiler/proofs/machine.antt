@@ -1,3 +1,2 @@
 -- Lemmas for the functions of `machine`.
 pub mod CheckedLemmas
-pub mod Determinism

@@ -35,6 +35,7 @@ pub mod Ranges
 pub mod Tree
 pub mod Layouts
 pub mod Compare
+pub mod CompareFilters
 pub mod JsonSteps
 pub mod JsonWidened
 pub mod Texts

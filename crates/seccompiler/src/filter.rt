@@ -1,5 +1,6 @@
 // A policy on system calls, and its program.
 
+mod comparison;
 mod tree_layout;
 
 use crate::backend::{BackendError, GUARD_LEN, SeccompAction, TargetArch, arch_guard};

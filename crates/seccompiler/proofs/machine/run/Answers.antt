@@ -2,7 +2,7 @@ use Rattle.std.proofs.Common.{◌≡◌, ◌+◌, ◌-◌, add-one, arith, slice
 use Rattle.std.proofs.lemmas.Option.{slice_get-get_or}
 use Rattle.seccompiler.specs.Machine.{stays, then_step}
 use Rattle.seccompiler.proofs.machine.CheckedLemmas.{not_last}
-use Rattle.seccompiler.proofs.machine.Determinism.{ends_only}
+use Rattle.seccompiler.proofs.Determinism.{ends_only}
 use Rattle.seccompiler.proofs.machine.run.Goals as goal
 
 pub loop-place-init : goal.loop-place-init

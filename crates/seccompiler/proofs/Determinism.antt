@@ -1,4 +1,4 @@
--- For `run`: a program that ends on a record does so with one word and one number of steps.
+-- A program that ends on a record does so with one word and one number of steps.
 use Rattle.std.proofs.Common.{◌≡◌, ◌≢◌, ℕ, ◌+◌, ◌-◌, ◌<◌, List, nat_lt, nat_le, bit_and, sym, ◌∙◌, refl, arith, ⊎_elim}
 use Rattle.std.proofs.lemmas.Bool.{cases_lt}
 use Rattle.std.specs.Prelude.{◌==◌, if◌then◌else◌}

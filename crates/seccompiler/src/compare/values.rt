@@ -26,13 +26,21 @@ pub const ALL: Values = Values {
     most: u32::MAX,
 };
 
+// Whether a mask has each bit from one place on, and no other: words under it are in the same order.
+fn keeps_order(mask: u32) -> bool
+    ensures { IsTrue result → (x y : ℕ) → x ≤ y → y < 2 ^ 32 → bit_and x mask ≤ bit_and y mask }
+{
+    let lowest = 1 << mask.trailing_zeros().min(31);
+    mask == u32::MAX - (lowest - 1)
+}
+
 // A number that none of them is below, under a mask.
 fn least_under(values: Values, mask: u32) -> u32
     ensures { (x : ℕ) → x < 2 ^ 32 → HasValue values x → result ≤ bit_and x mask }
 {
     let by_bits = values.value & mask;
-    if mask == u32::MAX {
-        by_bits.max(values.least)
+    if keeps_order(mask) {
+        by_bits.max(values.least & mask)
     } else {
         by_bits
     }
@@ -43,7 +51,12 @@ fn most_under(values: Values, mask: u32) -> u32
     ensures { (x : ℕ) → x < 2 ^ 32 → HasValue values x → bit_and x mask ≤ result }
 {
     let unknown = mask - (values.known & mask);
-    unknown.saturating_add(values.value & mask).min(values.most)
+    let by_bits = unknown.saturating_add(values.value & mask);
+    if keeps_order(mask) {
+        by_bits.min(values.most & mask)
+    } else {
+        by_bits.min(values.most)
+    }
 }
 
 // Whether each of them is k under the mask, or none is.
@@ -208,17 +221,19 @@ fn raw_halves(values: Values, mask: u32, test: sock_filter) -> (Values, Values)
     ensures lower { KeepsKnown result.0 }
     ensures upper { KeepsKnown result.1 }
 {
-    if mask != u32::MAX {
+    if !keeps_order(mask) {
         let unknown = mask & !values.known;
         return by_bit(values, 31u32.saturating_sub(unknown.leading_zeros()));
     }
-    let is_above = test.code == JUMP_GREATER || test.code == JUMP_EQUAL && test.k <= values.least;
-    let last = if is_above {
+    let is_above = test.code == JUMP_GREATER
+        || test.code == JUMP_EQUAL && test.k <= values.least & mask;
+    let border = if is_above {
         test.k
     } else {
         test.k.saturating_sub(1)
     };
-    by_order(values, last)
+    // The greatest word that isn't above the border under the mask.
+    by_order(values, border | !mask)
 }
 
 /// The words from `least` to `most`, both included.

@@ -63,12 +63,25 @@ pub enum Comparison {
 /// # Examples
 ///
 /// ```
-/// let calls = Calls::of_arch(TargetArch::x86_64);
-/// match compare(alloc, &new, &old, &calls, Relation::AtMostAsPermissive, 1_000_000)? {
-///     Comparison::Holds => println!(rt; "The new program permits no more than the old.")?,
-///     Comparison::Fails(call) => println!(rt; "It permits more of {call:?}.")?,
-///     Comparison::Undecided => println!(rt; "Too many sets.")?,
-/// }
+/// // Allows system call 39, and kills the process at another one.
+/// let strict = [
+///     bpf_stmt(BPF_LD | BPF_W | BPF_ABS, 0),
+///     bpf_jump(BPF_JMP | BPF_JEQ | BPF_K, 39, 0, 1),
+///     bpf_stmt(BPF_RET | BPF_K, 0x7fff_0000),
+///     bpf_stmt(BPF_RET | BPF_K, 0x8000_0000),
+/// ];
+/// // Logs another one.
+/// let mut lax = strict;
+/// lax[3] = bpf_stmt(BPF_RET | BPF_K, 0x7ffc_0000);
+/// assert!(rt; check(&strict) && check(&lax));
+/// let (all, relation) = (Calls::all(), Relation::AtMostAsPermissive);
+/// let answer = compare(alloc, &strict, &lax, &all, relation, 1_000_000)?;
+/// assert!(rt; matches!(answer, Comparison::Holds));
+/// let answer = compare(alloc, &lax, &strict, &all, relation, 1_000_000)?;
+/// assert!(rt; matches!(answer, Comparison::Fails(_)));
+/// let only_39 = Calls::of_number(TargetArch::x86_64, 39);
+/// let answer = compare(alloc, &lax, &strict, &only_39, Relation::Alike, 1_000_000)?;
+/// assert!(rt; matches!(answer, Comparison::Holds));
 /// ```
 pub fn compare(
     alloc: Global,

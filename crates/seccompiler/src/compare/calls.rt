@@ -11,6 +11,13 @@ use crate::backend::TargetArch;
 /// A set of calls: all, those of an architecture, or those of one or more call numbers of one.
 ///
 /// Whatever the set, their instruction pointers and arguments are any.
+///
+/// ```
+/// // x86_64 has no name for these numbers.
+/// let unnamed = Calls::of_numbers(TargetArch::x86_64, 336, 423);
+/// let answer = filter.compare(alloc, &other, &unnamed, Relation::Alike, 1_000_000)?;
+/// assert!(rt; matches!(answer, Comparison::Holds));
+/// ```
 #[derive(Clone, Copy, Debug)]
 pub struct Calls {
     arch: Option<TargetArch>,
@@ -43,9 +50,11 @@ impl Calls {
         Calls::of_numbers(arch, 0, u32::MAX)
     }
 
-    /// The calls of one number of an architecture.
+    /// The calls of one number of an architecture. [`SyscallTable`](crate::SyscallTable) knows the
+    /// numbers of names.
     pub fn of_number(arch: TargetArch, number: u32) -> Self
-        ensures { (r : List ℕ) → (IsCallOf result r ↔ (IsRecord r × (word_at r 4 ≡ audit_word arch) × (word_at r 0 ≡ number))) }
+        ensures { (r : List ℕ) → (IsCallOf result r
+            ↔ (IsRecord r × (word_at r 4 ≡ audit_word arch) × (word_at r 0 ≡ number))) }
     {
         Calls::of_numbers(arch, number, number)
     }
@@ -53,7 +62,8 @@ impl Calls {
     /// The calls of the numbers from `least` to `greatest` of an architecture, both included; none
     /// where `greatest` is less.
     pub fn of_numbers(arch: TargetArch, least: u32, greatest: u32) -> Self
-        ensures { (r : List ℕ) → (IsCallOf result r ↔ (IsRecord r × (word_at r 4 ≡ audit_word arch) × (least ≤ word_at r 0) × (word_at r 0 ≤ greatest))) }
+        ensures { (r : List ℕ) → (IsCallOf result r
+            ↔ (IsRecord r × (word_at r 4 ≡ audit_word arch) × (least ≤ word_at r 0) × (word_at r 0 ≤ greatest))) }
     {
         Calls {
             arch: Some(arch),

@@ -70,6 +70,9 @@ pub(crate) fn compare_on(
             }
         }
     }
+    if tasks.is_empty() {
+        return Ok(Comparison::Holds);
+    }
     Ok(Comparison::Undecided)
 }
 

@@ -2,12 +2,18 @@
 
 use crate::answers::{Ending, Row, ensure, ensure_code, ensure_rows};
 use crate::lent::Lent;
-use crate::samples::{EQUAL, MASKED, condition, long_rule, one_rule, rule, two_calls};
+use crate::samples::{EQUAL, MASKED, condition, long_rule, no_calls, one_rule, rule, two_calls};
 use seccompiler::SeccompCmpArgLen::Dword;
 use seccompiler::SeccompCmpOp::Eq;
 use seccompiler::backend::build_arch_validation_sequence;
-use seccompiler::{BackendError, SeccompFilter, SeccompRule, TargetArch};
+use seccompiler::compare::compare;
+use seccompiler::{
+    BackendError, Calls, Comparison, Relation, SeccompFilter, SeccompRule, TargetArch,
+};
 use std::alloc::Global;
+
+// As many sets as no comparison of these programs takes.
+const SETS: usize = 1000;
 
 const GUARD: [Row; 3] = [
     (0x20, 0, 0, 4),
@@ -127,7 +133,22 @@ fn ask_of_filter(alloc: Global, filter: &SeccompFilter) -> Result<(), Ending> {
     let tree = filter.to_tree_bpf(alloc)?;
     ensure_rows("a tree", &tree, &TREE)?;
     filter.layouts_agree(&program, &tree);
-    Ok(())
+    let compared = compare(alloc, &program, &tree, &Calls::all(), Relation::Alike, SETS)?;
+    ensure(matches!(compared, Comparison::Holds), "a program and a tree compared")
+}
+
+// Compares a filter with itself and with another.
+fn compare_filters(
+    alloc: Global,
+    filter: &SeccompFilter,
+    other: &SeccompFilter,
+) -> Result<(), Ending> {
+    let calls = Calls::of_numbers(TargetArch::x86_64, 0, 288);
+    let compared = filter.compare(alloc, filter, &calls, Relation::Alike, SETS)?;
+    ensure(matches!(compared, Comparison::Holds), "a filter and itself compared")?;
+    // The other one allows all calls.
+    let compared = other.compare(alloc, filter, &calls, Relation::AtMostAsPermissive, SETS)?;
+    ensure(matches!(compared, Comparison::Fails(_)), "two filters compared")
 }
 
 // A program of the rule's 10122 instructions and 8 more is refused without memory; the tree takes memory
@@ -142,11 +163,25 @@ fn ask_of_too_large(alloc: Global, filter: &SeccompFilter) -> Result<(), Ending>
     }
 }
 
+// It isn't compared either: where memory is refused to the tree's ranges, that is told.
+fn compare_too_large(
+    alloc: Global,
+    filter: &SeccompFilter,
+    too_large: &SeccompFilter,
+) -> Result<(), Ending> {
+    match filter.compare(alloc, too_large, &Calls::all(), Relation::Alike, SETS) {
+        Ok(_) => Err(Ending::Wrong("a filter too large compared")),
+        Err(BackendError::FilterTooLarge(10130)) => Ok(()),
+        Err(refusal) => Err(Ending::from(refusal)),
+    }
+}
+
 /// A rule and filters.
 #[derive(Drop)]
 pub struct Filters {
     rule: SeccompRule,
     filter: SeccompFilter,
+    other: SeccompFilter,
     too_large: SeccompFilter,
 }
 
@@ -155,18 +190,24 @@ impl Lent for Filters {
         Ok(Filters {
             rule: rule(alloc, &[EQUAL, MASKED])?,
             filter: two_calls(alloc)?,
+            other: no_calls(alloc)?,
             too_large: one_rule(alloc, 0, long_rule(alloc, (0, Dword, Eq, 5), 5000)?)?,
         })
     }
 
     fn equals(&self, other: &Self) -> bool {
-        self.rule == other.rule && self.filter == other.filter && self.too_large == other.too_large
+        self.rule == other.rule
+            && self.filter == other.filter
+            && self.other == other.other
+            && self.too_large == other.too_large
     }
 
     fn make_calls(&self, alloc: Global) -> Result<(), Ending> {
         ask_for_parts(alloc)?;
         ask_of_rule(alloc, &self.rule)?;
         ask_of_filter(alloc, &self.filter)?;
-        ask_of_too_large(alloc, &self.too_large)
+        compare_filters(alloc, &self.filter, &self.other)?;
+        ask_of_too_large(alloc, &self.too_large)?;
+        compare_too_large(alloc, &self.filter, &self.too_large)
     }
 }

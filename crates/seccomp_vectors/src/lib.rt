@@ -8,6 +8,8 @@ mod architectures;
 #[cfg(test)]
 mod builders;
 #[cfg(test)]
+mod compare;
+#[cfg(test)]
 mod conditions;
 #[cfg(test)]
 mod filters;

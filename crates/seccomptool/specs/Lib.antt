@@ -1,7 +1,7 @@
 -- The definitions that the contracts cite.
 
 -- What is promised, in reading order: which words are which command, what goes wrong, and what each engine answers and
--- writes, in the order of the commands; and what the statuses tell.
+-- writes, in the order of the commands; what each command does; and what the statuses tell.
 pub mod Numbers
 pub mod Words
 pub mod Errors

@@ -15,6 +15,7 @@ returns-in_err-under_key c = record {
       let name = c.as_str.result.now in
       let value = there IsFilter find d are name filter (sym c.in-Some-get.ensures.value) in
       let has : Has d c.as_str-in-Some-get.result.now value.0 = rw (c.as_str-in-Some-get.ensures.value, ← c.as_str.ensures.value) value.1 in
-      let told = c.under_key.ensures.led (cause.Length c.args.target) parts.Policy (parts.Object kind.Filter) d value.0 refl has (c.check_length.ensures.found value.0 value.2) in
+      let long = c.check_length.ensures.found value.0 value.2 in
+      let told = c.under_key.ensures.led (cause.Length c.args.target) parts.Policy (parts.Object kind.Filter) d value.0 refl has long in
       search (rules, told);
 }

@@ -8,4 +8,6 @@ pub returns-in-Some : goal.returns-in-Some
 returns-in-Some c =
     let inner = c.in-Some.inner in
     let there = found_value c.get.result inner _ c.get.ensures c.in-Some.is in
-    record { found = λ outer under. c.under_key.ensures.led (cause_of_expected (Form c.args.part)) outer c.args.part (view c.args.value.now) (view inner.now) under there c.check_form.ensures.found }
+    let cause = cause_of_expected (Form c.args.part) in
+    let found = c.check_form.ensures.found in
+    record { found = λ outer under. c.under_key.ensures.led cause outer c.args.part (view c.args.value.now) (view inner.now) under there found }

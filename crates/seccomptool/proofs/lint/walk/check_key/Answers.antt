@@ -7,4 +7,7 @@ pub returns-in-Some : goal.returns-in-Some
 returns-in-Some c =
     let inner = c.in-Some.inner in
     let there = found_value c.get.result inner _ c.get.ensures c.in-Some.is in
-    record { found = λ outer under. c.under_key.ensures.led (cause_of_expected c.args.expected) outer (part_of c.args.expected) (view c.args.value.now) (view inner.now) under there c.check.ensures.found }
+    let cause = cause_of_expected c.args.expected in
+    let part = part_of c.args.expected in
+    let found = c.check.ensures.found in
+    record { found = λ outer under. c.under_key.ensures.led cause outer part (view c.args.value.now) (view inner.now) under there found }

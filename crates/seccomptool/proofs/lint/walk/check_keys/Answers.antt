@@ -1,9 +1,10 @@
 use Rattle.std.proofs.Common.{◌≡◌, ◌∷◌, ◌++◌, [], Contains, string_bytes, string_cmp, refl, sym, ap, ◌∙◌, subst, append_assoc}
 use Rattle.std.specs.List.Sorted.{IsStrictlySortedBy}
 use Rattle.std.specs.Map.{keys_of}
-use Rattle.serde_json.specs.Data.{object}
+use Rattle.serde_json.specs.Data.{Data, object}
 use Rattle.serde_json.specs.View.{view, members_view}
 use Rattle.serde_json.proofs.Views.{Entry}
+use Rattle.seccompiler.specs.JsonShape.{Has}
 use Rattle.seccomptool.specs.LintParts.{names_of}
 use Rattle.seccomptool.specs.declared.lint.part.Part.TheVariants as parts
 use Rattle.seccomptool.proofs.lint.Values.{member_there}
@@ -19,7 +20,9 @@ returns-then-not-is_key c =
     let same : string_bytes c.in_ok-name.name ≡ string_bytes e.0 = c.in_ok-name.ensures.ok ∙ c.as_str-then-not-is_key.ensures.value in
     let no : Contains (names_of c.args.kind) c.as_str.result.now → ⊥ = λ among. let yes = c.is_key.ensures.1 among in cc in
     let other : Contains (names_of c.args.kind) (string_bytes c.in_ok-name.name) → ⊥ = λ among. no (subst (Contains (names_of c.args.kind)) (same ∙ sym c.as_str.ensures.value) among) in
-    record { found = c.refuse.ensures.found (parts.Object c.args.kind) (object (members_view c.args.members.now.entries)) (refl, (view e.1, rw (all, same) (member_there done e left sorted)), other) }
+    let d = object (members_view c.args.members.now.entries) in
+    let has : (value : Data) × Has d (string_bytes c.in_ok-name.name) value = (view e.1, rw (all, same) (member_there done e left sorted)) in
+    record { found = c.refuse.ensures.found (parts.Object c.args.kind) d (refl, has, other) }
 
 pub loop-name-preserved : goal.loop-name-preserved
 loop-name-preserved c =

@@ -12,5 +12,6 @@ returns-in_err-under_item c =
     let item = c.item-item.result in
     let here = item_there c.deref-item-items.result.now place item c.loop-place-test.true c.item-item.is in
     let there = subst (λ vs. get_item place (items_view vs) ≡ Some (view item)) c.deref-item-items.ensures.value here in
-    let told = c.under_item.ensures.led c.args.cause parts.Conditions (parts.Object kind.Condition) (items_view c.args.items.now.items) (view item) refl there c.in_condition.ensures.found in
+    let led = c.under_item.ensures.led c.args.cause parts.Conditions (parts.Object kind.Condition) in
+    let told = led (items_view c.args.items.now.items) (view item) refl there c.in_condition.ensures.found in
     record { found = search (rules, told) }

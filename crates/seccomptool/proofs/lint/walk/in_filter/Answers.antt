@@ -10,4 +10,6 @@ pub returns-in-Some-Array : goal.returns-in-Some-Array
 returns-in-Some-Array c =
     let at = c.in-Some-Array in
     let there = found_array c.get.result at.field-0 at.items _ c.get.ensures at.is at.field-0-is in
-    record { found = c.under_key.ensures.led c.args.cause (parts.Object kind.Filter) parts.Entries (view c.args.value.now) (array (items_view at.items.items)) refl there (rw at.items-is at c.in_entries.ensures.found) }
+    let led = c.under_key.ensures.led c.args.cause (parts.Object kind.Filter) parts.Entries in
+    let found = rw at.items-is at c.in_entries.ensures.found in
+    record { found = led (view c.args.value.now) (array (items_view at.items.items)) refl there found }

@@ -1,5 +1,8 @@
 -- Lemmas for the functions of `tree`.
 pub mod RangesFound
+pub mod Rows
+pub mod Forks
+pub mod PartCode
 pub mod RangesMade
 pub mod RangesExist
 pub mod TreeLengths

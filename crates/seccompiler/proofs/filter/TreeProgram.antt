@@ -1,10 +1,10 @@
 -- For `SeccompFilter::write_by_ranges`: what the program of a filter in the second layout is and does.
-use Rattle.std.proofs.Common.{◌≡◌, ◌≢◌, ℕ, ◌+◌, ◌-◌, ◌*◌, ◌<◌, ◌≤◌, ◌^◌, List, [], ◌∷◌, ◌++◌, length, Option, refl, sym, ap, ◌∙◌, subst, arith, length-append, ⊎_elim, ℤ, Vec, Global}
+use Rattle.std.proofs.Common.{◌≡◌, ◌≢◌, ℕ, ◌+◌, ◌-◌, ◌*◌, ◌<◌, ◌≤◌, ◌^◌, List, [], ◌∷◌, ◌++◌, length, Option, refl, sym, ap, ◌∙◌, subst, arith, length-append, append_assoc, ⊎_elim, ℤ, Vec, Global}
 use Rattle.std.proofs.lemmas.Option.{slice_get_within}
 use Rattle.seccompiler.specs.declared.bpf.sock_filter.{sock_filter}
 use Rattle.seccompiler.specs.Record.{IsRecord, word_at}
 use Rattle.seccompiler.specs.Code.{load, give, jump_equal}
-use Rattle.seccompiler.specs.Machine.{Goes, Ends}
+use Rattle.seccompiler.specs.Machine.{Goes, Ends, then_step}
 use Rattle.seccompiler.specs.Checked.{greatest_length, IsChecked, AreInRange}
 use Rattle.seccompiler.specs.Pieces.{inside_load}
 use Rattle.seccompiler.specs.Architecture.{audit_word}
@@ -17,10 +17,11 @@ use Rattle.seccompiler.specs.TreeCode.{Names, found_matches, found_differs, not_
 use Rattle.seccompiler.proofs.Runs.{goes_far}
 use Rattle.seccompiler.proofs.Closed.{ranges_join, ranges_from}
 use Rattle.seccompiler.proofs.Words.{word_fits}
-use Rattle.seccompiler.proofs.Blocks.{block_join, block_give, block_one, give_in_range}
+use Rattle.seccompiler.proofs.Blocks.{block_join, block_one}
 use Rattle.seccompiler.proofs.RangesOnly.{only_ranges}
-use Rattle.seccompiler.proofs.Blocks.{front_returns, back_returns}
-use Rattle.seccompiler.proofs.filter.WholeProgram.{checked_of, guard, whole, guard_ranges, guard_block, load_in_range, other_goes, reaches, decided, action_word_fits, audit_word_fits, Written}
+use Rattle.seccompiler.proofs.Blocks.{back_returns}
+use Rattle.seccompiler.proofs.Steps.{on_load}
+use Rattle.seccompiler.proofs.filter.WholeProgram.{checked_of, guard, guard_ranges, guard_block, load_in_range, same_goes, other_goes, decided, action_word_fits, audit_word_fits, Written}
 
 -- a counted run from the start that returns ends
 ends_after : (p : List sock_filter) (r : List ℕ) (n w : ℕ) → ReturnsAfter p r 0 0 n w → Ends p r (n + 1) w
@@ -35,29 +36,34 @@ decision_of f r w same (found_differs chain there differs e) = policy_differs sa
 decision_of f r w same (not_found none e) = policy_differs same (λ m. let found = sym m.there ∙ none in absurd (cc)) e
 
 module _ (f : Filter) (fits_mismatch : word_of f.mismatch_action < 2 ^ 32) (fits_matched : word_of f.match_action < 2 ^ 32) (fits_arch : audit_word f.target_arch < 2 ^ 32) where
-  abbrev program : List sock_filter → List sock_filter
-  program tree = whole f fits_mismatch fits_matched fits_arch tree
-
-  abbrev last : List sock_filter
-  last = give (word_of f.mismatch_action) ∷ []
-
   abbrev head : List sock_filter
   head = load 4 ∷ jump_equal (audit_word f.target_arch) 1 0 ∷ give 0x80000000 ∷ load 0 ∷ []
 
+  abbrev program : List sock_filter → List sock_filter
+  program tree = head ++ tree
+
+  -- what a record of this architecture reaches behind the guard and the load
+  reaches_tree : (tree : List sock_filter) (r : List ℕ) → IsRecord r → word_at r 4 ≡ audit_word f.target_arch → Goes (program tree) r 0 0 3 4 (word_at r 0)
+  reaches_tree tree r rec same =
+      then_step (same_goes f fits_mismatch fits_matched fits_arch (load 0 ∷ tree) r rec same) (on_load (program tree) r 3 (word_at r 4) 0 (word_at r 0) refl (omega (arith, rec.long)) (word_fits r 4 rec) (word_fits r 0 rec) refl)
+
   -- a counted return of the tree is one of the program
   behind : (tree : List sock_filter) (r : List ℕ) (n w : ℕ) → IsRecord r → word_at r 4 ≡ audit_word f.target_arch → ReturnsAfter tree r 0 (word_at r 0) n w → ReturnsAfter (program tree) r 0 0 (3 + n) w
-  behind tree r n w rec same h = back_returns head (tree ++ last) r 0 (word_at r 0) 3 n w (reaches f fits_mismatch fits_matched fits_arch tree r rec same) (front_returns tree last r 0 (word_at r 0) n w h)
+  behind tree r n w rec same h = back_returns head tree r 0 (word_at r 0) 3 n w (reaches_tree tree r rec same) h
 
-  tree_checked : (tree : List sock_filter) → AreInRange tree → IsBlock tree (length tree) → length tree + 5 ≤ greatest_length → IsChecked (program tree)
-  tree_checked tree ranges block short =
-      let front = head ++ tree in
-      let len : length front ≡ 4 + length tree = length-append head tree in
+  tree_checked : (tree front : List sock_filter) (w : ℕ) → tree ≡ front ++ give w ∷ [] → AreInRange tree → IsBlock tree (length front) → length tree + 4 ≤ greatest_length → IsChecked (program tree)
+  tree_checked tree front w ends ranges block short =
+      let last = give w ∷ [] in
+      let len : length (head ++ front) ≡ 4 + length front = length-append head front in
+      let len_tree : length tree ≡ length front + 1 = ap length ends ∙ length-append front last in
       let head_block : IsBlock head 4 = block_join (guard f fits_mismatch fits_matched fits_arch) (load 0 ∷ []) 3 1 4 (guard_block f fits_mismatch fits_matched fits_arch) (block_one _ 1 (inside_load refl refl (omega arith))) (omega arith) (omega arith) in
       let head_ranges : AreInRange head = ranges_join (guard f fits_mismatch fits_matched fits_arch) (load 0 ∷ []) (guard_ranges f fits_mismatch fits_matched fits_arch) (ranges_from (load 0 ∷ []) (load_in_range f fits_mismatch fits_matched fits_arch 0 (omega arith), tt)) in
-      checked_of front (word_of f.mismatch_action)
-      (ranges_join front last (ranges_join head tree head_ranges ranges) (ranges_from last (give_in_range (word_of f.mismatch_action) fits_mismatch, tt)))
-      (block_join front last (length front) 0 (length front) (block_join head tree 4 (length tree) (length front) head_block block (omega arith) (omega arith)) (block_give (word_of f.mismatch_action) 0) (omega arith) (omega arith))
-      (omega arith)
+      let all : head ++ tree ≡ (head ++ front) ++ last = ap (λ (l : List sock_filter). head ++ l) ends ∙ sym (append_assoc head front last) in
+      subst (λ (p : List sock_filter). IsChecked p) (sym all)
+      (checked_of (head ++ front) w
+      (subst (λ (p : List sock_filter). AreInRange p) all (ranges_join head tree head_ranges ranges))
+      (subst (λ (p : List sock_filter). IsBlock p (length (head ++ front))) all (block_join head tree 4 (length front) (length (head ++ front)) head_block block (omega (arith, len)) (omega (arith, len))))
+      (omega (arith, len, len_tree)))
 
   -- the tree's answer is the decision
   decision_at : (ranges : List Range) (tree : List sock_filter) (r : List ℕ) → AreRanges f.chains ranges → IsRecord r → word_at r 4 ≡ audit_word f.target_arch
@@ -81,18 +87,18 @@ module _ (f : Filter) (fits_mismatch : word_of f.mismatch_action < 2 ^ 32) (fits
   other_at : (tree : List sock_filter) (r : List ℕ) (most : ℕ) → IsRecord r → word_at r 4 ≢ audit_word f.target_arch → DecidesWithin f (program tree) r (4 + most)
   other_at tree r most rec differs =
       let p = program tree in
-      let back : ReturnsAfter p r 0 0 2 0x80000000 = record { to = 2; accumulator = word_at r 4; instruction = give 0x80000000; goes = other_goes f fits_mismatch fits_matched fits_arch (load 0 ∷ (tree ++ last)) r rec differs; here = refl; returns = refl; value = refl } in
+      let back : ReturnsAfter p r 0 0 2 0x80000000 = record { to = 2; accumulator = word_at r 4; instruction = give 0x80000000; goes = other_goes f fits_mismatch fits_matched fits_arch (load 0 ∷ tree) r rec differs; here = refl; returns = refl; value = refl } in
       record {
         at = record { steps = 3; word = 0x80000000; ends = ends_after p r 2 0x80000000 back; few = omega arith; decision = other_architecture differs refl };
         soon = omega arith;
       }
 
-  tree_program : (ranges : List Range) (tree : List sock_filter) → AreRanges f.chains ranges → length tree + 5 ≤ greatest_length → IsTreeCode ranges (word_of f.mismatch_action) (word_of f.match_action) tree → IsTreeCompiled f (program tree)
+  tree_program : (ranges : List Range) (tree : List sock_filter) → AreRanges f.chains ranges → length tree + 4 ≤ greatest_length → IsTreeCode ranges (word_of f.mismatch_action) (word_of f.match_action) tree → IsTreeCompiled f (program tree)
   tree_program ranges tree are short h =
-      let len : length (program tree) ≡ 4 + (length tree + 1) = omega (arith, length-append tree last) in
+      let len : length (program tree) ≡ 4 + length tree = length-append head tree in
       record {
         sized = record { ranges = ranges; are = are; long = omega (arith, h.long) };
-        checked = tree_checked tree h.in_range h.block short;
+        checked = tree_checked tree h.front h.word h.ends h.in_range h.block short;
         decides = λ r rec.
             ⊎_elim
             (λ same. let x = h.answers r rec (word_at r 0) (word_fits r 0 rec) in let d = decision_at ranges tree r are rec same x x.count (omega arith) in d.at)
@@ -110,9 +116,8 @@ module _ (f : Filter) (fits_mismatch : word_of f.mismatch_action < 2 ^ 32) (fits
       }
 
 -- the program as it was written
-pub written_tree : (f : Filter) (entries : List (ℤ × Vec Rule Global)) (mismatch matched : ℕ) (ranges : List Range) (tree p : List sock_filter) → Written f entries mismatch matched → AreRanges f.chains ranges → length tree + 5 ≤ greatest_length → IsTreeCode ranges mismatch matched tree
-    → p ≡ load 4 ∷ jump_equal (audit_word f.target_arch) 1 0 ∷ give 0x80000000 ∷ load 0 ∷ (tree ++ give mismatch ∷ []) → IsTreeCompiled f p
+pub written_tree : (f : Filter) (entries : List (ℤ × Vec Rule Global)) (mismatch matched : ℕ) (ranges : List Range) (tree p : List sock_filter) → Written f entries mismatch matched → AreRanges f.chains ranges → length tree + 4 ≤ greatest_length → IsTreeCode ranges mismatch matched tree
+    → p ≡ load 4 ∷ jump_equal (audit_word f.target_arch) 1 0 ∷ give 0x80000000 ∷ load 0 ∷ tree → IsTreeCompiled f p
 written_tree f entries mismatch matched ranges tree p w are short code e =
     let own = subst (λ n. IsTreeCode ranges (word_of f.mismatch_action) n tree) w.matched_is (subst (λ n. IsTreeCode ranges n matched tree) w.mismatch_is code) in
-    let same = ap (λ (n : ℕ). load 4 ∷ jump_equal (audit_word f.target_arch) 1 0 ∷ give 0x80000000 ∷ load 0 ∷ (tree ++ give n ∷ [])) w.mismatch_is in
-    subst (λ q. IsTreeCompiled f q) (sym (e ∙ same)) (tree_program f (action_word_fits f.mismatch_action) (action_word_fits f.match_action) (audit_word_fits f.target_arch) ranges tree are short own)
+    subst (λ q. IsTreeCompiled f q) (sym e) (tree_program f (action_word_fits f.mismatch_action) (action_word_fits f.match_action) (audit_word_fits f.target_arch) ranges tree are short own)

@@ -105,7 +105,7 @@ module _ (f : Filter) (fits_mismatch : word_of f.mismatch_action < 2 ^ 32) (fits
   other_returns back r rec differs = record { to = 2; count = 2; accumulator = word_at r 4; instruction = give 0x80000000; goes = other_goes back r rec differs; here = refl; returns = refl; value = refl }
 
   -- a record of this one
-  same_goes : (back : List sock_filter) (r : List ℕ) → IsRecord r → word_at r 4 ≡ arch_word → Goes (guard ++ back) r 0 0 2 3 (word_at r 4)
+  pub same_goes : (back : List sock_filter) (r : List ℕ) → IsRecord r → word_at r 4 ≡ arch_word → Goes (guard ++ back) r 0 0 2 3 (word_at r 4)
   same_goes back r rec same =
       let p = guard ++ back in
       let g = then_step stays (on_load p r 0 0 4 (word_at r 4) refl (omega (arith, rec.long)) (omega arith) (word_fits r 4 rec) refl) in

@@ -1,12 +1,12 @@
--- For `CallRange::write_leaf`, `ends_matched`, `halves`, `ranges_of`, `tree_len` and others: the chains that ranges
--- have for numbers, and the instructions that ranges take, where the ranges are cut in two.
+-- For `border_test`, `halves`, `ranges_of`, `write_tree` and others: the chains that ranges have for numbers, where the
+-- ranges are cut in two.
 use Rattle.std.proofs.Common.{◌≡◌, ℕ, zero, suc, ◌+◌, ◌-◌, ◌*◌, ◌/◌, ◌^◌, ◌<◌, ◌≤◌, List, [], ◌∷◌, ◌++◌, length, Option, true, false, refl, sym, ap, ap₂, ◌∙◌, subst, take, drop, get_or, take-append-drop, length-drop, length-append, nat_le, if◌then◌else◌, arith}
 use Rattle.std.proofs.lemmas.Bool.Decides.{nat_tests}
 use Rattle.std.proofs.Math.Nat.{pow-succ'}
+use Rattle.std.proofs.Math.Seq.{take-append_seam, drop-append_seam}
 use lib.Seq.{length-take-le}
 use Rattle.seccompiler.specs.Policy.{Chain}
 use Rattle.seccompiler.specs.Ranges.{Range, found_from, found_in, AscendsFrom, Ascends}
-use Rattle.seccompiler.specs.Tree.{leaf_length, test_length, halved_length, tree_length}
 use Rattle.seccompiler.specs.TreeCode.{AreHalves}
 
 -- a number below the border has the chain that it has in the lower ranges
@@ -53,44 +53,11 @@ ascends_high [] high y h = h
 ascends_high (x ∷ low) high y h = from_back x.start low high y h
 
 -- how long the two halves of a list are
-half_low : (ranges : List Range) → length (take (length ranges / 2) ranges) ≡ length ranges / 2
+pub half_low : (ranges : List Range) → length (take (length ranges / 2) ranges) ≡ length ranges / 2
 half_low ranges = length-take-le (length ranges / 2) ranges (omega arith)
 
-half_high : (ranges : List Range) → length (drop (length ranges / 2) ranges) ≡ length ranges - length ranges / 2
+pub half_high : (ranges : List Range) → length (drop (length ranges / 2) ranges) ≡ length ranges - length ranges / 2
 half_high ranges = length-drop (length ranges / 2) ranges
-
--- the instructions do not depend on how many halvings are allowed, where those suffice
-halved_same : (j k : ℕ) (ranges : List Range) → length ranges ≤ j → length ranges ≤ k → halved_length j ranges ≡ halved_length k ranges
-unfolding halved_length
-halved_same j k [] le_j le_k = refl
-halved_same j k (x ∷ []) le_j le_k = refl
-halved_same zero k (x ∷ y ∷ ranges) le_j le_k = absurd (omega arith)
-halved_same (suc j) zero (x ∷ y ∷ ranges) le_j le_k = absurd (omega arith)
-halved_same (suc j) (suc k) (x ∷ y ∷ ranges) le_j le_k =
-    let whole = x ∷ y ∷ ranges in
-    let low = half_low whole in
-    let high = half_high whole in
-    ap₂ (λ (m n : ℕ). test_length m + m + n)
-    (halved_same j k (take (length whole / 2) whole) (omega arith) (omega arith))
-    (halved_same j k (drop (length whole / 2) whole) (omega arith) (omega arith))
-
--- the instructions of one range, and of more, by their halves
-pub length_one : (x : Range) → tree_length (x ∷ []) ≡ leaf_length x.chain
-unfolding tree_length halved_length
-length_one x = refl
-
-pub length_cut : (ranges : List Range) → 2 ≤ length ranges
-    → tree_length ranges ≡ test_length (tree_length (take (length ranges / 2) ranges)) + tree_length (take (length ranges / 2) ranges) + tree_length (drop (length ranges / 2) ranges)
-unfolding tree_length halved_length
-length_cut [] some = absurd (omega arith)
-length_cut (x ∷ []) some = absurd (omega arith)
-length_cut (x ∷ y ∷ ranges) some =
-    let whole = x ∷ y ∷ ranges in
-    let low = half_low whole in
-    let high = half_high whole in
-    ap₂ (λ (m n : ℕ). test_length m + m + n)
-    (halved_same (suc (length ranges)) (length (take (length whole / 2) whole)) (take (length whole / 2) whole) (omega arith) (omega arith))
-    (halved_same (suc (length ranges)) (length (drop (length whole / 2) whole)) (drop (length whole / 2) whole) (omega arith) (omega arith))
 
 -- the number of halvings of a half is one less
 pub halves_of : (n m k : ℕ) → 2 ≤ n → n ≤ 2 ^ k → m ≤ n - n / 2 → (j : ℕ) × (k ≡ suc j) × (m ≤ 2 ^ j)
@@ -124,7 +91,6 @@ pub are_halves : (ranges low high : List Range) → 2 ≤ length ranges → low 
 are_halves ranges low high some is_low is_high = record {
   whole = ap₂ (λ (a b : List Range). a ++ b) is_low is_high ∙ take-append-drop (length ranges / 2) ranges;
   half = ap length is_low ∙ half_low ranges;
-  long = length_cut ranges some ∙ ap₂ (λ (l h : List Range). test_length (tree_length l) + tree_length l + tree_length h) (sym is_low) (sym is_high);
 }
 
 -- each half is shorter
@@ -137,3 +103,13 @@ shorter ranges low high some h =
 pub some_ranges : (ranges : List Range) → Ascends ranges → 1 ≤ length ranges
 some_ranges [] h = absurd h
 some_ranges (x ∷ ranges) h = omega arith
+
+-- the halves are what the list has before its middle, and from there on
+pub halves_taken : (ranges low high : List Range) → AreHalves ranges low high → (take (length ranges / 2) ranges ≡ low) × (drop (length ranges / 2) ranges ≡ high)
+halves_taken ranges low high h =
+    let at : length ranges / 2 ≡ length low = sym h.half in
+    (ap₂ (λ n (l : List Range). take n l) at (sym h.whole) ∙ take-append_seam low high, ap₂ (λ n (l : List Range). drop n l) at (sym h.whole) ∙ drop-append_seam low high)
+
+-- how long they are together
+pub halves_long : (ranges low high : List Range) → AreHalves ranges low high → length low + length high ≡ length ranges
+halves_long ranges low high h = sym (length-append low high) ∙ ap length h.whole

@@ -4,7 +4,7 @@ ghost use Rattle.std.specs.Prelude.{◌≡◌, ◌≤◌, vec_len, IfOk, IfErr};
 ghost use Rattle.seccompiler.specs.Checked.{greatest_length};
 ghost use Rattle.seccompiler.specs.BlankProgram.{RefusesLength};
 
-use super::{PROGRAM_ENDS, SeccompFilter};
+use super::SeccompFilter;
 use crate::backend::{BackendError, GUARD_LEN, arch_guard};
 use crate::bpf::{
     BPF_MAX_LEN, BpfProgram, BpfProgramRef, SECCOMP_DATA_NR_OFFSET, load_word, return_word,
@@ -19,7 +19,7 @@ impl SeccompFilter {
     ghost use Rattle.seccompiler.specs.Refusal.{numbers_of, AreCallNumbers};
     ghost use Rattle.seccompiler.specs.Checked.{greatest_length};
     ghost use Rattle.seccompiler.specs.Compiled.{IsCompiled};
-    ghost use Rattle.seccompiler.specs.Sizes.{guard_length, program_ends};
+    ghost use Rattle.seccompiler.specs.Sizes.{guard_length};
     ghost use Rattle.seccompiler.specs.Ranges.{AreRanges, HasRanges};
     ghost use Rattle.seccompiler.specs.Tree.{tree_length, IsTreeCompiled, IsTreeCompilable, IsTreeRefusal, AnswerAlike};
 
@@ -58,10 +58,7 @@ impl SeccompFilter {
     {
         self.check_numbers()?;
         let ranges = ranges_of(alloc, &self.rules)?;
-        let mut program = blank_program(
-            alloc,
-            tree_len(&ranges).saturating_add(GUARD_LEN + PROGRAM_ENDS),
-        )?;
+        let mut program = blank_program(alloc, tree_len(&ranges).saturating_add(GUARD_LEN + 1))?;
         self.write_by_ranges(&mut program, &ranges);
         Ok(program)
     }
@@ -79,21 +76,19 @@ impl SeccompFilter {
     // Fills the part with the filter's program in the second layout.
     fn write_by_ranges(&self, program: &mut [sock_filter], ranges: &[CallRange<'_>])
         requires ranges { AreRanges self.now.chains ranges.now }
-        requires room { length program.old ≡ guard_length + program_ends + tree_length ranges.now }
+        requires room { length program.old ≡ guard_length + 1 + tree_length ranges.now }
         requires short { length program.old ≤ greatest_length }
         ensures compiled { IsTreeCompiled self.now program.new }
     {
-        let mismatch = u32::from(self.mismatch_action);
-        program[..GUARD_LEN].copy_from_slice(&arch_guard(self.target_arch));
-        program[GUARD_LEN] = load_word(u32::from(SECCOMP_DATA_NR_OFFSET));
-        let last = program.len() - 1;
+        let (head, tree) = program.split_at_mut(GUARD_LEN + 1);
+        head[..GUARD_LEN].copy_from_slice(&arch_guard(self.target_arch));
+        head[GUARD_LEN] = load_word(u32::from(SECCOMP_DATA_NR_OFFSET));
         write_tree(
-            &mut program[GUARD_LEN + 1..last],
+            tree,
             ranges,
-            mismatch,
+            self.mismatch_action.into(),
             self.match_action.into(),
         );
-        program[last] = return_word(mismatch);
     }
 }
 

@@ -19,9 +19,9 @@ ranges_of-requires c =
     record { numbers = subst (λ numbers. All IsCallNumber numbers) same (c.in_ok-check_numbers.ensures.fit) }
 
 -- a length that is refused is refused for its cause
-refusal : (f : Filter) (ranges : List Range) (counted n : ℕ) (e : BackendError) → AreCallNumbers (numbers_of f.chains) → AreRanges f.chains ranges → counted ≡ min (tree_length ranges) (2 ^ 64 - 1) → n ≡ min (counted + 5) (2 ^ 64 - 1) → RefusesLength n e → IsTreeRefusal f e
+refusal : (f : Filter) (ranges : List Range) (counted n : ℕ) (e : BackendError) → AreCallNumbers (numbers_of f.chains) → AreRanges f.chains ranges → counted ≡ min (tree_length ranges) (2 ^ 64 - 1) → n ≡ min (counted + 4) (2 ^ 64 - 1) → RefusesLength n e → IsTreeRefusal f e
 refusal f ranges counted n e numbers are first second (too_large large is) =
-    subst (IsTreeRefusal f) (sym is) record { numbers = numbers; length = 5 + tree_length ranges; sized = record { ranges = ranges; are = are; long = refl }; large = omega arith; told = omega arith }
+    subst (IsTreeRefusal f) (sym is) record { numbers = numbers; length = 4 + tree_length ranges; sized = record { ranges = ranges; are = are; long = refl }; large = omega arith; told = omega arith }
 refusal f ranges counted n e numbers are first second (no_memory short is) = subst (IsTreeRefusal f) (sym is) numbers
 
 pub returns-in_err-program-clause-refused : goal.returns-in_err-program-clause-refused

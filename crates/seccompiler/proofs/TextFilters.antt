@@ -6,6 +6,7 @@ use Rattle.seccompiler.specs.ByName.{ByName, under, AreInOrder}
 use Rattle.seccompiler.specs.JsonFilters.{AreFound, IsLeast}
 use Rattle.seccompiler.specs.JsonShape.{Under}
 use Rattle.seccompiler.specs.Reads.{Reads}
+use Rattle.seccompiler.specs.UnderNames.{AreMadeUnder, IsLeastGiven}
 use Rattle.seccompiler.proofs.ByName.{AreMade, found_there, found_in_front, made_under}
 
 -- What holds of every text holds of the one that is read.
@@ -24,33 +25,56 @@ value_under {X} P find d are name x there = by (get name d) refl
         let same : own.found ≡ x = let both : Some own.found ≡ Some x = sym own.there ∙ there in cc in
         (value, has, subst (P value) same own.own)
 
-module _ {X Y : Type 0} (P : Data → X → Type 0) (R : X → Y → Type 0) (find : List ℕ → Option X) (d : Data) (are : AreFound P find d) (xs : ByName X) (listed : (name : List ℕ) → find name ≡ under xs name) where
-  -- What is made of all that is found is the value's, where it is so of one.
-  pub all_made : (Q : Data → Y → Type 0) → ((value : Data) (x : X) (y : Y) → P value x → R x y → Q value y) → (ys : ByName Y) → AreMade R xs ys → AreFound Q (under ys) d
-  all_made Q one ys h = record {
-    is_object = are.is_object;
-    each = λ name value there.
-        let known = are.each name value there in
+-- ---- what is made of values in a list
+
+module _ {X Y : Type 0} (R : X → Y → Type 0) (given : List ℕ → Option X) (xs : ByName X) (listed : (name : List ℕ) → given name ≡ under xs name) where
+  -- What is made value by value is made under each name.
+  pub made_of_all : (ys : ByName Y) → AreMade R xs ys → (found : List ℕ → Option Y) → ((name : List ℕ) → found name ≡ under ys name) → AreMadeUnder R given found
+  made_of_all ys h found same = record {
+    each = λ name x there.
         let made = made_under R xs ys h name in
-        let made = rw (sym (listed name) ∙ known.there) at made in
-        record { found = made.0; there = made.1; own = one value known.found made.0 known.own made.2 };
-    no_other = λ name none. let made = made_under R xs ys h name in rw (sym (listed name) ∙ are.no_other name none) at made;
+        let made = rw (sym (listed name) ∙ there) at made in
+        (made.0, same name ∙ made.1, made.2);
+    no_other = λ name none. let made = made_under R xs ys h name in same name ∙ rw (sym (listed name) ∙ none) at made;
   }
 
   -- Behind values of which something is made, one that is at fault is that of the least name.
-  pub least : (fault : X → Type 0) (Q : Data → Type 0) → ((value : Data) (x : X) (y : Y) → P value x → R x y → Q value)
-      → (front : ByName X) (entry : String Global × X) (back : ByName X) → xs ≡ front ++ entry ∷ back → AreInOrder (front ++ entry ∷ back) → (ys : ByName Y) → AreMade R front ys → fault entry.1
-      → IsLeast (λ value. (x : X) × P value x × fault x) Q d (string_bytes entry.0)
-  least fault Q one front entry back whole order ys h wrong =
-      let found : (name : List ℕ) → find name ≡ under (front ++ entry ∷ back) name = λ name. listed name ∙ ap (λ (es : ByName X). under es name) whole in
-      let own = value_under P find d are (string_bytes entry.0) entry.1 (found (string_bytes entry.0) ∙ found_there front entry back order) in
+  pub least_given : (Fault Q : X → Type 0) → ((x : X) (y : Y) → R x y → Q x) → (front : ByName X) (entry : String Global × X) (back : ByName X) → xs ≡ front ++ entry ∷ back
+      → AreInOrder (front ++ entry ∷ back) → (ys : ByName Y) → AreMade R front ys → Fault entry.1 → IsLeastGiven Fault Q given (string_bytes entry.0)
+  least_given Fault Q one front entry back whole order ys h wrong =
+      let found : (name : List ℕ) → given name ≡ under (front ++ entry ∷ back) name = λ name. listed name ∙ ap (λ (es : ByName X). under es name) whole in
+      record {
+        value = entry.1;
+        there = found (string_bytes entry.0) ∙ found_there front entry back order;
+        own = wrong;
+        below = λ other x there less.
+            let made = made_under R front ys h other in
+            let made = rw (found_in_front front entry back order other x (sym (found other) ∙ there) less) at made in
+            one x made.0 made.2;
+      }
+
+-- ---- what that is of a value
+
+module _ {X : Type 0} (P : Data → X → Type 0) (given : List ℕ → Option X) (d : Data) (are : AreFound P given d) where
+  -- What is made of all that is found is the value's, where it is so of one.
+  pub all_found : {Y : Type 0} (R : X → Y → Type 0) (Q : Data → Y → Type 0) → ((value : Data) (x : X) (y : Y) → P value x → R x y → Q value y) → (found : List ℕ → Option Y) → AreMadeUnder R given found → AreFound Q found d
+  all_found R Q one found made = record {
+    is_object = are.is_object;
+    each = λ name value there.
+        let known = are.each name value there in
+        let own = made.each name known.found known.there in
+        record { found = own.0; there = own.1; own = one value known.found own.0 known.own own.2 };
+    no_other = λ name none. made.no_other name (are.no_other name none);
+  }
+
+  -- The least name of what is found is that of the value.
+  pub least_found : (Fault G : X → Type 0) (Q : Data → Type 0) → ((value : Data) (x : X) → P value x → G x → Q value) → (name : List ℕ) → IsLeastGiven Fault G given name
+      → IsLeast (λ value. (x : X) × P value x × Fault x) Q d name
+  least_found Fault G Q one name least =
+      let own = value_under P given d are name least.value least.there in
       record {
         value = own.0;
         there = own.1;
-        own = (entry.1, own.2, wrong);
-        below = λ other value there less.
-            let known = are.each other value there in
-            let made = made_under R front ys h other in
-            let made = rw (found_in_front front entry back order other known.found (sym (found other) ∙ known.there) less) at made in
-            one value known.found made.0 known.own made.2;
+        own = (least.value, own.2, least.own);
+        below = λ other value there less. let known = are.each other value there in one value known.found known.own (least.below other known.found known.there less);
       }

@@ -1,10 +1,10 @@
--- What the calls answer that go one step of the way from a JSON value to a filter.
-use Rattle.std.specs.Prelude.{string_bytes, ⊤, ◌≡◌, ◌≢◌, ◌≤◌, ◌<◌, Result, Ok, Err}
+-- What the calls answer that go one step of the way from a JSON text or value to filters.
+use Rattle.std.specs.Prelude.{string_bytes, ⊤, ◌≡◌, ◌≢◌, ◌≤◌, ◌<◌, ℕ, List, Option, All, IfSome, Result, Ok, Err}
 use Rattle.std.specs.BTreeMap.{get_by_text}
 use Rattle.serde_json.specs.Data.{Data}
 use Rattle.seccompiler.specs.JsonShape.{IsObject, IsFilter}
 use Rattle.seccompiler.specs.declared.json.error.JsonFrontendError.{JsonFrontendError}
-use Rattle.seccompiler.specs.declared.json.error.JsonFrontendError.TheVariants.{NotAnObject, Shape, OutOfMemory, Backend, SyscallName}
+use Rattle.seccompiler.specs.declared.json.error.JsonFrontendError.TheVariants.{NotAnObject, Shape, OutOfMemory, Backend, SyscallName, Read}
 use Rattle.seccompiler.specs.declared.json.types.JsonFilterMap.{JsonFilterMap}
 use Rattle.seccompiler.specs.JsonFilters.{AreFound, IsLeastFault}
 use Rattle.seccompiler.specs.declared.backend.TargetArch.{TargetArch}
@@ -12,7 +12,11 @@ use Rattle.seccompiler.specs.declared.backend.BackendError.TheVariants.{InvalidA
 use Rattle.seccompiler.specs.declared.json.types.JsonCondition.{JsonCondition}
 use Rattle.seccompiler.specs.JsonTypes.{JsonFilter}
 use Rattle.seccompiler.specs.Condition.{Condition}
-use Rattle.seccompiler.specs.JsonPolicyOf.{Fault, unknown_call, refused, condition_of, IsFirstFault}
+use Rattle.seccompiler.specs.JsonPolicyOf.{Fault, unknown_call, refused, condition_of, IsFirstFault, IsPolicyOf}
+use Rattle.seccompiler.specs.Policy.{Filter}
+use Rattle.seccompiler.specs.Refusal.{numbers_of}
+use Rattle.seccompiler.specs.SyscallTable.{IsTableNumber}
+use Rattle.seccompiler.specs.UnderNames.{AreMadeUnder, IsLeastGiven}
 use Rattle.seccompiler.specs.declared.backend.BackendError.TheVariants as of_backend
 
 -- The value is an object, and the map has exactly its names, each with the filter that its value is.
@@ -33,6 +37,11 @@ IsBeforePolicies (Backend cause) = ⊥
 IsBeforePolicies (SyscallName name arch) = ⊥
 IsBeforePolicies e = ⊤
 
+-- The error is not that a reader failed.
+abbrev pub IsNoFailedRead : JsonFrontendError → Type 0
+IsNoFailedRead (Read cause) = ⊥
+IsNoFailedRead e = ⊤
+
 -- A conversion gives the condition of the same four parts where the index is at most 5, and is refused where it is above.
 abbrev pub IsConditionOf : JsonCondition → Result Condition JsonFrontendError → Type 0
 IsConditionOf c (Ok made) = (c.arg_index ≤ 5) × (made ≡ condition_of c)
@@ -49,3 +58,19 @@ Tells P _ = ⊥
 -- Why a JSON filter has no policy, as an error tells it: its first fault.
 abbrev pub IsPolicyRefusal : TargetArch → JsonFilter → JsonFrontendError → Type 0
 IsPolicyRefusal arch j = Tells (IsFirstFault arch j)
+
+-- The JSON filter has a policy on this architecture.
+abbrev pub IsFaultless : TargetArch → JsonFilter → Type 0
+IsFaultless arch j = (policy : Filter) × IsPolicyOf arch j policy
+
+-- What is found under each name of the filters, and under no other, is the policy of its filter.
+abbrev pub ArePoliciesFor : TargetArch → JsonFilterMap → (List ℕ → Option Filter) → Type 0
+ArePoliciesFor arch filters = AreMadeUnder (IsPolicyOf arch) (get_by_text filters.0)
+
+-- Why not all of the filters have policies, as an error tells it: the first fault of the least name's that has none.
+abbrev pub IsLeastPolicyRefusal : TargetArch → JsonFilterMap → JsonFrontendError → Type 0
+IsLeastPolicyRefusal arch filters = Tells (λ fault. (name : List ℕ) × IsLeastGiven (λ f. IsFirstFault arch f fault) (IsFaultless arch) (get_by_text filters.0) name)
+
+-- The call numbers of each policy that is found are those of a table.
+abbrev pub HaveTableNumbers : (List ℕ → Option Filter) → Type 0
+HaveTableNumbers find = (name : List ℕ) → IfSome (find name) (λ policy. All IsTableNumber (numbers_of policy.chains))

@@ -24,6 +24,7 @@ pub mod JsonFilters
 pub mod SyscallTable
 pub mod JsonPolicyOf
 pub mod JsonAnswers
+pub mod UnderNames
 pub mod JsonPrograms
 pub mod Reads
 -- What other calls promise: the code of conditions and rules; the second layout, and either layout; programs and filters

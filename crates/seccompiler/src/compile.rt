@@ -1,17 +1,15 @@
 // From a JSON text to programs.
 
-ghost use Rattle.std.specs.Prelude.{◌≡◌, ℕ, List, All, IfSome, IfOk, IfErr};
+ghost use Rattle.std.specs.Prelude.{◌≡◌, ℕ, List, IfSome, IfOk, IfErr};
 ghost use Rattle.std.specs.BTreeMap as tree;
 ghost use Rattle.std.specs.HashMap as hash;
 ghost use Rattle.serde_json.specs.Data.{Data};
-ghost use Rattle.seccompiler.specs.ByName.{under, AreInOrder};
 ghost use Rattle.seccompiler.specs.Checked.{IsChecked};
 ghost use Rattle.seccompiler.specs.Errors.{from_backend, IsNoMemoryInside};
 ghost use Rattle.seccompiler.specs.JsonAnswers.{IsValueOf, ArePoliciesOf, OfValue};
-ghost use Rattle.seccompiler.specs.JsonPrograms.{AreProgramsOf, TellsFirstFault};
+ghost use Rattle.seccompiler.specs.JsonPrograms.{AreProgramsFor, AreProgramsOf, IsLeastUncompiled, TellsFirstFault};
+ghost use Rattle.seccompiler.specs.JsonSteps.{HaveTableNumbers};
 ghost use Rattle.seccompiler.specs.Reads.{Reads};
-ghost use Rattle.seccompiler.specs.Refusal.{numbers_of};
-ghost use Rattle.seccompiler.specs.SyscallTable.{IsTableNumber};
 ghost use Rattle.seccompiler.specs.declared.backend.TargetArch.{TargetArch};
 
 use crate::backend::{BackendError, TargetArch};
@@ -62,7 +60,7 @@ pub fn compile_from_json<R: Read + Drop>(
     ensures fault { IfErr result (λ e. Reads (R.remaining reader) (λ text. TellsFirstFault arch text e)) }
     ensures memory { IfErr result IsNoMemoryInside }
 {
-    let programs = programs_from(alloc, reader, arch)?;
+    let programs = compile_from_json_in_order(alloc, reader, arch)?;
     Ok(programs.into_iter().collect(alloc)?)
 }
 
@@ -78,41 +76,49 @@ pub fn compile_from_json_in_order<R: Read + Drop>(
     ensures fault { IfErr result (λ e. Reads (R.remaining reader) (λ text. TellsFirstFault arch text e)) }
     ensures memory { IfErr result IsNoMemoryInside }
 {
-    let in_order = programs_from(alloc, reader, arch)?;
-    Ok(in_order.into_iter().collect(alloc)?)
+    let policies = JsonCompiler::new(arch).compile_in_order(alloc, reader)?;
+    Ok(compile_policies(alloc, policies)?)
 }
 
-// The programs of a reader's text, in byte order of their names.
-fn programs_from<R: Read + Drop>(
+/// Compiles each of some policies, as `SeccompFilter::to_bpf` does.
+///
+/// The map has the names of `policies`, each with its policy's program. Where the policies are those of
+/// a text, as [`JsonCompiler::policies`] gives them, the programs are the text's, as
+/// [`compile_from_json`] gives them, and an error tells its first fault.
+///
+/// # Errors
+///
+/// What `SeccompFilter::to_bpf` refuses, of the least name, in byte order, with such a policy:
+///
+/// - `InvalidSyscallNumber(n)` with its least number that is no call's;
+/// - `FilterTooLarge(n)` where its program would have more than 4096 instructions. `n` is how many, or
+///   `usize::MAX` if that is less.
+///
+/// `OutOfMemory`, where memory is refused, may come in place of both, and no other error.
+///
+/// # Examples
+///
+/// ```
+/// let text = br#"{"main": {"mismatch_action": "trap", "match_action": "allow", "filter": []}}"#;
+/// let policies = JsonCompiler::new(TargetArch::x86_64).policies(alloc, filters_of(alloc, text)?)?;
+/// let programs = compile_policies(alloc, policies)?;
+/// let program = programs.get("main").ok_or("no filter has this name")?;
+/// assert!(rt; program.len() == 4);
+/// ```
+pub fn compile_policies(
     alloc: Global,
-    reader: R,
-    arch: TargetArch,
-) -> Result<Vec<(String, BpfProgram)>>
-    ensures programs { IfOk result (λ found. Reads (R.remaining reader) (λ text. OfValue text (AreProgramsOf arch (under found.items)))) }
-    ensures ordered { IfOk result (λ found. AreInOrder found.items) }
-    ensures fault { IfErr result (λ e. Reads (R.remaining reader) (λ text. TellsFirstFault arch text e)) }
-    ensures memory { IfErr result IsNoMemoryInside }
-{
-    let policies = JsonCompiler::new(arch).policies_from(alloc, reader)?;
-    Ok(programs(alloc, policies)?)
-}
+    policies: BTreeMap<String, SeccompFilter>,
+) -> std::result::Result<BTreeMap<String, BpfProgram>, BackendError>
+    ensures programs { IfOk result (λ m. AreProgramsFor (tree.get_by_text policies) (tree.get_by_text m)) }
+    ensures refusal { IfErr result (IsLeastUncompiled (tree.get_by_text policies)) }
 
-// The programs of policies, in the same order.
-fn programs(
-    alloc: Global,
-    policies: Vec<(String, SeccompFilter)>,
-) -> std::result::Result<Vec<(String, BpfProgram)>, BackendError>
-    requires ordered { AreInOrder policies.items }
-    requires numbers { All (λ e. All IsTableNumber (numbers_of e.1.chains)) policies.items }
-
-    // Of whichever value the policies are.
-    ensures programs { IfOk result (λ found. (arch : TargetArch) (d : Data) → ArePoliciesOf arch (under policies.items) d → AreProgramsOf arch (under found.items) d) }
-    ensures ordered { IfOk result (λ found. AreInOrder found.items) }
-    ensures fault { IfErr result (λ e. (arch : TargetArch) (text : List ℕ) (d : Data) → IsValueOf text d → ArePoliciesOf arch (under policies.items) d → TellsFirstFault arch text (from_backend e)) }
+    // Of whichever text and value the policies are, each with numbers of a table.
+    ensures of_value { IfOk result (λ m. (arch : TargetArch) (d : Data) → ArePoliciesOf arch (tree.get_by_text policies) d → AreProgramsOf arch (tree.get_by_text m) d) }
+    ensures fault { IfErr result (λ e. (arch : TargetArch) (text : List ℕ) (d : Data) → IsValueOf text d → ArePoliciesOf arch (tree.get_by_text policies) d → HaveTableNumbers (tree.get_by_text policies) → TellsFirstFault arch text (from_backend e)) }
 {
     let mut found = Vec::new(alloc);
     for (name, policy) in policies {
         found.push((name, policy.to_bpf(alloc)?))?;
     }
-    Ok(found)
+    Ok(found.into_iter().collect(alloc)?)
 }

@@ -65,7 +65,7 @@ pub(crate) mod tree;
 pub use backend::{BackendError, SeccompAction, SeccompCmpArgLen, SeccompCmpOp, TargetArch};
 pub use bpf::{BpfProgram, BpfProgramRef, sock_filter};
 pub use compare::{Calls, Comparison, Relation};
-pub use compile::{BpfMap, compile_from_json, compile_from_json_in_order};
+pub use compile::{BpfMap, compile_from_json, compile_from_json_in_order, compile_policies};
 pub use condition::SeccompCondition;
 pub use equality::EqualByParts;
 pub use error::{Error, Result};

@@ -1,8 +1,10 @@
 -- What the policies of a text are for the name that is asked for.
-use Rattle.std.proofs.Common.{◌≡◌, ℕ, List, Option, Some, None, String, Global, string_bytes, bytes_eq, refl, sym, ◌∙◌, subst}
+use Rattle.std.proofs.Common.{◌≡◌, ℕ, List, Option, Some, None, String, Global, string_bytes, refl, sym, ◌∙◌, subst}
+use Rattle.std.specs.BTreeMap.{is_at}
 use Rattle.std.specs.Map.{lookup}
 use Rattle.std.specs.Str.{IsUtf8}
 use Rattle.std.proofs.lemmas.Map.Entries.{place_from_lookup}
+use Rattle.std.proofs.lemmas.Map.Text.{is_eq-slice_cmp, text_cmp}
 use Rattle.std.proofs.lemmas.Slice.Eq.{bytes_eq-Decides}
 use Rattle.std.proofs.lemmas.Str.{IsUtf8-string_bytes}
 use Rattle.serde_json.specs.Data.{Data}
@@ -10,22 +12,18 @@ use Rattle.serde_json.specs.Find.{get}
 use Rattle.seccompiler.specs.JsonAnswers.{OfValue, HasPolicy, HasSomePolicy, ArePoliciesOf, TellsFrontendFault}
 use Rattle.seccompiler.specs.JsonFilters.{AreAll}
 use Rattle.seccompiler.specs.JsonShape.{Under, Lacks}
+use Rattle.seccompiler.specs.JsonSteps.{IsNoFailedRead}
 use Rattle.seccompiler.specs.Policy.{Filter}
-use Rattle.seccompiler.specs.Reads.{Reads}
 use Rattle.seccompiler.specs.declared.backend.TargetArch.{TargetArch}
 use Rattle.seccompiler.specs.declared.json.error.JsonFrontendError.{JsonFrontendError}
 use Rattle.seccompiler.specs.declared.json.error.JsonFrontendError.TheVariants as frontend
 use Rattle.seccompiler_c.specs.Policies.{NamesPolicy, NamesNone, IsPolicyFault, from_frontend}
 
--- What holds of the text that is read holds of the slice that it is read of.
-pub of_slice : (text : List ℕ) (P : List ℕ → Type 0) → Reads (Some text) P → P text
-of_slice text P read = subst P read.1 read.2
-
 -- What the front end refuses of a text in memory is its first fault, or want of memory.
-pub text_refused : (target : TargetArch) (text name : List ℕ) (e : JsonFrontendError) → TellsFrontendFault target text e → IsPolicyFault target text name (from_frontend e)
-text_refused target text name (frontend.Read cause) tells = tt
-text_refused target text name frontend.OutOfMemory tells = tt
-text_refused target text name _ tells = tells
+pub text_refused : (target : TargetArch) (text name : List ℕ) (e : JsonFrontendError) → TellsFrontendFault target text e → IsNoFailedRead e → IsPolicyFault target text name (from_frontend e)
+text_refused target text name (frontend.Read cause) tells none = absurd none
+text_refused target text name frontend.OutOfMemory tells none = tt
+text_refused target text name _ tells none = tells
 
 -- The policies that are found by their names.
 abbrev pub Find : Type 0
@@ -58,7 +56,8 @@ pub names_none : (target : TargetArch) (text name : List ℕ) (find : Find) → 
 names_none target text name find (d, is, are) none = (d, is, (all_policies target find d are, found_nowhere target find d are name none (get name d) refl))
 
 -- A name under which something is found is UTF-8.
-pub utf8_where_found : (name : List ℕ) (entries : List (String Global × Filter)) (policy : Filter) → lookup (λ key. bytes_eq name (string_bytes key)) entries ≡ Some policy → IsUtf8 name
+pub utf8_where_found : (name : List ℕ) (entries : List (String Global × Filter)) (policy : Filter) → lookup (is_at (text_cmp name)) entries ≡ Some policy → IsUtf8 name
 utf8_where_found name entries policy found =
-    let place = place_from_lookup (λ key. bytes_eq name (string_bytes key)) entries policy found in
-    subst IsUtf8 (sym ((bytes_eq-Decides name (string_bytes place.1)).0 place.3)) (IsUtf8-string_bytes place.1)
+    let place = place_from_lookup (is_at (text_cmp name)) entries policy found in
+    let same = (bytes_eq-Decides name (string_bytes place.1)).0 (sym (is_eq-slice_cmp name (string_bytes place.1)) ∙ place.3) in
+    subst IsUtf8 (sym same) (IsUtf8-string_bytes place.1)

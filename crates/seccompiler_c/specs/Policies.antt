@@ -13,10 +13,9 @@ use Rattle.seccompiler.specs.declared.json.error.JsonFrontendError.TheVariants a
 use Rattle.seccompiler_c.specs.declared.fault.Fault.{Fault}
 use Rattle.seccompiler_c.specs.declared.fault.Fault.TheVariants as fault
 
--- The front end's refusal of a text in memory, as a fault. Such a text's reader fails for want of memory alone.
+-- The front end's refusal of a text, as a fault.
 abbrev pub from_frontend : JsonFrontendError → Fault
 from_frontend frontend.OutOfMemory = fault.OutOfMemory
-from_frontend (frontend.Read e) = fault.OutOfMemory
 from_frontend refusal = fault.Text refusal
 
 -- The backend's refusal of a filter, as a fault.

@@ -74,7 +74,7 @@ impl fmt::Display for Fault {
     }
 }
 
-/// A text in memory is read without a fault of its reader but want of memory.
+/// The front end's want of memory stays so; any other refusal is the text's.
 impl From<JsonFrontendError> for Fault {
     ghost use Rattle.std.specs.Prelude.{◌≡◌};
     ghost use Rattle.seccompiler_c.specs.Policies.{from_frontend};
@@ -84,7 +84,6 @@ impl From<JsonFrontendError> for Fault {
     fn from(refusal: JsonFrontendError) -> Fault {
         match refusal {
             JsonFrontendError::OutOfMemory => Fault::OutOfMemory,
-            JsonFrontendError::Read(_) => Fault::OutOfMemory,
             refusal => Fault::Text(refusal),
         }
     }

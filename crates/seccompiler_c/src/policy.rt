@@ -6,6 +6,7 @@ ghost use Rattle.seccompiler.specs.SyscallTable.{IsTableNumber};
 ghost use Rattle.seccompiler_c.specs.Policies.{NamesPolicy, IsPolicyFault};
 
 use crate::fault::Fault;
+use seccompiler::json::filters_of;
 use seccompiler::{JsonCompiler, SeccompFilter, TargetArch};
 use std::alloc::Global;
 
@@ -20,7 +21,8 @@ pub(crate) fn policy_of(
     ensures numbers { IfOk result (λ found. All IsTableNumber (numbers_of found.chains)) }
     ensures fault { IfErr result (IsPolicyFault target text.now name.now) }
 {
-    let mut policies = JsonCompiler::new(target).compile(alloc, text)?;
+    let filters = filters_of(alloc, text)?;
+    let mut policies = JsonCompiler::new(target).policies(alloc, filters)?;
     // A name of a JSON text is UTF-8.
     let Ok(name) = std::str::from_utf8(name) else {
         return Err(Fault::NoFilter);

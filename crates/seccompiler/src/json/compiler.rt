@@ -6,10 +6,9 @@ ghost use Rattle.std.specs.HashMap.{get_by_text};
 ghost use Rattle.std.specs.List.Sorted.{IsStrictlySortedBy};
 ghost use Rattle.std.specs.Ordering.{int_cmp};
 ghost use Rattle.serde_json.specs.Data.{Data};
-ghost use Rattle.seccompiler.specs.ByName.{under, AreInOrder};
 ghost use Rattle.seccompiler.specs.Errors.{IsNoMemoryInFrontend};
 ghost use Rattle.seccompiler.specs.JsonAnswers.{IsValueOf, OfValue, ArePoliciesOf, TellsFrontendFault};
-ghost use Rattle.seccompiler.specs.JsonSteps.{AreFilters, IsPolicyRefusal};
+ghost use Rattle.seccompiler.specs.JsonSteps.{AreFilters, ArePoliciesFor, HaveTableNumbers, IsLeastPolicyRefusal, IsNoFailedRead, IsPolicyRefusal};
 ghost use Rattle.seccompiler.specs.Reads.{Reads};
 ghost use Rattle.seccompiler.specs.Policy.{Filter};
 ghost use Rattle.seccompiler.specs.Refusal.{numbers_of};
@@ -117,41 +116,47 @@ impl JsonCompiler {
         widened_numbers(alloc, self.arch, filter)
     }
 
-    // The filters of JSON filters, in byte order of their names.
-    fn policies(
+    /// Makes the filters that JSON filters stand for, each as `make_seccomp_filter` does.
+    ///
+    /// The map has the names of `filters`, each with its filter; the filters' call numbers are within
+    /// 0 to 462. It doesn't matter where `filters` come from. Where they are those of a text, as
+    /// [`filters_of`](crate::json::filters_of) and [`filters_from`](crate::json::filters_from) give
+    /// them, the filters are the text's, as `compile` gives them, and an error tells its first fault.
+    ///
+    /// # Errors
+    ///
+    /// What `make_seccomp_filter` refuses, of the least name, in byte order, with such a filter.
+    /// `OutOfMemory`, where memory is refused, may come in place of it, and no other error.
+    ///
+    /// # Examples
+    ///
+    /// ```
+    /// let text = br#"{"main": {"mismatch_action": "trap", "match_action": "allow", "filter": []}}"#;
+    /// let compiler = JsonCompiler::new(TargetArch::x86_64);
+    /// let filters = compiler.policies(alloc, filters_of(alloc, text)?)?;
+    /// assert!(rt; filters.contains_key("main"));
+    /// ```
+    pub fn policies(
         &self,
         alloc: Global,
         filters: JsonFilterMap,
-    ) -> Result<Vec<(String, SeccompFilter)>, JsonFrontendError>
-        // Of whichever value the JSON filters are.
-        ensures policies { IfOk result (λ found. (d : Data) → AreFilters d filters → ArePoliciesOf self.now (under found.items) d) }
-        ensures ordered { IfOk result (λ found. AreInOrder found.items) }
-        ensures numbers { IfOk result (λ found. All (λ e. All IsTableNumber (numbers_of e.1.chains)) found.items) }
-        ensures fault { IfErr result (λ e. (text : List ℕ) (d : Data) → IsValueOf text d → AreFilters d filters → TellsFrontendFault self.now text e) }
+    ) -> Result<BTreeMap<String, SeccompFilter>, JsonFrontendError>
+        ensures policies { IfOk result (λ m. ArePoliciesFor self.now filters (tree.get_by_text m)) }
+        ensures numbers { IfOk result (λ m. HaveTableNumbers (tree.get_by_text m)) }
+        ensures refusal { IfErr result (IsLeastPolicyRefusal self.now filters) }
+        ensures no_reader { IfErr result IsNoFailedRead }
         ensures memory { IfErr result IsNoMemoryInFrontend }
+
+        // Of whichever text and value the JSON filters are.
+        ensures of_value { IfOk result (λ m. (d : Data) → AreFilters d filters → ArePoliciesOf self.now (tree.get_by_text m) d) }
+        ensures fault { IfErr result (λ e. (text : List ℕ) (d : Data) → IsValueOf text d → AreFilters d filters → TellsFrontendFault self.now text e) }
     {
         let mut found = Vec::new(alloc);
         for (name, filter) in filters.0 {
             let policy = self.make_seccomp_filter(alloc, &filter)?;
             found.push((name, policy))?;
         }
-        Ok(found)
-    }
-
-    // The filters of a reader's text, in byte order of their names.
-    pub(crate) fn policies_from<R: Read + Drop>(
-        &self,
-        alloc: Global,
-        reader: R,
-    ) -> Result<Vec<(String, SeccompFilter)>, JsonFrontendError>
-        ensures policies { IfOk result (λ found. Reads (R.remaining reader) (λ text. OfValue text (ArePoliciesOf self.now (under found.items)))) }
-        ensures ordered { IfOk result (λ found. AreInOrder found.items) }
-        ensures numbers { IfOk result (λ found. All (λ e. All IsTableNumber (numbers_of e.1.chains)) found.items) }
-        ensures fault { IfErr result (λ e. Reads (R.remaining reader) (λ text. TellsFrontendFault self.now text e)) }
-        ensures memory { IfErr result IsNoMemoryInFrontend }
-    {
-        let filters = filters_from(alloc, reader)?;
-        self.policies(alloc, filters)
+        Ok(found.into_iter().collect(alloc)?)
     }
 
     /// Reads a text of JSON filters to its end, and makes each filter, as `make_seccomp_filter` does.
@@ -193,7 +198,7 @@ impl JsonCompiler {
         ensures fault { IfErr result (λ e. Reads (R.remaining reader) (λ text. TellsFrontendFault self.now text e)) }
         ensures memory { IfErr result IsNoMemoryInFrontend }
     {
-        let policies = self.policies_from(alloc, reader)?;
+        let policies = self.compile_in_order(alloc, reader)?;
         Ok(policies.into_iter().collect(alloc)?)
     }
 
@@ -209,7 +214,7 @@ impl JsonCompiler {
         ensures fault { IfErr result (λ e. Reads (R.remaining reader) (λ text. TellsFrontendFault self.now text e)) }
         ensures memory { IfErr result IsNoMemoryInFrontend }
     {
-        let policies = self.policies_from(alloc, reader)?;
-        Ok(policies.into_iter().collect(alloc)?)
+        let filters = filters_from(alloc, reader)?;
+        self.policies(alloc, filters)
     }
 }

@@ -1,4 +1,4 @@
-// From a reader to the filters of its text.
+// From a text, in memory or a reader's, to its filters.
 
 ghost use Rattle.std.specs.Prelude.{◌≡◌, IfOk, IfErr};
 ghost use Rattle.serde_json.specs.Data.{Data};
@@ -6,7 +6,7 @@ ghost use Rattle.serde_json.specs.View.{view};
 ghost use Rattle.seccompiler.specs.Errors.{IsNoMemoryInFrontend};
 ghost use Rattle.seccompiler.specs.JsonAnswers.{IsValueOf, OfValue, TellsFrontendFault};
 ghost use Rattle.seccompiler.specs.JsonShape.{IsFilter};
-ghost use Rattle.seccompiler.specs.JsonSteps.{AreFilters, IsBeforePolicies};
+ghost use Rattle.seccompiler.specs.JsonSteps.{AreFilters, IsBeforePolicies, IsNoFailedRead};
 ghost use Rattle.seccompiler.specs.JsonTypes.{JsonFilter};
 ghost use Rattle.seccompiler.specs.Reads.{Reads};
 ghost use Rattle.seccompiler.specs.declared.backend.TargetArch.{TargetArch};
@@ -67,18 +67,50 @@ pub fn filters_from<R: Read + Drop>(
 {
     let mut text = Vec::new(alloc);
     match reader.read_to_end(&mut text) {
-        Ok(_) => filters_in_text(alloc, text.as_slice()),
+        Ok(_) => filters_of(alloc, text.as_slice()),
         Err(error) if error.kind() == ErrorKind::OutOfMemory => Err(JsonFrontendError::OutOfMemory),
         Err(error) => Err(JsonFrontendError::Read(error)),
     }
 }
 
-// The filters of a text.
-fn filters_in_text(alloc: Global, text: &[u8]) -> Result<JsonFilterMap, JsonFrontendError>
+/// Reads a text of JSON filters in memory.
+///
+/// On `Ok` the map has exactly the text's names, each with its filter as the text has it, as
+/// [`filters_from`] gives it for a reader of this text. [`JsonCompiler::policies`] makes their filters
+/// for an architecture.
+///
+/// [`JsonCompiler::policies`]: crate::json::JsonCompiler::policies
+///
+/// # Errors
+///
+/// The first of these that is there:
+///
+/// - `SerdeJson` where the bytes are no JSON text;
+/// - `RepeatedKey` where `repeats_key` finds that a name is repeated;
+/// - `NotAnObject` where the text is no object;
+/// - `Shape` with the least name, in byte order, whose value is no filter.
+///
+/// `OutOfMemory` may come in place of any answer, where memory is refused. No other error comes: as
+/// there is no reader, none is `Read`.
+///
+/// # Examples
+///
+/// ```
+/// let text = br#"{"main": {"mismatch_action": "trap", "match_action": "allow", "filter": []}}"#;
+/// let filters = filters_of(alloc, text)?;
+/// assert!(rt; filters.0.contains_key("main"));
+/// ```
+#[tactic(auto, using(crate::proofs::json::parts::OneFilter::one_filter))]
+pub fn filters_of(alloc: Global, text: &[u8]) -> Result<JsonFilterMap, JsonFrontendError>
     ensures filters { IfOk result (λ filters. OfValue text.now (λ d. AreFilters d filters)) }
+    // On whichever architecture.
     ensures fault { IfErr result (λ e. (arch : TargetArch) → TellsFrontendFault arch text.now e) }
     ensures cause { IfErr result IsBeforePolicies }
+    ensures no_reader { IfErr result IsNoFailedRead }
     ensures memory { IfErr result IsNoMemoryInFrontend }
+
+    // A value is at most one filter.
+    ensures one_filter { (d : Data) (f g : JsonFilter) → IsFilter d f → IsFilter d g → f ≡ g }
 {
     let value = value_of(alloc, text)?;
     read_filters(alloc, &value)
@@ -89,6 +121,7 @@ fn value_of(alloc: Global, text: &[u8]) -> Result<Value, JsonFrontendError>
     ensures value { IfOk result (λ value. IsValueOf text.now (view value)) }
     ensures fault { IfErr result (λ e. (arch : TargetArch) → TellsFrontendFault arch text.now e) }
     ensures cause { IfErr result IsBeforePolicies }
+    ensures no_reader { IfErr result IsNoFailedRead }
     ensures memory { IfErr result IsNoMemoryInFrontend }
 {
     match Value::from_slice(alloc, text) {

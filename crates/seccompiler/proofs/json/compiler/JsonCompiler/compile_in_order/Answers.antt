@@ -1,33 +1,30 @@
-use Rattle.std.proofs.Common.{◌≡◌, ℕ, List, Option, IfSome, string_bytes, string_cmp, bytes_eq, rules, sym, subst}
-use Rattle.std.specs.Prelude.{All}
-use Rattle.std.specs.BTreeMap.{get_by_text, IsFromIterResult}
-use Rattle.std.proofs.lemmas.Map.Entries.{All-lookup}
-use Rattle.seccompiler.specs.ByName.{under}
-use Rattle.seccompiler.specs.JsonAnswers.{OfValue, ArePoliciesOf}
-use Rattle.seccompiler.specs.Policy.{Filter}
+use Rattle.std.proofs.Common.{ℕ, List}
+use Rattle.std.proofs.lemmas.Result.{IfOk-weaker, IfErr-weaker, err_from_is_err_and}
+use Rattle.std.specs.BTreeMap.{get_by_text}
+use Rattle.serde_json.specs.Data.{Data}
+use Rattle.seccompiler.specs.JsonAnswers.{IsValueOf, OfValue, ArePoliciesOf, TellsFrontendFault}
+use Rattle.seccompiler.specs.JsonSteps.{AreFilters}
 use Rattle.seccompiler.specs.Reads.{Reads}
-use Rattle.seccompiler.specs.Refusal.{numbers_of}
-use Rattle.seccompiler.specs.SyscallTable.{IsTableNumber}
-use Rattle.seccompiler.proofs.ByName.{ordered}
 use Rattle.seccompiler.proofs.json.compiler.JsonCompiler.compile_in_order.Goals as goal
+
+pub returns-in_err-filters-clause-fault : goal.returns-in_err-filters-clause-fault
+returns-in_err-filters-clause-fault g c =
+    let p = err_from_is_err_and c.from_residual.result c.from_residual.ensures.1 in
+    let read = c.in_err-filters.ensures.fault in
+    rw (p.1, p.2) (read.0, read.1, read.2 c.args.self.now)
 
 pub returns-clause-policies : goal.returns-clause-policies
 returns-clause-policies g c =
-    let found = c.in_ok-policies.policies.items in
-    let m = c.in_ok-collect.field-0 in
-    let made : IsFromIterResult string_cmp found m = search rules in
-    let same = ordered found m c.in_ok-policies.ensures.ordered made in
-    subst (λ (find : List ℕ → Option Filter). Reads (g.R.Read.remaining c.args.reader) (λ text. OfValue text (ArePoliciesOf c.args.self.now find))) (λ i name. sym (same name) i) c.in_ok-policies.ensures.policies
+    let arch = c.args.self.now in
+    let read = c.in_ok-filters.ensures.filters in
+    IfOk-weaker c.policies.result (λ m. (d : Data) → AreFilters d c.in_ok-filters.filters → ArePoliciesOf arch (get_by_text m) d)
+    (λ m. Reads (g.R.Read.remaining c.args.reader) (λ text. OfValue text (ArePoliciesOf arch (get_by_text m))))
+    (λ m h. (read.0, read.1, (read.2.0, read.2.1, h read.2.0 read.2.2))) c.policies.ensures.of_value
 
--- Each call number of the filter is one that a table may give.
-abbrev HasTableNumbers : Filter → Type 0
-HasTableNumbers f = All IsTableNumber (numbers_of f.chains)
-
-pub returns-clause-numbers : goal.returns-clause-numbers
-returns-clause-numbers g c = λ name.
-    let found = c.in_ok-policies.policies.items in
-    let m = c.in_ok-collect.field-0 in
-    let made : IsFromIterResult string_cmp found m = search rules in
-    let same : get_by_text m name ≡ under found name = ordered found m c.in_ok-policies.ensures.ordered made name in
-    let looked_up = All-lookup HasTableNumbers (λ key. bytes_eq name (string_bytes key)) found c.in_ok-policies.ensures.numbers in
-    subst (λ o. IfSome o HasTableNumbers) (sym same) looked_up
+pub returns-clause-fault : goal.returns-clause-fault
+returns-clause-fault g c =
+    let arch = c.args.self.now in
+    let read = c.in_ok-filters.ensures.filters in
+    IfErr-weaker c.policies.result (λ e. (text : List ℕ) (d : Data) → IsValueOf text d → AreFilters d c.in_ok-filters.filters → TellsFrontendFault arch text e)
+    (λ e. Reads (g.R.Read.remaining c.args.reader) (λ text. TellsFrontendFault arch text e))
+    (λ e h. (read.0, read.1, h read.0 read.2.0 read.2.1 read.2.2)) c.policies.ensures.fault

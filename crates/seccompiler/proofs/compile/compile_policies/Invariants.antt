@@ -1,0 +1,10 @@
+use Rattle.std.proofs.Common.{◌≡◌, ◌++◌}
+use Rattle.seccompiler.specs.JsonPrograms.{Compiles}
+use Rattle.seccompiler.proofs.ByName.{AreMade}
+use Rattle.seccompiler.proofs.compile.compile_policies.Given as goal
+
+abbrev pub invariant-loop-name : goal.invariant-loop-name
+invariant-loop-name l = record {
+  all : l.fn.policies.entries ≡ l.yielded ++ l.name-iterator;
+  made : AreMade Compiles l.yielded l.found.items;
+}

@@ -12,10 +12,10 @@ use Rattle.seccompiler.specs.JsonTypes.{JsonRule}
 use Rattle.seccompiler.specs.JsonPolicyOf.{chain_at, is_always, rules_for}
 use Rattle.seccompiler.specs.Policy.{Rule, Chain, chains_of}
 
--- What a number has, with these rules at its end. It has nothing before its first rule.
-abbrev pub added : List Rule → Option Chain → Option Chain
+-- What a number has, with these items at its end. It has nothing before its first item.
+abbrev pub added : {X : Type 0} → List X → Option (List X) → Option (List X)
 added [] found = found
-added (rule ∷ rules) found = Some (unwrap_or found [] ++ rule ∷ rules)
+added (item ∷ items) found = Some (unwrap_or found [] ++ item ∷ items)
 
 -- The rules that were gathered under a number.
 abbrev pub rules_at : Gathered → ℤ → Option Chain

@@ -38,6 +38,7 @@ pub mod Layouts
 pub mod Compare
 pub mod CompareFilters
 pub mod JsonSteps
+pub mod JsonOrigins
 pub mod JsonWidened
 pub mod Texts
 pub mod Errors

@@ -1,2 +1,3 @@
 -- Lemmas for the functions of `json::compiler`.
 pub mod TextPolicies
+pub mod ChainOrigins

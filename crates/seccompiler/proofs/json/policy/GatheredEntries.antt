@@ -7,12 +7,11 @@ use Rattle.std.proofs.lemmas.List.Folds.{list_any-append}
 use Rattle.seccompiler.specs.declared.backend.TargetArch.{TargetArch}
 use Rattle.seccompiler.specs.declared.json.policy.Gathered.{Gathered}
 use Rattle.seccompiler.specs.JsonTypes.{JsonRule}
-use Rattle.seccompiler.specs.Policy.{Rule}
 use Rattle.seccompiler.specs.JsonGathered.{added, HasAdded, AreGathered}
 use Rattle.seccompiler.specs.JsonPolicyOf.{is_always, rules_for}
 
--- Rules added at two times are added as one list.
-added_twice : (front own : List Rule) → added own (added front None) ≡ added (front ++ own) None
+-- Items added at two times are added as one list.
+pub added_twice : {X : Type 0} (front own : List X) → added own (added front None) ≡ added (front ++ own) None
 added_twice [] own = refl
 added_twice (r ∷ front) [] = ap Some (sym (append-nil (r ∷ front)))
 added_twice (r ∷ front) (q ∷ own) = refl

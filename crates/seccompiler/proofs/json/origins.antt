@@ -1,0 +1,2 @@
+-- Lemmas for the functions of `json::origins`.
+pub mod Places

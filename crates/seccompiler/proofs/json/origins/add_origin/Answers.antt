@@ -1,0 +1,16 @@
+use Rattle.std.proofs.Common.{rules, w64, ap, ◌∙◌, unwrap_or}
+use mir.Val.{SFits}
+use Rattle.std.proofs.lemmas.Int.{to_z-of_z}
+use Rattle.seccompiler.proofs.json.policy.EntryChains.{list_with_item}
+use Rattle.seccompiler.proofs.json.origins.add_origin.Goals as goal
+
+pub returns : goal.returns
+returns c = record {
+  added = λ q.
+      let fits : SFits w64 c.args.number = search rules in
+      let written = simp to_z-of_z at (c.in_ok-origins.ensures.update.0 c.push.new.self) in
+      let here = written.0 q in
+      let found = simp to_z-of_z at (c.or_insert-indices.ensures.value ∙ ap (λ o. unwrap_or o c.new.result) c.in_ok-origins.ensures.value) in
+      list_with_item c.args.origins.now.entries _ c.args.number c.or_insert-indices.result.now c.push.new.self c.new.result c.args.index q
+      (search (rules, here)) found c.new.ensures.items c.in_ok-push.ensures.items;
+}

@@ -9,7 +9,7 @@ use crate::samples::{
 use seccompiler::SeccompAction::Trap;
 use seccompiler::SeccompCmpArgLen::Dword;
 use seccompiler::SeccompCmpOp::Eq;
-use seccompiler::json::{JsonFilterMap, filters_from, read_filters};
+use seccompiler::json::{JsonFilterMap, filters_from, filters_of, read_filters};
 use seccompiler::{
     BackendError, JsonCompiler, JsonFilter, JsonFrontendError, SeccompFilter, TargetArch,
 };
@@ -60,6 +60,26 @@ fn ask_of_entries(
     match JsonCompiler::new(TargetArch::x86_64).make_seccomp_filter(alloc, entries) {
         Ok(filter) => ensure(filter == *wanted, "the filter of entries"),
         Err(error) => ensure_fault("entries", fault_of_frontend(&error), None),
+    }
+}
+
+// Wants these indices under the number, and those of so many numbers.
+fn ask_of_origins(
+    alloc: Global,
+    entries: &JsonFilter,
+    numbers: usize,
+    number: i64,
+    wanted: &[usize],
+) -> Result<(), Ending> {
+    match JsonCompiler::new(TargetArch::x86_64).make_with_origins(alloc, entries) {
+        Ok(policy) => match policy.origins.get(&number) {
+            Some(indices) => ensure(
+                policy.origins.len() == numbers && indices.as_slice() == wanted,
+                "the origins",
+            ),
+            None => Err(Ending::Wrong("a number without origins")),
+        },
+        Err(error) => ensure_fault("origins", fault_of_frontend(&error), None),
     }
 }
 
@@ -115,6 +135,8 @@ impl Lent for TwoCalls {
         ensure_filter("a value", read, "a", &self.entries)?;
         let read = filters_from(alloc, TWO_CALLS_TEXT.as_bytes());
         ensure_filter("a text", read, "a", &self.entries)?;
+        let read = filters_of(alloc, TWO_CALLS_TEXT.as_bytes());
+        ensure_filter("a text in memory", read, "a", &self.entries)?;
         ask_of_entries(alloc, &self.entries, &two_calls(alloc)?)
     }
 }
@@ -152,7 +174,7 @@ impl Lent for MainThread {
     }
 }
 
-/// Entries of calls of both kinds.
+/// Entries of calls of both kinds, and the indices of those of a number.
 #[derive(Drop)]
 pub struct WidenedEntries {
     both_kinds: JsonFilter,
@@ -173,7 +195,9 @@ impl Lent for WidenedEntries {
 
     fn make_calls(&self, alloc: Global) -> Result<(), Ending> {
         ask_of_widened(alloc, &self.both_kinds, &[0])?;
-        ask_of_widened(alloc, &self.several, &[0, 3])
+        ask_of_widened(alloc, &self.several, &[0, 3])?;
+        ask_of_origins(alloc, &self.both_kinds, 1, 0, &[0, 1])?;
+        ask_of_origins(alloc, &self.several, 3, 3, &[0, 2])
     }
 }
 

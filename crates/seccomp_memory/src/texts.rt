@@ -5,11 +5,13 @@ use crate::compiled::{CompiledFilter, compiled_filter};
 use crate::lent::Lent;
 use crate::samples::{Chains, MAIN_THREAD_TEXT, TWO_CALLS_TEXT, filter, main_thread, two_calls};
 use seccompiler::SeccompAction::Trap;
+use seccompiler::json::filters_of;
 use seccompiler::{
-    BackendError, BpfProgram, JsonCompiler, TargetArch, compile_from_json,
-    compile_from_json_in_order,
+    BackendError, BpfProgram, JsonCompiler, JsonFrontendError, SeccompFilter, TargetArch,
+    compile_from_json, compile_from_json_in_order, compile_policies,
 };
 use std::alloc::Global;
+use std::collections::BTreeMap;
 
 // An entry without conditions, and one with, of the same call.
 const BOTH_KINDS_TEXT: &str =
@@ -107,6 +109,30 @@ fn compile_in_order(
     }
 }
 
+// Wants the text's only program by its steps from a text in memory to be this one, under this name.
+fn compile_by_steps(
+    alloc: Global,
+    text: &'static str,
+    name: &str,
+    wanted: &BpfProgram,
+) -> Result<(), Ending> {
+    match policies_of(alloc, text) {
+        Ok(policies) => {
+            let found = compile_policies(alloc, policies)?;
+            ensure(found.len() == 1 && found.get(name) == Some(wanted), text)
+        }
+        Err(error) => ensure_fault(text, fault_of_frontend(&error), None),
+    }
+}
+
+fn policies_of(
+    alloc: Global,
+    text: &str,
+) -> Result<BTreeMap<String, SeccompFilter>, JsonFrontendError> {
+    let filters = filters_of(alloc, text.as_bytes())?;
+    JsonCompiler::new(TargetArch::x86_64).policies(alloc, filters)
+}
+
 fn ask_of_text(
     alloc: Global,
     text: &'static str,
@@ -116,7 +142,8 @@ fn ask_of_text(
     compile(alloc, text, name, wanted)?;
     compile_filters_in_order(alloc, text, name, wanted)?;
     compile_programs(alloc, text, name, &wanted.program)?;
-    compile_in_order(alloc, text, name, &wanted.program)
+    compile_in_order(alloc, text, name, &wanted.program)?;
+    compile_by_steps(alloc, text, name, &wanted.program)
 }
 
 fn compile_faulty(

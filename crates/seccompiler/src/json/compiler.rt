@@ -108,9 +108,9 @@ impl JsonCompiler {
     ///
     /// ```
     /// let policy = JsonCompiler::new(TargetArch::x86_64).make_with_origins(alloc, filter)?;
-    /// // Entries 0 and 2 of this filter are of `read`, whose number is 0.
+    /// // The entries 1 and 3 of this filter are of `read`, whose number is 0.
     /// let indices = policy.origins.get(&0).ok_or("no entry is of read")?;
-    /// assert!(rt; indices.as_slice() == [0, 2]);
+    /// assert!(rt; indices.as_slice() == [1, 3].as_slice());
     /// ```
     pub fn make_with_origins(
         &self,

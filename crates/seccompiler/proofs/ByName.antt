@@ -89,7 +89,8 @@ module _ {X : Type 0} where
       found key = sym (by_text (string_bytes key) m.entries) ∙ made.0 key ∙ update_all_none string_eq_equiv (eq_by_cmp string_cmp) ties xs key (once xs order)
 
   -- A map that is made of an ordered one finds what that has.
-  pub rehashed : {S : Type 0} (n : BTreeMap (String Global) X) (m : HashMap (String Global) X S) → AreInOrder n.entries → hash.IsFromIterResult string_eq n.entries m → (q : List ℕ) → hash.get_by_text m q ≡ tree.get_by_text n q
+  pub rehashed : {S : Type 0} (n : BTreeMap (String Global) X) (m : HashMap (String Global) X S) → AreInOrder n.entries
+      → hash.IsFromIterResult string_eq n.entries m → (q : List ℕ) → hash.get_by_text m q ≡ tree.get_by_text n q
   rehashed n m order made q = hashed n.entries m order made q ∙ sym (by_text q n.entries)
 
 -- ---- what is made of a list

@@ -27,9 +27,11 @@ value_under {X} P find d are name x there = by (get name d) refl
 
 -- ---- what is made of values in a list
 
-module _ {X Y : Type 0} (R : X → Y → Type 0) (given : List ℕ → Option X) (xs : ByName X) (listed : (name : List ℕ) → given name ≡ under xs name) where
+module _ {X Y : Type 0} (R : X → Y → Type 0) (given : List ℕ → Option X) (xs : ByName X)
+    (listed : (name : List ℕ) → given name ≡ under xs name) where
   -- What is made value by value is made under each name.
-  pub made_of_all : (ys : ByName Y) → AreMade R xs ys → (found : List ℕ → Option Y) → ((name : List ℕ) → found name ≡ under ys name) → AreMadeUnder R given found
+  pub made_of_all : (ys : ByName Y) → AreMade R xs ys → (found : List ℕ → Option Y) → ((name : List ℕ) → found name ≡ under ys name)
+      → AreMadeUnder R given found
   made_of_all ys h found same = record {
     each = λ name x there.
         let made = made_under R xs ys h name in
@@ -39,10 +41,13 @@ module _ {X Y : Type 0} (R : X → Y → Type 0) (given : List ℕ → Option X)
   }
 
   -- Behind values of which something is made, one that is at fault is that of the least name.
-  pub least_given : (Fault Q : X → Type 0) → ((x : X) (y : Y) → R x y → Q x) → (front : ByName X) (entry : String Global × X) (back : ByName X) → xs ≡ front ++ entry ∷ back
-      → AreInOrder (front ++ entry ∷ back) → (ys : ByName Y) → AreMade R front ys → Fault entry.1 → IsLeastGiven Fault Q given (string_bytes entry.0)
+  pub least_given : (Fault Q : X → Type 0) → ((x : X) (y : Y) → R x y → Q x)
+      → (front : ByName X) (entry : String Global × X) (back : ByName X) → xs ≡ front ++ entry ∷ back
+      → AreInOrder (front ++ entry ∷ back) → (ys : ByName Y) → AreMade R front ys → Fault entry.1
+      → IsLeastGiven Fault Q given (string_bytes entry.0)
   least_given Fault Q one front entry back whole order ys h wrong =
-      let found : (name : List ℕ) → given name ≡ under (front ++ entry ∷ back) name = λ name. listed name ∙ ap (λ (es : ByName X). under es name) whole in
+      let found : (name : List ℕ) → given name ≡ under (front ++ entry ∷ back) name =
+          λ name. listed name ∙ ap (λ (es : ByName X). under es name) whole in
       record {
         value = entry.1;
         there = found (string_bytes entry.0) ∙ found_there front entry back order;
@@ -57,7 +62,9 @@ module _ {X Y : Type 0} (R : X → Y → Type 0) (given : List ℕ → Option X)
 
 module _ {X : Type 0} (P : Data → X → Type 0) (given : List ℕ → Option X) (d : Data) (are : AreFound P given d) where
   -- What is made of all that is found is the value's, where it is so of one.
-  pub all_found : {Y : Type 0} (R : X → Y → Type 0) (Q : Data → Y → Type 0) → ((value : Data) (x : X) (y : Y) → P value x → R x y → Q value y) → (found : List ℕ → Option Y) → AreMadeUnder R given found → AreFound Q found d
+  pub all_found : {Y : Type 0} (R : X → Y → Type 0) (Q : Data → Y → Type 0)
+      → ((value : Data) (x : X) (y : Y) → P value x → R x y → Q value y) → (found : List ℕ → Option Y) → AreMadeUnder R given found
+      → AreFound Q found d
   all_found R Q one found made = record {
     is_object = are.is_object;
     each = λ name value there.
@@ -68,7 +75,8 @@ module _ {X : Type 0} (P : Data → X → Type 0) (given : List ℕ → Option X
   }
 
   -- The least name of what is found is that of the value.
-  pub least_found : (Fault G : X → Type 0) (Q : Data → Type 0) → ((value : Data) (x : X) → P value x → G x → Q value) → (name : List ℕ) → IsLeastGiven Fault G given name
+  pub least_found : (Fault G : X → Type 0) (Q : Data → Type 0) → ((value : Data) (x : X) → P value x → G x → Q value) → (name : List ℕ)
+      → IsLeastGiven Fault G given name
       → IsLeast (λ value. (x : X) × P value x × Fault x) Q d name
   least_found Fault G Q one name least =
       let own = value_under P given d are name least.value least.there in
@@ -76,5 +84,6 @@ module _ {X : Type 0} (P : Data → X → Type 0) (given : List ℕ → Option X
         value = own.0;
         there = own.1;
         own = (least.value, own.2, least.own);
-        below = λ other value there less. let known = are.each other value there in one value known.found known.own (least.below other known.found known.there less);
+        below = λ other value there less. let known = are.each other value there in
+            one value known.found known.own (least.below other known.found known.there less);
       }

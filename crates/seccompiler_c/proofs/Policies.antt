@@ -20,7 +20,8 @@ use Rattle.seccompiler.specs.declared.json.error.JsonFrontendError.TheVariants a
 use Rattle.seccompiler_c.specs.Policies.{NamesPolicy, NamesNone, IsPolicyFault, from_frontend}
 
 -- What the front end refuses of a text in memory is its first fault, or want of memory.
-pub text_refused : (target : TargetArch) (text name : List ℕ) (e : JsonFrontendError) → TellsFrontendFault target text e → IsNoFailedRead e → IsPolicyFault target text name (from_frontend e)
+pub text_refused : (target : TargetArch) (text name : List ℕ) (e : JsonFrontendError) → TellsFrontendFault target text e → IsNoFailedRead e
+    → IsPolicyFault target text name (from_frontend e)
 text_refused target text name (frontend.Read cause) tells none = absurd none
 text_refused target text name frontend.OutOfMemory tells none = tt
 text_refused target text name _ tells none = tells
@@ -56,7 +57,8 @@ pub names_none : (target : TargetArch) (text name : List ℕ) (find : Find) → 
 names_none target text name find (d, is, are) none = (d, is, (all_policies target find d are, found_nowhere target find d are name none (get name d) refl))
 
 -- A name under which something is found is UTF-8.
-pub utf8_where_found : (name : List ℕ) (entries : List (String Global × Filter)) (policy : Filter) → lookup (is_at (text_cmp name)) entries ≡ Some policy → IsUtf8 name
+pub utf8_where_found : (name : List ℕ) (entries : List (String Global × Filter)) (policy : Filter)
+    → lookup (is_at (text_cmp name)) entries ≡ Some policy → IsUtf8 name
 utf8_where_found name entries policy found =
     let place = place_from_lookup (is_at (text_cmp name)) entries policy found in
     let same = (bytes_eq-Decides name (string_bytes place.1)).0 (sym (is_eq-slice_cmp name (string_bytes place.1)) ∙ place.3) in

@@ -28,13 +28,16 @@ table_number_fits : (z : ℤ) → IsTableNumber z → IsCallNumber z
 table_number_fits (pos n) h = (n, refl, grind (arith, ints, h.1))
 table_number_fits (negsuc n) h = absurd (grind (arith, ints, h.0))
 
-module _ (policies : BTreeMap (String Global) Filter) (front : ByName Filter) (entry : String Global × Filter) (back : ByName Filter) (whole : policies.entries ≡ front ++ entry ∷ back)
+module _ (policies : BTreeMap (String Global) Filter) (front : ByName Filter) (entry : String Global × Filter) (back : ByName Filter)
+    (whole : policies.entries ≡ front ++ entry ∷ back)
     (order : AreInOrder (front ++ entry ∷ back)) (made : ByName (Vec sock_filter Global)) (h : AreMade Compiles front made) where
   -- Behind policies that are compiled, one that is refused is that of the least name.
-  least_refused : (e : BackendError) → IsRefusal entry.1 e → (name : List ℕ) × IsLeastGiven (λ policy. IsRefusal policy e) IsCompilable (get_by_text policies) name
+  least_refused : (e : BackendError) → IsRefusal entry.1 e
+      → (name : List ℕ) × IsLeastGiven (λ policy. IsRefusal policy e) IsCompilable (get_by_text policies) name
   least_refused e wrong = (
     string_bytes entry.0,
-    least_given Compiles (get_by_text policies) policies.entries (λ name. by_text name policies.entries) (λ policy. IsRefusal policy e) IsCompilable (λ policy program own. own.compilable) front entry back whole order made h wrong,
+    least_given Compiles (get_by_text policies) policies.entries (λ name. by_text name policies.entries) (λ policy. IsRefusal policy e)
+        IsCompilable (λ policy program own. own.compilable) front entry back whole order made h wrong,
   )
 
   pub refusal_of : (e : BackendError) → IsRefusal entry.1 e → IsLeastUncompiled (get_by_text policies) e
@@ -44,18 +47,22 @@ module _ (policies : BTreeMap (String Global) Filter) (front : ByName Filter) (e
 module _ (arch : TargetArch) (d : Data) (find : List ℕ → Option Filter) (are : ArePoliciesOf arch find d) where
   -- The programs for the value's policies are the value's.
   pub are_programs : (found : List ℕ → Option (Vec sock_filter Global)) → AreProgramsFor find found → AreProgramsOf arch found d
-  are_programs = all_found (HasPolicy arch) find d are Compiles _ (λ value policy program has made. record { policy = policy; is_policy = has; compiled = made.compiled; passes = made.passes })
+  are_programs = all_found (HasPolicy arch) find d are Compiles _
+      (λ value policy program has made. record { policy = policy; is_policy = has; compiled = made.compiled; passes = made.passes })
 
   -- The least name's policy that is too large is that of the value.
-  least_too_large : (n : ℕ) → (name : List ℕ) × IsLeastGiven (λ policy. IsTooLarge policy n) IsCompilable find name → IsLeastTooLarge arch n d
+  least_too_large : (n : ℕ) → (name : List ℕ) × IsLeastGiven (λ policy. IsTooLarge policy n) IsCompilable find name
+      → IsLeastTooLarge arch n d
   least_too_large n (name, least) = (
     record { is_object = are.is_object; each = λ name value there. let policy = are.each name value there in (policy.found, policy.own) },
     name,
-    least_found (HasPolicy arch) find d are (λ policy. IsTooLarge policy n) IsCompilable _ (λ value policy has may. (policy, has, may)) name least,
+    least_found (HasPolicy arch) find d are (λ policy. IsTooLarge policy n) IsCompilable _ (λ value policy has may. (policy, has, may))
+        name least,
   )
 
   -- Its refusal is the text's first fault, where the policies' numbers are those of a table.
-  pub refused_told : (text : List ℕ) → IsValueOf text d → HaveTableNumbers find → (e : BackendError) → IsLeastUncompiled find e → TellsFirstFault arch text (from_backend e)
+  pub refused_told : (text : List ℕ) → IsValueOf text d → HaveTableNumbers find → (e : BackendError) → IsLeastUncompiled find e
+      → TellsFirstFault arch text (from_backend e)
   refused_told text is numbers (b.FilterTooLarge n) h = (d, is, least_too_large n h)
   refused_told text is numbers (b.InvalidSyscallNumber n) (name, least) =
       let own : All IsTableNumber (numbers_of least.value.chains) = rw least.there at (numbers name) in

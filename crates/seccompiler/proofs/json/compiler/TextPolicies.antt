@@ -30,13 +30,16 @@ module _ (arch : TargetArch) (m : JsonFilterMap) where
       by None none = rw (are.no_other name none) tt
       by (Some f) there = let own = are.each name f there in rw own.1 (numbers_in_range arch f own.0 own.2)
 
-  module _ (front : ByName JsonFilter) (entry : String Global × JsonFilter) (back : ByName JsonFilter) (whole : m.0.entries ≡ front ++ entry ∷ back) (order : AreInOrder (front ++ entry ∷ back))
+  module _ (front : ByName JsonFilter) (entry : String Global × JsonFilter) (back : ByName JsonFilter)
+      (whole : m.0.entries ≡ front ++ entry ∷ back) (order : AreInOrder (front ++ entry ∷ back))
       (made : ByName Filter) (h : AreMade (IsPolicyOf arch) front made) where
     -- Behind filters that have policies, one that has none is that of the least name.
-    least_fault : (fault : Fault) → IsFirstFault arch entry.1 fault → (name : List ℕ) × IsLeastGiven (λ f. IsFirstFault arch f fault) (IsFaultless arch) (get_by_text m.0) name
+    least_fault : (fault : Fault) → IsFirstFault arch entry.1 fault
+        → (name : List ℕ) × IsLeastGiven (λ f. IsFirstFault arch f fault) (IsFaultless arch) (get_by_text m.0) name
     least_fault fault first = (
       string_bytes entry.0,
-      least_given (IsPolicyOf arch) (get_by_text m.0) m.0.entries (λ name. by_text name m.0.entries) (λ f. IsFirstFault arch f fault) (IsFaultless arch) (λ f policy own. (policy, own)) front entry back whole order made h first,
+      least_given (IsPolicyOf arch) (get_by_text m.0) m.0.entries (λ name. by_text name m.0.entries) (λ f. IsFirstFault arch f fault)
+          (IsFaultless arch) (λ f policy own. (policy, own)) front entry back whole order made h first,
     )
 
     -- Its refusal is that of all.
@@ -52,15 +55,19 @@ module _ (arch : TargetArch) (m : JsonFilterMap) where
     are_policies = all_found IsFilter (get_by_text m.0) d are (IsPolicyOf arch) (HasPolicy arch) (λ value f policy is own. (f, is, own))
 
     -- The least name's fault is that of the value.
-    least_refused : (fault : Fault) → (name : List ℕ) × IsLeastGiven (λ f. IsFirstFault arch f fault) (IsFaultless arch) (get_by_text m.0) name → IsLeastRefused arch fault d
+    least_refused : (fault : Fault)
+        → (name : List ℕ) × IsLeastGiven (λ f. IsFirstFault arch f fault) (IsFaultless arch) (get_by_text m.0) name
+        → IsLeastRefused arch fault d
     least_refused fault (name, least) = (
       record { is_object = are.is_object; each = λ name value there. let known = are.each name value there in (known.found, known.own) },
       name,
-      least_found IsFilter (get_by_text m.0) d are (λ f. IsFirstFault arch f fault) (IsFaultless arch) (HasSomePolicy arch) (λ value f is own. (own.0, (f, is, own.1))) name least,
+      least_found IsFilter (get_by_text m.0) d are (λ f. IsFirstFault arch f fault) (IsFaultless arch) (HasSomePolicy arch)
+          (λ value f is own. (own.0, (f, is, own.1))) name least,
     )
 
     -- Its refusal is the text's first fault.
-    pub refused_told : (text : List ℕ) → IsValueOf text d → (e : JsonFrontendError) → IsLeastPolicyRefusal arch m e → TellsFrontendFault arch text e
+    pub refused_told : (text : List ℕ) → IsValueOf text d → (e : JsonFrontendError) → IsLeastPolicyRefusal arch m e
+        → TellsFrontendFault arch text e
     refused_told text is (e.Backend x) h = (d, is, least_refused (refused x) h.0)
     refused_told text is (e.SyscallName name known) h = (d, is, least_refused (unknown_call (string_bytes name) known) h)
     refused_told text is e.OutOfMemory h = tt

@@ -32,7 +32,8 @@ module _ {X : Type 0} (p : X → Bool) where
   places_push start [] x = append-nil (place_if (p x) start) ∙ ap (place_if (p x)) (let same : start ≡ start + 0 = omega arith in same)
   places_push start (y ∷ xs) x =
       let same : start + 1 + length xs ≡ start + length (y ∷ xs) = omega arith in
-      ap (λ rest. place_if (p y) start ++ rest) (places_push (start + 1) xs x ∙ ap (λ place. places (start + 1) xs ++ place_if (p x) place) same)
+      ap (λ rest. place_if (p y) start ++ rest) (places_push (start + 1) xs x
+          ∙ ap (λ place. places (start + 1) xs ++ place_if (p x) place) same)
       ∙ sym (append_assoc (place_if (p y) start) (places (start + 1) xs) (place_if (p x) (start + length (y ∷ xs))))
 
   -- A place of an item that passes.
@@ -46,8 +47,10 @@ module _ {X : Type 0} (p : X → Bool) where
   sound : (start : ℕ) (xs : List X) (place : ℕ) → Contains (places start xs) place → (k : ℕ) × (place ≡ start + k) × Passes xs k
   sound start [] place (k, within, is) = absurd (let none : k < 0 = within in omega (arith, none))
   sound start (x ∷ xs) place there = elim (Contains-append_cases (place_if (p x) start) (places (start + 1) xs) place there) [
-    | inl here ↦ (let one = in_one (p x) start place here in (0, (let same : place ≡ start + 0 = omega (arith, one.1) in same), (x, refl, one.0)))
-    | inr behind ↦ (let rest = sound (start + 1) xs place behind in (suc rest.0, (let same : place ≡ start + suc rest.0 = omega (arith, rest.1) in same), rest.2))
+    | inl here ↦ (let one = in_one (p x) start place here in
+        (0, (let same : place ≡ start + 0 = omega (arith, one.1) in same), (x, refl, one.0)))
+    | inr behind ↦ (let rest = sound (start + 1) xs place behind in
+        (suc rest.0, (let same : place ≡ start + suc rest.0 = omega (arith, rest.1) in same), rest.2))
   ]
 
   complete : (start : ℕ) (xs : List X) (k : ℕ) → Passes xs k → Contains (places start xs) (start + k)
@@ -65,7 +68,8 @@ module _ {X : Type 0} (p : X → Bool) where
   above low start [] less = tt
   above low start (x ∷ xs) less = by (p x) (above low (start + 1) xs (omega (arith, less)))
     where
-      by : (b : Bool) → AllByRecursion (λ place. nat_cmp low place ≡ Less) (places (start + 1) xs) → AllByRecursion (λ place. nat_cmp low place ≡ Less) (place_if b start ++ places (start + 1) xs)
+      by : (b : Bool) → AllByRecursion (λ place. nat_cmp low place ≡ Less) (places (start + 1) xs)
+          → AllByRecursion (λ place. nat_cmp low place ≡ Less) (place_if b start ++ places (start + 1) xs)
       by false rest = rest
       by true rest = (sym (nat_cmp_is low start Less less), rest)
 
@@ -74,7 +78,8 @@ module _ {X : Type 0} (p : X → Bool) where
   ascending start [] = tt
   ascending start (x ∷ xs) = by (p x) (above start (start + 1) xs (omega arith)) (ascending (start + 1) xs)
     where
-      by : (b : Bool) → AllByRecursion (λ place. nat_cmp start place ≡ Less) (places (start + 1) xs) → IsStrictlySortedBy nat_cmp (places (start + 1) xs)
+      by : (b : Bool) → AllByRecursion (λ place. nat_cmp start place ≡ Less) (places (start + 1) xs)
+          → IsStrictlySortedBy nat_cmp (places (start + 1) xs)
           → IsStrictlySortedBy nat_cmp (place_if b start ++ places (start + 1) xs)
       by false first rest = rest
       by true first rest = (first, rest)
@@ -85,8 +90,11 @@ module _ (arch : TargetArch) where
   AreListed entries origins = (number : ℤ) → indices_at origins number ≡ added (places (is_for arch number) 0 entries) None
 
   -- One entry more.
-  pub listed_more : (entries : List JsonRule) (place : ℕ) (entry : JsonRule) (old new : BTreeMap ℤ (Vec ℕ Global)) → place < length entries → entry ≡ get_or entries place entry
-      → AreListed (take place entries) old → ((number : ℤ) → indices_at new number ≡ added (place_if (is_for arch number entry) place) (indices_at old number)) → AreListed (take (place + 1) entries) new
+  pub listed_more : (entries : List JsonRule) (place : ℕ) (entry : JsonRule) (old new : BTreeMap ℤ (Vec ℕ Global)) → place < length entries
+      → entry ≡ get_or entries place entry
+      → AreListed (take place entries) old
+      → ((number : ℤ) → indices_at new number ≡ added (place_if (is_for arch number entry) place) (indices_at old number))
+      → AreListed (take (place + 1) entries) new
   listed_more entries place entry old new within is so_far more number =
       let own = is_for arch number in
       let taken : place ≡ 0 + length (take place entries) = omega (arith, length-take-le place entries (omega (arith, within))) in
@@ -121,7 +129,10 @@ module _ (arch : TargetArch) where
     some_entry index there =
         let own = (exactly index).0 there in
         elim (slice_get_cases entries index).1 [
-          | inl (x, within, found, is) ↦ (let same : x ≡ own.0 = let both : Some x ≡ Some own.0 = sym found ∙ own.1 in cc in (index, own.0, within, subst (λ y. get_or entries index y ≡ y) same is, own.2))
+          | inl (x, within, found, is) ↦ (
+              let both : Some x ≡ Some own.0 = sym found ∙ own.1 in
+              let same : x ≡ own.0 = cc in
+              (index, own.0, within, subst (λ y. get_or entries index y ≡ y) same is, own.2))
           | inr (past, none) ↦ absurd (let both : Some own.0 ≡ None = sym own.1 ∙ none in cc)
         ]
 
@@ -129,14 +140,18 @@ module _ (arch : TargetArch) where
     found_each [] is (index, (k, within, at)) = absurd (let none : k < 0 = within in omega (arith, none))
     found_each (first ∷ all) is some = refl
 
-    found_none : (all : List ℕ) → places (is_for arch number) 0 entries ≡ all → ((index : ℕ) → Contains all index → ⊥) → added all None ≡ None
+    found_none : (all : List ℕ) → places (is_for arch number) 0 entries ≡ all → ((index : ℕ) → Contains all index → ⊥)
+        → added all None ≡ None
     found_none [] is none = refl
     found_none (first ∷ all) is none = absurd (none first (0, omega arith, refl))
 
   -- What is listed of all entries are the origins.
-  pub are_origins : (entries : List JsonRule) (origins : BTreeMap ℤ (Vec ℕ Global)) → AreListed entries origins → AreOrigins arch entries origins
+  pub are_origins : (entries : List JsonRule) (origins : BTreeMap ℤ (Vec ℕ Global)) → AreListed entries origins
+      → AreOrigins arch entries origins
   are_origins entries origins listed = record {
     each = λ number any.
-        (places (is_for arch number) 0 entries, listed number ∙ found_each entries number _ refl (some_place entries number any), are_indices entries number);
-    no_other = λ number none. listed number ∙ found_none entries number _ refl (λ index there. none (some_entry entries number index there));
+        let found = listed number ∙ found_each entries number _ refl (some_place entries number any) in
+        (places (is_for arch number) 0 entries, found, are_indices entries number);
+    no_other = λ number none. listed number
+        ∙ found_none entries number _ refl (λ index there. none (some_entry entries number index there));
   }

@@ -28,22 +28,27 @@ module _ {X : Type 0} where
   list_of found = option_map (λ v. v.items) found
 
   -- What a list was, or the empty one.
-  or_empty : (found : Option (Vec X Global)) (start : Vec X Global) → start.items ≡ [] → (unwrap_or found start).items ≡ unwrap_or (list_of found) []
+  or_empty : (found : Option (Vec X Global)) (start : Vec X Global) → start.items ≡ []
+      → (unwrap_or found start).items ≡ unwrap_or (list_of found) []
   or_empty None start empty = empty
   or_empty (Some v) start empty = refl
 
   -- An item was put at the end of a number's list, which began empty.
   pub list_with_item : (old new : List (ℤ × Vec X Global)) (number : ℤ) (before after start : Vec X Global) (item : X) (q : ℤ)
-      → held new q ≡ cond (int_eq number q) (Some after) (held old q) → before ≡ unwrap_or (held old number) start → start.items ≡ [] → after.items ≡ before.items ++ item ∷ []
+      → held new q ≡ cond (int_eq number q) (Some after) (held old q) → before ≡ unwrap_or (held old number) start → start.items ≡ []
+      → after.items ≡ before.items ++ item ∷ []
       → list_of (held new q) ≡ added (cond (int_eq q number) (item ∷ []) []) (list_of (held old q))
   list_with_item old new number before after start item q written found empty longer =
-      ap list_of written ∙ by_case (int_eq number q) refl ∙ ap (λ b. added (cond b (item ∷ []) []) (list_of (held old q))) (int_eq_equiv.symm number q)
+      ap list_of written ∙ by_case (int_eq number q) refl
+          ∙ ap (λ b. added (cond b (item ∷ []) []) (list_of (held old q))) (int_eq_equiv.symm number q)
     where
-      by_case : (b : Bool) → int_eq number q ≡ b → list_of (cond b (Some after) (held old q)) ≡ added (cond b (item ∷ []) []) (list_of (held old q))
+      by_case : (b : Bool) → int_eq number q ≡ b
+          → list_of (cond b (Some after) (held old q)) ≡ added (cond b (item ∷ []) []) (list_of (held old q))
       by_case false is = refl
       by_case true is =
           let same : number ≡ q = (Decides-int_eq number q).0 is in
-          let was : before.items ≡ unwrap_or (list_of (held old number)) [] = ap (λ v. v.items) found ∙ or_empty (held old number) start empty in
+          let was : before.items ≡ unwrap_or (list_of (held old number)) [] =
+              ap (λ v. v.items) found ∙ or_empty (held old number) start empty in
           ap Some (longer ∙ ap (λ front. front ++ item ∷ []) was) ∙ ap (λ n. added (item ∷ []) (list_of (held old n))) same
 
 -- A rule was put at the end of a number's chain.
@@ -51,7 +56,8 @@ pub chain_with_rule : (old new : List (ℤ × Vec Rule Global)) (number : ℤ) (
     → held new q ≡ cond (int_eq number q) (Some after) (held old q) → before ≡ unwrap_or (held old number) start → start.items ≡ [] → after.items ≡ before.items ++ rule ∷ []
     → chain_at (chains_of new) q ≡ added (cond (int_eq q number) (rule ∷ []) []) (chain_at (chains_of old) q)
 chain_with_rule old new number before after start rule q written found empty longer =
-    chain_held new q ∙ list_with_item old new number before after start rule q written found empty longer ∙ ap (added (cond (int_eq q number) (rule ∷ []) [])) (sym (chain_held old q))
+    chain_held new q ∙ list_with_item old new number before after start rule q written found empty longer
+        ∙ ap (added (cond (int_eq q number) (rule ∷ []) [])) (sym (chain_held old q))
 
 -- The empty chain was put under a number.
 pub chain_emptied : (old new : List (ℤ × Vec Rule Global)) (number : ℤ) (empty : Vec Rule Global) (q : ℤ)

@@ -107,7 +107,7 @@ extern "C" {
 
 /* The layout that tests one call number after the other, as the Rust crate seccompiler does. */
 #define SECCOMPILER_LAYOUT_CHAINS 0
-/* The layout that halves the call numbers with each test. */
+/* The layout of a tree of tests, which tell ranges of call numbers apart. */
 #define SECCOMPILER_LAYOUT_TREE 1
 
 /*

@@ -95,8 +95,8 @@ static const struct {
     {README, "\xff", AUDIT_ARCH_X86_64, 0, 0, SECCOMPILER_NO_FILTER, "No filter has this name."},
     {README, NAME, AUDIT_ARCH_X86_64, 0, 23, SECCOMPILER_NO_ROOM,
      "The array has too little room for the program: it has 24 instructions."},
-    {README, NAME, AUDIT_ARCH_X86_64, 1, 25, SECCOMPILER_NO_ROOM,
-     "The array has too little room for the program: it has 26 instructions."},
+    {README, NAME, AUDIT_ARCH_X86_64, 1, 20, SECCOMPILER_NO_ROOM,
+     "The array has too little room for the program: it has 21 instructions."},
 };
 
 static const char TOO_LARGE[] =

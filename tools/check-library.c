@@ -144,10 +144,10 @@ static void check_programs(void)
     equal(seccompiler_check(program, 23), 0, "a check without the last return, to which a jump leads");
     equal(seccompiler_check(program, 25), 0, "a check of one instruction more");
     check_calls(24);
-    equal(compile_readme(SECCOMPILER_LAYOUT_TREE, 26), 26, "the README's policy as a tree");
-    check(is_marked(26), "behind the tree");
-    equal(seccompiler_check(program, 26), 1, "a check of the tree");
-    check_calls(26);
+    equal(compile_readme(SECCOMPILER_LAYOUT_TREE, 21), 21, "the README's policy as a tree");
+    check(is_marked(21), "behind the tree");
+    equal(seccompiler_check(program, 21), 1, "a check of the tree");
+    check_calls(21);
 }
 
 /* ---- codes and texts */
@@ -298,7 +298,7 @@ static int64_t in_chains(void)
 static int64_t as_tree(void)
 {
     int64_t answer = compile_readme(SECCOMPILER_LAYOUT_TREE, 30);
-    check(is_marked(answer < 0 ? 0 : 26), "an array with a refused request");
+    check(is_marked(answer < 0 ? 0 : 21), "an array with a refused request");
     return answer;
 }
 
@@ -357,7 +357,7 @@ int main(void)
     check_lengths();
     held = 0;
     sweep(in_chains, 24, SECCOMPILER_OUT_OF_MEMORY);
-    sweep(as_tree, 26, SECCOMPILER_OUT_OF_MEMORY);
+    sweep(as_tree, 21, SECCOMPILER_OUT_OF_MEMORY);
     sweep(decided, SECCOMP_RET_ALLOW, SECCOMPILER_OUT_OF_MEMORY);
     sweep(refusal, 34, 14);
     sweep(no_refusal, 0, 14);

@@ -5,13 +5,13 @@ from program_cases import FRONTEND, LARGE, UNREAD, UNWRITTEN
 from .forms import LAYOUTS, LOGS, NO_ARCHITECTURE, NO_OBJECT, fails_to_read_and_write, refuses_in_both, writes
 
 # The programs of a filter without entries: the architecture's word is loaded and compared, another one
-# kills the process; the tree loads the call number, which no test asks for, and has a second return.
+# kills the process; the tree loads the call number, which no test asks for.
 CHAINS = bytes.fromhex("""
     20 00 00 00 04 00 00 00  15 00 01 00 3e 00 00 c0  06 00 00 00 00 00 00 80  06 00 00 00 00 00 fc 7f
 """)
 TREE = bytes.fromhex("""
     20 00 00 00 04 00 00 00  15 00 01 00 3e 00 00 c0  06 00 00 00 00 00 00 80  20 00 00 00 00 00 00 00
-    06 00 00 00 00 00 fc 7f  06 00 00 00 00 00 fc 7f
+    06 00 00 00 00 00 fc 7f
 """)
 
 NO_FILTER = "No filter has this name: b.\n"

@@ -9,7 +9,7 @@ from .long_filters import of_rules
 # call number, and they return.
 LOGS_STEPS = (
     "filter a\nchains: 4 instructions, at most 3 steps, 3 passing\n"
-    "tree: 6 instructions, at most 4 steps, 4 passing\n"
+    "tree: 5 instructions, at most 4 steps, 4 passing\n"
 )
 
 # Call 0 has a rule, and call 39 matches always.
@@ -18,15 +18,15 @@ LOGS_STEPS = (
 # call 39 and a return. A passing call takes 3 steps to the number, 2 past each chain and the return, and
 # no way is longer.
 #
-# Tree: 4 instructions in front, a test at 39, one at 1, 6 of call 0 and a return, a test at 40 and two
-# returns, and the last return. The longest way is through call 0: 3 steps to the number, 2 tests, a
-# jump, a load, a test and a return. A passing call takes the 3 steps, 2 tests and a return.
+# Tree: 4 instructions in front, and one block: a test at 1, 6 of call 0, a test of 39, and two returns.
+# The longest way is through call 0: 3 steps to the number, a test, a jump, a load, a test and a return.
+# A passing call takes the 3 steps, 2 tests and a return.
 TWO_CALLS = r'''{"b\n\\":{"mismatch_action":"trap","match_action":"allow","filter":[
     {"syscall":"read","args":[{"index":0,"type":"dword","op":"eq","val":5}]},
     {"syscall":"getpid"}]}}'''
 TWO_CALLS_STEPS = (
     "filter b\\x0a\\x5c\nchains: 17 instructions, at most 8 steps, 8 passing\n"
-    "tree: 17 instructions, at most 9 steps, 6 passing\n"
+    "tree: 14 instructions, at most 8 steps, 6 passing\n"
 )
 
 # Rules of 4089 instructions, and of 4094.

@@ -73,15 +73,13 @@ const PROGRAM: [Row; 24] = [
     (0x06, 0, 0, 0x8000_0000),
 ];
 
-// The program of two calls in the second layout: the ranges begin at 0, 72, 73, 288 and 289.
-const TREE: [Row; 26] = [
+// The program of two calls in the second layout: calls 72 and 288 stand out of ranges without chains.
+const TREE: [Row; 21] = [
     (0x20, 0, 0, 4),
     (0x15, 1, 0, 0xc000_003e),
     (0x06, 0, 0, 0x8000_0000),
     (0x20, 0, 0, 0),
-    (0x35, 15, 0, 73),
-    (0x35, 1, 0, 72),
-    (0x06, 0, 0, 0x8000_0000),
+    (0x15, 0, 13, 72),
     (0x05, 0, 0, 1),
     (0x05, 0, 0, 6),
     (0x20, 0, 0, 32),
@@ -95,11 +93,8 @@ const TREE: [Row; 26] = [
     (0x15, 0, 1, 1),
     (0x06, 0, 0, 0x7fff_0000),
     (0x06, 0, 0, 0x8000_0000),
-    (0x35, 1, 0, 288),
-    (0x06, 0, 0, 0x8000_0000),
-    (0x35, 1, 0, 289),
+    (0x15, 0, 1, 288),
     (0x06, 0, 0, 0x7fff_0000),
-    (0x06, 0, 0, 0x8000_0000),
     (0x06, 0, 0, 0x8000_0000),
 ];
 

@@ -43,16 +43,11 @@ fn assert_tree(
 #[test]
 fn instructions_of_few_ranges(rt: HostRuntime) -> Result<(), Fail> {
     let alloc = rt.alloc();
-    let none = [give(ALLOW), give(ALLOW)];
+    let none = [give(ALLOW)];
     assert_tree(&rt, alloc, "no chain", Policy::Empty, &none)?;
-    let least = [jump_at_least(1, 1, 0), give(ALLOW), give(TRAP), give(TRAP)];
+    let least = [jump_at_least(1, 1, 0), give(ALLOW), give(TRAP)];
     assert_tree(&rt, alloc, "call 0", Policy::Allowed(&[0]), &least)?;
-    let greatest = [
-        jump_at_least(4294967295, 1, 0),
-        give(TRAP),
-        give(ALLOW),
-        give(TRAP),
-    ];
+    let greatest = [jump_at_least(4294967295, 0, 1), give(ALLOW), give(TRAP)];
     let policy = Policy::Allowed(&[4294967295]);
     assert_tree(&rt, alloc, "call 4294967295", policy, &greatest)
 }
@@ -61,21 +56,17 @@ fn instructions_of_few_ranges(rt: HostRuntime) -> Result<(), Fail> {
 fn instructions_of_several_numbers(rt: HostRuntime) -> Result<(), Fail> {
     let alloc = rt.alloc();
     let both = [
-        jump_at_least(1, 1, 0),
-        give(ALLOW),
-        jump_at_least(4294967295, 1, 0),
-        give(TRAP),
+        jump_at_least(1, 0, 1),
+        jump_at_least(4294967295, 0, 1),
         give(ALLOW),
         give(TRAP),
     ];
     let policy = Policy::Allowed(&[0, 4294967295]);
     assert_tree(&rt, alloc, "calls 0 and 4294967295", policy, &both)?;
     let neighbours = [
-        jump_at_least(5, 1, 0),
-        give(TRAP),
+        jump_at_least(5, 0, 2),
         jump_at_least(8, 1, 0),
         give(ALLOW),
-        give(TRAP),
         give(TRAP),
     ];
     let policy = Policy::Allowed(&[5, 6, 7]);
@@ -83,11 +74,42 @@ fn instructions_of_several_numbers(rt: HostRuntime) -> Result<(), Fail> {
 }
 
 #[test]
+fn instructions_of_numbers_that_stand_out(rt: HostRuntime) -> Result<(), Fail> {
+    let alloc = rt.alloc();
+    let one = [jump_equal(5, 0, 1), give(ALLOW), give(TRAP)];
+    assert_tree(&rt, alloc, "call 5", Policy::Allowed(&[5]), &one)?;
+    let gap = [
+        jump_equal(5, 1, 0),
+        jump_equal(7, 0, 1),
+        give(ALLOW),
+        give(TRAP),
+    ];
+    let policy = Policy::Allowed(&[5, 7]);
+    assert_tree(&rt, alloc, "calls 5 and 7", policy, &gap)
+}
+
+#[test]
+fn instructions_of_halved_ranges(rt: HostRuntime) -> Result<(), Fail> {
+    let eight = [
+        jump_at_least(7, 3, 0),
+        jump_at_least(1, 0, 7),
+        jump_at_least(3, 0, 5),
+        jump_at_least(5, 4, 5),
+        jump_at_least(9, 0, 4),
+        jump_at_least(11, 0, 2),
+        jump_at_least(13, 0, 2),
+        jump_at_least(15, 1, 0),
+        give(ALLOW),
+        give(TRAP),
+    ];
+    let policy = Policy::Allowed(&[1, 2, 5, 6, 9, 10, 13, 14]);
+    assert_tree(&rt, rt.alloc(), "eight calls", policy, &eight)
+}
+
+#[test]
 fn instructions_of_ranges_with_rules(rt: HostRuntime) -> Result<(), Fail> {
     let two = [
-        jump_at_least(73, 15, 0),
-        jump_at_least(72, 1, 0),
-        give(KILL_PROCESS),
+        jump_equal(72, 0, 13),
         jump(1),
         jump(6),
         load(32),
@@ -101,11 +123,8 @@ fn instructions_of_ranges_with_rules(rt: HostRuntime) -> Result<(), Fail> {
         jump_equal(1, 0, 1),
         give(ALLOW),
         give(KILL_PROCESS),
-        jump_at_least(288, 1, 0),
-        give(KILL_PROCESS),
-        jump_at_least(289, 1, 0),
+        jump_equal(288, 0, 1),
         give(ALLOW),
-        give(KILL_PROCESS),
         give(KILL_PROCESS),
     ];
     assert_tree(&rt, rt.alloc(), "two calls", Policy::TwoCalls, &two)
@@ -114,14 +133,14 @@ fn instructions_of_ranges_with_rules(rt: HostRuntime) -> Result<(), Fail> {
 #[test]
 fn instructions_of_a_rule_in_the_last_range(rt: HostRuntime) -> Result<(), Fail> {
     let last = [
-        jump_at_least(4294967295, 1, 0),
-        give(TRAP),
+        jump_at_least(4294967295, 0, 7),
         jump(1),
         jump(4),
         load(16),
         jump_equal(1, 0, 1),
         give(ALLOW),
         give(TRAP),
+        give(ALLOW),
         give(TRAP),
     ];
     let rules = &[(1, (0, Dword, Eq, 1))];
@@ -144,9 +163,9 @@ const OF_FOUR: Parts = (0, Dword, Eq, 1);
 
 const OF_FIVE: Parts = (0, Dword, MaskedEq(1), 1);
 
-// Call 7 has rules of one condition each, each rule as many times as it says.
-fn of_call_7(rules: &[(usize, Parts)]) -> Policy<'_> {
-    let (number, others) = (7, &[]);
+// Call 7 has rules of one condition each, each rule as many times as it says, and the others are allowed.
+fn of_call_7<'a>(rules: &'a [(usize, Parts)], others: &'a [i64]) -> Policy<'a> {
+    let number = 7;
     Policy::Rules {
         number,
         rules,
@@ -154,60 +173,103 @@ fn of_call_7(rules: &[(usize, Parts)]) -> Policy<'_> {
     }
 }
 
-// Asserts the program's instructions from the sixth on, and its answers.
+// Asserts the program's instructions from the fifth on, and its answers.
 fn assert_jumps_of(
     rt: &impl Abort,
     program: &[sock_filter],
     jumps: &[sock_filter],
     answers: &[(SeccompData, u32, usize)],
 ) {
-    assert!(rt; program.get(6..6 + jumps.len()) == Some(jumps), "{jumps:?}");
+    assert!(rt; program.get(4..4 + jumps.len()) == Some(jumps), "{jumps:?}");
     for (asked, word, steps) in answers {
         assert!(rt; ends_in(program, asked, *word, *steps), "{asked:?}");
     }
 }
 
-// The same of the tree of a policy of call 7, which has these rules.
+// The same of the tree of this policy.
 fn assert_jumps(
     rt: &impl Abort,
     alloc: Global,
-    rules: &[(usize, Parts)],
+    policy: Policy,
     jumps: &[sock_filter],
     answers: &[(SeccompData, u32, usize)],
 ) -> Result<(), Fail> {
-    let program = of_call_7(rules).tree(alloc)?;
+    let program = policy.tree(alloc)?;
     assert_jumps_of(rt, &program, jumps, answers);
     Ok(())
 }
 
 #[test]
-fn a_jump_over_255_instructions(rt: HostRuntime) -> Result<(), Fail> {
-    let near = [jump_at_least(8, 255, 0), jump(1), jump(4)];
+fn a_block_of_255_instructions(rt: HostRuntime) -> Result<(), Fail> {
+    let block = [jump_equal(7, 0, 255), jump(1), jump(4)];
     let answers = [
         (call(6, [1; 6]), TRAP, 5),
-        (call(7, [1; 6]), ALLOW, 9),
-        (call(8, [1; 6]), TRAP, 6),
-        (call(4294967295, [1; 6]), TRAP, 6),
+        (call(7, [1; 6]), ALLOW, 8),
+        (call(8, [1; 6]), TRAP, 5),
+        (call(4294967295, [1; 6]), TRAP, 5),
     ];
-    assert_jumps(
-        &rt,
-        rt.alloc(),
-        &[(46, OF_FOUR), (4, OF_FIVE)],
-        &near,
-        &answers,
-    )
+    let policy = of_call_7(&[(47, OF_FOUR), (3, OF_FIVE)], &[]);
+    assert_jumps(&rt, rt.alloc(), policy, &block, &answers)
 }
 
 #[test]
-fn a_jump_over_256_instructions(rt: HostRuntime) -> Result<(), Fail> {
-    let far = [jump_at_least(8, 0, 1), jump(256), jump(1), jump(4)];
+fn ranges_of_256_instructions(rt: HostRuntime) -> Result<(), Fail> {
+    let apart = [
+        jump_at_least(7, 1, 0),
+        give(TRAP),
+        jump_at_least(8, 0, 1),
+        jump(256),
+        jump(1),
+        jump(4),
+    ];
     let answers = [
         (call(6, [1; 6]), TRAP, 5),
         (call(7, [1; 6]), ALLOW, 9),
         (call(8, [1; 6]), TRAP, 7),
         (call(4294967295, [1; 6]), TRAP, 7),
     ];
-    assert_jumps(&rt, rt.alloc(), &[(51, OF_FOUR)], &far, &answers)
+    let policy = of_call_7(&[(46, OF_FOUR), (4, OF_FIVE)], &[]);
+    assert_jumps(&rt, rt.alloc(), policy, &apart, &answers)
+}
+
+// Other calls than 7, of which no row of six tests tells.
+const SIX_OTHERS: [i64; 6] = [20, 21, 30, 31, 40, 41];
+
+#[test]
+fn a_jump_over_255_instructions(rt: HostRuntime) -> Result<(), Fail> {
+    let near = [
+        jump_at_least(22, 255, 0),
+        jump_equal(7, 0, 251),
+        jump(1),
+        jump(4),
+    ];
+    let answers = [
+        (call(6, [1; 6]), TRAP, 7),
+        (call(7, [1; 6]), ALLOW, 9),
+        (call(21, [1; 6]), ALLOW, 7),
+        (call(22, [1; 6]), TRAP, 6),
+    ];
+    let policy = of_call_7(&[(50, OF_FOUR)], &SIX_OTHERS);
+    assert_jumps(&rt, rt.alloc(), policy, &near, &answers)
+}
+
+#[test]
+fn a_jump_over_256_instructions(rt: HostRuntime) -> Result<(), Fail> {
+    let far = [
+        jump_at_least(22, 0, 1),
+        jump(256),
+        jump_equal(7, 0, 252),
+        jump(1),
+        jump(4),
+    ];
+    let answers = [
+        (call(6, [1; 6]), TRAP, 7),
+        (call(7, [1; 6]), ALLOW, 9),
+        (call(21, [1; 6]), ALLOW, 7),
+        (call(22, [1; 6]), TRAP, 7),
+    ];
+    let policy = of_call_7(&[(49, OF_FOUR), (1, OF_FIVE)], &SIX_OTHERS);
+    assert_jumps(&rt, rt.alloc(), policy, &far, &answers)
 }
 
 // Whether both programs answer the call number by the word of `decide`, with each of three arguments.
@@ -282,7 +344,7 @@ fn words_at_the_borders_of_many_ranges(rt: HostRuntime) -> Result<(), Fail> {
     let alloc = rt.alloc();
     let ends = Policy::Allowed(&[0, 4294967295]);
     assert_decides(&rt, alloc, ends, &[0, 4294967295])?;
-    assert_decides(&rt, alloc, of_call_7(&[(51, OF_FOUR)]), &[0, 7, 4294967295])?;
+    assert_decides(&rt, alloc, of_call_7(&[(51, OF_FOUR)], &[]), &[0, 7, 4294967295])?;
     let (first, step, count) = (1, 2, 300);
     let with_gaps = Policy::Spread { first, step, count };
     let numbers = [0, 1, 3, 149, 299, 301, 597, 599, 600, 4294967295];
@@ -344,9 +406,9 @@ fn assert_spread(
 // Spread calls: the distance between them, how many they are, the tree's instructions and its most
 // steps, and the instructions of the other layout.
 const SPREAD: [(i64, i64, usize, usize, usize); 3] = [
-    (2, 300, 1209, 16, 1505),
-    (1, 1000, 10, 6, 5005),
-    (2, 1020, 4093, 18, 5105),
+    (2, 300, 352, 15, 1505),
+    (1, 1000, 8, 6, 5005),
+    (2, 1020, 1295, 18, 5105),
 ];
 
 #[test]
@@ -366,8 +428,9 @@ fn length_of_tree(alloc: Global, count: i64) -> Result<Option<usize>, Fail> {
 
 #[test]
 fn trees_that_are_too_large(rt: HostRuntime) -> Result<(), Fail> {
-    assert!(rt; length_of_tree(rt.alloc(), 1021)? == Some(4097));
-    assert!(rt; length_of_tree(rt.alloc(), 1100)? == Some(4421));
+    assert!(rt; length_of_tree(rt.alloc(), 3562)?.is_none());
+    assert!(rt; length_of_tree(rt.alloc(), 3563)? == Some(4097));
+    assert!(rt; length_of_tree(rt.alloc(), 4000)? == Some(5011));
     Ok(())
 }
 

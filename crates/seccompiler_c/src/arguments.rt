@@ -11,7 +11,7 @@ use seccompiler::TargetArch;
 pub(crate) enum ProgramLayout {
     /// It tests one call number after the other, as the Rust crate's programs do.
     Chains,
-    /// It halves the call numbers with each test.
+    /// It has a tree of tests, which tell ranges of call numbers apart.
     Tree,
 }
 

@@ -33,5 +33,5 @@ pub const SECCOMPILER_UNKNOWN_CALL: i64 = -10;
 /// The layout of the Rust crate, which tests one call number after the other.
 pub const SECCOMPILER_LAYOUT_CHAINS: u32 = 0;
 
-/// The layout of a tree, which halves the call numbers with each test.
+/// The layout of a tree of tests, which tell ranges of call numbers apart.
 pub const SECCOMPILER_LAYOUT_TREE: u32 = 1;

@@ -23,12 +23,15 @@ impl SeccompFilter {
     ghost use Rattle.seccompiler.specs.Ranges.{AreRanges, HasRanges};
     ghost use Rattle.seccompiler.specs.Tree.{tree_length, IsTreeCompiled, IsTreeCompilable, IsTreeRefusal, AnswerAlike};
 
-    /// The filter's program in a second layout, which finds a call's rules by halving.
+    /// The filter's program in a second layout, which finds a call's rules by few tests.
     ///
     /// The program that [`to_bpf`](SeccompFilter::to_bpf) gives tests one call number after the
-    /// other. This one tests on which side of a border the call number lies, and so halves the
-    /// ranges of call numbers until one is left: neighbouring numbers without a chain, neighbouring
-    /// numbers whose chains have no rules, or a single number whose chain has rules. It passes
+    /// other. This one tells ranges of call numbers apart: neighbouring numbers without a chain,
+    /// neighbouring numbers whose chains have no rules, and each number whose chain has rules. It
+    /// halves them by the side of a border on which the call number lies, until at most six tests
+    /// are left; each of these settles one range, by a border, or as a single number between ranges
+    /// that are answered alike. Ranges without rules share two returns, as far as a test can jump
+    /// over 255 instructions. It passes
     /// `machine::check`, and returns for every call record, within as many steps as it has
     /// instructions, the word that `decide` gives.
     ///

@@ -1,13 +1,13 @@
 -- Sets of 32-bit words, and the tests of instructions.
-use Rattle.std.specs.Prelude.{◌≡◌, ℕ, ◌<◌, ◌≤◌, ◌↔◌, ◌⊎◌, ◌^◌, Bool, IsTrue, bit_and}
+use Rattle.std.specs.Prelude.{◌≡◌, ℕ, ◌<◌, ◌≤◌, ◌↔◌, ◌⊎◌, ◌^◌, Bool, IsTrue, bit_and, bit_or}
 use Rattle.seccompiler.specs.declared.bpf.sock_filter.{sock_filter}
 use Rattle.seccompiler.specs.declared.compare.values.Values.{Values}
 
--- The word is one of these: its known bits are as they say, and it lies within the bounds.
+-- The word is one of these: its known bits are as they say, and under the mask it lies within the bounds.
 pub record HasValue (s : Values) (x : ℕ) : Type 0 where
   pub bits : bit_and x s.known ≡ s.value
-  pub least : s.least ≤ x
-  pub most : x ≤ s.most
+  pub least : s.least ≤ bit_and x s.mask
+  pub most : bit_and x s.mask ≤ s.most
 
 -- The bits that are not known stand as 0.
 abbrev pub KeepsKnown : Values → Type 0
@@ -24,9 +24,9 @@ pub record AreHalves (s low high : Values) : Type 0 where
   pub from_low : (x : ℕ) → x < 2 ^ 32 → HasValue low x → HasValue s x
   pub from_high : (x : ℕ) → x < 2 ^ 32 → HasValue high x → HasValue s x
 
--- The least bound is one of the words, if the bounds leave any.
+-- The least bound with the known bits is one of the words, if the bounds leave any.
 abbrev pub IsTight : Values → Type 0
-IsTight s = s.least ≤ s.most → HasValue s s.least
+IsTight s = s.least ≤ s.most → HasValue s (bit_or s.least s.value)
 
 -- The instruction is one of the three tests.
 pub data IsTest (i : sock_filter) : Type 0 where

@@ -45,7 +45,7 @@ pub(crate) fn split(part: &[Values; 16], at: At, test: sock_filter) -> ([Values;
     )
 }
 
-/// The record of the least words.
+/// The record of the least words under the masks of their bounds.
 pub(crate) fn member(part: &[Values; 16]) -> [u8; 64]
     requires tight { AreTight part.now }
     requires some { LeavesSome part.now }
@@ -54,7 +54,7 @@ pub(crate) fn member(part: &[Values; 16]) -> [u8; 64]
 {
     let mut call = [0; 64];
     for (word, values) in part.iter().enumerate() {
-        write_word(&mut call, word, values.least);
+        write_word(&mut call, word, values.least | values.value);
     }
     call
 }

@@ -8,7 +8,7 @@ use Rattle.seccompiler.proofs.compare.sets.split.Goals as goal
 pub halves-requires : goal.halves-requires
 halves-requires c =
     let long : c.args.at.word < length c.args.part.now = search rules in
-    let here = slice_get-get_or c.args.part.now c.args.at.word (record { known = 0; value = 0; least = 0; most = 0 }) long in
+    let here = slice_get-get_or c.args.part.now c.args.at.word (record { known = 0; value = 0; mask = 0; least = 0; most = 0 }) long in
     c.requires.tight.each c.args.at.word _ here (c.requires.some.each c.args.at.word _ here)
 
 pub returns-clause-cover : goal.returns-clause-cover

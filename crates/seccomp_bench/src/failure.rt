@@ -1,6 +1,6 @@
 // What ends the program early.
 
-use seccompiler::BackendError;
+use seccompiler::{BackendError, JsonFrontendError};
 use std::alloc::{AllocError, AllocFailed};
 use std::io;
 
@@ -11,6 +11,10 @@ pub(crate) enum Failure {
     Policy(seccompiler::Error),
     Json(serde_json::Error),
     OutOfMemory,
+    // A comparison is left undecided, or of a program that isn't checked.
+    Undecided,
+    // A word is missing behind the program's name.
+    Words,
 }
 
 impl From<io::Error> for Failure {
@@ -28,6 +32,12 @@ impl From<BackendError> for Failure {
 impl From<seccompiler::Error> for Failure {
     fn from(error: seccompiler::Error) -> Self {
         Failure::Policy(error)
+    }
+}
+
+impl From<JsonFrontendError> for Failure {
+    fn from(error: JsonFrontendError) -> Self {
+        Failure::Policy(seccompiler::Error::from(error))
     }
 }
 

@@ -23,7 +23,7 @@ enum Kind {
 }
 
 // So many calls without rules.
-fn calls(alloc: Global, count: u32) -> Result<SeccompFilter, Failure> {
+pub(crate) fn calls(alloc: Global, count: u32) -> Result<SeccompFilter, Failure> {
     let mut chains = BTreeMap::new(alloc);
     for number in 0..count {
         drop(chains.insert(i64::from(number), Vec::new(alloc))?);
@@ -32,7 +32,7 @@ fn calls(alloc: Global, count: u32) -> Result<SeccompFilter, Failure> {
 }
 
 // One call with so many rules of one condition.
-fn rules(alloc: Global, count: u32) -> Result<SeccompFilter, Failure> {
+pub(crate) fn rules(alloc: Global, count: u32) -> Result<SeccompFilter, Failure> {
     let mut chain = Vec::new(alloc);
     for value in 0..count {
         let condition = SeccompCondition::new(0, Dword, Eq, u64::from(value))?;
@@ -52,7 +52,7 @@ fn conditions(alloc: Global, count: u32) -> Result<SeccompFilter, Failure> {
     filter_of(chains)
 }
 
-fn filter_of(chains: BTreeMap<i64, Vec<SeccompRule>>) -> Result<SeccompFilter, Failure> {
+pub(crate) fn filter_of(chains: BTreeMap<i64, Vec<SeccompRule>>) -> Result<SeccompFilter, Failure> {
     Ok(SeccompFilter::new(chains, KillProcess, Allow, TargetArch::x86_64)?)
 }
 

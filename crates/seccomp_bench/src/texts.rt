@@ -32,7 +32,7 @@ fn least_of_value(rt: &(impl Clock + AllocGlobal), text: &[u8]) -> Result<u128, 
 }
 
 // The text on standard input.
-fn whole_input(rt: &(impl Input + AllocGlobal)) -> Result<Vec<u8>, Failure> {
+pub(crate) fn whole_input(rt: &(impl Input + AllocGlobal)) -> Result<Vec<u8>, Failure> {
     let mut text = Vec::new(rt.alloc());
     rt.reader().read_to_end(&mut text)?;
     Ok(text)

@@ -257,7 +257,7 @@ fn a_set_of_an_architecture_says_nothing_of_others(rt: HostRuntime) -> Result<()
 
 #[test]
 fn too_few_sets_leave_it_undecided(rt: HostRuntime) -> Result<(), Fail> {
-    // All calls, those of at most 39 and those above, those below 39 and 39.
+    // The sets are all calls, those below 39 and the others, and of these 39 and those above.
     for (most, wanted) in [
         (0, Answer::Undecided),
         (1, Answer::Undecided),

@@ -51,9 +51,9 @@ pub enum Comparison {
 /// comparison splits the calls by the tests of both programs, into sets of which it knows what the
 /// programs return, and looks at `most` such sets at most. Most pairs of programs take a few sets for
 /// each test, some microseconds in all; tests under masks of several arguments in one rule may take
-/// many. A million sets take about a tenth of a second.
+/// many. A million sets take some tenths of a second.
 ///
-/// The sets that are left stand in memory, some 300 bytes each; the stack that it takes doesn't
+/// The sets that are left stand in memory, some 370 bytes each; the stack that it takes doesn't
 /// depend on the programs.
 ///
 /// # Errors

@@ -1,17 +1,23 @@
 -- What a comparison of two programs, or of two filters, says of the calls of a set.
-use Rattle.std.specs.Prelude.{◌≡◌, ℕ, ◌≤◌, List, IfSome, nat_eq, if◌then◌else◌, bit_and}
+use Rattle.std.specs.Prelude.{◌≡◌, ℕ, ◌≤◌, List, Option, IfSome, nat_eq, if◌then◌else◌, bit_and}
 use Rattle.seccompiler.specs.declared.bpf.sock_filter.{sock_filter}
 use Rattle.seccompiler.specs.declared.compare.Relation.{Relation}
 use Rattle.seccompiler.specs.declared.compare.Relation.TheVariants.{Alike, AtMostAsPermissive}
 use Rattle.seccompiler.specs.declared.compare.Comparison.{Comparison}
 use Rattle.seccompiler.specs.declared.compare.Comparison.TheVariants.{Holds, Fails, Undecided}
-use Rattle.seccompiler.specs.declared.compare.calls.Calls.{Calls}
+use Rattle.seccompiler.specs.declared.backend.TargetArch.{TargetArch}
 use Rattle.seccompiler.specs.Record.{IsRecord, word_at}
 use Rattle.seccompiler.specs.Architecture.{audit_word}
 use Rattle.seccompiler.specs.Machine.{Ends}
 
+-- A set of calls: those of an architecture, or of any, whose numbers lie within two bounds, both included.
+pub record CallSet : Type 0 where
+  pub arch : Option TargetArch
+  pub least : ℕ
+  pub greatest : ℕ
+
 -- The record is one of these calls: of their architecture, if they are those of one, and with one of their numbers.
-pub record IsCallOf (calls : Calls) (r : List ℕ) : Type 0 where
+pub record IsCallOf (calls : CallSet) (r : List ℕ) : Type 0 where
   pub record_is : IsRecord r
   pub arch_is : IfSome calls.arch (λ arch. word_at r 4 ≡ audit_word arch)
   pub least : calls.least ≤ word_at r 0
@@ -60,7 +66,7 @@ pub record AnswersUnrelated (relation : Relation) (p q : List sock_filter) (r : 
 
 -- What a comparison says of two programs: that the relation holds of their words for each of these calls; or a call of
 -- them for which it doesn't; or nothing.
-abbrev pub Compares : Calls → Relation → List sock_filter → List sock_filter → Comparison → Type 0
+abbrev pub Compares : CallSet → Relation → List sock_filter → List sock_filter → Comparison → Type 0
 Compares calls relation p q Holds = (r : List ℕ) → IsCallOf calls r → AnswersRelated relation p q r
 Compares calls relation p q (Fails r) = IsCallOf calls r × AnswersUnrelated relation p q r
 Compares calls relation p q Undecided = Unit {0}

@@ -6,14 +6,13 @@ use Rattle.seccompiler.specs.declared.backend.BackendError.TheVariants.{FilterTo
 use Rattle.seccompiler.specs.declared.compare.Relation.{Relation}
 use Rattle.seccompiler.specs.declared.compare.Comparison.{Comparison}
 use Rattle.seccompiler.specs.declared.compare.Comparison.TheVariants.{Holds, Fails, Undecided}
-use Rattle.seccompiler.specs.declared.compare.calls.Calls.{Calls}
 use Rattle.seccompiler.specs.Record.{IsRecord}
 use Rattle.seccompiler.specs.Checked.{IsChecked}
 use Rattle.seccompiler.specs.Policy.{Filter, IsDecision}
 use Rattle.seccompiler.specs.Compiled.{EndsAtDecision}
 use Rattle.seccompiler.specs.Refusal.{numbers_of, AreCallNumbers, IsLeastUnfit, IsCompilable, IsTooLarge}
 use Rattle.seccompiler.specs.Tree.{IsTreeCompilable, IsTreeTooLarge}
-use Rattle.seccompiler.specs.Compare.{IsCallOf, Related}
+use Rattle.seccompiler.specs.Compare.{CallSet, IsCallOf, Related}
 
 -- Two filters name words for the record of which the relation holds.
 pub record DecisionsRelated (relation : Relation) (f g : Filter) (r : List ℕ) : Type 0 where
@@ -33,7 +32,7 @@ pub record DecisionsUnrelated (relation : Relation) (f g : Filter) (r : List ℕ
 
 -- What a comparison says of two filters: that the relation holds of their decisions on each of these calls; or a call of
 -- them on which it doesn't; or nothing.
-abbrev pub ComparesFilters : Calls → Relation → Filter → Filter → Comparison → Type 0
+abbrev pub ComparesFilters : CallSet → Relation → Filter → Filter → Comparison → Type 0
 ComparesFilters calls relation f g Holds = (r : List ℕ) → IsCallOf calls r → DecisionsRelated relation f g r
 ComparesFilters calls relation f g (Fails r) = IsCallOf calls r × DecisionsUnrelated relation f g r
 ComparesFilters calls relation f g Undecided = Unit {0}

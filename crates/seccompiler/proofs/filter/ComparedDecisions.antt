@@ -4,11 +4,10 @@ use Rattle.seccompiler.specs.declared.bpf.sock_filter.{sock_filter}
 use Rattle.seccompiler.specs.declared.compare.Relation.{Relation}
 use Rattle.seccompiler.specs.declared.compare.Comparison.{Comparison}
 use Rattle.seccompiler.specs.declared.compare.Comparison.TheVariants.{Holds, Fails, Undecided}
-use Rattle.seccompiler.specs.declared.compare.calls.Calls.{Calls}
 use Rattle.seccompiler.specs.Record.{IsRecord}
 use Rattle.seccompiler.specs.Machine.{Ends}
 use Rattle.seccompiler.specs.Policy.{Filter, IsDecision}
-use Rattle.seccompiler.specs.Compare.{Compares, AnswersRelated, AnswersUnrelated}
+use Rattle.seccompiler.specs.Compare.{CallSet, Compares, AnswersRelated, AnswersUnrelated}
 use Rattle.seccompiler.specs.CompareFilters.{ComparesFilters, Decides, DecisionsRelated, DecisionsUnrelated}
 use Rattle.seccompiler.proofs.Determinism.{ends_only}
 
@@ -41,7 +40,7 @@ unrelated_decisions relation f g p q r of_f of_g rec answers = record {
 }
 
 -- what a comparison says of the programs it says of the filters
-pub compares_filters : (calls : Calls) (relation : Relation) (f g : Filter) (p q : List sock_filter) (answer : Comparison)
+pub compares_filters : (calls : CallSet) (relation : Relation) (f g : Filter) (p q : List sock_filter) (answer : Comparison)
     → Decides f p → Decides g q → Compares calls relation p q answer → ComparesFilters calls relation f g answer
 compares_filters calls relation f g p q Holds of_f of_g known = λ r call. related_decisions relation f g p q r of_f of_g call.record_is (known r call)
 compares_filters calls relation f g p q (Fails r) of_f of_g known = (known.0, unrelated_decisions relation f g p q r of_f of_g known.0.record_is known.1)

@@ -7,6 +7,7 @@ ghost use Rattle.seccompiler.specs.RecordSets.{IsIn, AreTight};
 use super::sets::narrowed;
 use super::values::{ALL, Values, between, only};
 use crate::backend::TargetArch;
+use std::marker::Model;
 
 /// A set of calls: all, those of an architecture, or those of one or more call numbers of one.
 ///
@@ -23,6 +24,16 @@ pub struct Calls {
     arch: Option<TargetArch>,
     least: u32,
     greatest: u32,
+}
+
+impl Model for Calls {
+    ghost use Rattle.seccompiler.specs.Compare.{CallSet};
+
+    ghost Value = { CallSet };
+
+    ghost view = { λ c. record { arch = c.arch; least = c.least; greatest = c.greatest } };
+
+    ghost inverse = { λ v. record { arch = v.arch; least = v.least; greatest = v.greatest } };
 }
 
 impl Calls {

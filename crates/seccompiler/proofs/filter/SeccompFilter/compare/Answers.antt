@@ -3,15 +3,14 @@ use Rattle.seccompiler.specs.declared.bpf.sock_filter.{sock_filter}
 use Rattle.seccompiler.specs.declared.backend.BackendError.{BackendError}
 use Rattle.seccompiler.specs.declared.compare.Comparison.{Comparison}
 use Rattle.seccompiler.specs.declared.compare.Relation.{Relation}
-use Rattle.seccompiler.specs.declared.compare.calls.Calls.{Calls}
 use Rattle.seccompiler.specs.Policy.{Filter}
-use Rattle.seccompiler.specs.Compare.{Compares}
+use Rattle.seccompiler.specs.Compare.{CallSet, Compares}
 use Rattle.seccompiler.specs.CompareFilters.{ComparesFilters, Decides}
 use Rattle.seccompiler.proofs.filter.ComparedDecisions.{compares_filters}
 use Rattle.seccompiler.proofs.filter.SeccompFilter.compare.Goals as goal
 
 -- what an answer says of the programs it says of the filters
-of_answer : (calls : Calls) (relation : Relation) (f g : Filter) (p q : List sock_filter) (answer : Result Comparison BackendError)
+of_answer : (calls : CallSet) (relation : Relation) (f g : Filter) (p q : List sock_filter) (answer : Result Comparison BackendError)
     → Decides f p → Decides g q → IfOk answer (λ a. Compares calls relation p q a) → IfOk answer (λ a. ComparesFilters calls relation f g a)
 of_answer calls relation f g p q (Ok answer) of_f of_g known = compares_filters calls relation f g p q answer of_f of_g known
 of_answer calls relation f g p q (Err e) of_f of_g known = tt

@@ -141,11 +141,11 @@ CALLED = [
     ("errno,no seccomp", "sched_yield", "errno 1: Operation not permitted\n", 0),
 ]
 
-# Filters of actions.json that can't be installed one behind the other: the call that fails, of each jailer.
+# Filters of actions.json that can't be installed one behind the other: what each jailer says that fails.
 UNINSTALLED = [
-    ("no seccomp,errno", {"jail": "seccomp", "jail-rs": "seccomp"}),
-    ("errno,no seccomp,errno 0", {"jail": "seccomp", "jail-rs": "seccomp"}),
-    ("no prctl,errno", {"jail": None, "jail-rs": "prctl"}),
+    ("no seccomp,errno", {"jail": "installing", "jail-rs": "seccomp"}),
+    ("errno,no seccomp,errno 0", {"jail": "installing", "jail-rs": "seccomp"}),
+    ("no prctl,errno", {"jail": "installing", "jail-rs": "prctl"}),
 ]
 
 # Other commands under a filter of actions.json: standard output, and the status.
@@ -274,12 +274,10 @@ WRAPPED_CALLS = [
 AROUND = """
 #define _GNU_SOURCE
 #include <linux/audit.h>
-#include <linux/seccomp.h>
 #include <stdio.h>
-#include <sys/prctl.h>
-#include <sys/syscall.h>
 #include <unistd.h>
 #include "seccompiler.h"
+#include "seccompiler_install.h"
 
 int main(int argc, char **argv)
 {

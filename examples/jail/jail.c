@@ -8,8 +8,8 @@
  *
  * Of several filters the kernel takes the strictest answer, and of several error numbers that of the
  * filter installed last. They are installed in the order in which they are named, so each but the last
- * has to allow `seccomp`. Names are parted at every comma: an empty one is a name too, and a filter whose
- * name holds a comma can't be named here.
+ * has to allow `prctl` and `seccomp`. Names are parted at every comma: an empty one is a name too, and a
+ * filter whose name holds a comma can't be named here.
  *
  * The command takes this process over, so its exit status is that of the command. Where it doesn't come
  * to that, a line on standard error says why, and the status is
@@ -28,17 +28,15 @@
 #include <errno.h>
 #include <fcntl.h>
 #include <linux/filter.h>
-#include <linux/seccomp.h>
 #include <stdint.h>
 #include <stdio.h>
 #include <stdlib.h>
 #include <string.h>
-#include <sys/prctl.h>
-#include <sys/syscall.h>
 #include <unistd.h>
 
 #include "architecture.h"
 #include "seccompiler.h"
+#include "seccompiler_install.h"
 
 enum { FAILED = 125, CANNOT_RUN = 126, NOT_FOUND = 127 };
 
@@ -61,7 +59,7 @@ struct program {
     unsigned short length;
 };
 
-/* Says which system call's error, in errno, stands in the way, and ends with this status. */
+/* Says at what an error, whose number is in errno, stands in the way, and ends with this status. */
 static _Noreturn void fail(int status, const char *what)
 {
     fprintf(stderr, "jail: %s: %s\n", what, strerror(errno));
@@ -156,16 +154,17 @@ static struct program *compile_each(const struct policy *policy, const char *nam
     return programs;
 }
 
-/* Installs the program for all threads of this process, which has ruled new privileges out. */
-static void install(struct program *program)
+/* Installs the program for all threads of this process, and rules new privileges out. */
+static void install(const struct program *program)
 {
-    struct sock_fprog lent = {.len = program->length, .filter = program->instructions};
-    long code = syscall(SYS_seccomp, SECCOMP_SET_MODE_FILTER, SECCOMP_FILTER_FLAG_TSYNC, &lent);
+    long answer = seccompiler_install(program->instructions, program->length, SECCOMP_FILTER_FLAG_TSYNC);
 
-    if (code < 0)
-        fail(FAILED, "seccomp");
-    if (code > 0) {
-        fprintf(stderr, "jail: seccomp: thread %ld has another filter\n", code);
+    if (answer < 0) {
+        errno = (int)-answer;
+        fail(FAILED, "installing");
+    }
+    if (answer > 0) {
+        fprintf(stderr, "jail: installing: thread %ld has another filter\n", answer);
         exit(FAILED);
     }
 }
@@ -189,8 +188,6 @@ int main(int count, char **words)
     policy.text = read_whole(policy.path);
     programs = compile_each(&policy, words[2], &program_count);
     free(policy.text.bytes);
-    if (prctl(PR_SET_NO_NEW_PRIVS, 1, 0, 0, 0) != 0)
-        fail(FAILED, "prctl");
     for (size_t k = 0; k < program_count; k++)
         install(&programs[k]);
     execvp(words[3], words + 3);

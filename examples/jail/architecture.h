@@ -1,4 +1,9 @@
-/* The word of the architecture that a program is built for, as the kernel gives it to a filter. */
+/*
+ * The word of the architecture that a program is built for, as the kernel gives it to a filter.
+ *
+ * Filters are compiled for three architectures, and these lines are the same on each. The archive that
+ * programs link is built for x86_64 alone, so for now no other is reached.
+ */
 
 #ifndef ARCHITECTURE_H
 #define ARCHITECTURE_H

@@ -30,7 +30,8 @@ settled ranges = if second_stands_out ranges then 2 else 1
 -- The range that the first test of a row settles, and the ranges that the others tell apart: the second stands out from
 -- its neighbours; or else it is the first.
 pub data Settles (ranges : List Range) (one : Range) (rest : List Range) : Type 0 where
-  stands : (x z : Range) (behind : List Range) → ranges ≡ x ∷ one ∷ z ∷ behind → rest ≡ z ∷ behind → stands_out x one z ≡ true → Settles ranges one rest
+  stands : (x z : Range) (behind : List Range) → ranges ≡ x ∷ one ∷ z ∷ behind → rest ≡ z ∷ behind → stands_out x one z ≡ true
+      → Settles ranges one rest
   is_first : ranges ≡ one ∷ rest → 1 ≤ length rest → second_stands_out ranges ≡ false → Settles ranges one rest
 
 -- The instructions of ranges in a block that are a row.
@@ -55,7 +56,8 @@ pub record IsFork (ranges first second : List Range) (to_first to_second : ℕ) 
   pub in_range : IsInRange i
   pub inside : (m : ℕ) → 1 + to_first ≤ m → 1 + to_second ≤ m → IsInside i 0 m
   pub sends : (code : List sock_filter) (r : List ℕ) (a : ℕ) → slice_get code 0 ≡ Some i → a < 2 ^ 32
-      → ((found_in ranges a ≡ found_in first a) × Step code r 0 a (1 + to_first) a) ⊎ ((found_in ranges a ≡ found_in second a) × Step code r 0 a (1 + to_second) a)
+      → ((found_in ranges a ≡ found_in first a) × Step code r 0 a (1 + to_first) a) ⊎ ((found_in ranges a ≡ found_in second a) × Step
+      code r 0 a (1 + to_second) a)
 
 -- What a test does with a number: where that is below the border it goes on behind the test, else n instructions further.
 pub record Tests (border n : ℕ) (code : List sock_filter) (r : List ℕ) (a : ℕ) : Type 0 where
@@ -89,9 +91,12 @@ pub record ReturnsAfter (p : List sock_filter) (r : List ℕ) (place a count w :
 -- What the code of ranges in a block does with a number from a place on: where the number's chain has rules, it returns
 -- the word that the chain names; else it leaves for one of the two returns, of which the first stands here, in at most so
 -- many steps.
-pub data Leaves (found : Option Chain) (mismatch matched : ℕ) (code : List sock_filter) (end most : ℕ) (r : List ℕ) (place a : ℕ) : Type 0 where
-  answers : (word count : ℕ) → (HasNoRules found → ⊥) → Names found mismatch matched r word → ReturnsAfter code r place a count word → Leaves found mismatch matched code end most r place a
-  leaves : (count : ℕ) → HasNoRules found → count ≤ most → Goes code r place a count (entry_of found 0 end) a → Leaves found mismatch matched code end most r place a
+pub data Leaves (found : Option Chain) (mismatch matched : ℕ) (code : List sock_filter) (end most : ℕ) (r : List ℕ) (place a : ℕ) : Type
+    0 where
+  answers : (word count : ℕ) → (HasNoRules found → ⊥) → Names found mismatch matched r word → ReturnsAfter code r place a count word
+      → Leaves found mismatch matched code end most r place a
+  leaves : (count : ℕ) → HasNoRules found → count ≤ most → Goes code r place a count (entry_of found 0 end) a
+      → Leaves found mismatch matched code end most r place a
 
 -- The code of ranges in a block, with so many instructions between it and the two returns: entered where a jump to the
 -- ranges leads.
@@ -143,6 +148,9 @@ last_chain (x ∷ y ∷ ranges) = last_chain (y ∷ ranges)
 
 -- How the chain of one more number is put behind ranges that reach up to the next number.
 pub data Puts (ranges : List Range) (next number : ℕ) (chain : Chain) (ranges' : List Range) : Type 0 where
-  behind_gap : next < number → ranges' ≡ ranges ++ record { start = next; chain = None } ∷ [] ++ record { start = number; chain = Some chain } ∷ [] → Puts ranges next number chain ranges'
+  behind_gap : next < number
+      → ranges' ≡ ranges ++ record { start = next; chain = None } ∷ [] ++ record { start = number; chain = Some chain } ∷ [] → Puts
+      ranges next number chain ranges'
   merged : number ≤ next → chain ≡ [] → last_chain ranges ≡ Some [] → ranges' ≡ ranges → Puts ranges next number chain ranges'
-  right_behind : number ≤ next → (chain ≡ [] → last_chain ranges ≡ Some [] → ⊥) → ranges' ≡ ranges ++ record { start = number; chain = Some chain } ∷ [] → Puts ranges next number chain ranges'
+  right_behind : number ≤ next → (chain ≡ [] → last_chain ranges ≡ Some [] → ⊥)
+      → ranges' ≡ ranges ++ record { start = number; chain = Some chain } ∷ [] → Puts ranges next number chain ranges'

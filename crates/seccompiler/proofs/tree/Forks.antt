@@ -17,7 +17,8 @@ found_below z [] a h below = refl
 found_below z (w ∷ ranges) a h below = let no : nat_le w.start a ≡ false = grind (arith, nat_tests, h.0) in rw no
 
 -- a test at the first number of the upper ranges
-pub border_fork : (low high : List Range) (y : Range) (border to_low to_high : ℕ) → 1 ≤ length low → high ≡ y ∷ drop 1 high → Ascends (low ++ high) → border ≡ y.start → border < 2 ^ 32 → to_low < 2 ^ 8 → to_high < 2 ^ 8
+pub border_fork : (low high : List Range) (y : Range) (border to_low to_high : ℕ) → 1 ≤ length low → high ≡ y ∷ drop 1 high
+    → Ascends (low ++ high) → border ≡ y.start → border < 2 ^ 32 → to_low < 2 ^ 8 → to_high < 2 ^ 8
     → IsFork (low ++ high) low high to_low to_high (jump_at_least border to_high to_low)
 border_fork low high y border to_low to_high some has ascends at fits fits_low fits_high =
     let all : Ascends (low ++ y ∷ drop 1 high) = subst (λ (l : List Range). Ascends (low ++ l)) has ascends in
@@ -42,7 +43,8 @@ module _ (x y z : Range) (ranges : List Range) where
       let no : nat_le z.start a ≡ false = grind (arith, nat_tests) in
       rw yes (rw no refl)
 
-  other_chain : (a : ℕ) → Ascends whole → stands_out x y z ≡ true → z.start ≡ y.start + 1 → a ≢ y.start → found_in whole a ≡ found_in (z ∷ ranges) a
+  other_chain : (a : ℕ) → Ascends whole → stands_out x y z ≡ true → z.start ≡ y.start + 1 → a ≢ y.start
+      → found_in whole a ≡ found_in (z ∷ ranges) a
   other_chain a ascends out next differs =
       ⊎_elim
       (λ below.
@@ -51,7 +53,8 @@ module _ (x y z : Range) (ranges : List Range) where
       (λ above. found_high (x ∷ y ∷ []) ranges z a ascends (omega (arith, next, differs)))
       (cases_lt a y.start)
 
-  pub out_fork : (border to_one to_rest : ℕ) → Ascends whole → stands_out x y z ≡ true → border ≡ y.start → border < 2 ^ 32 → to_one < 2 ^ 8 → to_rest < 2 ^ 8
+  pub out_fork : (border to_one to_rest : ℕ) → Ascends whole → stands_out x y z ≡ true → border ≡ y.start → border < 2 ^ 32
+      → to_one < 2 ^ 8 → to_rest < 2 ^ 8
       → IsFork whole (y ∷ []) (z ∷ ranges) to_one to_rest (jump_equal border to_one to_rest)
   out_fork border to_one to_rest ascends out at fits fits_one fits_rest =
       let starts = out_starts x y z out in
@@ -67,20 +70,31 @@ module _ (x y z : Range) (ranges : List Range) where
       }
 
 -- the same of what a row's first test settles
-pub equal_fork : (ranges : List Range) (one : Range) (rest : List Range) (y : Range) (border to_one to_rest : ℕ) → Settles ranges one rest → second_stands_out ranges ≡ true → Ascends ranges → y ≡ get_or ranges 1 y → border ≡ y.start
+pub equal_fork : (ranges : List Range) (one : Range) (rest : List Range) (y : Range) (border to_one to_rest : ℕ)
+    → Settles ranges one rest → second_stands_out ranges ≡ true → Ascends ranges → y ≡ get_or ranges 1 y → border ≡ y.start
     → border < 2 ^ 32 → to_one < 2 ^ 8 → to_rest < 2 ^ 8 → IsFork ranges (one ∷ []) rest to_one to_rest (jump_equal border to_one to_rest)
-equal_fork ranges one rest y border to_one to_rest (is_first is some first_settled) out ascends first at fits fits_one fits_rest = let e = sym out ∙ first_settled in absurd (cc)
+equal_fork ranges one rest y border to_one to_rest (is_first is some first_settled) out ascends first at fits fits_one fits_rest =
+    let e = sym out ∙ first_settled in absurd (cc)
 equal_fork ranges one rest y border to_one to_rest (stands x z behind is left e) out ascends first at fits fits_one fits_rest =
     let here : y ≡ one = first ∙ ap (λ (l : List Range). get_or l 1 y) is in
-    let fork = out_fork x one z behind border to_one to_rest (subst Ascends is ascends) e (at ∙ ap (λ (v : Range). v.start) here) fits fits_one fits_rest in
+    let fork =
+    out_fork x one z behind border to_one to_rest (subst Ascends is ascends) e (at ∙ ap (λ (v : Range). v.start) here) fits fits_one
+    fits_rest in
     subst (λ (l : List Range). IsFork l (one ∷ []) rest to_one to_rest (jump_equal border to_one to_rest)) (sym is)
-    (subst (λ (l : List Range). IsFork (x ∷ one ∷ z ∷ behind) (one ∷ []) l to_one to_rest (jump_equal border to_one to_rest)) (sym left) fork)
+    (subst (λ (l : List Range). IsFork (x ∷ one ∷ z ∷ behind) (one ∷ []) l to_one to_rest (jump_equal border to_one to_rest)) (sym left)
+    fork)
 
-pub least_fork : (ranges : List Range) (one : Range) (rest : List Range) (y : Range) (border to_one to_rest : ℕ) → Settles ranges one rest → second_stands_out ranges ≡ false → Ascends ranges → y ≡ get_or ranges 1 y → border ≡ y.start
-    → border < 2 ^ 32 → to_one < 2 ^ 8 → to_rest < 2 ^ 8 → IsFork ranges (one ∷ []) rest to_one to_rest (jump_at_least border to_rest to_one)
-least_fork ranges one rest y border to_one to_rest (stands x z behind is left e) none ascends first at fits fits_one fits_rest = let other = sym none ∙ ap second_stands_out is ∙ e in absurd (cc)
-least_fork ranges one [] y border to_one to_rest (is_first is some first_settled) none ascends first at fits fits_one fits_rest = absurd (omega arith)
+pub least_fork : (ranges : List Range) (one : Range) (rest : List Range) (y : Range) (border to_one to_rest : ℕ)
+    → Settles ranges one rest → second_stands_out ranges ≡ false → Ascends ranges → y ≡ get_or ranges 1 y → border ≡ y.start
+    → border < 2 ^ 32 → to_one < 2 ^ 8 → to_rest < 2 ^ 8 → IsFork ranges (one ∷ []) rest to_one to_rest
+    (jump_at_least border to_rest to_one)
+least_fork ranges one rest y border to_one to_rest (stands x z behind is left e) none ascends first at fits fits_one fits_rest =
+    let other = sym none ∙ ap second_stands_out is ∙ e in absurd (cc)
+least_fork ranges one [] y border to_one to_rest (is_first is some first_settled) none ascends first at fits fits_one fits_rest = absurd
+    (omega arith)
 least_fork ranges one (w ∷ rest) y border to_one to_rest (is_first is some first_settled) none ascends first at fits fits_one fits_rest =
     let here : y ≡ w = first ∙ ap (λ (l : List Range). get_or l 1 y) is in
-    let fork = border_fork (one ∷ []) (w ∷ rest) w border to_one to_rest (omega arith) refl (subst Ascends is ascends) (at ∙ ap (λ (v : Range). v.start) here) fits fits_one fits_rest in
+    let fork =
+    border_fork (one ∷ []) (w ∷ rest) w border to_one to_rest (omega arith) refl (subst Ascends is ascends)
+    (at ∙ ap (λ (v : Range). v.start) here) fits fits_one fits_rest in
     subst (λ (l : List Range). IsFork l (one ∷ []) (w ∷ rest) to_one to_rest (jump_at_least border to_rest to_one)) (sym is) fork

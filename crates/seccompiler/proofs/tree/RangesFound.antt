@@ -10,7 +10,8 @@ use Rattle.seccompiler.specs.Ranges.{Range, found_from, found_in, AscendsFrom, A
 use Rattle.seccompiler.specs.TreeCode.{AreHalves}
 
 -- a number below the border has the chain that it has in the lower ranges
-from_low : (found : Option Chain) (low high : List Range) (y : Range) (a : ℕ) → a < y.start → found_from found (low ++ y ∷ high) a ≡ found_from found low a
+from_low : (found : Option Chain) (low high : List Range) (y : Range) (a : ℕ) → a < y.start
+    → found_from found (low ++ y ∷ high) a ≡ found_from found low a
 from_low found [] high y a below = let no : nat_le y.start a ≡ false = grind (arith, nat_tests) in rw no
 from_low found (x ∷ low) high y a below = ap (λ v. if nat_le x.start a then v else found) (from_low x.chain low high y a below)
 
@@ -20,7 +21,8 @@ above_start start [] high y h = h.0
 above_start start (x ∷ low) high y h = let k = above_start x.start low high y h.1 in omega (arith, h.0)
 
 -- a number from the border on has the chain that it has in the upper ranges
-from_high : (found : Option Chain) (start : ℕ) (low high : List Range) (y : Range) (a : ℕ) → AscendsFrom start (low ++ y ∷ high) → y.start ≤ a → found_from found (low ++ y ∷ high) a ≡ found_from y.chain high a
+from_high : (found : Option Chain) (start : ℕ) (low high : List Range) (y : Range) (a : ℕ) → AscendsFrom start (low ++ y ∷ high)
+    → y.start ≤ a → found_from found (low ++ y ∷ high) a ≡ found_from y.chain high a
 from_high found start [] high y a h above = let yes : nat_le y.start a ≡ true = grind (arith, nat_tests) in rw yes
 from_high found start (x ∷ low) high y a h above =
     let below = above_start x.start low high y h.1 in
@@ -31,7 +33,8 @@ pub found_low : (low high : List Range) (y : Range) (a : ℕ) → 1 ≤ length l
 found_low [] high y a some below = absurd (omega arith)
 found_low (x ∷ low) high y a some below = from_low x.chain low high y a below
 
-pub found_high : (low high : List Range) (y : Range) (a : ℕ) → Ascends (low ++ y ∷ high) → y.start ≤ a → found_in (low ++ y ∷ high) a ≡ found_in (y ∷ high) a
+pub found_high : (low high : List Range) (y : Range) (a : ℕ) → Ascends (low ++ y ∷ high) → y.start ≤ a
+    → found_in (low ++ y ∷ high) a ≡ found_in (y ∷ high) a
 found_high [] high y a h above = refl
 found_high (x ∷ low) high y a h above = from_high x.chain x.start low high y a h above
 
@@ -75,7 +78,8 @@ first_of [] x some is = absurd (omega arith)
 first_of (y ∷ ranges) x some is = ap (λ (z : Range). z ∷ ranges) (sym is)
 
 -- both halves of ranges ascend
-pub halves_ascend : (ranges low high : List Range) → Ascends ranges → 2 ≤ length ranges → AreHalves ranges low high → Ascends low × Ascends high
+pub halves_ascend : (ranges low high : List Range) → Ascends ranges → 2 ≤ length ranges → AreHalves ranges low high
+    → Ascends low × Ascends high
 halves_ascend ranges low high ascends some h =
     let all : Ascends (low ++ high) = subst Ascends (sym h.whole) ascends in
     let long : length (low ++ high) ≡ length low + length high = length-append low high in
@@ -87,14 +91,16 @@ halves_ascend ranges low high ascends some h =
     upper low (y ∷ high) some h = ascends_high low high y h
 
 -- the two parts at the middle are halves
-pub are_halves : (ranges low high : List Range) → 2 ≤ length ranges → low ≡ take (length ranges / 2) ranges → high ≡ drop (length ranges / 2) ranges → AreHalves ranges low high
+pub are_halves : (ranges low high : List Range) → 2 ≤ length ranges → low ≡ take (length ranges / 2) ranges
+    → high ≡ drop (length ranges / 2) ranges → AreHalves ranges low high
 are_halves ranges low high some is_low is_high = record {
   whole = ap₂ (λ (a b : List Range). a ++ b) is_low is_high ∙ take-append-drop (length ranges / 2) ranges;
   half = ap length is_low ∙ half_low ranges;
 }
 
 -- each half is shorter
-pub shorter : (ranges low high : List Range) → 2 ≤ length ranges → AreHalves ranges low high → (length low < length ranges) × (length high < length ranges)
+pub shorter : (ranges low high : List Range) → 2 ≤ length ranges → AreHalves ranges low high
+    → (length low < length ranges) × (length high < length ranges)
 shorter ranges low high some h =
     let long : length (low ++ high) ≡ length low + length high = length-append low high in
     let same = ap length h.whole in
@@ -105,10 +111,14 @@ some_ranges [] h = absurd h
 some_ranges (x ∷ ranges) h = omega arith
 
 -- the halves are what the list has before its middle, and from there on
-pub halves_taken : (ranges low high : List Range) → AreHalves ranges low high → (take (length ranges / 2) ranges ≡ low) × (drop (length ranges / 2) ranges ≡ high)
+pub halves_taken : (ranges low high : List Range) → AreHalves ranges low high
+    → (take (length ranges / 2) ranges ≡ low) × (drop (length ranges / 2) ranges ≡ high)
 halves_taken ranges low high h =
-    let at : length ranges / 2 ≡ length low = sym h.half in
-    (ap₂ (λ n (l : List Range). take n l) at (sym h.whole) ∙ take-append_seam low high, ap₂ (λ n (l : List Range). drop n l) at (sym h.whole) ∙ drop-append_seam low high)
+    let at : length ranges / 2 ≡ length low = sym h.half in (
+      ap₂ (λ n (l : List Range). take n l) at (sym h.whole)
+          ∙ take-append_seam low high,
+      ap₂ (λ n (l : List Range). drop n l) at (sym h.whole) ∙ drop-append_seam low high,
+    )
 
 -- how long they are together
 pub halves_long : (ranges low high : List Range) → AreHalves ranges low high → length low + length high ≡ length ranges

@@ -55,13 +55,16 @@ pub settles_row : (ranges : List Range) (one : Range) (rest : List Range) → Se
 settles_row ranges one rest (stands x z behind is left e) = ap row is ∙ row_stands x one z behind e ∙ ap (λ l. 1 + row l) (sym left)
 settles_row ranges one rest (is_first is some e) = ap row is ∙ row_first one rest some (ap second_stands_out (sym is) ∙ e)
 
-pub settles_owned : (ranges : List Range) (one : Range) (rest : List Range) → Settles ranges one rest → owned ranges ≡ own_length one.chain + owned rest
+pub settles_owned : (ranges : List Range) (one : Range) (rest : List Range) → Settles ranges one rest
+    → owned ranges ≡ own_length one.chain + owned rest
 settles_owned ranges one rest (stands x z behind is left e) =
     let none : own_length x.chain ≡ 0 = alike_plain x.chain z.chain (out_alike x one z e) in
-    ap owned is ∙ owned_first x (one ∷ z ∷ behind) ∙ ap (λ n. n + owned (one ∷ z ∷ behind)) none ∙ omega arith ∙ owned_first one (z ∷ behind) ∙ ap (λ l. own_length one.chain + owned l) (sym left)
+    ap owned is ∙ owned_first x (one ∷ z ∷ behind) ∙ ap (λ n. n + owned (one ∷ z ∷ behind)) none ∙ omega arith
+    ∙ owned_first one (z ∷ behind) ∙ ap (λ l. own_length one.chain + owned l) (sym left)
 settles_owned ranges one rest (is_first is some e) = ap owned is ∙ owned_first one rest
 
-pub settles_fewer : (ranges : List Range) (one : Range) (rest : List Range) → Settles ranges one rest → (length rest < length ranges) × (1 ≤ length rest)
+pub settles_fewer : (ranges : List Range) (one : Range) (rest : List Range) → Settles ranges one rest
+    → (length rest < length ranges) × (1 ≤ length rest)
 settles_fewer ranges one rest (stands x z behind is left e) =
     let all = ap length is in
     let some = ap length left in
@@ -80,7 +83,8 @@ settles_ascend ranges one rest (stands x z behind is left e) h =
 settles_ascend ranges one rest (is_first is some e) h = ascends_rest one rest some (subst Ascends is h)
 
 -- the range and the rest are those at these places
-settle_at : (ranges : List Range) (one : Range) (rest : List Range) → 2 ≤ length ranges → one ≡ get_or ranges (settled ranges - 1) one → rest ≡ drop (settled ranges) ranges → Settles ranges one rest
+settle_at : (ranges : List Range) (one : Range) (rest : List Range) → 2 ≤ length ranges → one ≡ get_or ranges (settled ranges - 1) one
+    → rest ≡ drop (settled ranges) ranges → Settles ranges one rest
 settle_at [] one rest some at left = absurd (omega arith)
 settle_at (x ∷ []) one rest some at left = absurd (omega arith)
 settle_at (x ∷ y ∷ []) one rest some at left = is_first (cc) (omega (arith, ap length left)) refl
@@ -96,7 +100,8 @@ settle_at (x ∷ y ∷ z ∷ ranges) one rest some at left = go (stands_out x y 
         let behind : rest ≡ y ∷ z ∷ ranges = left ∙ ap (λ (b : Bool). drop (if b then 2 else 1) (x ∷ y ∷ z ∷ ranges)) e in
         is_first (cc) (omega (arith, ap length behind)) e
 
-pub settle_made : (ranges : List Range) (n : ℕ) (one : Range) (rest : List Range) → 2 ≤ length ranges → n ≡ settled ranges → one ≡ get_or ranges (n - 1) one → rest ≡ drop n ranges → Settles ranges one rest
+pub settle_made : (ranges : List Range) (n : ℕ) (one : Range) (rest : List Range) → 2 ≤ length ranges → n ≡ settled ranges
+    → one ≡ get_or ranges (n - 1) one → rest ≡ drop n ranges → Settles ranges one rest
 settle_made ranges n one rest some count at left =
     settle_at ranges one rest some (at ∙ ap (λ (k : ℕ). get_or ranges (k - 1) one) count) (left ∙ ap (λ (k : ℕ). drop k ranges) count)
 
@@ -138,11 +143,13 @@ settled_few ranges some = go (second_stands_out ranges) refl
     go false e = let one : settled ranges ≡ 1 = ap (λ (b : Bool). if b then 2 else 1) e in omega (arith, one)
 
 -- the count of a row's tests goes on
-pub row_counted : (ranges : List Range) (done n : ℕ) → done ≤ length ranges → 1 < length ranges - done → n ≡ settled (take (length ranges - done) (drop done ranges))
+pub row_counted : (ranges : List Range) (done n : ℕ) → done ≤ length ranges → 1 < length ranges - done
+    → n ≡ settled (take (length ranges - done) (drop done ranges))
     → (row (drop done ranges) ≡ 1 + row (drop (done + n) ranges)) × (done + n ≤ length ranges) × (1 ≤ n)
 row_counted ranges done n within more here =
     let left : length (drop done ranges) ≡ length ranges - done = length-drop done ranges in
-    let count : n ≡ settled (drop done ranges) = here ∙ ap settled (take_all (length ranges - done) (drop done ranges) (omega (arith, left))) in
+    let count : n ≡ settled (drop done ranges) =
+    here ∙ ap settled (take_all (length ranges - done) (drop done ranges) (omega (arith, left))) in
     let few = settled_few (drop done ranges) (omega (arith, left)) in
     let step = row_step (drop done ranges) (omega (arith, left)) in
     let same : drop (settled (drop done ranges)) (drop done ranges) ≡ drop (done + n) ranges =
@@ -156,7 +163,8 @@ row_short (x ∷ []) few = refl
 row_short (x ∷ y ∷ ranges) few = absurd (omega arith)
 
 -- the room that a row takes
-pub row_room : (ranges : List Range) (one : Range) (rest : List Range) → Settles ranges one rest → row_length ranges ≡ 1 + own_length one.chain + row_length rest
+pub row_room : (ranges : List Range) (one : Range) (rest : List Range) → Settles ranges one rest
+    → row_length ranges ≡ 1 + own_length one.chain + row_length rest
 row_room ranges one rest h =
     let tests = settles_row ranges one rest h in
     let own = settles_owned ranges one rest h in

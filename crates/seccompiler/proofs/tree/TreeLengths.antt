@@ -14,7 +14,9 @@ use Rattle.seccompiler.proofs.tree.RangesFound.{half_low, half_high, halves_take
 abbrev at_tests : List Range → ℕ → ℕ → ℕ
 at_tests ranges low high = if nat_le (row ranges) most then row ranges else 1 + low + high
 
-tests_open : (k : ℕ) (ranges : List Range) → halved_tests (suc k) ranges ≡ at_tests ranges (halved_tests k (take (length ranges / 2) ranges)) (halved_tests k (drop (length ranges / 2) ranges))
+tests_open : (k : ℕ) (ranges : List Range)
+    → halved_tests (suc k) ranges ≡ at_tests ranges (halved_tests k (take (length ranges / 2) ranges))
+    (halved_tests k (drop (length ranges / 2) ranges))
 unfolding halved_tests
 tests_open k ranges = refl
 
@@ -36,7 +38,9 @@ tests_same (suc j) (suc k) (x ∷ y ∷ ranges) le_j le_k =
     (tests_same j k (take (length whole / 2) whole) (omega arith) (omega arith))
     (tests_same j k (drop (length whole / 2) whole) (omega arith) (omega arith))
 
-tests_at : (ranges : List Range) → 2 ≤ length ranges → tests_length ranges ≡ at_tests ranges (tests_length (take (length ranges / 2) ranges)) (tests_length (drop (length ranges / 2) ranges))
+tests_at : (ranges : List Range) → 2 ≤ length ranges
+    → tests_length ranges ≡ at_tests ranges (tests_length (take (length ranges / 2) ranges))
+    (tests_length (drop (length ranges / 2) ranges))
 unfolding tests_length
 tests_at [] some = absurd (omega arith)
 tests_at (x ∷ ranges) some =
@@ -55,7 +59,9 @@ tests_row (x ∷ []) short = refl
 tests_row (x ∷ y ∷ ranges) short =
     let whole = x ∷ y ∷ ranges in
     let yes : nat_le (row whole) most ≡ true = grind (arith, nat_tests) in
-    tests_at whole (omega arith) ∙ ap (λ (b : Bool). if b then row whole else 1 + tests_length (take (length whole / 2) whole) + tests_length (drop (length whole / 2) whole)) yes
+    tests_at whole (omega arith)
+    ∙ ap (λ (b : Bool). if b then row whole else 1 + tests_length (take (length whole / 2) whole) + tests_length
+    (drop (length whole / 2) whole)) yes
 
 -- more than that: there are two ranges or more, and they are halved
 pub row_long : (ranges : List Range) → most < row ranges → 2 ≤ length ranges
@@ -63,12 +69,14 @@ row_long [] long = absurd (omega arith)
 row_long (x ∷ []) long = absurd (omega arith)
 row_long (x ∷ y ∷ ranges) long = omega arith
 
-pub tests_cut : (ranges low high : List Range) → most < row ranges → AreHalves ranges low high → tests_length ranges ≡ 1 + tests_length low + tests_length high
+pub tests_cut : (ranges low high : List Range) → most < row ranges → AreHalves ranges low high
+    → tests_length ranges ≡ 1 + tests_length low + tests_length high
 tests_cut ranges low high long h =
     let no : nat_le (row ranges) most ≡ false = grind (arith, nat_tests) in
     let parts = halves_taken ranges low high h in
     tests_at ranges (row_long ranges long)
-    ∙ ap (λ (b : Bool). if b then row ranges else 1 + tests_length (take (length ranges / 2) ranges) + tests_length (drop (length ranges / 2) ranges)) no
+    ∙ ap (λ (b : Bool). if b then row ranges else 1 + tests_length (take (length ranges / 2) ranges) + tests_length
+    (drop (length ranges / 2) ranges)) no
     ∙ ap₂ (λ (l h : List Range). 1 + tests_length l + tests_length h) parts.0 parts.1
 
 -- there are fewer tests than ranges
@@ -105,17 +113,22 @@ tests_few ranges some = halved_few (length ranges) ranges some
 pub block_row : (ranges : List Range) → row ranges ≤ most → block_length ranges ≡ row_length ranges
 block_row ranges short = ap (λ n. n + owned ranges) (tests_row ranges short)
 
-pub block_cut : (ranges low high : List Range) → most < row ranges → AreHalves ranges low high → block_length ranges ≡ 1 + block_length low + block_length high
+pub block_cut : (ranges low high : List Range) → most < row ranges → AreHalves ranges low high
+    → block_length ranges ≡ 1 + block_length low + block_length high
 block_cut ranges low high long h =
     let tests = tests_cut ranges low high long h in
-    let both : owned ranges ≡ owned low + owned high = ap owned (sym h.whole) ∙ sum_by-append (λ (x : Range). own_length x.chain) low high in
+    let both : owned ranges ≡ owned low + owned high =
+    ap owned (sym h.whole) ∙ sum_by-append (λ (x : Range). own_length x.chain) low high in
     omega (arith, tests, both)
 
 -- the instructions of ranges, by those of their halves
 abbrev at_tree : List Range → ℕ → ℕ → ℕ
 at_tree ranges low high = if nat_le (block_length ranges) 255 then block_length ranges + 2 else test_length low + low + high
 
-tree_open : (k : ℕ) (x y : Range) (ranges : List Range) → let whole = x ∷ y ∷ ranges in halved_length (suc k) whole ≡ at_tree whole (halved_length k (take (length whole / 2) whole)) (halved_length k (drop (length whole / 2) whole))
+tree_open : (k : ℕ) (x y : Range) (ranges : List Range)
+    → let whole =
+    x ∷ y ∷ ranges in halved_length (suc k) whole ≡ at_tree whole (halved_length k (take (length whole / 2) whole))
+    (halved_length k (drop (length whole / 2) whole))
 unfolding halved_length
 tree_open k x y ranges = refl
 
@@ -137,7 +150,8 @@ pub length_one : (x : Range) → tree_length (x ∷ []) ≡ own_length x.chain +
 unfolding tree_length halved_length
 length_one x = refl
 
-tree_at : (ranges : List Range) → 2 ≤ length ranges → tree_length ranges ≡ at_tree ranges (tree_length (take (length ranges / 2) ranges)) (tree_length (drop (length ranges / 2) ranges))
+tree_at : (ranges : List Range) → 2 ≤ length ranges
+    → tree_length ranges ≡ at_tree ranges (tree_length (take (length ranges / 2) ranges)) (tree_length (drop (length ranges / 2) ranges))
 unfolding tree_length
 tree_at [] some = absurd (omega arith)
 tree_at (x ∷ []) some = absurd (omega arith)
@@ -153,14 +167,18 @@ pub tree_block : (ranges : List Range) → 2 ≤ length ranges → block_length 
 tree_block ranges some short =
     let yes : nat_le (block_length ranges) 255 ≡ true = grind (arith, nat_tests) in
     let low = tree_length (take (length ranges / 2) ranges) in
-    tree_at ranges some ∙ ap (λ (b : Bool). if b then block_length ranges + 2 else test_length low + low + tree_length (drop (length ranges / 2) ranges)) yes
+    tree_at ranges some
+    ∙ ap (λ (b : Bool). if b then block_length ranges + 2 else test_length low + low + tree_length (drop (length ranges / 2) ranges))
+    yes
 
-pub tree_halved : (ranges low high : List Range) → 2 ≤ length ranges → 255 < block_length ranges → AreHalves ranges low high → tree_length ranges ≡ test_length (tree_length low) + tree_length low + tree_length high
+pub tree_halved : (ranges low high : List Range) → 2 ≤ length ranges → 255 < block_length ranges → AreHalves ranges low high
+    → tree_length ranges ≡ test_length (tree_length low) + tree_length low + tree_length high
 tree_halved ranges low high some long h =
     let no : nat_le (block_length ranges) 255 ≡ false = grind (arith, nat_tests) in
     let m = tree_length (take (length ranges / 2) ranges) in
     let parts = halves_taken ranges low high h in
-    tree_at ranges some ∙ ap (λ (b : Bool). if b then block_length ranges + 2 else test_length m + m + tree_length (drop (length ranges / 2) ranges)) no
+    tree_at ranges some
+    ∙ ap (λ (b : Bool). if b then block_length ranges + 2 else test_length m + m + tree_length (drop (length ranges / 2) ranges)) no
     ∙ ap₂ (λ (l h : List Range). test_length (tree_length l) + tree_length l + tree_length h) parts.0 parts.1
 
 -- a test takes one instruction or two
@@ -172,17 +190,21 @@ test_cases n = go (nat_le n 255) refl
     go false e = inr (grind (arith, nat_tests), ap (λ (b : Bool). if b then 1 else 2) e)
 
 -- a test and two halves, where each length stops at m
-capped_two : (m low high distance test first second both : ℕ) → 256 ≤ m → distance ≡ min low m → test ≡ test_length distance → first ≡ min (test + distance) m → second ≡ min high m → both ≡ min (first + second) m → both ≡ min (test_length low + low + high) m
+capped_two : (m low high distance test first second both : ℕ) → 256 ≤ m → distance ≡ min low m → test ≡ test_length distance
+    → first ≡ min (test + distance) m → second ≡ min high m → both ≡ min (first + second) m → both ≡ min (test_length low + low + high) m
 capped_two m low high distance test first second both large a b c d e =
     ⊎_elim
     (λ t. ⊎_elim (λ u. omega (arith, t.0, t.1, u.0, u.1)) (λ u. omega (arith, t.0, t.1, u.0, u.1)) (test_cases low))
     (λ t. ⊎_elim (λ u. omega (arith, t.0, t.1, u.0, u.1)) (λ u. omega (arith, t.0, t.1, u.0, u.1)) (test_cases low))
     (test_cases distance)
 
-pub capped_cut : (m : ℕ) (ranges low high : List Range) (distance test first second both : ℕ) → 256 ≤ m → 2 ≤ length ranges → 255 < block_length ranges → AreHalves ranges low high
-    → distance ≡ min (tree_length low) m → test ≡ test_length distance → first ≡ min (test + distance) m → second ≡ min (tree_length high) m → both ≡ min (first + second) m → both ≡ min (tree_length ranges) m
+pub capped_cut : (m : ℕ) (ranges low high : List Range) (distance test first second both : ℕ) → 256 ≤ m → 2 ≤ length ranges
+    → 255 < block_length ranges → AreHalves ranges low high
+    → distance ≡ min (tree_length low) m → test ≡ test_length distance → first ≡ min (test + distance) m → second ≡ min
+    (tree_length high) m → both ≡ min (first + second) m → both ≡ min (tree_length ranges) m
 capped_cut m ranges low high distance test first second both large some long h a b c d e =
-    capped_two m (tree_length low) (tree_length high) distance test first second both large a b c d e ∙ ap (λ n. min n m) (sym (tree_halved ranges low high some long h))
+    capped_two m (tree_length low) (tree_length high) distance test first second both large a b c d e
+    ∙ ap (λ n. min n m) (sym (tree_halved ranges low high some long h))
 
 -- a length that stops at m, where it is at most 255 or more
 pub capped_exact : (n long m : ℕ) → 256 ≤ m → n ≡ min long m → n ≤ 255 → n ≡ long

@@ -40,13 +40,19 @@ write_halved-requires t c =
     let cut = block_cut c.args.ranges.now c.halves.result.0.now c.halves.result.1.now long c.halves.ensures in
     let some = row_long c.args.ranges.now long in
     let ascend = halves_ascend c.args.ranges.now c.halves.result.0.now c.halves.result.1.now c.requires.ascends some c.halves.ensures in
-    let exact : c.block_len-start.result ≡ block_length c.halves.result.0.now = omega (arith, cut, c.requires.room, c.requires.short, c.block_len-start.ensures) in
+    let exact : c.block_len-start.result ≡ block_length c.halves.result.0.now =
+    omega (arith, cut, c.requires.room, c.requires.short, c.block_len-start.ensures) in
     let whole = c.split_at_mut-test.ensures.back_len in
     let front = c.split_at_mut-front.ensures.front_len in
     let back = c.split_at_mut-front.ensures.back_len in
     let falls : length c.split_at_mut-front.result.0.now < t = omega (arith, cut, c.requires.room, exact, front, c.decreases) in
-    let both = halves_long c.args.ranges.now c.halves.result.0.now c.halves.result.1.now c.halves.ensures in
-    (falls, (omega (arith, some, c.halves.ensures.half), (ascend.0, (front ∙ exact, omega (arith, cut, whole, front, back, exact, c.requires.room, c.requires.short)))))
+    let both = halves_long c.args.ranges.now c.halves.result.0.now c.halves.result.1.now c.halves.ensures in (
+      falls,
+      (
+        omega (arith, some, c.halves.ensures.half),
+        (ascend.0, (front ∙ exact, omega (arith, cut, whole, front, back, exact, c.requires.room, c.requires.short))),
+      ),
+    )
 
 pub write_halved-requires-2 : goal.write_halved-requires-2
 write_halved-requires-2 t c =
@@ -54,12 +60,21 @@ write_halved-requires-2 t c =
     let cut = block_cut c.args.ranges.now c.halves.result.0.now c.halves.result.1.now long c.halves.ensures in
     let some = row_long c.args.ranges.now long in
     let ascend = halves_ascend c.args.ranges.now c.halves.result.0.now c.halves.result.1.now c.requires.ascends some c.halves.ensures in
-    let exact : c.block_len-start.result ≡ block_length c.halves.result.0.now = omega (arith, cut, c.requires.room, c.requires.short, c.block_len-start.ensures) in
+    let exact : c.block_len-start.result ≡ block_length c.halves.result.0.now =
+    omega (arith, cut, c.requires.room, c.requires.short, c.block_len-start.ensures) in
     let whole = c.split_at_mut-test.ensures.back_len in
     let back = c.split_at_mut-front.ensures.back_len in
     let falls : length c.split_at_mut-front.result.1.now < t = omega (arith, cut, c.requires.room, whole, back, c.decreases) in
-    let both = halves_long c.args.ranges.now c.halves.result.0.now c.halves.result.1.now c.halves.ensures in
-    (falls, (omega (arith, some, both, c.halves.ensures.half), (ascend.1, (omega (arith, cut, whole, back, exact, c.requires.room), omega (arith, cut, whole, back, c.requires.room, c.requires.short)))))
+    let both = halves_long c.args.ranges.now c.halves.result.0.now c.halves.result.1.now c.halves.ensures in (
+      falls,
+      (
+        omega (arith, some, both, c.halves.ensures.half),
+        (
+          ascend.1,
+          (omega (arith, cut, whole, back, exact, c.requires.room), omega (arith, cut, whole, back, c.requires.room, c.requires.short)),
+        ),
+      ),
+    )
 
 pub returns : goal.returns
 returns t c =
@@ -68,7 +83,8 @@ returns t c =
     let high = c.halves.result.1.now in
     let cut = block_cut c.args.ranges.now low high long c.halves.ensures in
     let some = row_long c.args.ranges.now long in
-    let exact : c.block_len-start.result ≡ block_length low = omega (arith, cut, c.requires.room, c.requires.short, c.block_len-start.ensures) in
+    let exact : c.block_len-start.result ≡ block_length low =
+    omega (arith, cut, c.requires.room, c.requires.short, c.block_len-start.ensures) in
     let whole = c.split_at_mut-test.ensures.back_len in
     let front_len = c.split_at_mut-front.ensures.front_len in
     let back_len = c.split_at_mut-front.ensures.back_len in
@@ -77,5 +93,8 @@ returns t c =
     let is_front : c.block_len-start.result ≡ length front = sym (c.write_halved.auto.part ∙ front_len) in
     let is_back : length c.split_at_mut-front.result.1.now ≡ length back = sym c.write_halved-2.auto.part in
     let end = length c.args.part.now - 1 + c.args.after in
-    halves_joined c.args.ranges.now low high c.args.mismatch c.args.matched c.args.after c.entry_to.result c.entry_to-2.result c.block_len-start.result end (length c.split_at_mut-front.result.1.now) c.border_test.result c.copy_from_slice.new.self front back some c.halves.ensures
-    c.border_test.ensures c.copy_from_slice.ensures.after c.entry_to.ensures c.entry_to-2.ensures is_front is_back (omega (arith, cut, whole, is_front, is_back, back_len, exact, c.requires.room)) c.write_halved.ensures c.write_halved-2.ensures
+    halves_joined c.args.ranges.now low high c.args.mismatch c.args.matched c.args.after c.entry_to.result c.entry_to-2.result
+    c.block_len-start.result end (length c.split_at_mut-front.result.1.now) c.border_test.result c.copy_from_slice.new.self front
+    back some c.halves.ensures
+    c.border_test.ensures c.copy_from_slice.ensures.after c.entry_to.ensures c.entry_to-2.ensures is_front is_back
+    (omega (arith, cut, whole, is_front, is_back, back_len, exact, c.requires.room)) c.write_halved.ensures c.write_halved-2.ensures

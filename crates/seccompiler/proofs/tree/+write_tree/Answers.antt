@@ -16,16 +16,21 @@ pub write_block-requires-clause-room : goal.write_block-requires-clause-room
 write_block-requires-clause-room t c =
     let has = some_ranges c.args.ranges.now c.requires.ascends in
     let some : 2 ≤ length c.args.ranges.now = grind (arith, nat_tests) in
-    let exact = capped_exact c.block_len.result (block_length c.args.ranges.now) (2 ^ 64 - 1) (omega arith) c.block_len.ensures c.if-block_len-le255.true in
+    let exact =
+    capped_exact c.block_len.result (block_length c.args.ranges.now) (2 ^ 64 - 1) (omega arith) c.block_len.ensures
+    c.if-block_len-le255.true in
     c.requires.room ∙ tree_block c.args.ranges.now some (subst (λ n. n ≤ 255) exact c.if-block_len-le255.true)
 
 pub split_at_mut-test-requires : goal.split_at_mut-test-requires
 split_at_mut-test-requires t c =
     let has = some_ranges c.args.ranges.now c.requires.ascends in
     let some : 2 ≤ length c.args.ranges.now = grind (arith, nat_tests) in
-    let more = capped_more c.block_len.result (block_length c.args.ranges.now) (2 ^ 64 - 1) (omega arith) c.block_len.ensures c.if-block_len-le255.false in
+    let more =
+    capped_more c.block_len.result (block_length c.args.ranges.now) (2 ^ 64 - 1) (omega arith) c.block_len.ensures
+    c.if-block_len-le255.false in
     let cut = tree_halved c.args.ranges.now c.halves.result.0.now c.halves.result.1.now some more c.halves.ensures in
-    let exact : c.tree_len-distance.result ≡ tree_length c.halves.result.0.now = omega (arith, cut, c.requires.room, c.requires.short, c.tree_len-distance.ensures) in
+    let exact : c.tree_len-distance.result ≡ tree_length c.halves.result.0.now =
+    omega (arith, cut, c.requires.room, c.requires.short, c.tree_len-distance.ensures) in
     let test = c.test_len.ensures ∙ ap test_length exact in
     omega (arith, cut, test, c.requires.room)
 
@@ -33,7 +38,9 @@ pub write_test-requires-clause-short : goal.write_test-requires-clause-short
 write_test-requires-clause-short t c =
     let has = some_ranges c.args.ranges.now c.requires.ascends in
     let some : 2 ≤ length c.args.ranges.now = grind (arith, nat_tests) in
-    let more = capped_more c.block_len.result (block_length c.args.ranges.now) (2 ^ 64 - 1) (omega arith) c.block_len.ensures c.if-block_len-le255.false in
+    let more =
+    capped_more c.block_len.result (block_length c.args.ranges.now) (2 ^ 64 - 1) (omega arith) c.block_len.ensures
+    c.if-block_len-le255.false in
     let cut = tree_halved c.args.ranges.now c.halves.result.0.now c.halves.result.1.now some more c.halves.ensures in
     omega (arith, cut, c.requires.room, c.requires.short, c.tree_len-distance.ensures)
 
@@ -41,9 +48,12 @@ pub split_at_mut-front-requires : goal.split_at_mut-front-requires
 split_at_mut-front-requires t c =
     let has = some_ranges c.args.ranges.now c.requires.ascends in
     let some : 2 ≤ length c.args.ranges.now = grind (arith, nat_tests) in
-    let more = capped_more c.block_len.result (block_length c.args.ranges.now) (2 ^ 64 - 1) (omega arith) c.block_len.ensures c.if-block_len-le255.false in
+    let more =
+    capped_more c.block_len.result (block_length c.args.ranges.now) (2 ^ 64 - 1) (omega arith) c.block_len.ensures
+    c.if-block_len-le255.false in
     let cut = tree_halved c.args.ranges.now c.halves.result.0.now c.halves.result.1.now some more c.halves.ensures in
-    let exact : c.tree_len-distance.result ≡ tree_length c.halves.result.0.now = omega (arith, cut, c.requires.room, c.requires.short, c.tree_len-distance.ensures) in
+    let exact : c.tree_len-distance.result ≡ tree_length c.halves.result.0.now =
+    omega (arith, cut, c.requires.room, c.requires.short, c.tree_len-distance.ensures) in
     let test = c.test_len.ensures ∙ ap test_length exact in
     omega (arith, cut, test, exact, c.requires.room, c.split_at_mut-test.ensures.back_len)
 
@@ -51,7 +61,9 @@ pub write_tree-requires : goal.write_tree-requires
 write_tree-requires t c =
     let has = some_ranges c.args.ranges.now c.requires.ascends in
     let some : 2 ≤ length c.args.ranges.now = grind (arith, nat_tests) in
-    let more = capped_more c.block_len.result (block_length c.args.ranges.now) (2 ^ 64 - 1) (omega arith) c.block_len.ensures c.if-block_len-le255.false in
+    let more =
+    capped_more c.block_len.result (block_length c.args.ranges.now) (2 ^ 64 - 1) (omega arith) c.block_len.ensures
+    c.if-block_len-le255.false in
     let cut = tree_halved c.args.ranges.now c.halves.result.0.now c.halves.result.1.now some more c.halves.ensures in
     let ascend = halves_ascend c.args.ranges.now c.halves.result.0.now c.halves.result.1.now c.requires.ascends some c.halves.ensures in
     let less = shorter c.args.ranges.now c.halves.result.0.now c.halves.result.1.now some c.halves.ensures in
@@ -62,7 +74,9 @@ pub write_tree-requires-2 : goal.write_tree-requires-2
 write_tree-requires-2 t c =
     let has = some_ranges c.args.ranges.now c.requires.ascends in
     let some : 2 ≤ length c.args.ranges.now = grind (arith, nat_tests) in
-    let more = capped_more c.block_len.result (block_length c.args.ranges.now) (2 ^ 64 - 1) (omega arith) c.block_len.ensures c.if-block_len-le255.false in
+    let more =
+    capped_more c.block_len.result (block_length c.args.ranges.now) (2 ^ 64 - 1) (omega arith) c.block_len.ensures
+    c.if-block_len-le255.false in
     let cut = tree_halved c.args.ranges.now c.halves.result.0.now c.halves.result.1.now some more c.halves.ensures in
     let ascend = halves_ascend c.args.ranges.now c.halves.result.0.now c.halves.result.1.now c.requires.ascends some c.halves.ensures in
     let less = shorter c.args.ranges.now c.halves.result.0.now c.halves.result.1.now some c.halves.ensures in
@@ -75,6 +89,15 @@ pub returns : goal.returns
 returns t c =
     let has = some_ranges c.args.ranges.now c.requires.ascends in
     let some : 2 ≤ length c.args.ranges.now = grind (arith, nat_tests) in
-    let more = capped_more c.block_len.result (block_length c.args.ranges.now) (2 ^ 64 - 1) (omega arith) c.block_len.ensures c.if-block_len-le255.false in
+    let more =
+    capped_more c.block_len.result (block_length c.args.ranges.now) (2 ^ 64 - 1) (omega arith) c.block_len.ensures
+    c.if-block_len-le255.false in
     let cut = tree_halved c.args.ranges.now c.halves.result.0.now c.halves.result.1.now some more c.halves.ensures in
-    record { code = tree_cut c.args.mismatch c.args.matched c.args.ranges.now c.halves.result.0.now c.halves.result.1.now c.index-high-0.result c.start.result c.tree_len-distance.result c.write_test.new.part c.write_tree.new.part c.write_tree-2.new.part c.requires.ascends some cut c.halves.ensures c.index-high-0.is c.start.ensures (omega (arith, cut, c.requires.room, c.requires.short, c.tree_len-distance.ensures)) c.write_test.ensures c.write_tree.ensures.code c.write_tree-2.ensures.code }
+    record {
+      code =
+          tree_cut c.args.mismatch c.args.matched c.args.ranges.now c.halves.result.0.now c.halves.result.1.now c.index-high-0.result
+          c.start.result c.tree_len-distance.result c.write_test.new.part c.write_tree.new.part c.write_tree-2.new.part c.requires.ascends
+          some cut c.halves.ensures c.index-high-0.is c.start.ensures
+          (omega (arith, cut, c.requires.room, c.requires.short, c.tree_len-distance.ensures)) c.write_test.ensures
+          c.write_tree.ensures.code c.write_tree-2.ensures.code;
+    }

@@ -7,5 +7,8 @@ use Rattle.seccompiler.proofs.tree.border_test.Goals as goal
 pub returns : goal.returns
 returns c =
     let y = c.index-high-0.result in
-    subst (λ i. IsFork (c.args.low.now ++ c.args.high.now) c.args.low.now c.args.high.now c.args.to_low c.args.to_high i) (sym c.jump_if_at_least.ensures.instruction)
-    (border_fork c.args.low.now c.args.high.now y c.start.result c.args.to_low c.args.to_high c.requires.low (first_of c.args.high.now y (omega arith) c.index-high-0.is) c.requires.ascends c.start.ensures (omega arith) (omega arith) (omega arith))
+    subst (λ i. IsFork (c.args.low.now ++ c.args.high.now) c.args.low.now c.args.high.now c.args.to_low c.args.to_high i)
+    (sym c.jump_if_at_least.ensures.instruction)
+    (border_fork c.args.low.now c.args.high.now y c.start.result c.args.to_low c.args.to_high c.requires.low
+    (first_of c.args.high.now y (omega arith) c.index-high-0.is) c.requires.ascends c.start.ensures (omega arith) (omega arith)
+    (omega arith))

@@ -6,9 +6,13 @@ use Rattle.seccompiler.proofs.tree.row_test.Goals as goal
 pub returns-then-stands_out : goal.returns-then-stands_out
 returns-then-stands_out c = λ one rest h.
     subst (λ i. IsFork c.args.ranges.now (one ∷ []) rest c.args.to_one c.args.to_rest i) (sym c.jump_if_equal.ensures.instruction)
-    (equal_fork c.args.ranges.now one rest c.index-ranges-1.result c.start-border.result c.args.to_one c.args.to_rest h (sym c.stands_out.ensures ∙ c.if-stands_out.true) c.requires.ascends c.index-ranges-1.is c.start-border.ensures (omega arith) (omega arith) (omega arith))
+    (equal_fork c.args.ranges.now one rest c.index-ranges-1.result c.start-border.result c.args.to_one c.args.to_rest h
+    (sym c.stands_out.ensures ∙ c.if-stands_out.true) c.requires.ascends c.index-ranges-1.is c.start-border.ensures (omega arith)
+    (omega arith) (omega arith))
 
 pub returns : goal.returns
 returns c = λ one rest h.
     subst (λ i. IsFork c.args.ranges.now (one ∷ []) rest c.args.to_one c.args.to_rest i) (sym c.jump_if_at_least.ensures.instruction)
-    (least_fork c.args.ranges.now one rest c.index-ranges-1.result c.start-border.result c.args.to_one c.args.to_rest h (sym c.stands_out.ensures ∙ c.if-stands_out.false) c.requires.ascends c.index-ranges-1.is c.start-border.ensures (omega arith) (omega arith) (omega arith))
+    (least_fork c.args.ranges.now one rest c.index-ranges-1.result c.start-border.result c.args.to_one c.args.to_rest h
+    (sym c.stands_out.ensures ∙ c.if-stands_out.false) c.requires.ascends c.index-ranges-1.is c.start-border.ensures (omega arith)
+    (omega arith) (omega arith))

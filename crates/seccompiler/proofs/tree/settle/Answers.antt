@@ -7,4 +7,5 @@ pub returns : goal.returns
 returns c =
     let n = c.settled-behind.result in
     let ranges = c.args.ranges.now in
-    settle_made ranges n c.index-ranges-behind.result _ c.requires c.settled-behind.ensures c.index-ranges-behind.is (take_all (length ranges - n) (drop n ranges) (omega (arith, length-drop n ranges)))
+    settle_made ranges n c.index-ranges-behind.result _ c.requires c.settled-behind.ensures c.index-ranges-behind.is
+    (take_all (length ranges - n) (drop n ranges) (omega (arith, length-drop n ranges)))

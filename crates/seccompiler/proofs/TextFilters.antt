@@ -47,7 +47,7 @@ module _ {X Y : Type 0} (R : X → Y → Type 0) (given : List ℕ → Option X)
       → IsLeastGiven Fault Q given (string_bytes entry.0)
   least_given Fault Q one front entry back whole order ys h wrong =
       let found : (name : List ℕ) → given name ≡ under (front ++ entry ∷ back) name =
-          λ name. listed name ∙ ap (λ (es : ByName X). under es name) whole in
+      λ name. listed name ∙ ap (λ (es : ByName X). under es name) whole in
       record {
         value = entry.1;
         there = found (string_bytes entry.0) ∙ found_there front entry back order;

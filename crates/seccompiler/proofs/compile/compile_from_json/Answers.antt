@@ -22,4 +22,4 @@ returns-clause-checked g c = λ name.
     let m = c.in_ok-collect.field-0 in
     let made : IsFromIterResult string_eq found.entries m = search rules in
     subst (λ (o : Option (Vec sock_filter Global)). IfSome o (λ program. IsChecked program.items))
-        (sym (rehashed found m c.into_iter.ensures.into_iter_gives.5 made name)) (c.in_ok-programs.ensures.checked name)
+    (sym (rehashed found m c.into_iter.ensures.into_iter_gives.5 made name)) (c.in_ok-programs.ensures.checked name)

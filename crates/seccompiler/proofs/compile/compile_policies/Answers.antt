@@ -24,7 +24,7 @@ loop-name-preserved c =
     let of = c.in_ok-to_bpf.ensures in
     let added : c.push.new.self.items ≡ l.found.items ++ entry ∷ [] = c.in_ok-push.ensures.items in
     let made = made_more Compiles l.yielded l.found.items e entry l.invariant.made refl
-        (record { compilable = of.compilable; compiled = of.compiled; passes = of.passes }) in
+    (record { compilable = of.compilable; compiled = of.compiled; passes = of.passes }) in
     record {
       all = l.invariant.all ∙ ap (λ es. l.yielded ++ es) c.in-Some.ensures.steps ∙ sym (append_assoc l.yielded (e ∷ []) c.next.new.self);
       made = subst (AreMade Compiles (l.yielded ++ e ∷ [])) (sym added) made;
@@ -39,7 +39,7 @@ returns-in_err-to_bpf-clause-refusal c =
     let all : c.args.policies.entries ≡ l.yielded ++ e ∷ left = l.invariant.all ∙ ap (λ es. l.yielded ++ es) c.in-Some.ensures.steps in
     let order : AreInOrder (l.yielded ++ e ∷ left) = subst (λ es. AreInOrder es) all c.into_iter-name-iterator.ensures.into_iter_gives.5 in
     rw (p.1, p.2) (refusal_of c.args.policies l.yielded e left all order l.found.items l.invariant.made c.in_err-to_bpf.field-0.0
-        c.in_err-to_bpf.ensures.refused)
+    c.in_err-to_bpf.ensures.refused)
 
 pub returns-in_err-to_bpf-clause-fault : goal.returns-in_err-to_bpf-clause-fault
 returns-in_err-to_bpf-clause-fault c =
@@ -52,13 +52,13 @@ returns-clause-programs c =
     let l = c.loop-name in
     let m = c.in_ok-collect.field-0 in
     let all : c.args.policies.entries ≡ l.yielded = l.invariant.all ∙ ap (λ es. l.yielded ++ es) c.in-None.ensures.steps.0
-        ∙ append-nil l.yielded in
+    ∙ append-nil l.yielded in
     let made : AreMade Compiles c.args.policies.entries l.found.items =
-        subst (λ es. AreMade Compiles es l.found.items) (sym all) l.invariant.made in
+    subst (λ es. AreMade Compiles es l.found.items) (sym all) l.invariant.made in
     let order : AreInOrder l.found.items = made_in_order Compiles _ _ made c.into_iter-name-iterator.ensures.into_iter_gives.5 in
     let collected : IsFromIterResult string_cmp l.found.items m = search rules in
     made_of_all Compiles (get_by_text c.args.policies) _ (λ name. by_text name c.args.policies.entries) l.found.items made (get_by_text m)
-        (ordered l.found.items m order collected)
+    (ordered l.found.items m order collected)
 
 pub returns-clause-of_value : goal.returns-clause-of_value
 returns-clause-of_value c = λ arch d are. are_programs arch d (get_by_text c.args.policies) are _ (returns-clause-programs c)

@@ -33,7 +33,7 @@ module _ {X : Type 0} (p : X → Bool) where
   places_push start (y ∷ xs) x =
       let same : start + 1 + length xs ≡ start + length (y ∷ xs) = omega arith in
       ap (λ rest. place_if (p y) start ++ rest) (places_push (start + 1) xs x
-          ∙ ap (λ place. places (start + 1) xs ++ place_if (p x) place) same)
+      ∙ ap (λ place. places (start + 1) xs ++ place_if (p x) place) same)
       ∙ sym (append_assoc (place_if (p y) start) (places (start + 1) xs) (place_if (p x) (start + length (y ∷ xs))))
 
   -- A place of an item that passes.

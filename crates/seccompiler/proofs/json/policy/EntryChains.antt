@@ -40,7 +40,7 @@ module _ {X : Type 0} where
       → list_of (held new q) ≡ added (cond (int_eq q number) (item ∷ []) []) (list_of (held old q))
   list_with_item old new number before after start item q written found empty longer =
       ap list_of written ∙ by_case (int_eq number q) refl
-          ∙ ap (λ b. added (cond b (item ∷ []) []) (list_of (held old q))) (int_eq_equiv.symm number q)
+      ∙ ap (λ b. added (cond b (item ∷ []) []) (list_of (held old q))) (int_eq_equiv.symm number q)
     where
       by_case : (b : Bool) → int_eq number q ≡ b
           → list_of (cond b (Some after) (held old q)) ≡ added (cond b (item ∷ []) []) (list_of (held old q))
@@ -48,7 +48,7 @@ module _ {X : Type 0} where
       by_case true is =
           let same : number ≡ q = (Decides-int_eq number q).0 is in
           let was : before.items ≡ unwrap_or (list_of (held old number)) [] =
-              ap (λ v. v.items) found ∙ or_empty (held old number) start empty in
+          ap (λ v. v.items) found ∙ or_empty (held old number) start empty in
           ap Some (longer ∙ ap (λ front. front ++ item ∷ []) was) ∙ ap (λ n. added (item ∷ []) (list_of (held old n))) same
 
 -- A rule was put at the end of a number's chain.
@@ -57,7 +57,7 @@ pub chain_with_rule : (old new : List (ℤ × Vec Rule Global)) (number : ℤ) (
     → chain_at (chains_of new) q ≡ added (cond (int_eq q number) (rule ∷ []) []) (chain_at (chains_of old) q)
 chain_with_rule old new number before after start rule q written found empty longer =
     chain_held new q ∙ list_with_item old new number before after start rule q written found empty longer
-        ∙ ap (added (cond (int_eq q number) (rule ∷ []) [])) (sym (chain_held old q))
+    ∙ ap (added (cond (int_eq q number) (rule ∷ []) [])) (sym (chain_held old q))
 
 -- The empty chain was put under a number.
 pub chain_emptied : (old new : List (ℤ × Vec Rule Global)) (number : ℤ) (empty : Vec Rule Global) (q : ℤ)

@@ -16,7 +16,7 @@ returns-in_err-filters-clause-fault c =
     let error = err_from_is_err_and c.from_residual.result c.from_residual.ensures.1 in
     let e = c.in_err-filters.field-0.0 in
     rw (error.1, error.2) (text_refused c.args.target c.args.text.now c.args.name.now e (c.in_err-filters.ensures.fault c.args.target)
-        c.in_err-filters.ensures.no_reader)
+    c.in_err-filters.ensures.no_reader)
 
 pub returns-in_err-policies-clause-fault : goal.returns-in_err-policies-clause-fault
 returns-in_err-policies-clause-fault c =
@@ -27,7 +27,7 @@ returns-in_err-policies-clause-fault c =
     let read = c.in_ok-filters.ensures.filters in
     let told = c.in_err-policies.ensures.fault text read.0 read.1 read.2 in
     rw (error.1, error.2) (subst (λ (target : TargetArch). IsPolicyFault target text name (from_frontend e)) c.new.ensures
-        (text_refused c.new.result text name e told c.in_err-policies.ensures.no_reader))
+    (text_refused c.new.result text name e told c.in_err-policies.ensures.no_reader))
 
 pub returns-in_default-clause-fault : goal.returns-in_default-clause-fault
 returns-in_default-clause-fault c =

@@ -11,7 +11,7 @@ returns c = record {
       let written = simp to_z-of_z at (c.in_ok-origins.ensures.update.0 c.push.new.self) in
       let here = written.0 q in
       let found = simp to_z-of_z at (c.or_insert-indices.ensures.value
-          ∙ ap (λ o. unwrap_or o c.new.result) c.in_ok-origins.ensures.value) in
+      ∙ ap (λ o. unwrap_or o c.new.result) c.in_ok-origins.ensures.value) in
       list_with_item c.args.origins.now.entries _ c.args.number c.or_insert-indices.result.now c.push.new.self c.new.result c.args.index q
       (search (rules, here)) found c.new.ensures.items c.in_ok-push.ensures.items;
 }

@@ -30,6 +30,8 @@ loop-index-preserved c =
 pub returns : goal.returns
 returns c =
     let long : length c.args.entries.now ≤ c.loop-index.index = omega (arith, c.loop-index-test.false) in
-    record { origins = are_origins c.args.arch c.args.entries.now c.loop-index.origins
-        (subst (λ es. AreListed c.args.arch es c.loop-index.origins) (take_all c.loop-index.index c.args.entries.now long)
-        c.loop-index.invariant) }
+    record {
+      origins = are_origins c.args.arch c.args.entries.now c.loop-index.origins
+          (subst (λ es. AreListed c.args.arch es c.loop-index.origins) (take_all c.loop-index.index c.args.entries.now long)
+          c.loop-index.invariant);
+    }

@@ -15,7 +15,7 @@ pub returns-in-Ok-clause-fault : goal.returns-in-Ok-clause-fault
 returns-in-Ok-clause-fault g c =
     let text = c.as_slice.result.now in
     IfErr-weaker c.filters_of.result (λ e. Tells e text) (λ e. Reads (g.R.Read.remaining c.args.reader) (Tells e))
-        (λ e h. (text, search rules, h)) c.filters_of.ensures.fault
+    (λ e h. (text, search rules, h)) c.filters_of.ensures.fault
 
 pub returns-in-Err-clause-fault : goal.returns-in-Err-clause-fault
 returns-in-Err-clause-fault g c = reads_some (g.R.Read.remaining c.args.reader) _ (λ text arch. tt)

@@ -26,6 +26,6 @@ returns-clause-fault g c =
     let arch = c.args.self.now in
     let read = c.in_ok-filters.ensures.filters in
     IfErr-weaker c.policies.result (λ e. (text : List ℕ) (d : Data) → IsValueOf text d → AreFilters d c.in_ok-filters.filters
-        → TellsFrontendFault arch text e)
+    → TellsFrontendFault arch text e)
     (λ e. Reads (g.R.Read.remaining c.args.reader) (λ text. TellsFrontendFault arch text e))
     (λ e h. (read.0, read.1, h read.0 read.2.0 read.2.1 read.2.2)) c.policies.ensures.fault

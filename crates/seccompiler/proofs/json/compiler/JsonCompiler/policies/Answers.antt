@@ -37,7 +37,7 @@ returns-in_err-policy-clause-refusal c =
     let all : c.args.filters.0.entries ≡ l.yielded ++ e ∷ left = l.invariant.all ∙ ap (λ es. l.yielded ++ es) c.in-Some.ensures.steps in
     let order : AreInOrder (l.yielded ++ e ∷ left) = subst (λ es. AreInOrder es) all c.into_iter-name-iterator.ensures.into_iter_gives.5 in
     rw (p.1, p.2) (refusal_of c.args.self.now c.args.filters l.yielded e left all order l.found.items l.invariant.made
-        c.in_err-policy.field-0.0 c.in_err-policy.ensures.refusal)
+    c.in_err-policy.field-0.0 c.in_err-policy.ensures.refusal)
 
 pub returns-in_err-policy-clause-fault : goal.returns-in_err-policy-clause-fault
 returns-in_err-policy-clause-fault c =
@@ -52,11 +52,11 @@ returns-clause-policies c =
     let m = c.in_ok-collect.field-0 in
     let all : c.args.filters.0.entries ≡ l.yielded = l.invariant.all ∙ ap (λ es. l.yielded ++ es) c.in-None.ensures.steps.0 ∙ append-nil l.yielded in
     let made : AreMade (IsPolicyOf arch) c.args.filters.0.entries l.found.items =
-        subst (λ es. AreMade (IsPolicyOf arch) es l.found.items) (sym all) l.invariant.made in
+    subst (λ es. AreMade (IsPolicyOf arch) es l.found.items) (sym all) l.invariant.made in
     let order : AreInOrder l.found.items = made_in_order (IsPolicyOf arch) _ _ made c.into_iter-name-iterator.ensures.into_iter_gives.5 in
     let collected : IsFromIterResult string_cmp l.found.items m = search rules in
     made_of_all (IsPolicyOf arch) (get_by_text c.args.filters.0) _ (λ name. by_text name c.args.filters.0.entries) l.found.items made
-        (get_by_text m) (ordered l.found.items m order collected)
+    (get_by_text m) (ordered l.found.items m order collected)
 
 pub returns-clause-numbers : goal.returns-clause-numbers
 returns-clause-numbers c = have_table_numbers c.args.self.now c.args.filters _ (returns-clause-policies c)

@@ -1,7 +1,7 @@
 // The examples of the numbers on which a policy written for the Rust crate means something else, and of
 // the entries of a number.
 
-use seccompiler::json::{filters_of, read_filters};
+use seccompiler::json::read_filters;
 use seccompiler::{JsonCompiler, TargetArch};
 use serde_json::Value;
 use std::alloc::Global;
@@ -34,7 +34,7 @@ fn read_and_close_have_entries_of_both_kinds(rt: HostRuntime) -> Result<(), std:
 #[test]
 fn read_has_the_entries_1_and_3(rt: HostRuntime) -> Result<(), std::test::Fail> {
     let alloc = rt.alloc();
-    let filters = filters_of(alloc, POLICY.as_bytes())?;
+    let filters = seccompiler::json::filters_of(alloc, POLICY.as_bytes())?;
     let filter = filters.0.get("a").ok_or("no filter has this name")?;
     let policy = JsonCompiler::new(TargetArch::x86_64).make_with_origins(alloc, filter)?;
     // The entries 1 and 3 of this filter are of `read`, whose number is 0.

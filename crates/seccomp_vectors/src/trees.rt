@@ -344,7 +344,12 @@ fn words_at_the_borders_of_many_ranges(rt: HostRuntime) -> Result<(), Fail> {
     let alloc = rt.alloc();
     let ends = Policy::Allowed(&[0, 4294967295]);
     assert_decides(&rt, alloc, ends, &[0, 4294967295])?;
-    assert_decides(&rt, alloc, of_call_7(&[(51, OF_FOUR)], &[]), &[0, 7, 4294967295])?;
+    assert_decides(
+        &rt,
+        alloc,
+        of_call_7(&[(51, OF_FOUR)], &[]),
+        &[0, 7, 4294967295],
+    )?;
     let (first, step, count) = (1, 2, 300);
     let with_gaps = Policy::Spread { first, step, count };
     let numbers = [0, 1, 3, 149, 299, 301, 597, 599, 600, 4294967295];

@@ -18,7 +18,8 @@ use Rattle.seccompiler.specs.WordSets.{HasValue, IsTight}
 use Rattle.seccompiler.specs.RecordSets.{IsIn, AreTight, accumulator, Reaches}
 
 -- what stands in a list after a write: the new value at its place, the old ones elsewhere
-pub set_found : (part : List Values) (w : ℕ) (v : Values) (j : ℕ) (s : Values) → slice_get (slice_set part w v) j ≡ Some s → ((j ≡ w) × (v ≡ s)) ⊎ (slice_get part j ≡ Some s)
+pub set_found : (part : List Values) (w : ℕ) (v : Values) (j : ℕ) (s : Values) → slice_get (slice_set part w v) j ≡ Some s
+    → ((j ≡ w) × (v ≡ s)) ⊎ (slice_get part j ≡ Some s)
 set_found part w v j s found =
     let long = length-set part w v in
     let behind = slice_get_within (slice_set part w v) j s found in
@@ -32,7 +33,8 @@ set_found part w v j s found =
     (cases_eq j w)
 
 -- what stood there before is in the new list or is written over
-pub set_kept : (part : List Values) (w : ℕ) (v : Values) (j : ℕ) (s : Values) → slice_get part j ≡ Some s → ((j ≡ w) × (slice_get (slice_set part w v) j ≡ Some v)) ⊎ (slice_get (slice_set part w v) j ≡ Some s)
+pub set_kept : (part : List Values) (w : ℕ) (v : Values) (j : ℕ) (s : Values) → slice_get part j ≡ Some s
+    → ((j ≡ w) × (slice_get (slice_set part w v) j ≡ Some v)) ⊎ (slice_get (slice_set part w v) j ≡ Some s)
 set_kept part w v j s found =
     let long = length-set part w v in
     let within = slice_get_within part j s found in
@@ -53,7 +55,8 @@ set_here part w v within =
     slice_get-get_or (slice_set part w v) w v in_new ∙ ap (λ t. Some t) (get_or-set_same part w v v within)
 
 -- the other words of a record of a narrowed set are as the set has them
-pub other_word : (part : List Values) (w : ℕ) (v : Values) (r : List ℕ) (j : ℕ) (s : Values) → IsIn (slice_set part w v) r → (j ≡ w → ⊥) → slice_get part j ≡ Some s → HasValue s (word_at r (4 * j))
+pub other_word : (part : List Values) (w : ℕ) (v : Values) (r : List ℕ) (j : ℕ) (s : Values) → IsIn (slice_set part w v) r
+    → (j ≡ w → ⊥) → slice_get part j ≡ Some s → HasValue s (word_at r (4 * j))
 other_word part w v r j s inside other found =
     ⊎_elim
     (λ new. absurd (other new.0))
@@ -61,7 +64,8 @@ other_word part w v r j s inside other found =
     (set_kept part w v j s found)
 
 -- a record lies in a set of which one word is narrowed, if that word is one of the new ones
-pub in_narrowed : (part : List Values) (w : ℕ) (v : Values) (r : List ℕ) → IsIn part r → HasValue v (word_at r (4 * w)) → IsIn (slice_set part w v) r
+pub in_narrowed : (part : List Values) (w : ℕ) (v : Values) (r : List ℕ) → IsIn part r → HasValue v (word_at r (4 * w))
+    → IsIn (slice_set part w v) r
 in_narrowed part w v r inside has = record {
   each = λ j s found.
       ⊎_elim
@@ -71,7 +75,9 @@ in_narrowed part w v r inside has = record {
 }
 
 -- a record of the narrowed set lies in the set, if the new words are among the old ones
-pub from_narrowed : (part : List Values) (w : ℕ) (v : Values) (r : List ℕ) → IsRecord r → ((x : ℕ) → x < 2 ^ 32 → HasValue v x → (s : Values) → slice_get part w ≡ Some s → HasValue s x) → IsIn (slice_set part w v) r → IsIn part r
+pub from_narrowed : (part : List Values) (w : ℕ) (v : Values) (r : List ℕ) → IsRecord r
+    → ((x : ℕ) → x < 2 ^ 32 → HasValue v x → (s : Values) → slice_get part w ≡ Some s → HasValue s x) → IsIn (slice_set part w v) r
+    → IsIn part r
 from_narrowed part w v r rec among inside = record {
   each = λ j s found.
       ⊎_elim
@@ -91,7 +97,8 @@ tight_narrowed part w v tight new_tight = record {
 }
 
 -- where a program comes to a return, its run ends
-pub ends_at : (p : List sock_filter) (r : List ℕ) (at : At) (i : sock_filter) (before : Reaches p r at) → slice_get p at.place ≡ Some i → i.code ≡ 0x06 → Ends p r (before.steps + 1) i.k
+pub ends_at : (p : List sock_filter) (r : List ℕ) (at : At) (i : sock_filter) (before : Reaches p r at) → slice_get p at.place ≡ Some i
+    → i.code ≡ 0x06 → Ends p r (before.steps + 1) i.k
 ends_at p r at i before here returns = record {
   place = at.place;
   accumulator = accumulator r at;
@@ -104,7 +111,8 @@ ends_at p r at i before here returns = record {
 }
 
 -- two programs that come to returns of related words answer so
-pub related_at : (relation : Relation) (p q : List sock_filter) (r : List ℕ) (p_at q_at : At) (i j : sock_filter) → Reaches p r p_at → Reaches q r q_at
+pub related_at : (relation : Relation) (p q : List sock_filter) (r : List ℕ) (p_at q_at : At) (i j : sock_filter) → Reaches p r p_at
+    → Reaches q r q_at
     → slice_get p p_at.place ≡ Some i → slice_get q q_at.place ≡ Some j → i.code ≡ 0x06 → j.code ≡ 0x06
     → Related relation i.k j.k → AnswersRelated relation p q r
 related_at relation p q r p_at q_at i j to_p to_q here_p here_q returns_p returns_q related = record {
@@ -118,7 +126,8 @@ related_at relation p q r p_at q_at i j to_p to_q here_p here_q returns_p return
 }
 
 -- two programs that come to returns of words that aren't related answer so
-pub unrelated_at : (relation : Relation) (p q : List sock_filter) (r : List ℕ) (p_at q_at : At) (i j : sock_filter) → Reaches p r p_at → Reaches q r q_at
+pub unrelated_at : (relation : Relation) (p q : List sock_filter) (r : List ℕ) (p_at q_at : At) (i j : sock_filter) → Reaches p r p_at
+    → Reaches q r q_at
     → slice_get p p_at.place ≡ Some i → slice_get q q_at.place ≡ Some j → i.code ≡ 0x06 → j.code ≡ 0x06
     → (Related relation i.k j.k → ⊥) → AnswersUnrelated relation p q r
 unrelated_at relation p q r p_at q_at i j to_p to_q here_p here_q returns_p returns_q unrelated = record {

@@ -28,12 +28,14 @@ does_else i r place a (passes_greater code h) = let n : i.k < a → ⊥ = λ e. 
 does_else i r place a (passes_at_least code h) = let n : i.k ≤ a → ⊥ = λ e. false≢true (h.1 e) in is_less code (omega arith) refl refl
 
 -- a mask over what the accumulator has
-pub does_mask : (i : sock_filter) (r : List ℕ) (at to : At) → i.code ≡ 0x54 → to.place ≡ at.place + 1 → to.word ≡ at.word → to.mask ≡ bit_and at.mask i.k → Does i r at.place (accumulator r at) to.place (accumulator r to)
+pub does_mask : (i : sock_filter) (r : List ℕ) (at to : At) → i.code ≡ 0x54 → to.place ≡ at.place + 1 → to.word ≡ at.word
+    → to.mask ≡ bit_and at.mask i.k → Does i r at.place (accumulator r at) to.place (accumulator r to)
 does_mask i r at to code place word mask =
     masks code place (ap (λ w. bit_and (word_at r (4 * w)) to.mask) word ∙ ap (λ m. bit_and (word_at r (4 * at.word)) m) mask ∙ sym (and_assoc i.k (word_at r (4 * at.word)) at.mask))
 
 -- one step more
-pub reaches_on : (p : List sock_filter) (r : List ℕ) (at to : At) (i : sock_filter) → IsRecord r → slice_get p at.place ≡ Some i → Does i r at.place (accumulator r at) to.place (accumulator r to) → Reaches p r at → Reaches p r to
+pub reaches_on : (p : List sock_filter) (r : List ℕ) (at to : At) (i : sock_filter) → IsRecord r → slice_get p at.place ≡ Some i
+    → Does i r at.place (accumulator r at) to.place (accumulator r to) → Reaches p r at → Reaches p r to
 reaches_on p r at to i rec here does before = record {
   steps = _;
   goes = then_step before.goes record {

@@ -12,7 +12,8 @@ use Rattle.seccompiler.specs.CompareFilters.{ComparesFilters, Decides, Decisions
 use Rattle.seccompiler.proofs.Determinism.{ends_only}
 
 -- the word with which a filter's program ends is its decision
-ends_at_decision : (f : Filter) (p : List sock_filter) (r : List ℕ) (steps word : ℕ) → Decides f p → IsRecord r → Ends p r steps word → IsDecision f r word
+ends_at_decision : (f : Filter) (p : List sock_filter) (r : List ℕ) (steps word : ℕ) → Decides f p → IsRecord r → Ends p r steps word
+    → IsDecision f r word
 ends_at_decision f p r steps word is rec ends =
     let at = is.decides r rec in
     subst (IsDecision f r) (sym (ends_only p r ends at.ends).1) at.decision

@@ -40,6 +40,15 @@ loop-preserved c =
     let task = c.in-Some.task in
     let left = subst (λ ts. AreLeft c.args.relation p q part ts) c.in-Some.ensures.items (c.loop.invariant.tasks, c.loop.invariant.rest) in
     elim c.match-advance.branch [
-      | in-Done w ↦ (let now : c.match-advance.tasks.items ≡ before = rw w.tasks-is refl in let done = subst (λ ts. AreLeft c.args.relation p q part ts) (sym now) (left_done c.args.relation p q part before task left w.in-Done.ensures) in record { tasks = done.0; rest = done.1 })
-      | in-Splits+in_ok-push-in-Splits+in_ok-push-in-Splits-2 w ↦ (let low = w.in-Splits.low in let high = w.in-Splits.high in let pushed : w.push-in-Splits-2.new.self.items ≡ before ++ high ∷ [] ++ low ∷ [] = w.in_ok-push-in-Splits-2.ensures.items ∙ ap (λ (ts : List Task). ts ++ low ∷ []) w.in_ok-push-in-Splits.ensures.items in let now : c.match-advance.tasks.items ≡ before ++ high ∷ [] ++ low ∷ [] = rw w.tasks-is pushed in let done = subst (λ ts. AreLeft c.args.relation p q part ts) (sym now) (left_split c.args.relation p q part before task low high left w.in-Splits.ensures) in record { tasks = done.0; rest = done.1 })
+      | in-Done w ↦ (
+          let now : c.match-advance.tasks.items ≡ before = rw w.tasks-is refl in
+          let done = subst (λ ts. AreLeft c.args.relation p q part ts) (sym now) (left_done c.args.relation p q part before task left w.in-Done.ensures) in
+          record { tasks = done.0; rest = done.1 })
+      | in-Splits+in_ok-push-in-Splits+in_ok-push-in-Splits-2 w ↦ (
+          let low = w.in-Splits.low in
+          let high = w.in-Splits.high in
+          let pushed : w.push-in-Splits-2.new.self.items ≡ before ++ high ∷ [] ++ low ∷ [] = w.in_ok-push-in-Splits-2.ensures.items ∙ ap (λ (ts : List Task). ts ++ low ∷ []) w.in_ok-push-in-Splits.ensures.items in
+          let now : c.match-advance.tasks.items ≡ before ++ high ∷ [] ++ low ∷ [] = rw w.tasks-is pushed in
+          let done = subst (λ ts. AreLeft c.args.relation p q part ts) (sym now) (left_split c.args.relation p q part before task low high left w.in-Splits.ensures) in
+          record { tasks = done.0; rest = done.1 })
     ]

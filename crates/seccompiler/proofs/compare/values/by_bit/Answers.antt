@@ -7,7 +7,8 @@ use Rattle.seccompiler.proofs.compare.Masks.{one_bit, less_known, less_known_one
 use Rattle.seccompiler.proofs.compare.values.by_bit.Goals as goal
 
 -- the halves by a bit
-halves_of : (s : Values) (j b : ℕ) → b ≡ 2 ^ j → KeepsKnown s → bit_and s.known b ≡ 0 → AreHalves s (record s { known = bit_or s.known b }) (record s { known = bit_or s.known b; value = bit_or s.value b })
+halves_of : (s : Values) (j b : ℕ) → b ≡ 2 ^ j → KeepsKnown s → bit_and s.known b ≡ 0
+    → AreHalves s (record s { known = bit_or s.known b }) (record s { known = bit_or s.known b; value = bit_or s.value b })
 halves_of s j b e kept apart = record {
   cover = λ x fits has.
       ⊎_elim

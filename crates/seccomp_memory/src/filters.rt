@@ -129,7 +129,10 @@ fn ask_of_filter(alloc: Global, filter: &SeccompFilter) -> Result<(), Ending> {
     ensure_rows("a tree", &tree, &TREE)?;
     filter.layouts_agree(&program, &tree);
     let compared = compare(alloc, &program, &tree, &Calls::all(), Relation::Alike, SETS)?;
-    ensure(matches!(compared, Comparison::Holds), "a program and a tree compared")
+    ensure(
+        matches!(compared, Comparison::Holds),
+        "a program and a tree compared",
+    )
 }
 
 // Compares a filter with itself and with another.
@@ -140,10 +143,16 @@ fn compare_filters(
 ) -> Result<(), Ending> {
     let calls = Calls::of_numbers(TargetArch::x86_64, 0, 288);
     let compared = filter.compare(alloc, filter, &calls, Relation::Alike, SETS)?;
-    ensure(matches!(compared, Comparison::Holds), "a filter and itself compared")?;
+    ensure(
+        matches!(compared, Comparison::Holds),
+        "a filter and itself compared",
+    )?;
     // The other one allows all calls.
     let compared = other.compare(alloc, filter, &calls, Relation::AtMostAsPermissive, SETS)?;
-    ensure(matches!(compared, Comparison::Fails(_)), "two filters compared")
+    ensure(
+        matches!(compared, Comparison::Fails(_)),
+        "two filters compared",
+    )
 }
 
 // A program of the rule's 10122 instructions and 8 more is refused without memory; the tree takes memory

@@ -1,5 +1,5 @@
 /*
- * seccompiler: seccomp filters, compiled from JSON policies to classic BPF programs.
+ * seccompiler: seccomp filters, compiled from JSON policies, or from arrays of rules, to classic BPF programs.
  *
  * The functions of the static library libseccompiler_c.a. What each answers, and what it then leaves in
  * the caller's memory, is proved: docs/C.md has the clauses, and says how the library is built and linked.
@@ -46,6 +46,18 @@
  *     SECCOMPILER_LAYOUT_CHAINS or SECCOMPILER_LAYOUT_TREE. The programs of both answer each call
  *     alike; docs/LAYOUTS.md says when to take which.
  *
+ * chains, rules, conditions, and how many of each
+ *     A filter without JSON: the chains are the rules for one call each; the rules are those of all
+ *     chains, the rules of one chain behind those of the chain before; and the conditions those of all
+ *     rules, likewise. Each chain counts its rules, and each rule its conditions.
+ *
+ * mismatch_kind, mismatch_data, match_kind, match_data
+ *     The action for calls that no chain matches, and the one for calls that a chain matches. A kind is
+ *     the action's word in <linux/seccomp.h>: SECCOMP_RET_ALLOW, SECCOMP_RET_ERRNO,
+ *     SECCOMP_RET_KILL_THREAD, SECCOMP_RET_KILL_PROCESS, SECCOMP_RET_LOG, SECCOMP_RET_TRACE or
+ *     SECCOMP_RET_TRAP. The data are the error number of SECCOMP_RET_ERRNO or the message of
+ *     SECCOMP_RET_TRACE, of which programs return the low 16 bits; beside another kind they don't count.
+ *
  * program, count or room
  *     An array of instructions, and how many it has. A program has at most 4096.
  *
@@ -66,7 +78,7 @@
  *
  * MEMORY, THREADS
  *
- * The functions that are given a text take memory from malloc, give all of it back before they return,
+ * The functions that are given a text or rules take memory from malloc, give all of it back before they return,
  * and answer SECCOMPILER_OUT_OF_MEMORY where malloc refuses; the others take none. Nothing is kept
  * between calls, no system call is made but those of malloc, and no file is opened. So the functions may
  * be called from several threads at once. They mustn't be called from a signal handler, nor in the child
@@ -104,11 +116,63 @@ extern "C" {
 #define SECCOMPILER_NOT_A_RECORD (-9)
 /* No system call of the architecture has the name. */
 #define SECCOMPILER_UNKNOWN_CALL (-10)
+/* The kind is no action's. */
+#define SECCOMPILER_UNKNOWN_ACTION (-11)
+/* The chains count more or fewer rules than there are, or the rules more or fewer conditions. */
+#define SECCOMPILER_BAD_COUNTS (-12)
+/* The argument of a condition is above 5. */
+#define SECCOMPILER_BAD_ARGUMENT (-13)
+/* The length of a condition is neither 4 nor 8. */
+#define SECCOMPILER_UNKNOWN_LENGTH (-14)
+/* The operator of a condition is above 6. */
+#define SECCOMPILER_UNKNOWN_OPERATOR (-15)
+/* A rule has no conditions. */
+#define SECCOMPILER_EMPTY_RULE (-16)
+/* The two actions are the same, with the same data where data count. */
+#define SECCOMPILER_EQUAL_ACTIONS (-17)
+/* The numbers of the chains don't ascend, or one stands twice. */
+#define SECCOMPILER_BAD_ORDER (-18)
+/* The number of a chain is below 0 or above 4294967295. */
+#define SECCOMPILER_BAD_NUMBER (-19)
 
 /* The layout that tests one call number after the other, as the Rust crate seccompiler does. */
 #define SECCOMPILER_LAYOUT_CHAINS 0
 /* The layout of a tree of tests, which tell ranges of call numbers apart. */
 #define SECCOMPILER_LAYOUT_TREE 1
+
+/* How many bytes of an argument count, and of the value and the mask with it: the low 4, or all 8. */
+#define SECCOMPILER_DWORD 4
+#define SECCOMPILER_QWORD 8
+
+/* The argument equals the value, differs from it, is greater, at least as great, less, at most as great. */
+#define SECCOMPILER_EQ 0
+#define SECCOMPILER_NE 1
+#define SECCOMPILER_GT 2
+#define SECCOMPILER_GE 3
+#define SECCOMPILER_LT 4
+#define SECCOMPILER_LE 5
+/* The bits of the mask are in the argument as they are in the value. */
+#define SECCOMPILER_MASKED_EQ 6
+
+/* The rules for one call: it is matched where one of them holds, and always where there are none. */
+struct seccompiler_chain {
+    int64_t number; /* of the system call */
+    size_t rules;   /* how many of the rules, behind those of the chains before, are this chain's */
+};
+
+/* A rule, which holds where all its conditions do. */
+struct seccompiler_rule {
+    size_t conditions; /* how many of the conditions, behind those of the rules before, are this rule's */
+};
+
+/* A condition on an argument of the call; the arguments are unsigned. */
+struct seccompiler_condition {
+    uint64_t value;   /* what the argument is compared with */
+    uint64_t mask;    /* of SECCOMPILER_MASKED_EQ; with the other operators it doesn't count */
+    uint8_t argument; /* its index, 0 to 5 */
+    uint8_t length;   /* SECCOMPILER_DWORD or SECCOMPILER_QWORD */
+    uint8_t op;       /* SECCOMPILER_EQ to SECCOMPILER_MASKED_EQ */
+};
 
 /*
  * Compiles the filter of this name, and writes its program into the front of the array `program`, which
@@ -126,6 +190,27 @@ extern "C" {
 int64_t seccompiler_compile(const char *text, size_t text_length, uint32_t architecture,
                             const char *name, size_t name_length, uint32_t layout,
                             struct sock_filter *program, size_t room);
+
+/*
+ * Compiles the filter that the arrays are, and writes its program into the front of the array `program`,
+ * which has room for `room` instructions. The numbers of the chains ascend.
+ *
+ * Returns what seccompiler_compile returns for a text's filter, and leaves the same; the word of a call is
+ * that of the match action where its number has a chain that matches it, and else that of the mismatch
+ * action.
+ *
+ * Returns a code, and leaves the whole array as it was, where it is refused: UNKNOWN_ARCHITECTURE,
+ * UNKNOWN_LAYOUT, UNKNOWN_ACTION, BAD_COUNTS, BAD_ARGUMENT, UNKNOWN_LENGTH, UNKNOWN_OPERATOR, EMPTY_RULE,
+ * EQUAL_ACTIONS, BAD_ORDER, BAD_NUMBER, TOO_LARGE, NO_ROOM; or OUT_OF_MEMORY in place of one of the last
+ * two or of a program. What a code tells is looked at in all entries before what the next one tells.
+ */
+int64_t seccompiler_compile_rules(const struct seccompiler_chain *chains, size_t chain_count,
+                                  const struct seccompiler_rule *rules, size_t rule_count,
+                                  const struct seccompiler_condition *conditions,
+                                  size_t condition_count, uint32_t mismatch_kind,
+                                  uint32_t mismatch_data, uint32_t match_kind, uint32_t match_data,
+                                  uint32_t architecture, uint32_t layout,
+                                  struct sock_filter *program, size_t room);
 
 /*
  * Writes why seccompiler_compile refuses these arguments into the front of `buffer`, which has room for

@@ -52,6 +52,24 @@ static const int64_t CODES[][2] = {
     {SECCOMPILER_UNKNOWN_CALL, -10},
     {SECCOMPILER_LAYOUT_CHAINS, 0},
     {SECCOMPILER_LAYOUT_TREE, 1},
+    {SECCOMPILER_UNKNOWN_ACTION, -11},
+    {SECCOMPILER_BAD_COUNTS, -12},
+    {SECCOMPILER_BAD_ARGUMENT, -13},
+    {SECCOMPILER_UNKNOWN_LENGTH, -14},
+    {SECCOMPILER_UNKNOWN_OPERATOR, -15},
+    {SECCOMPILER_EMPTY_RULE, -16},
+    {SECCOMPILER_EQUAL_ACTIONS, -17},
+    {SECCOMPILER_BAD_ORDER, -18},
+    {SECCOMPILER_BAD_NUMBER, -19},
+    {SECCOMPILER_DWORD, 4},
+    {SECCOMPILER_QWORD, 8},
+    {SECCOMPILER_EQ, 0},
+    {SECCOMPILER_NE, 1},
+    {SECCOMPILER_GT, 2},
+    {SECCOMPILER_GE, 3},
+    {SECCOMPILER_LT, 4},
+    {SECCOMPILER_LE, 5},
+    {SECCOMPILER_MASKED_EQ, 6},
 };
 
 /* Calls, and what the README's policy decides for them on x86_64. */
@@ -68,6 +86,57 @@ static const struct {
     {AUDIT_ARCH_X86_64, 72, 9, 3, 1, SECCOMP_RET_KILL_PROCESS},
     {AUDIT_ARCH_X86_64, 0, 0, 0, 0, SECCOMP_RET_KILL_PROCESS},
     {AUDIT_ARCH_AARCH64, 288, 0, 0, 0, SECCOMP_RET_KILL_PROCESS},
+};
+
+/* A filter as arrays, with each operator in each length: two rules for write, one for mmap, none for getpid; and the
+ * same as a text, with the actions that the arrays are compiled with. */
+static const struct seccompiler_chain CHAINS[] = {{1, 2}, {9, 1}, {39, 0}};
+static const struct seccompiler_rule RULES[] = {{1}, {2}, {13}};
+static const struct seccompiler_condition CONDITIONS[] = {
+    {5, 9, 0, SECCOMPILER_DWORD, SECCOMPILER_EQ},
+    {1, 0, 1, SECCOMPILER_QWORD, SECCOMPILER_NE},
+    {7, 0, 2, SECCOMPILER_DWORD, SECCOMPILER_GT},
+    {1, 0, 0, SECCOMPILER_QWORD, SECCOMPILER_EQ},
+    {2, 0, 1, SECCOMPILER_DWORD, SECCOMPILER_NE},
+    {3, 0, 2, SECCOMPILER_QWORD, SECCOMPILER_GT},
+    {0x100000004, 0, 3, SECCOMPILER_QWORD, SECCOMPILER_GE},
+    {4, 0, 3, SECCOMPILER_DWORD, SECCOMPILER_GE},
+    {5, 0, 4, SECCOMPILER_QWORD, SECCOMPILER_LT},
+    {5, 0, 4, SECCOMPILER_DWORD, SECCOMPILER_LT},
+    {6, 0, 5, SECCOMPILER_DWORD, SECCOMPILER_LE},
+    {6, 0, 5, SECCOMPILER_QWORD, SECCOMPILER_LE},
+    {8, 0xf00000008, 5, SECCOMPILER_QWORD, SECCOMPILER_MASKED_EQ},
+    {8, 0xc, 5, SECCOMPILER_DWORD, SECCOMPILER_MASKED_EQ},
+    {9, 0, 0, SECCOMPILER_QWORD, SECCOMPILER_LE},
+    {0, 0, 0, SECCOMPILER_QWORD, SECCOMPILER_NE},
+};
+static const char SAME[] =
+    "{\"f\":{\"mismatch_action\":\"trap\",\"match_action\":{\"errno\":13},\"filter\":[\n"
+    "{\"syscall\":\"write\",\"args\":[{\"index\":0,\"type\":\"dword\",\"op\":\"eq\",\"val\":5}]},\n"
+    "{\"syscall\":\"write\",\"args\":[{\"index\":1,\"type\":\"qword\",\"op\":\"ne\",\"val\":1},\n"
+    "  {\"index\":2,\"type\":\"dword\",\"op\":\"gt\",\"val\":7}]},\n"
+    "{\"syscall\":\"getpid\"},\n"
+    "{\"syscall\":\"mmap\",\"args\":[{\"index\":0,\"type\":\"qword\",\"op\":\"eq\",\"val\":1},\n"
+    "  {\"index\":1,\"type\":\"dword\",\"op\":\"ne\",\"val\":2},{\"index\":2,\"type\":\"qword\",\"op\":\"gt\",\"val\":3},\n"
+    "  {\"index\":3,\"type\":\"qword\",\"op\":\"ge\",\"val\":4294967300},{\"index\":3,\"type\":\"dword\",\"op\":\"ge\",\"val\":4},\n"
+    "  {\"index\":4,\"type\":\"qword\",\"op\":\"lt\",\"val\":5},{\"index\":4,\"type\":\"dword\",\"op\":\"lt\",\"val\":5},\n"
+    "  {\"index\":5,\"type\":\"dword\",\"op\":\"le\",\"val\":6},{\"index\":5,\"type\":\"qword\",\"op\":\"le\",\"val\":6},\n"
+    "  {\"index\":5,\"type\":\"qword\",\"op\":{\"masked_eq\":64424509448},\"val\":8},\n"
+    "  {\"index\":5,\"type\":\"dword\",\"op\":{\"masked_eq\":12},\"val\":8},\n"
+    "  {\"index\":0,\"type\":\"qword\",\"op\":\"le\",\"val\":9},{\"index\":0,\"type\":\"qword\",\"op\":\"ne\",\"val\":0}]}]}}";
+
+/* Kinds and data of actions on which the programs of those arrays end: the word is the kind with the low 16 bits of
+ * the data, where data count. */
+static const struct {
+    uint32_t kind, data;
+    int64_t word;
+} ACTIONS[] = {
+    {SECCOMP_RET_KILL_PROCESS, 7, SECCOMP_RET_KILL_PROCESS}, {SECCOMP_RET_KILL_THREAD, 7, SECCOMP_RET_KILL_THREAD},
+    {SECCOMP_RET_TRAP, 7, SECCOMP_RET_TRAP},                 {SECCOMP_RET_ERRNO, 13, SECCOMP_RET_ERRNO | 13},
+    {SECCOMP_RET_ERRNO, 0x2000d, SECCOMP_RET_ERRNO | 13},    {SECCOMP_RET_TRACE, 65535, SECCOMP_RET_TRACE | 65535},
+    {SECCOMP_RET_LOG, 7, SECCOMP_RET_LOG},                   {SECCOMP_RET_ALLOW, 7, SECCOMP_RET_ALLOW},
+    {1, 0, SECCOMPILER_UNKNOWN_ACTION},                      {SECCOMP_RET_ERRNO | 13, 13, SECCOMPILER_UNKNOWN_ACTION},
+    {0x7fc00000, 0, SECCOMPILER_UNKNOWN_ACTION},
 };
 
 /* What is not compiled. Each row has the faults of all later ones that it can have. */

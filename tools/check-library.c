@@ -150,6 +150,151 @@ static void check_programs(void)
     check_calls(21);
 }
 
+/* ---- rules */
+
+/* A filter as arrays, and what is asked of it. Each case changes what it is about. */
+struct asked {
+    struct seccompiler_chain chains[3];
+    struct seccompiler_rule rules[3];
+    struct seccompiler_condition conditions[16];
+    size_t chain_count, rule_count, condition_count, room;
+    uint32_t mismatch_kind, mismatch_data, match_kind, match_data, arch, layout;
+};
+
+static struct asked fine(uint32_t layout)
+{
+    struct asked asked;
+    memcpy(asked.chains, CHAINS, sizeof CHAINS);
+    memcpy(asked.rules, RULES, sizeof RULES);
+    memcpy(asked.conditions, CONDITIONS, sizeof CONDITIONS);
+    asked.chain_count = 3, asked.rule_count = 3, asked.condition_count = 16, asked.room = 4100;
+    asked.mismatch_kind = SECCOMP_RET_TRAP, asked.mismatch_data = 3;
+    asked.match_kind = SECCOMP_RET_ERRNO, asked.match_data = 13;
+    asked.arch = AUDIT_ARCH_X86_64, asked.layout = layout;
+    return asked;
+}
+
+static int64_t compile_rules(const struct asked *asked)
+{
+    mark();
+    int64_t answer = seccompiler_compile_rules(
+        asked->chains, asked->chain_count, asked->rules, asked->rule_count, asked->conditions,
+        asked->condition_count, asked->mismatch_kind, asked->mismatch_data, asked->match_kind, asked->match_data,
+        asked->arch, asked->layout, program, asked->room);
+    check(is_marked(answer < 0 ? 0 : answer), "behind a program of rules");
+    return answer;
+}
+
+static int64_t ran(int64_t count, int number, uint64_t first)
+{
+    struct seccomp_data call = call_of(AUDIT_ARCH_X86_64, number, first, 1, 0);
+    return seccompiler_run(program, count, &call, sizeof call);
+}
+
+/* The arrays have the program of the same policy as a text, in both layouts. */
+static void check_rules(void)
+{
+    static struct sock_filter of_rules[4096];
+    for (uint32_t layout = 0; layout < 2; layout++) {
+        struct asked asked = fine(layout);
+        int64_t count = compile_rules(&asked);
+        check(count > 0, "a program of rules");
+        equal(seccompiler_check(program, count), 1, "a check of a program of rules");
+        equal(ran(count, 39, 0), SECCOMP_RET_ERRNO | 13, "a chain without rules");
+        equal(ran(count, 1, 5), SECCOMP_RET_ERRNO | 13, "a rule that holds");
+        equal(ran(count, 1, 6), SECCOMP_RET_TRAP, "rules that don't hold");
+        equal(ran(count, 0, 5), SECCOMP_RET_TRAP, "a call without a chain");
+        memcpy(of_rules, program, sizeof of_rules);
+        equal(compile(SAME, strlen(SAME), AUDIT_ARCH_X86_64, "f", 1, layout, 4096), count, "the same as a text");
+        check(memcmp(program, of_rules, count * sizeof *program) == 0, "the instructions of the same as a text");
+    }
+}
+
+/* The first cause is told: each fault is mended once it was, and those of the next ones stay. */
+static void check_rules_refused(void)
+{
+    struct asked a = fine(2);
+    a.arch = 1, a.mismatch_kind = 1, a.match_kind = 2, a.rules[0].conditions = 2;
+    a.conditions[1].argument = 6, a.conditions[9].length = 5, a.conditions[3].op = 7;
+    a.chains[1].number = -1, a.chains[2].number = 1;
+    equal(compile_rules(&a), SECCOMPILER_UNKNOWN_ARCHITECTURE, "an architecture"), a.arch = AUDIT_ARCH_X86_64;
+    equal(compile_rules(&a), SECCOMPILER_UNKNOWN_LAYOUT, "a layout"), a.layout = 1;
+    equal(compile_rules(&a), SECCOMPILER_UNKNOWN_ACTION, "a mismatch action"), a.mismatch_kind = SECCOMP_RET_TRAP;
+    equal(compile_rules(&a), SECCOMPILER_UNKNOWN_ACTION, "a match action"), a.match_kind = SECCOMP_RET_TRAP;
+    equal(compile_rules(&a), SECCOMPILER_BAD_COUNTS, "one condition less"), a.rules[0].conditions = 0;
+    equal(compile_rules(&a), SECCOMPILER_BAD_COUNTS, "one condition more");
+    a.rules[0].conditions = SIZE_MAX, a.rules[2].conditions = 15;
+    equal(compile_rules(&a), SECCOMPILER_BAD_COUNTS, "counts whose sum wraps");
+    a.rules[0].conditions = 0, a.rules[1].conditions = 3, a.rules[2].conditions = 13, a.chains[2].rules = 1;
+    equal(compile_rules(&a), SECCOMPILER_BAD_COUNTS, "one rule less"), a.chains[2].rules = 0, a.chains[1].rules = 0;
+    equal(compile_rules(&a), SECCOMPILER_BAD_COUNTS, "one rule more"), a.chains[1].rules = 1;
+    equal(compile_rules(&a), SECCOMPILER_BAD_ARGUMENT, "an argument"), a.conditions[1].argument = 5;
+    equal(compile_rules(&a), SECCOMPILER_UNKNOWN_LENGTH, "a length"), a.conditions[9].length = SECCOMPILER_QWORD;
+    equal(compile_rules(&a), SECCOMPILER_UNKNOWN_OPERATOR, "an operator"), a.conditions[3].op = SECCOMPILER_EQ;
+    equal(compile_rules(&a), SECCOMPILER_EMPTY_RULE, "no conditions"), a.rules[0].conditions = 1;
+    a.rules[1].conditions = 2;
+    equal(compile_rules(&a), SECCOMPILER_EQUAL_ACTIONS, "actions"), a.match_kind = SECCOMP_RET_ALLOW;
+    equal(compile_rules(&a), SECCOMPILER_BAD_ORDER, "a number below the one before"), a.chains[0].number = -2;
+    equal(compile_rules(&a), SECCOMPILER_BAD_NUMBER, "a number below 0"), a.chains[0].number = 1;
+    a.chains[1].number = 1, a.chains[2].number = 4294967296;
+    equal(compile_rules(&a), SECCOMPILER_BAD_ORDER, "a number twice"), a.chains[0].number = 0;
+    equal(compile_rules(&a), SECCOMPILER_BAD_NUMBER, "a number above 32 bits"), a.chains[2].number = 4294967295;
+    int64_t count = compile_rules(&a);
+    check(count > 0, "no fault");
+    a.room = count - 1, equal(compile_rules(&a), SECCOMPILER_NO_ROOM, "no room");
+    a.room = count, equal(compile_rules(&a), count, "room");
+}
+
+static void check_actions(void)
+{
+    for (size_t i = 0; i < sizeof ACTIONS / sizeof *ACTIONS; i++) {
+        struct asked matched = fine(0), missed = fine(0);
+        matched.match_kind = ACTIONS[i].kind, matched.match_data = ACTIONS[i].data, matched.mismatch_kind =
+            ACTIONS[i].kind == SECCOMP_RET_TRAP ? SECCOMP_RET_LOG : SECCOMP_RET_TRAP;
+        missed.mismatch_kind = ACTIONS[i].kind, missed.mismatch_data = ACTIONS[i].data, missed.match_data = 5;
+        int64_t count = compile_rules(&matched);
+        equal(count < 0 ? count : ran(count, 39, 0), ACTIONS[i].word, "a match action");
+        count = compile_rules(&missed);
+        equal(count < 0 ? count : ran(count, 40, 0), ACTIONS[i].word, "a mismatch action");
+    }
+    struct asked asked = fine(0);
+    asked.mismatch_kind = asked.match_kind = SECCOMP_RET_ERRNO;
+    asked.mismatch_data = 1, asked.match_data = 65537;
+    check(compile_rules(&asked) > 0, "error numbers that differ in their high halves");
+    asked.match_data = 1, equal(compile_rules(&asked), SECCOMPILER_EQUAL_ACTIONS, "one error number");
+    asked.mismatch_kind = asked.match_kind = SECCOMP_RET_TRAP, asked.match_data = 2;
+    equal(compile_rules(&asked), SECCOMPILER_EQUAL_ACTIONS, "data that don't count");
+}
+
+static int64_t compile_many(size_t count, size_t room)
+{
+    static struct seccompiler_rule rules[818];
+    static struct seccompiler_condition conditions[818];
+    struct seccompiler_chain chain = {0, count};
+    for (size_t i = 0; i < count; i++) {
+        rules[i].conditions = 1;
+        conditions[i] = CONDITIONS[0];
+    }
+    mark();
+    return seccompiler_compile_rules(&chain, 1, rules, count, conditions, count, SECCOMP_RET_TRAP, 0,
+                                     SECCOMP_RET_ALLOW, 0, AUDIT_ARCH_X86_64, 0, program, room);
+}
+
+/* Nothing; a chain without rules; and n rules of 5 instructions each, which have 5 n + 7 in all. */
+static void check_rules_lengths(void)
+{
+    struct asked asked = fine(0);
+    asked.chain_count = asked.rule_count = asked.condition_count = 0;
+    equal(compile_rules(&asked), 4, "no chains");
+    asked.chain_count = 1, asked.chains[0].rules = 0;
+    equal(compile_rules(&asked), 10, "a chain without rules");
+    equal(compile_many(817, 4092), 4092, "the longest program of rules");
+    equal(compile_many(817, 4091), SECCOMPILER_NO_ROOM, "no room for a program of rules");
+    check(is_marked(0), "an array with no room for a program of rules");
+    equal(compile_many(818, 4100), SECCOMPILER_TOO_LARGE, "rules that are too many");
+    check(is_marked(0), "an array after rules that are too many");
+}
+
 /* ---- codes and texts */
 
 static void check_refusals(void)
@@ -308,6 +453,18 @@ static int64_t decided(void)
     return seccompiler_decide(README, strlen(README), AUDIT_ARCH_X86_64, NAME, strlen(NAME), &call, 64);
 }
 
+static int64_t rules_in_chains(void)
+{
+    struct asked asked = fine(SECCOMPILER_LAYOUT_CHAINS);
+    return compile_rules(&asked);
+}
+
+static int64_t rules_as_tree(void)
+{
+    struct asked asked = fine(SECCOMPILER_LAYOUT_TREE);
+    return compile_rules(&asked);
+}
+
 /* The refusal of a shape, whose text has 34 bytes; that of want of memory has 14. */
 static int64_t refusal(void)
 {
@@ -348,6 +505,17 @@ int main(void)
               && offsetof(struct sock_filter, jf) == 3 && offsetof(struct sock_filter, k) == 4,
           "the layout of an instruction");
     check_programs();
+    check(sizeof(struct seccompiler_chain) == 16 && offsetof(struct seccompiler_chain, rules) == 8
+              && sizeof(struct seccompiler_rule) == 8 && sizeof(struct seccompiler_condition) == 24
+              && offsetof(struct seccompiler_condition, mask) == 8
+              && offsetof(struct seccompiler_condition, argument) == 16
+              && offsetof(struct seccompiler_condition, length) == 17
+              && offsetof(struct seccompiler_condition, op) == 18,
+          "the layout of the entries of rules");
+    check_rules();
+    check_rules_refused();
+    check_actions();
+    check_rules_lengths();
     check_refusals();
     check_cuts();
     check_codes();
@@ -358,6 +526,10 @@ int main(void)
     held = 0;
     sweep(in_chains, 24, SECCOMPILER_OUT_OF_MEMORY);
     sweep(as_tree, 21, SECCOMPILER_OUT_OF_MEMORY);
+    int64_t chains = rules_in_chains(), tree = rules_as_tree();
+    held = 0;
+    sweep(rules_in_chains, chains, SECCOMPILER_OUT_OF_MEMORY);
+    sweep(rules_as_tree, tree, SECCOMPILER_OUT_OF_MEMORY);
     sweep(decided, SECCOMP_RET_ALLOW, SECCOMPILER_OUT_OF_MEMORY);
     sweep(refusal, 34, 14);
     sweep(no_refusal, 0, 14);

@@ -74,7 +74,8 @@ HasOperator c = c.op ≤ 6
 abbrev pub HasCallNumber : seccompiler_chain → Type 0
 HasCallNumber c = IsCallNumber c.number
 
-module _ (chains : List seccompiler_chain) (rules : List seccompiler_rule) (conditions : List seccompiler_condition) (mismatch matched : SeccompAction) where
+module _ (chains : List seccompiler_chain) (rules : List seccompiler_rule) (conditions : List seccompiler_condition)
+    (mismatch matched : SeccompAction) where
   -- The chains count the rules, and the rules the conditions.
   abbrev pub AddUp : Type 0
   AddUp = (sum_by rules_of_chain chains ≡ length rules) × (sum_by conditions_of_rule rules ≡ length conditions)
@@ -100,8 +101,12 @@ module _ (chains : List seccompiler_chain) (rules : List seccompiler_rule) (cond
   IsFirstUnmet Argument = AddUp × (All HasArgument conditions → ⊥)
   IsFirstUnmet Length = AddUp × All HasArgument conditions × (All HasLength conditions → ⊥)
   IsFirstUnmet Operator = AddUp × All HasArgument conditions × All HasLength conditions × (All HasOperator conditions → ⊥)
-  IsFirstUnmet EmptyRule = AddUp × All HasArgument conditions × All HasLength conditions × All HasOperator conditions × (All HasConditions rules → ⊥)
-  IsFirstUnmet EqualActions = AddUp × All HasArgument conditions × All HasLength conditions × All HasOperator conditions × All HasConditions rules × (mismatch ≡ matched)
-  IsFirstUnmet Order = AddUp × All HasArgument conditions × All HasLength conditions × All HasOperator conditions × All HasConditions rules × (mismatch ≢ matched) × (Ascend → ⊥)
-  IsFirstUnmet Number = AddUp × All HasArgument conditions × All HasLength conditions × All HasOperator conditions × All HasConditions rules × (mismatch ≢ matched) × Ascend × (All HasCallNumber chains → ⊥)
+  IsFirstUnmet EmptyRule = AddUp × All HasArgument conditions × All HasLength conditions × All HasOperator conditions
+      × (All HasConditions rules → ⊥)
+  IsFirstUnmet EqualActions = AddUp × All HasArgument conditions × All HasLength conditions × All HasOperator conditions
+      × All HasConditions rules × (mismatch ≡ matched)
+  IsFirstUnmet Order = AddUp × All HasArgument conditions × All HasLength conditions × All HasOperator conditions
+      × All HasConditions rules × (mismatch ≢ matched) × (Ascend → ⊥)
+  IsFirstUnmet Number = AddUp × All HasArgument conditions × All HasLength conditions × All HasOperator conditions
+      × All HasConditions rules × (mismatch ≢ matched) × Ascend × (All HasCallNumber chains → ⊥)
   IsFirstUnmet f = ⊥

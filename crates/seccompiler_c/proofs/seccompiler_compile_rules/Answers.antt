@@ -17,10 +17,27 @@ returns-in-Ok c =
     let same : front ≡ items = cc in
     let long : length c.deref.result.now ≡ n = cc in
     let small : n < 2 ^ 63 = omega (arith, long, c.deref.type_inv.1) in
-    let words : Words = record { mismatch_kind = c.args.mismatch_kind; mismatch_data = c.args.mismatch_data; match_kind = c.args.match_kind; match_data = c.args.match_data; architecture = c.args.architecture; layout = c.args.layout } in
-    let request : ArraysRequest = record { chains = c.args.chains.now; rules = c.args.rules.now; conditions = c.args.conditions.now; words = words; room = length old } in
+    let words : Words = record {
+      mismatch_kind = c.args.mismatch_kind;
+      mismatch_data = c.args.mismatch_data;
+      match_kind =
+          c.args.match_kind;
+      match_data = c.args.match_data;
+      architecture = c.args.architecture;
+      layout = c.args.layout;
+    } in
+    let request : ArraysRequest = record {
+      chains = c.args.chains.now;
+      rules = c.args.rules.now;
+      conditions = c.args.conditions.now;
+      words = words;
+      room = length old;
+    } in
     let written = holds old items front n count same c.in-Ok.ensures.fits small in
     record { answers = compiled (arrays_program_so request (λ program. program ≡ items) (Holds old _ _) written c.in-Ok.ensures.program) }
 
 pub returns-in-Err : goal.returns-in-Err
-returns-in-Err c = rw (to_z-of_z w64 c.code.result (record { sfits = c.code.type_inv })) (record { answers = refused c.in-Err.refusal c.in-Err.ensures.refused c.code.ensures.code refl })
+returns-in-Err c = rw (to_z-of_z w64 c.code.result (record { sfits = c.code.type_inv })) (record {
+  answers = refused c.in-Err.refusal
+      c.in-Err.ensures.refused c.code.ensures.code refl;
+})

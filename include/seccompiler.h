@@ -202,7 +202,8 @@ int64_t seccompiler_compile(const char *text, size_t text_length, uint32_t archi
  * Returns a code, and leaves the whole array as it was, where it is refused: UNKNOWN_ARCHITECTURE,
  * UNKNOWN_LAYOUT, UNKNOWN_ACTION, BAD_COUNTS, BAD_ARGUMENT, UNKNOWN_LENGTH, UNKNOWN_OPERATOR, EMPTY_RULE,
  * EQUAL_ACTIONS, BAD_ORDER, BAD_NUMBER, TOO_LARGE, NO_ROOM; or OUT_OF_MEMORY in place of one of the last
- * two or of a program. What a code tells is looked at in all entries before what the next one tells.
+ * two or of a program. What a code tells is looked at in all entries before what the next one tells. The
+ * code is all that is told; seccompiler_refusal has no sentence for it.
  */
 int64_t seccompiler_compile_rules(const struct seccompiler_chain *chains, size_t chain_count,
                                   const struct seccompiler_rule *rules, size_t rule_count,

@@ -38,6 +38,6 @@ returns-in-Ok c =
 
 pub returns-in-Err : goal.returns-in-Err
 returns-in-Err c = rw (to_z-of_z w64 c.code.result (record { sfits = c.code.type_inv })) (record {
-  answers = refused c.in-Err.refusal
+  answers = refused c.in-Err.fault
       c.in-Err.ensures.refused c.code.ensures.code refl;
 })

@@ -215,12 +215,15 @@ int64_t seccompiler_compile_rules(const struct seccompiler_chain *chains, size_t
 
 /*
  * Writes why seccompiler_compile refuses these arguments into the front of `buffer`, which has room for
- * `size` bytes: a sentence in UTF-8, with neither a line feed nor a byte 0 behind it. Where the buffer is
- * too short, the sentence is cut behind the last character that fits. 256 bytes are enough for every
- * sentence but those that tell a name of the text.
+ * `size` bytes: a sentence in UTF-8, with neither a line feed nor a byte 0 behind it, and never an empty
+ * one. Of a text that is no JSON in UTF-8, or nests too deep, it begins with "Error parsing Json: ", and what
+ * follows, which tells the fault and its place, is proved nowhere. Where the buffer is too short, the sentence
+ * is cut behind the last character that fits. 256 bytes are enough for every sentence but those that tell a
+ * name of the text.
  *
- * Returns how many bytes it has written, which is 0 where seccompiler_compile doesn't refuse. Where memory
- * is refused, the sentence is "Out of memory." in place of any other, or of none.
+ * Returns how many bytes it has written, which is 0 where seccompiler_compile doesn't refuse, and else at
+ * least 1 where there is room for the first character. Where memory is refused, the sentence is
+ * "Out of memory." in place of any other, or of none.
  */
 int64_t seccompiler_refusal(const char *text, size_t text_length, uint32_t architecture,
                             const char *name, size_t name_length, uint32_t layout, size_t room,

@@ -168,6 +168,10 @@ static const struct {
      "The array has too little room for the program: it has 21 instructions."},
 };
 
+/* Texts that are no JSON in UTF-8, and how what is said of them begins. */
+static const char *const NO_JSON[] = {"", "{", "{\"\xff\":{}}"};
+static const char NO_JSON_SAID[] = "Error parsing Json: ";
+
 static const char TOO_LARGE[] =
     "The seccomp filter contains too many BPF instructions: 4097. Max length is 4096.";
 

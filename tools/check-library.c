@@ -320,6 +320,13 @@ static void check_refusals(void)
     check(buffer[0] == '#', "a buffer with no refusal");
     equal(compile("", 0, AUDIT_ARCH_X86_64, "b", 1, 0, 0), SECCOMPILER_REFUSED, "no text");
     check(is_marked(0), "an array after no text");
+    for (size_t i = 0; i < sizeof NO_JSON / sizeof *NO_JSON; i++) {
+        char why[256];
+        int64_t bytes = seccompiler_refusal(NO_JSON[i], strlen(NO_JSON[i]), AUDIT_ARCH_X86_64, "b", 1, 0, 0, why,
+                                            sizeof why);
+        check(bytes > (int64_t)strlen(NO_JSON_SAID), "words behind the beginning of a text of no JSON");
+        check(memcmp(why, NO_JSON_SAID, strlen(NO_JSON_SAID)) == 0, "the text of no JSON");
+    }
 }
 
 static void check_cuts(void)

@@ -53,17 +53,22 @@ impl Fault {
 
 /// The fault's text: the library's own where the library refuses.
 impl fmt::Display for Fault {
-    ghost use Rattle.seccompiler_c.specs.Refusals.{fault_text};
+    ghost use Rattle.std.specs.Fmt.{DisplaysOnOk};
+    ghost use Rattle.seccompiler.specs.Texts.{WritesOne};
+    ghost use Rattle.seccompiler_c.specs.Refusals.{fault_text, IsFaultText};
 
     ghost output = { fault_text };
 
-    fn fmt<W: fmt::Write>(&self, f: &mut fmt::Formatter<W>) -> fmt::Result {
+    fn fmt<W: fmt::Write>(&self, f: &mut fmt::Formatter<W>) -> fmt::Result
+        ensures writes { DisplaysOnOk W.write_str_gives f.old result (fault_text self.now) f.new }
+        ensures text { WritesOne W.write_str_gives (IsFaultText self.now) f.old result f.new }
+    {
         match self {
             Fault::OutOfMemory => f.write_str("Out of memory."),
             Fault::UnknownArchitecture => f.write_str("Unknown architecture."),
             Fault::UnknownLayout => f.write_str("Unknown layout."),
             Fault::NotARecord => f.write_str("A call record has 64 bytes."),
-            Fault::Text(error) => write!(f, "{error}"),
+            Fault::Text(error) => error.fmt(f),
             Fault::NoFilter => f.write_str("No filter has this name."),
             Fault::Filter(error) => write!(f, "{error}"),
             Fault::NoRoom(length) => write!(

@@ -16,11 +16,11 @@
  *     int program_of(const char *text, size_t length, struct sock_filter program[4096])
  *     {
  *         int64_t count = seccompiler_compile(text, length, AUDIT_ARCH_X86_64, "main_thread", 11,
- *                                             SECCOMPILER_LAYOUT_CHAINS, program, 4096);
+ *                                             SECCOMPILER_LAYOUT_LINEAR, program, 4096);
  *         if (count < 0) {
  *             char why[256];
  *             int64_t bytes = seccompiler_refusal(text, length, AUDIT_ARCH_X86_64, "main_thread",
- *                                                 11, SECCOMPILER_LAYOUT_CHAINS, 4096, why,
+ *                                                 11, SECCOMPILER_LAYOUT_LINEAR, 4096, why,
  *                                                 sizeof why);
  *             fprintf(stderr, "%.*s\n", (int)bytes, why);
  *             return -1;
@@ -43,7 +43,7 @@
  *     byte 0 behind it. A name that is no UTF-8 is no filter's and no call's.
  *
  * layout
- *     SECCOMPILER_LAYOUT_CHAINS or SECCOMPILER_LAYOUT_TREE. The programs of both answer each call
+ *     SECCOMPILER_LAYOUT_LINEAR or SECCOMPILER_LAYOUT_TREE. The programs of both answer each call
  *     alike; docs/LAYOUTS.md says when to take which.
  *
  * chains, rules, conditions, and how many of each
@@ -136,7 +136,7 @@ extern "C" {
 #define SECCOMPILER_BAD_NUMBER (-19)
 
 /* The layout that tests one call number after the other, as the Rust crate seccompiler does. */
-#define SECCOMPILER_LAYOUT_CHAINS 0
+#define SECCOMPILER_LAYOUT_LINEAR 0
 /* The layout of a tree of tests, which tell ranges of call numbers apart. */
 #define SECCOMPILER_LAYOUT_TREE 1
 

@@ -137,7 +137,7 @@ static void check_calls(int64_t count)
 
 static void check_programs(void)
 {
-    equal(compile_readme(SECCOMPILER_LAYOUT_CHAINS, 4100), 24, "the README's policy");
+    equal(compile_readme(SECCOMPILER_LAYOUT_LINEAR, 4100), 24, "the README's policy");
     check(memcmp(program, LISTING, sizeof LISTING) == 0, "the listing of the README's policy");
     check(is_marked(24), "behind the program");
     equal(seccompiler_check(program, 24), 1, "a check of the program");
@@ -440,9 +440,9 @@ static void sweep(int64_t (*call)(void), int64_t ample, int64_t refused)
     refuse(1, 0);
 }
 
-static int64_t in_chains(void)
+static int64_t in_linear(void)
 {
-    int64_t answer = compile_readme(SECCOMPILER_LAYOUT_CHAINS, 30);
+    int64_t answer = compile_readme(SECCOMPILER_LAYOUT_LINEAR, 30);
     check(is_marked(answer < 0 ? 0 : 24), "an array with a refused request");
     return answer;
 }
@@ -460,9 +460,9 @@ static int64_t decided(void)
     return seccompiler_decide(README, strlen(README), AUDIT_ARCH_X86_64, NAME, strlen(NAME), &call, 64);
 }
 
-static int64_t rules_in_chains(void)
+static int64_t rules_linear(void)
 {
-    struct asked asked = fine(SECCOMPILER_LAYOUT_CHAINS);
+    struct asked asked = fine(SECCOMPILER_LAYOUT_LINEAR);
     return compile_rules(&asked);
 }
 
@@ -497,7 +497,7 @@ static int64_t no_refusal(void)
 static void without_memory(void)
 {
     struct seccomp_data call = call_of(AUDIT_ARCH_X86_64, 288, 0, 0, 0);
-    equal(compile_readme(SECCOMPILER_LAYOUT_CHAINS, 24), 24, "the README's policy");
+    equal(compile_readme(SECCOMPILER_LAYOUT_LINEAR, 24), 24, "the README's policy");
     refuse(1, LONG_MAX);
     equal(seccompiler_check(program, 24), 1, "a check");
     equal(seccompiler_run(program, 24, &call, 64), SECCOMP_RET_ALLOW, "a run");
@@ -531,11 +531,11 @@ int main(void)
     check_numbers();
     check_lengths();
     held = 0;
-    sweep(in_chains, 24, SECCOMPILER_OUT_OF_MEMORY);
+    sweep(in_linear, 24, SECCOMPILER_OUT_OF_MEMORY);
     sweep(as_tree, 21, SECCOMPILER_OUT_OF_MEMORY);
-    int64_t chains = rules_in_chains(), tree = rules_as_tree();
+    int64_t linear = rules_linear(), tree = rules_as_tree();
     held = 0;
-    sweep(rules_in_chains, chains, SECCOMPILER_OUT_OF_MEMORY);
+    sweep(rules_linear, linear, SECCOMPILER_OUT_OF_MEMORY);
     sweep(rules_as_tree, tree, SECCOMPILER_OUT_OF_MEMORY);
     sweep(decided, SECCOMP_RET_ALLOW, SECCOMPILER_OUT_OF_MEMORY);
     sweep(refusal, 34, 14);

@@ -171,7 +171,7 @@ static void install(const struct program *program)
 
 int main(int count, char **words)
 {
-    struct policy policy = {.layout = SECCOMPILER_LAYOUT_CHAINS};
+    struct policy policy = {.layout = SECCOMPILER_LAYOUT_LINEAR};
     struct program *programs;
     size_t program_count;
 

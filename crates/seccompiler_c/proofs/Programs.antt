@@ -3,11 +3,11 @@ use Rattle.std.proofs.Common.{◌≡◌, ◌<◌, ◌≤◌, ◌^◌, ◌++◌, 
 use Rattle.std.proofs.lemmas.Int.{to_z_pos}
 use Rattle.seccompiler.specs.Policy.{Filter}
 use Rattle.seccompiler.specs.declared.backend.TargetArch.{TargetArch}
+use Rattle.seccompiler.specs.declared.layout.Layout.{Layout}
 use Rattle.seccompiler.specs.declared.bpf.sock_filter.{sock_filter}
 use Rattle.seccompiler_c.specs.Arguments.{IsArchitecture, IsLayout}
 use Rattle.seccompiler_c.specs.Policies.{NamesPolicy}
 use Rattle.seccompiler_c.specs.Programs.{Request, OfProgram, Holds, IsRefusal, IsUncompiledIn}
-use Rattle.seccompiler_c.specs.declared.arguments.ProgramLayout.{ProgramLayout}
 use Rattle.seccompiler_c.specs.declared.fault.Fault.{Fault}
 use Rattle.seccompiler_c.specs.declared.fault.Fault.TheVariants as fault
 
@@ -15,7 +15,7 @@ use Rattle.seccompiler_c.specs.declared.fault.Fault.TheVariants as fault
 pub named_so : (target : TargetArch) (text name : List ℕ) (policy : Filter) (P : Filter → Type 0) → NamesPolicy target text name (λ p. p ≡ policy) → P policy → NamesPolicy target text name P
 named_so target text name policy P (d, is, (all, (value, has, (p, own, same)))) holds = (d, is, (all, (value, has, (p, own, subst P (sym same) holds))))
 
-module _ (r : Request) (target : TargetArch) (layout : ProgramLayout) (architecture : IsArchitecture r.architecture target) (number : IsLayout r.layout layout) where
+module _ (r : Request) (target : TargetArch) (layout : Layout) (architecture : IsArchitecture r.architecture target) (number : IsLayout r.layout layout) where
   -- A request whose policy has no program is refused for that.
   pub no_program : (policy : Filter) → NamesPolicy target r.text r.name (λ p. p ≡ policy) → (f : Fault) → IsUncompiledIn layout policy f → IsRefusal r f
   no_program policy named fault.OutOfMemory why = (target, architecture, (layout, number, tt))

@@ -2,8 +2,8 @@
 use Rattle.std.specs.Prelude.{◌≡◌, ℕ}
 use Rattle.seccompiler.specs.Architecture.{audit_word}
 use Rattle.seccompiler.specs.declared.backend.TargetArch.{TargetArch}
-use Rattle.seccompiler_c.specs.declared.arguments.ProgramLayout.{ProgramLayout}
-use Rattle.seccompiler_c.specs.declared.arguments.ProgramLayout.TheVariants.{Chains, Tree}
+use Rattle.seccompiler.specs.declared.layout.Layout.{Layout}
+use Rattle.seccompiler.specs.declared.layout.Layout.TheVariants.{Linear, Tree}
 
 -- The word is that of an architecture (linux/audit.h).
 abbrev pub IsArchitecture : ℕ → TargetArch → Type 0
@@ -18,18 +18,18 @@ abbrev pub OfArchitecture : ℕ → (TargetArch → Type 0) → Type 0
 OfArchitecture word P = (target : TargetArch) × IsArchitecture word target × P target
 
 -- The number of a layout.
-abbrev pub layout_number : ProgramLayout → ℕ
-layout_number Chains = 0
+abbrev pub layout_number : Layout → ℕ
+layout_number Linear = 0
 layout_number Tree = 1
 
 -- The number is that of a layout.
-abbrev pub IsLayout : ℕ → ProgramLayout → Type 0
+abbrev pub IsLayout : ℕ → Layout → Type 0
 IsLayout number layout = number ≡ layout_number layout
 
 -- The number is no layout's.
 abbrev pub IsNoLayout : ℕ → Type 0
-IsNoLayout number = (layout : ProgramLayout) → IsLayout number layout → ⊥
+IsNoLayout number = (layout : Layout) → IsLayout number layout → ⊥
 
 -- The number is that of a layout, of which P holds.
-abbrev pub OfLayout : ℕ → (ProgramLayout → Type 0) → Type 0
-OfLayout number P = (layout : ProgramLayout) × IsLayout number layout × P layout
+abbrev pub OfLayout : ℕ → (Layout → Type 0) → Type 0
+OfLayout number P = (layout : Layout) × IsLayout number layout × P layout

@@ -1,18 +1,17 @@
 -- The program that a caller asks for, and why it is not given.
 use Rattle.std.specs.Prelude.{◌≡◌, ℕ, ℤ, pos, ◌<◌, ◌≤◌, List, ◌++◌, drop, length, ⊤}
-use Rattle.seccompiler.specs.Compiled.{IsCompiled, Passes}
+use Rattle.seccompiler.specs.Compiled.{Passes}
+use Rattle.seccompiler.specs.Layouts.{IsCompiledIn, IsRefusalIn}
 use Rattle.seccompiler.specs.Policy.{Filter}
-use Rattle.seccompiler.specs.Refusal.{IsTooLarge}
-use Rattle.seccompiler.specs.Tree.{IsTreeCompiled, IsTreeTooLarge}
 use Rattle.seccompiler.specs.declared.backend.BackendError.{BackendError}
 use Rattle.seccompiler.specs.declared.backend.BackendError.TheVariants.{FilterTooLarge}
 use Rattle.seccompiler.specs.declared.backend.TargetArch.{TargetArch}
 use Rattle.seccompiler.specs.declared.bpf.sock_filter.{sock_filter}
+use Rattle.seccompiler.specs.declared.layout.Layout.{Layout}
+use Rattle.seccompiler.specs.declared.layout.Layout.TheVariants.{Linear}
 use Rattle.seccompiler_c.specs.Arguments.{IsNoArchitecture, OfArchitecture, IsNoLayout, OfLayout}
 use Rattle.seccompiler_c.specs.Codes.{code_of}
 use Rattle.seccompiler_c.specs.Policies.{NamesPolicy, NamesNone, TellsTextFault}
-use Rattle.seccompiler_c.specs.declared.arguments.ProgramLayout.{ProgramLayout}
-use Rattle.seccompiler_c.specs.declared.arguments.ProgramLayout.TheVariants.{Chains, Tree}
 use Rattle.seccompiler_c.specs.declared.fault.Fault.{Fault}
 use Rattle.seccompiler_c.specs.declared.fault.Fault.TheVariants.{OutOfMemory, UnknownArchitecture, UnknownLayout, NotARecord, Text, NoFilter, Filter as TooLarge, NoRoom}
 
@@ -25,34 +24,29 @@ pub record Request : Type 0 where
   pub layout : ℕ
   pub room : ℕ
 
--- The program is compiled for the policy, in the layout, and passes every call that the policy has no chain for.
-pub record IsInChains (policy : Filter) (program : List sock_filter) : Type 0 where
-  pub compiled : IsCompiled policy program
-  pub passes : Passes policy program
-
--- The program is compiled for the policy in this layout.
-abbrev pub IsProgramIn : ProgramLayout → Filter → List sock_filter → Type 0
-IsProgramIn Chains policy program = IsInChains policy program
-IsProgramIn Tree policy program = IsTreeCompiled policy program
+-- The program is compiled for the policy in this layout. In the linear one it passes every call that the policy has no
+-- chain for; in the other one its compilation says how many steps such a call takes.
+pub record IsProgramIn (layout : Layout) (policy : Filter) (program : List sock_filter) : Type 0 where
+  pub compiled : IsCompiledIn layout policy program
+  pub passes : layout ≡ Linear → Passes policy program
 
 -- The error tells that the policy's program would be too long in this layout.
-abbrev pub IsTooLargeIn : ProgramLayout → Filter → BackendError → Type 0
-IsTooLargeIn Chains policy (FilterTooLarge n) = IsTooLarge policy n
-IsTooLargeIn Tree policy (FilterTooLarge n) = IsTreeTooLarge policy n
+abbrev pub IsTooLargeIn : Layout → Filter → BackendError → Type 0
+IsTooLargeIn layout policy (FilterTooLarge n) = IsRefusalIn layout policy (FilterTooLarge n)
 IsTooLargeIn layout policy e = ⊥
 
 -- Why the policy has no program in this layout: it would be too long, or memory is wanted.
-abbrev pub IsUncompiledIn : ProgramLayout → Filter → Fault → Type 0
+abbrev pub IsUncompiledIn : Layout → Filter → Fault → Type 0
 IsUncompiledIn layout policy OutOfMemory = ⊤
 IsUncompiledIn layout policy (TooLarge e) = IsTooLargeIn layout policy e
 IsUncompiledIn layout policy f = ⊥
 
 -- The words name an architecture and a layout, of which P holds.
-abbrev pub OfWords : Request → (TargetArch → ProgramLayout → Type 0) → Type 0
+abbrev pub OfWords : Request → (TargetArch → Layout → Type 0) → Type 0
 OfWords r P = OfArchitecture r.architecture (λ target. OfLayout r.layout (λ layout. P target layout))
 
 -- The words name an architecture and a layout, the text has no fault, and P holds of the filter of the name.
-abbrev pub OfPolicy : Request → (ProgramLayout → Filter → Type 0) → Type 0
+abbrev pub OfPolicy : Request → (Layout → Filter → Type 0) → Type 0
 OfPolicy r P = OfWords r (λ target layout. NamesPolicy target r.text r.name (P layout))
 
 -- The filter of the name has a program in the layout, of which P holds.

@@ -3,17 +3,8 @@
 ghost use Rattle.std.specs.Prelude.{◌≡◌, IfSome, IfNone};
 ghost use Rattle.seccompiler_c.specs.Arguments.{IsArchitecture, IsNoArchitecture, IsLayout, IsNoLayout};
 
-use crate::codes::{SECCOMPILER_LAYOUT_CHAINS, SECCOMPILER_LAYOUT_TREE};
-use seccompiler::TargetArch;
-
-/// How a program finds the rules of a call.
-#[derive(Clone, Copy, Debug, PartialEq, Eq)]
-pub(crate) enum ProgramLayout {
-    /// It tests one call number after the other, as the Rust crate's programs do.
-    Chains,
-    /// It has a tree of tests, which tell ranges of call numbers apart.
-    Tree,
-}
+use crate::codes::{SECCOMPILER_LAYOUT_LINEAR, SECCOMPILER_LAYOUT_TREE};
+use seccompiler::{Layout, TargetArch};
 
 // The architecture of this word.
 pub(crate) fn architecture_of(word: u32) -> Option<TargetArch>
@@ -30,13 +21,13 @@ pub(crate) fn architecture_of(word: u32) -> Option<TargetArch>
 }
 
 // The layout of this number.
-pub(crate) fn layout_of(number: u32) -> Option<ProgramLayout>
+pub(crate) fn layout_of(number: u32) -> Option<Layout>
     ensures found { IfSome result (IsLayout number) }
     ensures not_found { IfNone result (IsNoLayout number) }
 {
     match number {
-        SECCOMPILER_LAYOUT_CHAINS => Some(ProgramLayout::Chains),
-        SECCOMPILER_LAYOUT_TREE => Some(ProgramLayout::Tree),
+        SECCOMPILER_LAYOUT_LINEAR => Some(Layout::Linear),
+        SECCOMPILER_LAYOUT_TREE => Some(Layout::Tree),
         _ => None,
     }
 }

@@ -58,7 +58,7 @@ pub const SECCOMPILER_BAD_ORDER: i64 = -18;
 pub const SECCOMPILER_BAD_NUMBER: i64 = -19;
 
 /// The layout of the Rust crate, which tests one call number after the other.
-pub const SECCOMPILER_LAYOUT_CHAINS: u32 = 0;
+pub const SECCOMPILER_LAYOUT_LINEAR: u32 = 0;
 
 /// The layout of a tree of tests, which tell ranges of call numbers apart.
 pub const SECCOMPILER_LAYOUT_TREE: u32 = 1;

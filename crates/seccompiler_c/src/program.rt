@@ -5,10 +5,10 @@ ghost use Rattle.seccompiler.specs.Refusal.{numbers_of};
 ghost use Rattle.seccompiler.specs.SyscallTable.{IsTableNumber};
 ghost use Rattle.seccompiler_c.specs.Programs.{IsProgramIn, IsUncompiledIn, OfProgram, IsRefusal};
 
-use crate::arguments::{ProgramLayout, architecture_of, layout_of};
+use crate::arguments::{architecture_of, layout_of};
 use crate::fault::Fault;
 use crate::policy::policy_of;
-use seccompiler::{BpfProgram, SeccompFilter};
+use seccompiler::{BpfProgram, Layout, SeccompFilter};
 use std::alloc::Global;
 
 // The program of the filter of a name in a text, for the architecture of a word, in the layout of a
@@ -40,17 +40,13 @@ pub(crate) fn program_of(
 }
 
 // A policy's program in a layout.
-fn program_in(
-    alloc: Global,
-    layout: ProgramLayout,
-    policy: &SeccompFilter,
-) -> Result<BpfProgram, Fault>
+fn program_in(alloc: Global, layout: Layout, policy: &SeccompFilter) -> Result<BpfProgram, Fault>
     requires numbers { All IsTableNumber (numbers_of policy.now.chains) }
     ensures program { IfOk result (λ found. IsProgramIn layout policy.now found.items) }
     ensures refused { IfErr result (IsUncompiledIn layout policy.now) }
 {
     match layout {
-        ProgramLayout::Chains => Ok(policy.to_bpf(alloc)?),
-        ProgramLayout::Tree => Ok(policy.to_tree_bpf(alloc)?),
+        Layout::Linear => Ok(policy.to_bpf(alloc)?),
+        Layout::Tree => Ok(policy.to_tree_bpf(alloc)?),
     }
 }

@@ -79,7 +79,7 @@ fn compiled(path: OsString, names: &OsStr, layout: Layout) -> Result<Vec<Program
 /// Does what the words ask for. Where it goes well this program is gone, and the command in its place.
 fn jail(mut words: impl Iterator<Item = OsString>) -> Result<(), Failure> {
     let mut first = words.next();
-    let mut layout = Layout::Chains;
+    let mut layout = Layout::Linear;
     if first.as_deref() == Some("--tree".as_ref()) {
         layout = Layout::Tree;
         first = words.next();

@@ -68,7 +68,7 @@ pub struct Instruction {
 #[derive(Clone, Copy, Debug, PartialEq, Eq)]
 pub enum Layout {
     /// It tests one call number after the other.
-    Chains = 0,
+    Linear = 0,
     /// It halves the call numbers with each test.
     Tree = 1,
 }

@@ -40,7 +40,7 @@ fn word(program: &Program, number: u32, architecture: u32) -> u32 {
 #[cfg(target_arch = "x86_64")]
 #[test]
 fn both_layouts_allow_read_alone() {
-    for layout in [Layout::Chains, Layout::Tree] {
+    for layout in [Layout::Linear, Layout::Tree] {
         let program = Program::compile(POLICY, b"a", layout).expect("the filter compiles");
         let words = [0, 1, 0x4000_0000].map(|number| word(&program, number, 0xc000_003e));
         assert_eq!(words, [ALLOW, TRAP, TRAP], "{layout:?}");
@@ -57,7 +57,7 @@ fn a_refusal_has_a_code_and_a_text() {
         (POLICY, b"\xff", -5, "No filter has this name."),
     ];
     for (policy, name, code, text) in cases {
-        let refusal = Program::compile(policy, name, Layout::Chains).expect_err("it is refused");
+        let refusal = Program::compile(policy, name, Layout::Linear).expect_err("it is refused");
         assert_eq!((refusal.code, refusal.to_string().as_str()), (code, text));
     }
 }

@@ -221,9 +221,9 @@ int64_t seccompiler_compile_rules(const struct seccompiler_chain *chains, size_t
  * is cut behind the last character that fits. 256 bytes are enough for every sentence but those that tell a
  * name of the text.
  *
- * Returns how many bytes it has written, which is 0 where seccompiler_compile doesn't refuse, and else at
- * least 1 where there is room for the first character. Where memory is refused, the sentence is
- * "Out of memory." in place of any other, or of none.
+ * Returns how many bytes it has written, which is 0 where seccompiler_compile doesn't refuse or `size` is 0,
+ * and else at least 1. Where memory is refused, the sentence is "Out of memory." in place of any other, or of
+ * none.
  */
 int64_t seccompiler_refusal(const char *text, size_t text_length, uint32_t architecture,
                             const char *name, size_t name_length, uint32_t layout, size_t room,

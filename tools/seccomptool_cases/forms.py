@@ -10,6 +10,9 @@ NO_OBJECT = FRONTEND + "Json is not an object of filters.\n"
 # A filter without entries.
 LOGS = '{"a":{"mismatch_action":"log","match_action":"allow","filter":[]}}'
 
+# The same under a name with U+009B, which some terminals take as the beginning of a command.
+STEERS = LOGS.replace('"a"', r'"a\u009b"')
+
 # What stands behind the other words, where the programs are chains and where they are trees.
 LAYOUTS = ("", " --tree")
 

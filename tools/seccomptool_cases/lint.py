@@ -66,6 +66,7 @@ IN_FILTERS = [
     stands("[]", "the policy", "an empty array", "an object of filters"),
     stands("1.5", "the policy", "1.5", "an object of filters"),
     stands(r'{"a\\\u0007é":[1]}', r"a\x5c\x07é", "an array of 1 value", FILTER),
+    stands(r'{"a\u009b":[1]}', r"a\xc2\x9b", "an array of 1 value", FILTER),
     stands('{"b":0,"a":{"filters":[]}}', "a", 'the key "filters"',
            "only mismatch_action, default_action, match_action, filter_action and filter"),
     told('{"a":{"match_action":"log","filter":[]}}', "a",

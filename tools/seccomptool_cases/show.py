@@ -3,7 +3,7 @@
 from program_cases import FRONTEND, LARGE, UNWRITTEN
 
 from .forms import (
-    LAYOUTS, NO_ARCHITECTURE, NO_OBJECT, fails_to_read_and_write, refuses_in_both, writes
+    LAYOUTS, NO_ARCHITECTURE, NO_OBJECT, STEERS, fails_to_read_and_write, refuses_in_both, writes
 )
 
 # Two filters without entries; the second one's name has a byte that steers a terminal.
@@ -90,6 +90,8 @@ CASES = [
     # `show` writes the programs of both layouts.
     writes("show Aarch64", LOGS, LOGS_AS_CHAINS),
     writes("show Aarch64 --tree", LOGS, LOGS_AS_TREE),
+    # `show` writes no character that steers a terminal.
+    writes("show x86_64", STEERS, LOGS_SHOWN.replace("filter 4 a", r"filter 4 a\xc2\x9b")),
     # `show` tells what each instruction is for.
     writes("show aarch64", CALLS, CALLS_SHOWN),
     # `show` tells the first fault.

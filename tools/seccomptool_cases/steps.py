@@ -2,7 +2,7 @@
 
 from program_cases import FRONTEND, LARGE, UNWRITTEN
 
-from .forms import LOGS, NO_ARCHITECTURE, NO_OBJECT, fails_to_read_and_write, refuses, writes
+from .forms import LOGS, NO_ARCHITECTURE, NO_OBJECT, STEERS, fails_to_read_and_write, refuses, writes
 from .long_filters import of_rules
 
 # The programs of a filter without entries load the architecture's word and compare it, the tree loads the
@@ -38,6 +38,7 @@ CASES = [
     # `steps` tells the lengths and steps.
     writes("steps X86_64", LOGS, LOGS_STEPS),
     writes("steps X86_64", TWO_CALLS, TWO_CALLS_STEPS),
+    writes("steps X86_64", STEERS, LOGS_STEPS.replace("filter a", r"filter a\xc2\x9b")),
     writes("steps X86_64", "{}", ""),
     ("steps x86_64 < logs.json", 0, LOGS_STEPS, ""),
     # `steps` tells the first fault; the chains of all filters come before the trees.

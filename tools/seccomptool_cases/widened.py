@@ -26,6 +26,8 @@ BOTH_FAULTY = '{"b":{},"a":{"mismatch_action":"trap","match_action":"trap","filt
 CASES = [
     # `widened` names the calls in order.
     writes("widened X86_64", BOTH_KINDS, "read a\nfcntl a\nread b\\x0a\\x5c\n"),
+    writes("widened X86_64", BOTH_KINDS.replace('"a":', r'"a\u009b":'),
+           "read a\\xc2\\x9b\nfcntl a\\xc2\\x9b\nread b\\x0a\\x5c\n"),
     writes("widened X86_64", LOGS, ""),
     writes("widened X86_64", "{}", ""),
     ("widened x86_64 < logs.json", 0, "", ""),

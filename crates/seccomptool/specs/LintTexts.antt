@@ -1,7 +1,7 @@
 -- The texts of the faults of a policy that have a place.
 use Rattle.std.specs.Prelude.{List, ℕ, [], ◌∷◌, ◌++◌, map, codes, decimal, string_bytes}
 use Rattle.std.specs.List.{concat}
-use Rattle.seccomp_command_line.specs.Names.{escaped}
+use Rattle.seccomp_command_line.specs.Names.{readable}
 use Rattle.seccompiler.specs.Architecture.{arch_text}
 use Rattle.seccomptool.specs.declared.lint.fault.Expected.{Expected}
 use Rattle.seccomptool.specs.declared.lint.fault.Expected.TheVariants as expected
@@ -17,12 +17,12 @@ use Rattle.seccomptool.specs.declared.lint.fault.Step.TheVariants as step
 
 -- A step behind the first: a name behind a dot, and a place in brackets.
 abbrev pub step_text : Step → List ℕ
-step_text (step.Key key) = codes "." ++ escaped (string_bytes key)
+step_text (step.Key key) = codes "." ++ readable (string_bytes key)
 step_text (step.Item i) = codes "[" ++ decimal i ++ codes "]"
 
 -- The first step: a name without the dot.
 abbrev pub first_text : Step → List ℕ
-first_text (step.Key key) = escaped (string_bytes key)
+first_text (step.Key key) = readable (string_bytes key)
 first_text (step.Item i) = codes "[" ++ decimal i ++ codes "]"
 
 -- The path of a place.
@@ -63,7 +63,7 @@ keys_text kind.Condition = codes "index, type, op, val and comment"
 -- What is wrong there.
 abbrev pub problem_text : Problem → List ℕ
 problem_text (problem.Stands text e) = string_bytes text ++ codes " stands here, and " ++ expected_text e ++ codes " may."
-problem_text (problem.Strange key kind) = codes "the key \"" ++ escaped (string_bytes key) ++ codes "\" stands here, and only " ++ keys_text kind ++ codes " may."
+problem_text (problem.Strange key kind) = codes "the key \"" ++ readable (string_bytes key) ++ codes "\" stands here, and only " ++ keys_text kind ++ codes " may."
 problem_text (problem.Missing key) = codes "`" ++ key.now ++ codes "` is missing."
 problem_text (problem.Neither key other) = codes "`" ++ key.now ++ codes "` or `" ++ other.now ++ codes "` is missing."
 problem_text (problem.Both key other) = codes "`" ++ key.now ++ codes "` and `" ++ other.now ++ codes "` stand here, and only one of them may."

@@ -1,7 +1,7 @@
 -- The text of programs for people: the words of each instruction, and what it stands for.
 use Rattle.std.specs.Prelude.{ℕ, ◌+◌, ◌-◌, ◌/◌, ◌%◌, ◌^◌, ◌==◌, false, nat_lt, if◌then◌else◌, List, [], ◌∷◌, ◌++◌, length, replicate, slice_index_or, codes, decimal}
 use Rattle.std.specs.Fmt.{digits}
-use Rattle.seccomp_command_line.specs.Names.{escaped}
+use Rattle.seccomp_command_line.specs.Names.{readable}
 use Rattle.seccompiler.specs.declared.backend.SeccompAction.{SeccompAction}
 use Rattle.seccompiler.specs.declared.backend.SeccompAction.TheVariants.{Allow, Errno, KillThread, KillProcess, Log, Trace, Trap}
 use Rattle.seccompiler.specs.declared.bpf.sock_filter.{sock_filter}
@@ -97,7 +97,7 @@ lines_from label place (i ∷ program) = line_of place (label place) i ++ lines_
 
 -- The line in front of a program: its length and its name.
 abbrev pub header_of : ℕ → List ℕ → List ℕ
-header_of count name = codes "filter " ++ decimal count ++ codes " " ++ escaped name ++ codes "\n"
+header_of count name = codes "filter " ++ decimal count ++ codes " " ++ readable name ++ codes "\n"
 
 -- The label of a place, which is empty where there is none.
 abbrev pub label_in : List (List ℕ) → ℕ → List ℕ

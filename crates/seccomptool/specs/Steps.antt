@@ -21,7 +21,7 @@ use Rattle.seccompiler.specs.Machine.{Ends}
 use Rattle.seccompiler.specs.Policy.{Filter, chain_under}
 use Rattle.seccompiler.specs.Record.{IsRecord, word_at}
 use Rattle.seccompiler.specs.Tree.{IsTreeCompiled, IsTreeCompilable, IsTreeTooLarge}
-use Rattle.seccomp_command_line.specs.Names.{escaped}
+use Rattle.seccomp_command_line.specs.Names.{readable}
 use Rattle.seccomptool.specs.Policies.{OfPolicy, IsPolicyFault}
 use Rattle.seccomptool.specs.Record.{record_bytes}
 use Rattle.seccomptool.specs.Ways.{IsMost}
@@ -70,7 +70,7 @@ measure_line layout m =
 
 -- A filter's three lines.
 abbrev pub filter_lines : FilterSteps → List ℕ
-filter_lines s = codes "filter " ++ escaped s.name ++ codes "\n" ++ measure_line (codes "chains") s.chains ++ measure_line (codes "tree") s.tree
+filter_lines s = codes "filter " ++ readable s.name ++ codes "\n" ++ measure_line (codes "chains") s.chains ++ measure_line (codes "tree") s.tree
 
 -- The value's policy on this architecture is one of which these are the numbers.
 pub record HasSteps (target : TargetArch) (s : FilterSteps) (value : Data) : Type 0 where

@@ -13,7 +13,7 @@ use Rattle.seccompiler.specs.JsonPolicyOf.{IsFor}
 use Rattle.seccompiler.specs.JsonShape.{Under, Has, IsFilter}
 use Rattle.seccompiler.specs.JsonTypes.{JsonRule, JsonFilter}
 use Rattle.seccompiler.specs.JsonWidened.{IsWidened, DecideAlikeOff}
-use Rattle.seccomp_command_line.specs.Names.{escaped}
+use Rattle.seccomp_command_line.specs.Names.{readable}
 use Rattle.seccomptool.specs.Policies.{OfPolicy, IsTextFault}
 use Rattle.seccomptool.specs.declared.error.ToolError.{ToolError}
 use Rattle.seccomptool.specs.declared.error.ToolError.TheVariants.{Library, Write, OutOfMemory}
@@ -30,7 +30,7 @@ pub record IsFirstEntry (target : TargetArch) (entries : List JsonRule) (number 
 pub record IsCallLine (target : TargetArch) (name : List ℕ) (j : JsonFilter) (number : ℤ) (line : List ℕ) : Type 0 where
   pub entry : JsonRule
   pub first : IsFirstEntry target j.rules number entry
-  pub text : line ≡ entry.syscall ++ codes " " ++ escaped name ++ codes "\n"
+  pub text : line ≡ entry.syscall ++ codes " " ++ readable name ++ codes "\n"
 
 -- The text is a line for each call that has both an entry without conditions and one with conditions, in ascending order
 -- of its number. On each other call the policy decides as the Rust crate does.

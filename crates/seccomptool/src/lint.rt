@@ -35,10 +35,11 @@ use std::io::Read;
 ///
 /// A fault's text is a path, a colon, a space and what is wrong there, on one line. The path is the
 /// filter's name, then `.` and a name for what stands under a name, and `[` PLACE `]` for what stands at
-/// a place of an array, from 0; `the policy` stands for the empty path. In names the bytes 00 to 1f, 7f
-/// and the backslash are written as `\x` and two lower-case hexadecimal digits. A value that may not
-/// stand there is told as JSON, an array by its length, and an object as `an object`. Where an action or
-/// an operator is an object of one name, `errno`, `trace` or `masked_eq`, the path leads to its number.
+/// a place of an array, from 0; `the policy` stands for the empty path. In names the control characters,
+/// those from U+0080 to U+009F too, and the backslash are written as `\x` and two lower-case hexadecimal
+/// digits for each of their bytes. A value that may not stand there is told as JSON, an array by its
+/// length, and an object as `an object`. Where an action or an operator is an object of one name,
+/// `errno`, `trace` or `masked_eq`, the path leads to its number.
 ///
 /// # Errors
 ///

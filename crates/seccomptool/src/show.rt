@@ -23,15 +23,16 @@ use std::io::{Read, Write};
 
 /// Writes the programs of a policy's filters for people, in byte order of the filters' names.
 ///
-/// For each filter come a line `filter LENGTH NAME`, as `seccompc list` has it, and a line for each
-/// instruction: its place in decimal, filled with spaces in front up to 4 bytes; two spaces; and the
-/// instruction in the words of `bpf_asm`, in which jumps tell the places that they lead to. Where a
-/// note stands beside them, the words are filled with spaces up to 28 bytes, and `; ` stands in front
-/// of the note. It says which architecture the second instruction tests, what a load gets of the
-/// record, and which action a returned word stands for. In the layout of chains it says first which
-/// call, rule and condition the instruction belongs to, by the lengths that these have: rules and
-/// conditions are numbered from 0, in the policy's order, and a call has the name of its first entry.
-/// All is written at once.
+/// For each filter come a line `filter LENGTH NAME` and a line for each instruction. In NAME the control
+/// characters, those from U+0080 to U+009F too, and the backslash are written as `\x` and two lower-case
+/// hexadecimal digits for each of their bytes, all others as they are. An instruction's line has its
+/// place in decimal, filled with spaces in front up to 4 bytes; two spaces; and the instruction in the
+/// words of `bpf_asm`, in which jumps tell the places that they lead to. Where a note stands beside
+/// them, the words are filled with spaces up to 28 bytes, and `; ` stands in front of the note. It says
+/// which architecture the second instruction tests, what a load gets of the record, and which action a
+/// returned word stands for. In the linear layout it says first which call, rule and condition the
+/// instruction belongs to, by the lengths that these have: rules and conditions are numbered from 0, in
+/// the policy's order, and a call has the name of its first entry. All is written at once.
 ///
 /// The policy's text is what its reader gives; of a reader whose type doesn't tell its bytes, as that
 /// of standard input, the contract says that there is such a text.

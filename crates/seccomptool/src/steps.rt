@@ -28,13 +28,14 @@ use std::io::{Read, Write};
 /// tree: LENGTH instructions, at most MOST steps, PASSING passing
 /// ```
 ///
-/// In NAME the bytes 00 to 1f, 7f and the backslash are written as `\x` and two lower-case hexadecimal
-/// digits, all others as they are. The numbers are decimal. MOST is the greatest number of instructions
-/// on a way through the program from its first instruction to a return, whatever its tests would say: no
-/// record takes more steps, and it isn't asked whether one takes as many. PASSING is the number of steps
-/// on the record of call 4294967295, which no architecture has, with arguments that are 0. In the layout
-/// of chains each call that the filter doesn't list takes exactly as many, if it lists any; in the tree
-/// another one may take more or fewer. All lines are written at once.
+/// In NAME the control characters, those from U+0080 to U+009F too, and the backslash are written as
+/// `\x` and two lower-case hexadecimal digits for each of their bytes, all others as they are. The
+/// numbers are decimal. MOST is the greatest number of instructions on a way through the program from
+/// its first instruction to a return, whatever its tests would say: no record takes more steps, and it
+/// isn't asked whether one takes as many. PASSING is the number of steps on the record of call
+/// 4294967295, which no architecture has, with arguments that are 0. In the linear layout each call that
+/// the filter doesn't list takes exactly as many, if it lists any; in the tree another one may take more
+/// or fewer. All lines are written at once.
 ///
 /// The policy's text is what its reader gives; of a reader whose type doesn't tell its bytes, as that
 /// of standard input, the contract says that there is such a text.

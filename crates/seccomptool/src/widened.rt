@@ -19,9 +19,9 @@ use std::io::{Read, Write};
 ///
 /// For each filter, in byte order of names, and each such call, in ascending order of its number, comes
 /// a line: the call's name, as the filter's first entry of the call has it, a space, and the filter's
-/// name. In the latter the bytes 00 to 1f, 7f and the backslash are written as `\x` and two lower-case
-/// hexadecimal digits, all others as they are. Where there is no such call nothing is written. All lines
-/// are written at once.
+/// name. In the latter the control characters, those from U+0080 to U+009F too, and the backslash are
+/// written as `\x` and two lower-case hexadecimal digits for each of their bytes, all others as they are.
+/// Where there is no such call nothing is written. All lines are written at once.
 ///
 /// The policy's text is what its reader gives; of a reader whose type doesn't tell its bytes, as that
 /// of standard input, the contract says that there is such a text.

@@ -2,12 +2,12 @@
 
 ghost use Rattle.std.specs.Prelude.{◌≡◌, ◌++◌, map, IfOk, OnOk, codes, decimal, string_bytes};
 ghost use Rattle.std.specs.List.{concat};
-ghost use Rattle.seccomp_command_line.specs.Names.{escaped};
+ghost use Rattle.seccomp_command_line.specs.Names.{readable};
 ghost use Rattle.seccomptool.specs.LintTexts as spec;
 
 use crate::lint::fault::{Expected, Fault, Problem, Step};
 use crate::lint::part::{Kind, Part};
-use seccomp_command_line::names::push_escaped;
+use seccomp_command_line::names::push_readable;
 use std::alloc::{AllocError, Global};
 
 // Adds a number in decimal digits.
@@ -38,7 +38,7 @@ fn push_first(text: &mut Vec<u8>, alloc: Global, step: &Step) -> Result<(), Allo
     ensures { OnOk result (text.new.items ≡ text.old.items ++ spec.first_text step.now) }
 {
     match step {
-        Step::Key(key) => push_escaped(text, key.as_bytes()),
+        Step::Key(key) => push_readable(text, key.as_str()),
         Step::Item(place) => push_place(text, alloc, *place),
     }
 }
@@ -50,7 +50,7 @@ fn push_step(text: &mut Vec<u8>, alloc: Global, step: &Step) -> Result<(), Alloc
     match step {
         Step::Key(key) => {
             text.extend_from_slice(b".")?;
-            push_escaped(text, key.as_bytes())
+            push_readable(text, key.as_str())
         }
         Step::Item(place) => push_place(text, alloc, *place),
     }
@@ -147,10 +147,10 @@ fn push_stands(text: &mut Vec<u8>, shown: &str, expected: Expected) -> Result<()
 
 // Adds that a name stands where others may.
 fn push_strange(text: &mut Vec<u8>, key: &str, kind: Kind) -> Result<(), AllocError>
-    ensures { OnOk result (text.new.items ≡ text.old.items ++ codes "the key \"" ++ escaped key.now ++ codes "\" stands here, and only " ++ spec.keys_text kind ++ codes " may.") }
+    ensures { OnOk result (text.new.items ≡ text.old.items ++ codes "the key \"" ++ readable key.now ++ codes "\" stands here, and only " ++ spec.keys_text kind ++ codes " may.") }
 {
     text.extend_from_slice(b"the key \"")?;
-    push_escaped(text, key.as_bytes())?;
+    push_readable(text, key)?;
     text.extend_from_slice(b"\" stands here, and only ")?;
     text.extend_from_slice(keys_text(kind).as_bytes())?;
     text.extend_from_slice(b" may.")

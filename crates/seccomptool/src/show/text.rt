@@ -4,7 +4,7 @@ ghost use Rattle.std.specs.Prelude.{◌≡◌, ◌<◌, ◌^◌, ◌++◌, IfOk,
 ghost use Rattle.seccomptool.specs.ShowText.{header_of, note_of, noted, place_text, line_of};
 
 use crate::show::instruction::{meaning, words};
-use seccomp_command_line::names::push_escaped;
+use seccomp_command_line::names::push_readable;
 use seccompiler::sock_filter;
 use std::alloc::{AllocError, Global};
 
@@ -24,7 +24,7 @@ pub(crate) fn push_header(
     ensures { OnOk result (text.new.items ≡ text.old.items ++ header_of count name.now) }
 {
     text.extend_from_slice(format!(in alloc; "filter {count} ")?.as_bytes())?;
-    push_escaped(text, name.as_bytes())?;
+    push_readable(text, name)?;
     text.extend_from_slice(b"\n")
 }
 

@@ -7,7 +7,7 @@ ghost use Rattle.seccomptool.specs.StepsParts.{IsFirstRefusal, named_filter, Are
 
 use super::chains::MeasuredChains;
 use super::measure::{Measure, measure_of, push_measure};
-use seccomp_command_line::names::push_escaped;
+use seccomp_command_line::names::push_readable;
 use seccompiler::{BackendError, TargetArch};
 use std::alloc::{AllocError, Global};
 
@@ -39,7 +39,7 @@ fn push_filter(
     ensures { OnOk result (text.new.items ≡ text.old.items ++ filter_lines (record { name = name.now; chains = chains; tree = tree })) }
 {
     text.extend_from_slice(b"filter ")?;
-    push_escaped(text, name.as_bytes())?;
+    push_readable(text, name)?;
     text.extend_from_slice(b"\n")?;
     push_measure(text, "chains", chains)?;
     push_measure(text, "tree", tree)

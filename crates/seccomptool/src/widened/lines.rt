@@ -7,11 +7,11 @@ ghost use Rattle.std.specs.Prelude.{string_cmp};
 ghost use Rattle.seccompiler.specs.JsonPolicyOf.{IsFor};
 ghost use Rattle.seccompiler.specs.JsonSteps.{IsPolicyRefusal};
 ghost use Rattle.seccompiler.specs.JsonTypes.{JsonRule};
-ghost use Rattle.seccomp_command_line.specs.Names.{escaped};
+ghost use Rattle.seccomp_command_line.specs.Names.{readable};
 ghost use Rattle.seccomptool.specs.Widened.{IsFirstEntry, AreCallLines};
 ghost use Rattle.seccomptool.specs.WidenedParts.{AddsCall, AreCallsOfAll, IsFirstJsonRefusal, IsTaken};
 
-use seccomp_command_line::names::push_escaped;
+use seccomp_command_line::names::push_readable;
 use seccompiler::{
     JsonCompiler, JsonFilter, JsonFilterMap, JsonFrontendError, JsonRule, SyscallTable, TargetArch,
 };
@@ -85,10 +85,10 @@ fn first_entry(target: TargetArch, entries: &[JsonRule], number: i64) -> Option<
 
 // Adds the line of a call.
 fn push_call(text: &mut Vec<u8>, call: &str, name: &str) -> Result<(), AllocError>
-    ensures { OnOk result (text.new.items ≡ text.old.items ++ (call.now ++ codes " " ++ escaped name.now ++ codes "\n")) }
+    ensures { OnOk result (text.new.items ≡ text.old.items ++ (call.now ++ codes " " ++ readable name.now ++ codes "\n")) }
 {
     text.extend_from_slice(call.as_bytes())?;
     text.extend_from_slice(b" ")?;
-    push_escaped(text, name.as_bytes())?;
+    push_readable(text, name)?;
     text.extend_from_slice(b"\n")
 }

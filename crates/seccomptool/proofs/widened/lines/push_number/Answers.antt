@@ -3,7 +3,7 @@ use Rattle.std.proofs.lemmas.Int.{to_z-of_z}
 use Rattle.std.proofs.lemmas.Result.{on_ok_weaker}
 use Rattle.seccompiler.specs.JsonPolicyOf.{IsFor}
 use Rattle.seccompiler.specs.JsonTypes.{JsonFilter, JsonRule}
-use Rattle.seccomp_command_line.specs.Names.{escaped}
+use Rattle.seccomp_command_line.specs.Names.{readable}
 use Rattle.seccomptool.specs.Widened.{IsFirstEntry}
 use Rattle.seccomptool.proofs.widened.lines.CallLines.{none_and_some}
 use Rattle.seccomptool.proofs.widened.lines.push_number.Goals as goal
@@ -19,8 +19,8 @@ returns-in-Some c =
     let call = c.as_str.ensures.value ∙ ap (λ (e : JsonRule). e.syscall) c.entry.view_is in
     on_ok_weaker c.push_call.result
     (λ added any. record {
-      line = c.as_str.result.now ++ codes " " ++ escaped name ++ codes "\n";
-      own = record { entry = entry; first = subst (λ es. IsFirstEntry target es c.args.number entry) rules first; text = ap (λ s. s ++ codes " " ++ escaped name ++ codes "\n") call };
+      line = c.as_str.result.now ++ codes " " ++ readable name ++ codes "\n";
+      own = record { entry = entry; first = subst (λ es. IsFirstEntry target es c.args.number entry) rules first; text = ap (λ s. s ++ codes " " ++ readable name ++ codes "\n") call };
       added = added;
     })
     c.push_call.ensures

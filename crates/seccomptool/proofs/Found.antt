@@ -15,10 +15,10 @@ use Rattle.seccompiler.specs.declared.bpf.sock_filter.{sock_filter}
 use Rattle.seccomp_command_line.proofs.ByName.{each_found, found_name, found_there, holds_below}
 use Rattle.seccomptool.specs.Raw.{HasProgram}
 use Rattle.seccomptool.specs.StepsParts.{IsFirst}
-use Rattle.seccomptool.specs.declared.words.Layout.TheVariants.{Chains}
+use Rattle.seccompiler.specs.declared.layout.Layout.TheVariants.{Linear}
 
 -- The program that is made of a value is its program in the layout of chains.
-pub has_program : (target : TargetArch) (value : Data) (program : List sock_filter) → IsProgramOf target value program → HasProgram Chains target value program
+pub has_program : (target : TargetArch) (value : Data) (program : List sock_filter) → IsProgramOf target value program → HasProgram Linear target value program
 has_program target value program is = record { policy = is.policy; is_policy = is.is_policy; compiled = is.compiled }
 
 module _ {X : Type 0} (P : Data → X → Type 0) (find : List ℕ → Option X) (d : Data) (found : AreFound P find d) where

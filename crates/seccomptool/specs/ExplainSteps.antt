@@ -11,7 +11,7 @@ use Rattle.seccompiler.specs.JsonTypes.{JsonFilter}
 use Rattle.seccompiler.specs.Policy.{Filter}
 use Rattle.seccomptool.specs.declared.error.ToolError.{ToolError}
 use Rattle.seccomptool.specs.declared.error.ToolError.TheVariants.{ShortRecord, Read, Write, OutOfMemory}
-use Rattle.seccomptool.specs.declared.words.Layout.TheVariants.{Chains}
+use Rattle.seccompiler.specs.declared.layout.Layout.TheVariants.{Linear}
 use Rattle.seccomptool.specs.Errors.{IsReadFault}
 use Rattle.seccomptool.specs.Raw.{HasSomeProgram}
 
@@ -23,7 +23,7 @@ pub record IsUsable (target : TargetArch) (value : Data) (filter : JsonFilter) :
 
 -- Each value has a program, and the map has exactly the value's names, each with its filter.
 pub record AreUsable (target : TargetArch) (filters : JsonFilterMap) (d : Data) : Type 0 where
-  pub programs : AreAll (HasSomeProgram Chains target) d
+  pub programs : AreAll (HasSomeProgram Linear target) d
   pub found : AreFound (IsUsable target) (get_by_text filters.0) d
 
 -- An error of reading records.

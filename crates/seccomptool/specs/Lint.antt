@@ -16,7 +16,7 @@ use Rattle.seccomptool.specs.declared.error.ToolError.TheVariants.{Library, Faul
 use Rattle.seccomptool.specs.declared.lint.fault.Cause.{Cause}
 use Rattle.seccomptool.specs.declared.lint.fault.Cause.TheVariants as cause
 use Rattle.seccomptool.specs.declared.lint.fault.Fault.{Fault as Place}
-use Rattle.seccomptool.specs.declared.words.Layout.TheVariants.{Chains}
+use Rattle.seccompiler.specs.declared.layout.Layout.TheVariants.{Linear}
 use Rattle.seccomptool.specs.LintFaults.{IsFaultIn}
 use Rattle.seccomptool.specs.LintTexts.{fault_text}
 use Rattle.seccomptool.specs.Policies.{IsNameOf, OfPolicy, IsPolicyFault}
@@ -46,7 +46,7 @@ pub record IsPlaced (target : TargetArch) (text told : List ℕ) : Type 0 where
 
 -- All filters of the value have programs.
 abbrev pub AreAllCompiled : TargetArch → Data → Type 0
-AreAllCompiled target d = AreAll (HasSomeProgram Chains target) d
+AreAllCompiled target d = AreAll (HasSomeProgram Linear target) d
 
 -- The answer of `lint`. It is Ok only where `seccompc list` lists: nothing is at fault in the architecture's name and in
 -- the policy's text. The first fault is told: with its place, or as the library tells it. Want of memory may come in

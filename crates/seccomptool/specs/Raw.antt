@@ -10,16 +10,16 @@ use Rattle.seccompiler.specs.declared.backend.TargetArch.{TargetArch}
 use Rattle.seccompiler.specs.declared.bpf.sock_filter.{sock_filter}
 use Rattle.seccompiler.specs.declared.error.Error.{Error}
 use Rattle.seccompiler.specs.declared.error.Error.TheVariants as library
-use Rattle.seccompiler.specs.Compiled.{IsCompiled}
+use Rattle.seccompiler.specs.Layouts.{IsCompiledIn}
 use Rattle.seccompiler.specs.JsonAnswers.{HasPolicy, HasSomePolicy}
 use Rattle.seccompiler.specs.JsonFilters.{AreAll}
 use Rattle.seccompiler.specs.JsonShape.{Under, Lacks}
 use Rattle.seccompiler.specs.Policy.{Filter}
-use Rattle.seccompiler.specs.Tree.{IsTreeCompiled, IsTreeRefusal}
+use Rattle.seccompiler.specs.Tree.{IsTreeRefusal}
 use Rattle.seccomptool.specs.declared.error.ToolError.{ToolError}
 use Rattle.seccomptool.specs.declared.error.ToolError.TheVariants.{Library, NoFilter, Write, OutOfMemory}
-use Rattle.seccomptool.specs.declared.words.Layout.{Layout}
-use Rattle.seccomptool.specs.declared.words.Layout.TheVariants.{Chains, Tree}
+use Rattle.seccompiler.specs.declared.layout.Layout.{Layout}
+use Rattle.seccompiler.specs.declared.layout.Layout.TheVariants.{Linear, Tree}
 use Rattle.seccomptool.specs.Policies.{OfPolicy, IsPolicyFault, IsTextFault}
 
 -- The 8 bytes of an instruction: those of a `struct sock_filter` (linux/filter.h), each number with its low byte first.
@@ -29,11 +29,6 @@ instruction_bytes i = to_le_bytes w16 i.code ++ (i.jt ∷ i.jf ∷ []) ++ to_le_
 -- The bytes of a program: those of its instructions, in order.
 abbrev pub program_bytes : List sock_filter → List ℕ
 program_bytes program = concat (map instruction_bytes program)
-
--- The program is compiled for the filter in this layout.
-abbrev pub IsCompiledIn : Layout → Filter → List sock_filter → Type 0
-IsCompiledIn Chains policy program = IsCompiled policy program
-IsCompiledIn Tree policy program = IsTreeCompiled policy program
 
 -- The value's policy on this architecture is one that the program is compiled for.
 pub record HasProgram (layout : Layout) (target : TargetArch) (value : Data) (program : List sock_filter) : Type 0 where
@@ -47,7 +42,7 @@ HasSomeProgram layout target value = (program : List sock_filter) × HasProgram 
 
 -- No filter of the value is at fault: each has a program, or, of trees, of which one filter's alone is made, a policy.
 abbrev pub AreFaultless : Layout → TargetArch → Data → Type 0
-AreFaultless Chains target d = AreAll (HasSomeProgram Chains target) d
+AreFaultless Linear target d = AreAll (HasSomeProgram Linear target) d
 AreFaultless Tree target d = AreAll (HasSomePolicy target) d
 
 -- Nothing is at fault in the architecture's name and in the policy's text, and P holds of both.
@@ -79,7 +74,7 @@ pub data IsTreeFault (arch : List ℕ) (known : Option (List ℕ)) (name : List 
 
 -- The error is the first fault.
 abbrev pub IsFault : Layout → List ℕ → Option (List ℕ) → List ℕ → Error → Type 0
-IsFault Chains arch known name e = IsPolicyFault arch known e
+IsFault Linear arch known name e = IsPolicyFault arch known e
 IsFault Tree arch known name e = IsTreeFault arch known name e
 
 -- The answer of `raw`. The first fault is told: of the architecture's name and of the policy's text; that no filter has

@@ -19,8 +19,8 @@ use Rattle.seccompiler.specs.JsonTypes.{JsonFilter}
 use Rattle.seccompiler.specs.Architecture.{arch_text}
 use Rattle.seccomptool.specs.declared.error.ToolError.{ToolError}
 use Rattle.seccomptool.specs.declared.error.ToolError.TheVariants.{Library, Write, OutOfMemory}
-use Rattle.seccomptool.specs.declared.words.Layout.{Layout}
-use Rattle.seccomptool.specs.declared.words.Layout.TheVariants.{Chains, Tree}
+use Rattle.seccompiler.specs.declared.layout.Layout.{Layout}
+use Rattle.seccompiler.specs.declared.layout.Layout.TheVariants.{Linear, Tree}
 use Rattle.seccomptool.specs.Policies.{OfPolicy, IsPolicyFault, IsTextFault}
 use Rattle.seccomptool.specs.Raw.{HasProgram, HasSomeProgram, HasNoTree}
 use Rattle.seccomptool.specs.ShowLabels.{program_labels}
@@ -56,7 +56,7 @@ labelled_text p = text_of p.1 p.0 p.2
 
 -- The program is compiled for the value's policy, and the labels are those of the value's entries.
 pub record IsLabelledFor (target : TargetArch) (value : Data) (labels : List (List ℕ)) (program : List sock_filter) : Type 0 where
-  pub compiled : HasProgram Chains target value program
+  pub compiled : HasProgram Linear target value program
   pub json : JsonFilter
   pub is_filter : IsFilter value json
   pub labelled : labels ≡ program_labels target json.rules
@@ -72,7 +72,7 @@ pub record AreChainsShown (target : TargetArch) (d : Data) (text : List ℕ) : T
 
 -- The text is that of the value's programs in this layout.
 abbrev pub IsShown : Layout → TargetArch → Data → List ℕ → Type 0
-IsShown Chains target d text = AreChainsShown target d text
+IsShown Linear target d text = AreChainsShown target d text
 IsShown Tree target d text = AreTreesShown target d text
 
 -- Nothing is at fault: the value is an object, and each value in it has a program in this layout. P holds of both.
@@ -98,7 +98,7 @@ pub data IsTreesFault (arch : List ℕ) (known : Option (List ℕ)) (e : Error) 
 
 -- The error is the first fault.
 abbrev pub IsFault : Layout → List ℕ → Option (List ℕ) → Error → Type 0
-IsFault Chains arch known e = IsPolicyFault arch known e
+IsFault Linear arch known e = IsPolicyFault arch known e
 IsFault Tree arch known e = IsTreesFault arch known e
 
 -- The answer of `show`: the first fault, in this order: of the architecture's name and of the policy's text; of a

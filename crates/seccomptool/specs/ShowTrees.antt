@@ -11,7 +11,7 @@ use Rattle.seccompiler.specs.Policy.{Filter}
 use Rattle.seccompiler.specs.Tree.{IsTreeCompiled, IsTreeRefusal}
 use Rattle.seccomptool.specs.declared.error.ToolError.{ToolError}
 use Rattle.seccomptool.specs.declared.error.ToolError.TheVariants as tool
-use Rattle.seccomptool.specs.declared.words.Layout.{Layout}
+use Rattle.seccompiler.specs.declared.layout.Layout.{Layout}
 use Rattle.seccomptool.specs.Show.{NamedProgram, shown, LabelledProgram, labelled_text, IsFault}
 use Rattle.seccomptool.specs.ShowLabels.{program_labels}
 

@@ -2,13 +2,13 @@
 use Rattle.std.specs.Prelude.{◌≡◌, ℕ, ◌≤◌, List, [], ◌∷◌, ◌++◌, length, Some, slice_get, slice_index, codes}
 use Rattle.seccomptool.specs.declared.words.Command.{Command}
 use Rattle.seccomptool.specs.declared.words.Command.TheVariants.{Help, Version, Raw, Show, Steps, Widened, Lint, Explain, Record}
-use Rattle.seccomptool.specs.declared.words.Layout.{Layout}
-use Rattle.seccomptool.specs.declared.words.Layout.TheVariants.{Chains, Tree}
+use Rattle.seccompiler.specs.declared.layout.Layout.{Layout}
+use Rattle.seccompiler.specs.declared.layout.Layout.TheVariants.{Linear, Tree}
 use Rattle.seccomptool.specs.Numbers.{IsNumber}
 
 -- The words that choose a layout.
 abbrev pub layout_words : Layout → List (List ℕ)
-layout_words Chains = []
+layout_words Linear = []
 layout_words Tree = codes "--tree" ∷ []
 
 -- The texts, at most six, write the first of these six numbers, one by one and in order; the others are 0.

@@ -3,13 +3,12 @@
 ghost use Rattle.std.specs.Prelude.{◌≡◌, ◌++◌, IfOk, IfErr, OnOk};
 ghost use Rattle.seccomptool.specs.Errors.{KeepsOutput};
 ghost use Rattle.seccomptool.specs.Raw.{AnswersRaw, instruction_bytes, program_bytes};
-ghost use Rattle.seccomptool.specs.declared.words.Layout.TheVariants.{Chains, Tree};
+ghost use Rattle.seccompiler.specs.declared.layout.Layout.TheVariants.{Linear, Tree};
 
 use crate::error::ToolError;
 use crate::policy::{filters, programs};
 use crate::send::send;
-use crate::words::Layout;
-use seccompiler::{BpfProgramRef, sock_filter};
+use seccompiler::{BpfProgramRef, Layout, sock_filter};
 use std::alloc::{AllocError, Global};
 use std::io::{Read, Write};
 
@@ -45,7 +44,7 @@ pub fn raw<P: Read + Drop, W: Write>(
     ensures unwritten { IfErr result (λ e. KeepsOutput e out.old out.new) }
 {
     match layout {
-        Layout::Chains => raw_chains(alloc, arch, name, policy, out),
+        Layout::Linear => raw_chains(alloc, arch, name, policy, out),
         Layout::Tree => raw_tree(alloc, arch, name, policy, out),
     }
 }
@@ -58,7 +57,7 @@ fn raw_chains<P: Read + Drop, W: Write>(
     policy: P,
     out: &mut W,
 ) -> Result<(), ToolError>
-    ensures answers { AnswersRaw arch.now (P.remaining policy) name.now Chains result (W.contents out.old) (W.contents out.new) }
+    ensures answers { AnswersRaw arch.now (P.remaining policy) name.now Linear result (W.contents out.old) (W.contents out.new) }
     ensures unwritten { IfErr result (λ e. KeepsOutput e out.old out.new) }
 {
     let programs = programs(alloc, arch, policy)?;

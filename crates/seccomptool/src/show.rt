@@ -9,14 +9,13 @@ ghost use Rattle.std.specs.Prelude.{IfOk, IfErr};
 ghost use Rattle.seccomptool.specs.Errors.{KeepsOutput};
 ghost use Rattle.seccomptool.specs.Show.{AnswersShow, AreCompiled, IsShown};
 ghost use Rattle.seccomptool.specs.ShowTrees.{IsRefused};
-ghost use Rattle.seccomptool.specs.declared.words.Layout.TheVariants.{Chains, Tree};
+ghost use Rattle.seccompiler.specs.declared.layout.Layout.TheVariants.{Linear, Tree};
 
 use crate::error::ToolError;
 use crate::policy::{filters, policy_text, programs};
 use crate::send::send;
 use crate::show::listing::{guard_labels, listing, trees};
-use crate::words::Layout;
-use seccompiler::TargetArch;
+use seccompiler::{Layout, TargetArch};
 use seccompiler::json::filters_from;
 use std::alloc::Global;
 use std::io::{Read, Write};
@@ -71,15 +70,15 @@ fn text_in<R: Read + Drop>(
     ensures refused { IfErr result (IsRefused layout arch.now (R.remaining policy)) }
 {
     match layout {
-        Layout::Chains => chains_text(alloc, arch, policy),
+        Layout::Linear => chains_text(alloc, arch, policy),
         Layout::Tree => trees_text(alloc, arch, policy),
     }
 }
 
 // The text of the programs in the layout of chains.
 fn chains_text<R: Read + Drop>(alloc: Global, arch: &str, policy: R) -> Result<Vec<u8>, ToolError>
-    ensures shown { IfOk result (λ text. AreCompiled Chains arch.now (R.remaining policy) (λ target d. IsShown Chains target d text.items)) }
-    ensures refused { IfErr result (IsRefused Chains arch.now (R.remaining policy)) }
+    ensures shown { IfOk result (λ text. AreCompiled Linear arch.now (R.remaining policy) (λ target d. IsShown Linear target d text.items)) }
+    ensures refused { IfErr result (IsRefused Linear arch.now (R.remaining policy)) }
 {
     let target = TargetArch::from_text(alloc, arch)?;
     let text = policy_text(alloc, policy)?;

@@ -2,19 +2,11 @@
 
 ghost use Rattle.std.specs.Prelude.{◌≡◌, ℕ, List, [], ◌∷◌, IfSome, IfNone, map, codes, string_bytes};
 ghost use Rattle.seccomptool.specs.declared.words.Command.{Command};
-ghost use Rattle.seccomptool.specs.declared.words.Layout.{Layout};
+ghost use Rattle.seccompiler.specs.declared.layout.Layout.{Layout};
 ghost use Rattle.seccomptool.specs.Words.{IsCommand, AreArguments, layout_words};
 
 use crate::numbers::read_number;
-
-/// A layout of programs: docs/LAYOUTS.md has both.
-#[derive(Clone, Copy)]
-pub enum Layout {
-    /// One call number is tested after the other.
-    Chains,
-    /// A tree of tests over ranges of call numbers.
-    Tree,
-}
+use seccompiler::Layout;
 
 /// A command of the program.
 #[derive(Clone, Copy)]
@@ -175,7 +167,7 @@ fn read_layout(words: &[String]) -> Option<Layout>
     ensures unread { IfNone result ((layout : Layout) → map string_bytes words.now ≡ layout_words layout → ⊥) }
 {
     match words {
-        [] => Some(Layout::Chains),
+        [] => Some(Layout::Linear),
         [flag] => match flag.as_str() {
             "--tree" => Some(Layout::Tree),
             _ => None,

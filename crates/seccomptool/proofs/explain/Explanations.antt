@@ -25,7 +25,7 @@ use Rattle.seccomptool.specs.Policies.{IsNameOf, IsRefusedName, no_architecture}
 use Rattle.seccomptool.specs.Raw.{AreFaultless, IsFaultless, UnderName}
 use Rattle.seccomptool.specs.declared.error.ToolError.{ToolError}
 use Rattle.seccomptool.specs.declared.error.ToolError.TheVariants as tool
-use Rattle.seccomptool.specs.declared.words.Layout.TheVariants.{Chains}
+use Rattle.seccompiler.specs.declared.layout.Layout.TheVariants.{Linear}
 use Rattle.seccomptool.proofs.Found.{there, nowhere}
 use Rattle.seccomptool.proofs.Readings.{of_value}
 
@@ -51,11 +51,11 @@ module _ (arch : List ℕ) (known : Option (List ℕ)) (name : List ℕ) (record
 
   module _ (target : TargetArch) (filters : JsonFilterMap) (named : IsNameOf arch target) (read : Reads known (λ text. OfValue text (AreUsable target filters))) where
     -- Nothing is at fault where filters can be used, and P holds of each value of them.
-    shown : (P : TargetArch → Data → Type 0) → ((d : Data) → AreUsable target filters d → P target d) → IsFaultless Chains arch known P
-    shown P shows = (target, named, of_value known (AreUsable target filters) (λ d. AreFaultless Chains target d × P target d) read (read.2.2.programs, shows read.2.0 read.2.2))
+    shown : (P : TargetArch → Data → Type 0) → ((d : Data) → AreUsable target filters d → P target d) → IsFaultless Linear arch known P
+    shown P shows = (target, named, of_value known (AreUsable target filters) (λ d. AreFaultless Linear target d × P target d) read (read.2.2.programs, shows read.2.0 read.2.2))
 
     -- Where nothing is found under the name, no filter has it.
-    pub no_filter : get_by_text filters.0 name ≡ None → IsFaultless Chains arch known (λ target d. Lacks d name)
+    pub no_filter : get_by_text filters.0 name ≡ None → IsFaultless Linear arch known (λ target d. Lacks d name)
     no_filter none = shown (λ target d. Lacks d name) (λ d are. nowhere (IsUsable target) (get_by_text filters.0) d are.found name none)
 
     module _ (filter : JsonFilter) (found : get_by_text filters.0 name ≡ Some filter) where

@@ -22,14 +22,14 @@ use Rattle.seccomptool.specs.declared.error.ToolError.{ToolError}
 use Rattle.seccomptool.specs.declared.error.ToolError.TheVariants as tool
 use Rattle.seccomptool.specs.declared.lint.fault.Cause.{Cause}
 use Rattle.seccomptool.specs.declared.lint.fault.Fault.{Fault}
-use Rattle.seccomptool.specs.declared.words.Layout.TheVariants.{Chains}
+use Rattle.seccompiler.specs.declared.layout.Layout.TheVariants.{Linear}
 use Rattle.seccomptool.proofs.Found.{has_program, all_values}
 
 -- Values that have programs are all compiled.
 pub all_compiled : (target : TargetArch) (text : List ℕ) (find : List ℕ → Option (Vec sock_filter Global)) → Reads (Some text) (λ t. OfValue t (AreProgramsOf target find)) → OfValue text (AreAllCompiled target)
 all_compiled target text find h =
     let value = subst (λ t. OfValue t (AreProgramsOf target find)) h.1 h.2 in
-    (value.0, value.1, all_values _ find value.0 value.2 (HasSomeProgram Chains target) (λ v program is. (program.items, has_program target v program.items is)))
+    (value.0, value.1, all_values _ find value.0 value.2 (HasSomeProgram Linear target) (λ v program is. (program.items, has_program target v program.items is)))
 
 module _ (target : TargetArch) (text : List ℕ) where
   -- A text of which a fault with a place is told has a value.

@@ -18,8 +18,8 @@ use Rattle.seccomptool.specs.Policies.{OfPolicy, IsRefusedText}
 use Rattle.seccomptool.specs.Raw.{program_bytes, HasProgram, HasSomeProgram, AreFaultless, IsFaultless, UnderName, WritesProgram, HasNoTree, of_text, of_tree, AnswersRaw}
 use Rattle.seccomptool.specs.declared.error.ToolError.{ToolError}
 use Rattle.seccomptool.specs.declared.error.ToolError.TheVariants as tool
-use Rattle.seccomptool.specs.declared.words.Layout.{Layout}
-use Rattle.seccomptool.specs.declared.words.Layout.TheVariants.{Chains, Tree}
+use Rattle.seccompiler.specs.declared.layout.Layout.{Layout}
+use Rattle.seccompiler.specs.declared.layout.Layout.TheVariants.{Linear, Tree}
 use Rattle.seccomptool.proofs.Found.{has_program, there, nowhere, all_values}
 use Rattle.seccomptool.proofs.Readings.{policy_shows}
 
@@ -49,17 +49,17 @@ module _ (arch : List ℕ) (known : Option (List ℕ)) where
 
   module _ (find : List ℕ → Option (Vec sock_filter Global)) (h : OfPolicy arch known (λ target. AreProgramsOf target find)) (name : List ℕ) where
     -- Nothing is at fault where each value has a program, and P holds too.
-    with_programs : (P : TargetArch → Data → Type 0) → ((target : TargetArch) (d : Data) → AreProgramsOf target find d → P target d) → IsFaultless Chains arch known P
-    with_programs P shows = policy_shows arch known (λ target. AreProgramsOf target find) (λ target d. AreFaultless Chains target d × P target d)
-        (λ target d are. (all_values _ find d are (HasSomeProgram Chains target) (λ value program is. (program.items, has_program target value program.items is)), shows target d are)) h
+    with_programs : (P : TargetArch → Data → Type 0) → ((target : TargetArch) (d : Data) → AreProgramsOf target find d → P target d) → IsFaultless Linear arch known P
+    with_programs P shows = policy_shows arch known (λ target. AreProgramsOf target find) (λ target d. AreFaultless Linear target d × P target d)
+        (λ target d are. (all_values _ find d are (HasSomeProgram Linear target) (λ value program is. (program.items, has_program target value program.items is)), shows target d are)) h
 
     -- Where no program is found, no filter has the name.
-    pub no_program : find name ≡ None → IsFaultless Chains arch known (λ target d. Lacks d name)
+    pub no_program : find name ≡ None → IsFaultless Linear arch known (λ target d. Lacks d name)
     no_program none = with_programs (λ target d. Lacks d name) (λ target d are. nowhere _ find d are name none)
 
     -- A program that is found is that of the filter of its name.
-    pub a_program : (program : Vec sock_filter Global) → find name ≡ Some program → IsFaultless Chains arch known (UnderName name (λ target value. HasProgram Chains target value program.items))
-    a_program program is = with_programs (UnderName name (λ target value. HasProgram Chains target value program.items)) (λ target d are.
+    pub a_program : (program : Vec sock_filter Global) → find name ≡ Some program → IsFaultless Linear arch known (UnderName name (λ target value. HasProgram Linear target value program.items))
+    a_program program is = with_programs (UnderName name (λ target value. HasProgram Linear target value program.items)) (λ target d are.
         let value = there _ find d are name program is in
         (value.0, value.1, has_program target value.0 program.items value.2))
 

@@ -27,8 +27,8 @@ use Rattle.seccomptool.specs.Show.{NamedProgram, guard_labels, shown, LabelledPr
 use Rattle.seccomptool.specs.ShowTrees.{Entry, IsLabelled, AreLabelled, NamedFilter, IsTreeOf, AreTrees, HasTree, IsFirstTreeless, refused, no_memory, IsRefused}
 use Rattle.seccomptool.specs.declared.error.ToolError.{ToolError}
 use Rattle.seccomptool.specs.declared.error.ToolError.TheVariants as tool
-use Rattle.seccomptool.specs.declared.words.Layout.{Layout}
-use Rattle.seccomptool.specs.declared.words.Layout.TheVariants.{Chains, Tree}
+use Rattle.seccompiler.specs.declared.layout.Layout.{Layout}
+use Rattle.seccompiler.specs.declared.layout.Layout.TheVariants.{Linear, Tree}
 use Rattle.seccomp_command_line.proofs.ByName.{names_ordered}
 use Rattle.seccomptool.proofs.Found.{has_program, there, all_values, each_there, complete, all_listed, least_found}
 use Rattle.seccomptool.proofs.Pairs.{all_second, same_under}
@@ -39,16 +39,16 @@ use Rattle.seccomptool.proofs.show.listing.Programs.{have_trees}
 
 module _ (target : TargetArch) (find : List ℕ → Option (Vec sock_filter Global)) (d : Data) (programs : AreProgramsOf target find d) (filters : List ℕ → Option JsonFilter) (are : AreFound IsFilter filters d) where
   -- Each value has a program.
-  all_programs : AreAll (HasSomeProgram Chains target) d
-  all_programs = all_values _ find d programs (HasSomeProgram Chains target) (λ value program is. (program.items, has_program target value program.items is))
+  all_programs : AreAll (HasSomeProgram Linear target) d
+  all_programs = all_values _ find d programs (HasSomeProgram Linear target) (λ value program is. (program.items, has_program target value program.items is))
 
   -- A program with its labels is the value's of its name.
   of_label : (e : Entry) (p : LabelledProgram) → IsLabelled target filters e p → Under d (string_bytes e.0) (λ value. IsProgramOf target value e.1.items) → Under d p.0 (λ value. IsLabelledFor target value p.1 p.2)
   of_label e p is value =
       let other = there _ filters d are (string_bytes e.0) is.json is.found in
       let same : value.0 ≡ other.0 = let s : Some value.0 ≡ Some other.0 = sym value.1 ∙ other.1 in cc in
-      let program = subst (λ q. HasProgram Chains target value.0 q) (sym is.program) (has_program target value.0 e.1.items value.2) in
-      let compiled = subst (λ v. HasProgram Chains target v p.2) same program in
+      let program = subst (λ q. HasProgram Linear target value.0 q) (sym is.program) (has_program target value.0 e.1.items value.2) in
+      let compiled = subst (λ v. HasProgram Linear target v p.2) same program in
       let here : Under d (string_bytes e.0) (λ value. IsLabelledFor target value p.1 p.2) = (other.0, other.1, record { compiled = compiled; json = is.json; is_filter = other.2; labelled = is.labelled }) in
       subst (λ name. Under d name (λ value. IsLabelledFor target value p.1 p.2)) (sym is.name) here
 
@@ -111,7 +111,7 @@ module _ (arch : List ℕ) (known : Option (List ℕ)) (target : TargetArch) (on
   pub programs_shown : (bytes : List ℕ) → IfSome known (λ k. bytes ≡ k) → (find : List ℕ → Option (Vec sock_filter Global)) (filters : List ℕ → Option JsonFilter) (entries : List Entry) (text : List ℕ)
       → OfPolicy arch (Some bytes) (λ target. AreProgramsOf target find) → ((d : Data) → IsValueOf bytes d → AreFound IsFilter filters d)
       → ((name : List ℕ) → find name ≡ lookup (is_text name) entries) → IsStrictlySortedBy string_cmp (keys_of entries)
-      → AreLabelled target filters entries text → AreCompiled Chains arch known (λ target d. IsShown Chains target d text)
+      → AreLabelled target filters entries text → AreCompiled Linear arch known (λ target d. IsShown Linear target d text)
   programs_shown bytes gives find filters entries text h are listed order is =
       let value = h.2.2 in
       let found = are value.0 (subst (λ t. IsValueOf t value.0) h.2.1 value.1) in
@@ -119,7 +119,7 @@ module _ (arch : List ℕ) (known : Option (List ℕ)) (target : TargetArch) (on
         h.0,
         h.1,
         reads_on known bytes _ gives
-            (of_value (Some bytes) (AreProgramsOf h.0 find) (λ d. AreAll (HasSomeProgram Chains h.0) d × IsShown Chains h.0 d text) h.2 (all_programs h.0 find value.0 value.2 filters found, chains_shown h.0 find value.0 value.2 filters found entries text listed order labelled)),
+            (of_value (Some bytes) (AreProgramsOf h.0 find) (λ d. AreAll (HasSomeProgram Linear h.0) d × IsShown Linear h.0 d text) h.2 (all_programs h.0 find value.0 value.2 filters found, chains_shown h.0 find value.0 value.2 filters found entries text listed order labelled)),
       )
 
   module _ (find : List ℕ → Option Filter) (entries : List NamedFilter) (h : OfPolicy arch known (λ target. ArePoliciesOf target find)) (listed : (name : List ℕ) → find name ≡ lookup (is_text name) entries)
@@ -146,13 +146,13 @@ module _ (arch : List ℕ) (known : Option (List ℕ)) (target : TargetArch) (on
     tree_refused cause (no_memory is) = subst (λ c. IsRefused Tree arch known (from_library (from_backend c))) (sym is) tt
 
 -- What is refused of a policy's text is refused.
-pub policy_is_refused : (arch : List ℕ) (known : Option (List ℕ)) (e : ToolError) → IsRefusedPolicy arch known e → IsRefused Chains arch known e
+pub policy_is_refused : (arch : List ℕ) (known : Option (List ℕ)) (e : ToolError) → IsRefusedPolicy arch known e → IsRefused Linear arch known e
 policy_is_refused arch known (tool.Library e) is = is
 policy_is_refused arch known tool.OutOfMemory is = tt
 policy_is_refused arch known e is = absurd is
 
 -- What is refused of a text that a reader gave is refused of the reader.
-pub given_refused : (arch : List ℕ) (known : Option (List ℕ)) (bytes : List ℕ) (e : ToolError) → IfSome known (λ k. bytes ≡ k) → IsRefusedPolicy arch (Some bytes) e → IsRefused Chains arch known e
+pub given_refused : (arch : List ℕ) (known : Option (List ℕ)) (bytes : List ℕ) (e : ToolError) → IfSome known (λ k. bytes ≡ k) → IsRefusedPolicy arch (Some bytes) e → IsRefused Linear arch known e
 given_refused arch known bytes (tool.Library e) gives (no_architecture is) = no_architecture is
 given_refused arch known bytes (tool.Library e) gives (of_policy target named other memory first) =
     of_policy target named other memory (first.0, subst (λ b. IfSome known (λ k. b ≡ k)) (sym first.1) gives, first.2)

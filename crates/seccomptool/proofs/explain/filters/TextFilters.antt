@@ -14,7 +14,7 @@ use Rattle.seccompiler.specs.JsonTypes.{JsonFilter}
 use Rattle.seccompiler.specs.Reads.{Reads}
 use Rattle.seccomptool.specs.ExplainSteps.{AreUsable}
 use Rattle.seccomptool.specs.Raw.{HasSomeProgram}
-use Rattle.seccomptool.specs.declared.words.Layout.TheVariants.{Chains}
+use Rattle.seccompiler.specs.declared.layout.Layout.TheVariants.{Linear}
 use Rattle.seccomptool.proofs.Found.{has_program, all_values}
 use Rattle.seccomptool.proofs.Readings.{reads_on, filters_of_value}
 
@@ -22,7 +22,7 @@ module _ (target : TargetArch) (find : List ℕ → Option (Vec sock_filter Glob
   -- The filters of such values can be used.
   usable : (filters : JsonFilterMap) → AreFilters d filters → ((value : Data) (f g : JsonFilter) → IsFilter value f → IsFilter value g → f ≡ g) → AreUsable target filters d
   usable filters are one = record {
-    programs = all_values _ find d programs (HasSomeProgram Chains target) (λ value program is. (program.items, has_program target value program.items is));
+    programs = all_values _ find d programs (HasSomeProgram Linear target) (λ value program is. (program.items, has_program target value program.items is));
     found = record {
       is_object = are.is_object;
       each = λ name value has.

@@ -1,6 +1,6 @@
 use Rattle.std.proofs.Common.{sym}
 use Rattle.std.specs.BTreeMap.{get_by_text}
-use Rattle.seccomptool.specs.declared.words.Layout.TheVariants.{Chains}
+use Rattle.seccompiler.specs.declared.layout.Layout.TheVariants.{Linear}
 use Rattle.seccomptool.proofs.raw.Programs.{no_program, a_program, program_sent}
 use Rattle.seccomptool.proofs.raw.raw_chains.Goals as goal
 
@@ -16,5 +16,5 @@ returns-clause-answers g c =
     let name = c.args.name.now in
     let program = c.in-Some.program.now in
     let has = a_program arch known (get_by_text c.in_ok-programs.programs) c.in_ok-programs.ensures.programs name program (sym c.in-Some.ensures.value) in
-    program_sent arch known Chains name program.items c.in_ok-bytes_of.field-0.items c.deref-2.result.now c.send.result (g.W.Write.contents c.args.out.now) (g.W.Write.contents c.send.new.out)
+    program_sent arch known Linear name program.items c.in_ok-bytes_of.field-0.items c.deref-2.result.now c.send.result (g.W.Write.contents c.args.out.now) (g.W.Write.contents c.send.new.out)
     has (rw c.deref.ensures.value at c.in_ok-bytes_of.ensures) c.deref-2.ensures.value c.send.ensures.sent c.send.ensures.cause

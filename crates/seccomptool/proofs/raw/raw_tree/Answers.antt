@@ -1,7 +1,7 @@
 use Rattle.std.proofs.Common.{sym}
 use Rattle.std.proofs.lemmas.Result.{err_from_is_err_and}
 use Rattle.std.specs.BTreeMap.{get_by_text}
-use Rattle.seccomptool.specs.declared.words.Layout.TheVariants.{Tree}
+use Rattle.seccompiler.specs.declared.layout.Layout.TheVariants.{Tree}
 use Rattle.seccomptool.proofs.raw.Programs.{no_policy, a_tree, tree_refused, text_told, program_sent}
 use Rattle.seccomptool.proofs.raw.raw_tree.Goals as goal
 

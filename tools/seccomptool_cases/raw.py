@@ -3,6 +3,7 @@
 from program_cases import FRONTEND, LARGE, UNREAD, UNWRITTEN
 
 from .forms import LAYOUTS, LOGS, NO_ARCHITECTURE, NO_OBJECT, fails_to_read_and_write, refuses_in_both, writes
+from .long_filters import of_rules
 
 # The programs of a filter without entries: the architecture's word is loaded and compared, another one
 # kills the process; the tree loads the call number, which no test asks for.
@@ -32,8 +33,10 @@ CASES = [
     ("raw x86_64 b < no-json.json", 1, "", FRONTEND + "Error parsing Json: .."),
     ("raw x86_64 b --tree < unknown-call.json", 1, "", UNKNOWN_CALL),
     ("raw x86_64 b < logs.json", 1, "", NO_FILTER),
-    # The length of each filter's chains is asked for, and of the trees that of the filter alone.
-    ("raw x86_64 b < too-large.json", 1, "", LARGE),
+    # The length of the filter's own program is asked for, and of no other.
+    writes("raw x86_64 a", LOGS[:-1] + "," + of_rules("b", 816) + "}", CHAINS),
+    ("raw x86_64 b < too-large.json", 1, "", NO_FILTER),
+    ("raw x86_64 a < too-large.json", 1, "", LARGE),
     ("raw x86_64 b --tree < too-large.json", 1, "", NO_FILTER),
     ("raw x86_64 a --tree < too-large.json", 1, "", "Backend error: The seccomp filter .."),
     # `raw` answers faults of its reader and its writer.

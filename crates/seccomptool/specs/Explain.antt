@@ -3,6 +3,7 @@ use Rattle.std.specs.Prelude.{◌≡◌, ℕ, ◌<◌, List, Option, Result, Ok,
 use Rattle.serde_json.specs.Data.{Data}
 use Rattle.seccomp_command_line.specs.Records.{WritesLines}
 use Rattle.seccompiler.specs.declared.backend.TargetArch.{TargetArch}
+use Rattle.seccompiler.specs.declared.layout.Layout.TheVariants.{Linear}
 use Rattle.seccompiler.specs.JsonPolicyOf.{IsPolicyOf}
 use Rattle.seccompiler.specs.JsonShape.{IsFilter, Lacks}
 use Rattle.seccompiler.specs.JsonTypes.{JsonFilter}
@@ -10,11 +11,11 @@ use Rattle.seccompiler.specs.Policy.{Filter}
 use Rattle.seccompiler.specs.Reads.{Reads}
 use Rattle.seccomptool.specs.declared.error.ToolError.{ToolError}
 use Rattle.seccomptool.specs.declared.error.ToolError.TheVariants.{Library, NoFilter, ShortRecord, Read, Write, OutOfMemory}
-use Rattle.seccompiler.specs.declared.layout.Layout.TheVariants.{Linear}
 use Rattle.seccomptool.specs.Errors.{IsReadFault}
 use Rattle.seccomptool.specs.ExplainLines.{AreLines}
 use Rattle.seccomptool.specs.Policies.{IsPolicyFault}
-use Rattle.seccomptool.specs.Raw.{IsFaultless, UnderName}
+use Rattle.seccomptool.specs.Raw.{UnderName}
+use Rattle.seccomptool.specs.Show.{AreCompiled}
 
 -- The text is the lines of the filter that the value is, and of its policy, on records.
 pub record AreLinesOf (target : TargetArch) (value : Data) (records : List (List ℕ)) (text : List ℕ) : Type 0 where
@@ -27,7 +28,7 @@ pub record AreLinesOf (target : TargetArch) (value : Data) (records : List (List
 -- Nothing is at fault in the architecture's name and in the policy's text, all of whose filters have programs; one has
 -- the name, and P holds of its value.
 abbrev pub OfFilter : List ℕ → Option (List ℕ) → List ℕ → (TargetArch → Data → Type 0) → Type 0
-OfFilter arch known name P = IsFaultless Linear arch known (UnderName name P)
+OfFilter arch known name P = AreCompiled Linear arch known (UnderName name P)
 
 -- The answer of `explain`. The first fault is told: of the architecture's name and of the policy's text; that no filter
 -- has the name; that reading the records, or writing, fails; and then, with the lines of the whole records written, that
@@ -36,7 +37,7 @@ OfFilter arch known name P = IsFaultless Linear arch known (UnderName name P)
 abbrev pub AnswersExplain : List ℕ → Option (List ℕ) → List ℕ → Option (List ℕ) → Result ⊤ ToolError → Option (List ℕ) → Option (List ℕ) → Type 0
 AnswersExplain arch known name records (Ok done) old new = OfFilter arch known name (λ target value. Reads records (λ bytes. WritesLines (AreLinesOf target value) bytes 0 old new))
 AnswersExplain arch known name records (Err (Library e)) old new = IsPolicyFault arch known e
-AnswersExplain arch known name records (Err (NoFilter text)) old new = (string_bytes text ≡ name) × IsFaultless Linear arch known (λ target d. Lacks d name)
+AnswersExplain arch known name records (Err (NoFilter text)) old new = (string_bytes text ≡ name) × AreCompiled Linear arch known (λ target d. Lacks d name)
 AnswersExplain arch known name records (Err (Read e)) old new = IsReadFault e × OfFilter arch known name (λ target value. ⊤)
 AnswersExplain arch known name records (Err (Write e)) old new = OfFilter arch known name (λ target value. ⊤)
 AnswersExplain arch known name records (Err (ShortRecord rest)) old new = (0 < rest) × OfFilter arch known name (λ target value. Reads records (λ bytes. WritesLines (AreLinesOf target value) bytes rest old new))

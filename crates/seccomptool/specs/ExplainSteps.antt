@@ -4,6 +4,7 @@ use Rattle.std.specs.BTreeMap.{get_by_text}
 use Rattle.serde_json.specs.Data.{Data}
 use Rattle.seccompiler.specs.declared.backend.TargetArch.{TargetArch}
 use Rattle.seccompiler.specs.declared.json.types.JsonFilterMap.{JsonFilterMap}
+use Rattle.seccompiler.specs.declared.layout.Layout.TheVariants.{Linear}
 use Rattle.seccompiler.specs.JsonFilters.{AreAll, AreFound}
 use Rattle.seccompiler.specs.JsonPolicyOf.{IsPolicyOf}
 use Rattle.seccompiler.specs.JsonShape.{IsFilter}
@@ -11,7 +12,6 @@ use Rattle.seccompiler.specs.JsonTypes.{JsonFilter}
 use Rattle.seccompiler.specs.Policy.{Filter}
 use Rattle.seccomptool.specs.declared.error.ToolError.{ToolError}
 use Rattle.seccomptool.specs.declared.error.ToolError.TheVariants.{ShortRecord, Read, Write, OutOfMemory}
-use Rattle.seccompiler.specs.declared.layout.Layout.TheVariants.{Linear}
 use Rattle.seccomptool.specs.Errors.{IsReadFault}
 use Rattle.seccomptool.specs.Raw.{HasSomeProgram}
 

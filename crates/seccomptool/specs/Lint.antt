@@ -6,6 +6,7 @@ use Rattle.seccompiler.specs.declared.backend.TargetArch.{TargetArch}
 use Rattle.seccompiler.specs.declared.error.Error.{Error}
 use Rattle.seccompiler.specs.declared.error.Error.TheVariants as library
 use Rattle.seccompiler.specs.declared.json.error.JsonFrontendError.TheVariants as frontend
+use Rattle.seccompiler.specs.declared.layout.Layout.TheVariants.{Linear}
 use Rattle.seccompiler.specs.Errors.{IsNoMemoryInside}
 use Rattle.seccompiler.specs.JsonAnswers.{OfValue}
 use Rattle.seccompiler.specs.JsonFilters.{AreAll}
@@ -16,7 +17,6 @@ use Rattle.seccomptool.specs.declared.error.ToolError.TheVariants.{Library, Faul
 use Rattle.seccomptool.specs.declared.lint.fault.Cause.{Cause}
 use Rattle.seccomptool.specs.declared.lint.fault.Cause.TheVariants as cause
 use Rattle.seccomptool.specs.declared.lint.fault.Fault.{Fault as Place}
-use Rattle.seccompiler.specs.declared.layout.Layout.TheVariants.{Linear}
 use Rattle.seccomptool.specs.LintFaults.{IsFaultIn}
 use Rattle.seccomptool.specs.LintTexts.{fault_text}
 use Rattle.seccomptool.specs.Policies.{IsNameOf, OfPolicy, IsPolicyFault}

@@ -10,17 +10,15 @@ use Rattle.seccompiler.specs.declared.backend.TargetArch.{TargetArch}
 use Rattle.seccompiler.specs.declared.bpf.sock_filter.{sock_filter}
 use Rattle.seccompiler.specs.declared.error.Error.{Error}
 use Rattle.seccompiler.specs.declared.error.Error.TheVariants as library
-use Rattle.seccompiler.specs.Layouts.{IsCompiledIn}
+use Rattle.seccompiler.specs.declared.layout.Layout.{Layout}
+use Rattle.seccompiler.specs.Layouts.{IsCompiledIn, IsRefusalIn}
 use Rattle.seccompiler.specs.JsonAnswers.{HasPolicy, HasSomePolicy}
 use Rattle.seccompiler.specs.JsonFilters.{AreAll}
 use Rattle.seccompiler.specs.JsonShape.{Under, Lacks}
 use Rattle.seccompiler.specs.Policy.{Filter}
-use Rattle.seccompiler.specs.Tree.{IsTreeRefusal}
 use Rattle.seccomptool.specs.declared.error.ToolError.{ToolError}
 use Rattle.seccomptool.specs.declared.error.ToolError.TheVariants.{Library, NoFilter, Write, OutOfMemory}
-use Rattle.seccompiler.specs.declared.layout.Layout.{Layout}
-use Rattle.seccompiler.specs.declared.layout.Layout.TheVariants.{Linear, Tree}
-use Rattle.seccomptool.specs.Policies.{OfPolicy, IsPolicyFault, IsTextFault}
+use Rattle.seccomptool.specs.Policies.{OfPolicy, IsTextFault}
 
 -- The 8 bytes of an instruction: those of a `struct sock_filter` (linux/filter.h), each number with its low byte first.
 abbrev pub instruction_bytes : sock_filter → List ℕ
@@ -40,14 +38,10 @@ pub record HasProgram (layout : Layout) (target : TargetArch) (value : Data) (pr
 abbrev pub HasSomeProgram : Layout → TargetArch → Data → Type 0
 HasSomeProgram layout target value = (program : List sock_filter) × HasProgram layout target value program
 
--- No filter of the value is at fault: each has a program, or, of trees, of which one filter's alone is made, a policy.
-abbrev pub AreFaultless : Layout → TargetArch → Data → Type 0
-AreFaultless Linear target d = AreAll (HasSomeProgram Linear target) d
-AreFaultless Tree target d = AreAll (HasSomePolicy target) d
-
--- Nothing is at fault in the architecture's name and in the policy's text, and P holds of both.
-abbrev pub IsFaultless : Layout → List ℕ → Option (List ℕ) → (TargetArch → Data → Type 0) → Type 0
-IsFaultless layout arch known P = OfPolicy arch known (λ target d. AreFaultless layout target d × P target d)
+-- Nothing is at fault in the architecture's name and in the policy's text, each of whose filters is a policy, and P holds
+-- of both.
+abbrev pub IsFaultless : List ℕ → Option (List ℕ) → (TargetArch → Data → Type 0) → Type 0
+IsFaultless arch known P = OfPolicy arch known (λ target d. AreAll (HasSomePolicy target) d × P target d)
 
 -- The value has this name, and what stands under it is as P says.
 abbrev pub UnderName : List ℕ → (TargetArch → Data → Type 0) → TargetArch → Data → Type 0
@@ -59,31 +53,26 @@ pub record WritesProgram (layout : Layout) (old new : Option (List ℕ)) (target
   pub compiled : HasProgram layout target value program
   pub appends : Appends old new (program_bytes program)
 
--- The value's policy has no tree, for this cause.
-pub record HasNoTree (cause : BackendError) (target : TargetArch) (value : Data) : Type 0 where
+-- The value's policy has no program in this layout, for this cause.
+pub record HasNoProgram (layout : Layout) (cause : BackendError) (target : TargetArch) (value : Data) : Type 0 where
   pub policy : Filter
   pub is_policy : HasPolicy target value policy
-  pub refused : IsTreeRefusal policy cause
+  pub refused : IsRefusalIn layout policy cause
 
--- The first fault of the architecture's name, of the policy's text, and of the trees that are made of it: only that of
+-- The first fault of the architecture's name, of the policy's text, and of the program that is made of it: only that of
 -- the filter that is asked for is.
-pub data IsTreeFault (arch : List ℕ) (known : Option (List ℕ)) (name : List ℕ) (e : Error) : Type 0 where
-  of_text : IsTextFault arch known e → IsTreeFault arch known name e
-  of_tree : (cause : BackendError) → cause ≢ backend.OutOfMemory → e ≡ library.Backend cause
-      → IsFaultless Tree arch known (UnderName name (HasNoTree cause)) → IsTreeFault arch known name e
-
--- The error is the first fault.
-abbrev pub IsFault : Layout → List ℕ → Option (List ℕ) → List ℕ → Error → Type 0
-IsFault Linear arch known name e = IsPolicyFault arch known e
-IsFault Tree arch known name e = IsTreeFault arch known name e
+pub data IsFault (layout : Layout) (arch : List ℕ) (known : Option (List ℕ)) (name : List ℕ) (e : Error) : Type 0 where
+  of_text : IsTextFault arch known e → IsFault layout arch known name e
+  of_program : (cause : BackendError) → cause ≢ backend.OutOfMemory → e ≡ library.Backend cause
+      → IsFaultless arch known (UnderName name (HasNoProgram layout cause)) → IsFault layout arch known name e
 
 -- The answer of `raw`. The first fault is told: of the architecture's name and of the policy's text; that no filter has
--- the name; of a tree; and then that writing fails. It is Ok only where nothing is at fault, and the program's bytes are
--- written. Want of memory may come in place of all.
+-- the name; of its program; and then that writing fails. It is Ok only where nothing is at fault, and the program's bytes
+-- are written. Want of memory may come in place of all.
 abbrev pub AnswersRaw : List ℕ → Option (List ℕ) → List ℕ → Layout → Result ⊤ ToolError → Option (List ℕ) → Option (List ℕ) → Type 0
-AnswersRaw arch known name layout (Ok done) old new = IsFaultless layout arch known (UnderName name (WritesProgram layout old new))
+AnswersRaw arch known name layout (Ok done) old new = IsFaultless arch known (UnderName name (WritesProgram layout old new))
 AnswersRaw arch known name layout (Err (Library e)) old new = IsFault layout arch known name e
-AnswersRaw arch known name layout (Err (NoFilter text)) old new = (string_bytes text ≡ name) × IsFaultless layout arch known (λ target d. Lacks d name)
-AnswersRaw arch known name layout (Err (Write e)) old new = IsFaultless layout arch known (UnderName name (HasSomeProgram layout))
+AnswersRaw arch known name layout (Err (NoFilter text)) old new = (string_bytes text ≡ name) × IsFaultless arch known (λ target d. Lacks d name)
+AnswersRaw arch known name layout (Err (Write e)) old new = IsFaultless arch known (UnderName name (HasSomeProgram layout))
 AnswersRaw arch known name layout (Err OutOfMemory) old new = ⊤
 AnswersRaw arch known name layout (Err e) old new = ⊥

@@ -12,6 +12,8 @@ use Rattle.seccompiler.specs.declared.backend.TargetArch.{TargetArch}
 use Rattle.seccompiler.specs.declared.bpf.sock_filter.{sock_filter}
 use Rattle.seccompiler.specs.declared.error.Error.{Error}
 use Rattle.seccompiler.specs.declared.error.Error.TheVariants as library
+use Rattle.seccompiler.specs.declared.layout.Layout.{Layout}
+use Rattle.seccompiler.specs.declared.layout.Layout.TheVariants.{Linear, Tree}
 use Rattle.seccompiler.specs.JsonFilters.{AreAll, IsLeast}
 use Rattle.seccompiler.specs.JsonAnswers.{HasSomePolicy}
 use Rattle.seccompiler.specs.JsonShape.{Has, Under, IsFilter}
@@ -19,10 +21,8 @@ use Rattle.seccompiler.specs.JsonTypes.{JsonFilter}
 use Rattle.seccompiler.specs.Architecture.{arch_text}
 use Rattle.seccomptool.specs.declared.error.ToolError.{ToolError}
 use Rattle.seccomptool.specs.declared.error.ToolError.TheVariants.{Library, Write, OutOfMemory}
-use Rattle.seccompiler.specs.declared.layout.Layout.{Layout}
-use Rattle.seccompiler.specs.declared.layout.Layout.TheVariants.{Linear, Tree}
 use Rattle.seccomptool.specs.Policies.{OfPolicy, IsPolicyFault, IsTextFault}
-use Rattle.seccomptool.specs.Raw.{HasProgram, HasSomeProgram, HasNoTree}
+use Rattle.seccomptool.specs.Raw.{HasProgram, HasSomeProgram, HasNoProgram}
 use Rattle.seccomptool.specs.ShowLabels.{program_labels}
 use Rattle.seccomptool.specs.ShowText.{text_of}
 
@@ -88,7 +88,7 @@ pub record WritesPrograms (layout : Layout) (old new : Option (List ℕ)) (targe
 -- All values have policies; the policy of this name has no tree, for this cause, and each value of a name below it has
 -- one.
 abbrev pub IsLeastTreeless : BackendError → TargetArch → Data → Type 0
-IsLeastTreeless cause target d = AreAll (HasSomePolicy target) d × (name : List ℕ) × IsLeast (HasNoTree cause target) (HasSomeProgram Tree target) d name
+IsLeastTreeless cause target d = AreAll (HasSomePolicy target) d × (name : List ℕ) × IsLeast (HasNoProgram Tree cause target) (HasSomeProgram Tree target) d name
 
 -- The first fault of the architecture's name, of the policy's text, and of the trees that are made of it.
 pub data IsTreesFault (arch : List ℕ) (known : Option (List ℕ)) (e : Error) : Type 0 where

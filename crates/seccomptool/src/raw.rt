@@ -3,10 +3,9 @@
 ghost use Rattle.std.specs.Prelude.{◌≡◌, ◌++◌, IfOk, IfErr, OnOk};
 ghost use Rattle.seccomptool.specs.Errors.{KeepsOutput};
 ghost use Rattle.seccomptool.specs.Raw.{AnswersRaw, instruction_bytes, program_bytes};
-ghost use Rattle.seccompiler.specs.declared.layout.Layout.TheVariants.{Linear, Tree};
 
 use crate::error::ToolError;
-use crate::policy::{filters, programs};
+use crate::policy::filters;
 use crate::send::send;
 use seccompiler::{BpfProgramRef, Layout, sock_filter};
 use std::alloc::{AllocError, Global};
@@ -24,13 +23,13 @@ use std::io::{Read, Write};
 ///
 /// # Errors
 ///
-/// The first of these: `Library` with `InvalidTargetArch` and the text as it was given where `arch` is
-/// no architecture's name, ASCII case aside; `Library` with what the library refuses of the policy,
-/// `JsonFrontend(Read)` among it where the reader fails; `NoFilter` with the name where no filter of
-/// the policy has it; `Write` where the writer fails. In the layout of chains every filter is compiled,
-/// and `FilterTooLarge` of any comes before `NoFilter`; of trees only the one of this name is made, and
-/// its `FilterTooLarge` comes behind it. `OutOfMemory` comes in place of any of these where memory is
-/// refused, and where the reader fails for want of memory. On any error but `Write` nothing is written.
+/// The first of these: `Library` with `InvalidTargetArch` and the text as it was given where `arch`
+/// is no architecture's name, ASCII case aside; `Library` with what `JsonCompiler::compile` refuses
+/// of the policy, `JsonFrontend(Read)` among it where the reader fails; `NoFilter` with the name
+/// where no filter of the policy has it; `Library` with `FilterTooLarge` of its program; `Write`
+/// where the writer fails. Only the filter of this name is compiled, so that another one is too large
+/// is no error. `OutOfMemory` comes in place of any of these where memory is refused, and where the
+/// reader fails for want of memory. On any error but `Write` nothing is written.
 pub fn raw<P: Read + Drop, W: Write>(
     alloc: Global,
     arch: &str,
@@ -43,46 +42,11 @@ pub fn raw<P: Read + Drop, W: Write>(
     ensures answers { AnswersRaw arch.now (P.remaining policy) name.now layout result (W.contents out.old) (W.contents out.new) }
     ensures unwritten { IfErr result (λ e. KeepsOutput e out.old out.new) }
 {
-    match layout {
-        Layout::Linear => raw_chains(alloc, arch, name, policy, out),
-        Layout::Tree => raw_tree(alloc, arch, name, policy, out),
-    }
-}
-
-// The same in the layout of chains.
-fn raw_chains<P: Read + Drop, W: Write>(
-    alloc: Global,
-    arch: &str,
-    name: &str,
-    policy: P,
-    out: &mut W,
-) -> Result<(), ToolError>
-    ensures answers { AnswersRaw arch.now (P.remaining policy) name.now Linear result (W.contents out.old) (W.contents out.new) }
-    ensures unwritten { IfErr result (λ e. KeepsOutput e out.old out.new) }
-{
-    let programs = programs(alloc, arch, policy)?;
-    let Some(program) = programs.get(name) else {
-        return Err(ToolError::NoFilter(String::from_str(alloc, name)?));
-    };
-    send(out, &bytes_of(alloc, program)?)
-}
-
-// The same in the layout of a tree.
-fn raw_tree<P: Read + Drop, W: Write>(
-    alloc: Global,
-    arch: &str,
-    name: &str,
-    policy: P,
-    out: &mut W,
-) -> Result<(), ToolError>
-    ensures answers { AnswersRaw arch.now (P.remaining policy) name.now Tree result (W.contents out.old) (W.contents out.new) }
-    ensures unwritten { IfErr result (λ e. KeepsOutput e out.old out.new) }
-{
     let filters = filters(alloc, arch, policy)?;
     let Some(filter) = filters.get(name) else {
         return Err(ToolError::NoFilter(String::from_str(alloc, name)?));
     };
-    let program = filter.to_tree_bpf(alloc)?;
+    let program = filter.to_bpf_in(alloc, layout)?;
     send(out, &bytes_of(alloc, &program)?)
 }
 

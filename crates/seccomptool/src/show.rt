@@ -15,8 +15,8 @@ use crate::error::ToolError;
 use crate::policy::{filters, policy_text, programs};
 use crate::send::send;
 use crate::show::listing::{guard_labels, listing, trees};
-use seccompiler::{Layout, TargetArch};
 use seccompiler::json::filters_from;
+use seccompiler::{Layout, TargetArch};
 use std::alloc::Global;
 use std::io::{Read, Write};
 

@@ -7,8 +7,10 @@ use Rattle.seccompiler.specs.declared.backend.TargetArch.{TargetArch}
 use Rattle.seccompiler.specs.declared.json.error.JsonFrontendError.{JsonFrontendError}
 use Rattle.seccompiler.specs.declared.json.error.JsonFrontendError.TheVariants as json
 use Rattle.seccompiler.specs.declared.json.types.JsonFilterMap.{JsonFilterMap}
+use Rattle.seccompiler.specs.declared.layout.Layout.TheVariants.{Linear}
 use Rattle.seccompiler.specs.Errors.{from_frontend}
 use Rattle.seccompiler.specs.JsonAnswers.{OfValue}
+use Rattle.seccompiler.specs.JsonFilters.{AreAll}
 use Rattle.seccompiler.specs.JsonPolicyOf.{Fault, IsPolicyOf, IsFirstFault}
 use Rattle.seccompiler.specs.JsonShape.{Lacks}
 use Rattle.seccompiler.specs.JsonSteps.{IsPolicyRefusal}
@@ -22,10 +24,10 @@ use Rattle.seccomp_command_line.specs.Records.{WritesLines}
 use Rattle.seccomptool.specs.ExplainLines.{AreLines, AnswersRecords}
 use Rattle.seccomptool.specs.ExplainSteps.{IsRecordsError, IsUsable, AreUsable}
 use Rattle.seccomptool.specs.Policies.{IsNameOf, IsRefusedName, no_architecture}
-use Rattle.seccomptool.specs.Raw.{AreFaultless, IsFaultless, UnderName}
+use Rattle.seccomptool.specs.Raw.{HasSomeProgram, UnderName}
+use Rattle.seccomptool.specs.Show.{AreCompiled}
 use Rattle.seccomptool.specs.declared.error.ToolError.{ToolError}
 use Rattle.seccomptool.specs.declared.error.ToolError.TheVariants as tool
-use Rattle.seccompiler.specs.declared.layout.Layout.TheVariants.{Linear}
 use Rattle.seccomptool.proofs.Found.{there, nowhere}
 use Rattle.seccomptool.proofs.Readings.{of_value}
 
@@ -51,11 +53,11 @@ module _ (arch : List ℕ) (known : Option (List ℕ)) (name : List ℕ) (record
 
   module _ (target : TargetArch) (filters : JsonFilterMap) (named : IsNameOf arch target) (read : Reads known (λ text. OfValue text (AreUsable target filters))) where
     -- Nothing is at fault where filters can be used, and P holds of each value of them.
-    shown : (P : TargetArch → Data → Type 0) → ((d : Data) → AreUsable target filters d → P target d) → IsFaultless Linear arch known P
-    shown P shows = (target, named, of_value known (AreUsable target filters) (λ d. AreFaultless Linear target d × P target d) read (read.2.2.programs, shows read.2.0 read.2.2))
+    shown : (P : TargetArch → Data → Type 0) → ((d : Data) → AreUsable target filters d → P target d) → AreCompiled Linear arch known P
+    shown P shows = (target, named, of_value known (AreUsable target filters) (λ d. AreAll (HasSomeProgram Linear target) d × P target d) read (read.2.2.programs, shows read.2.0 read.2.2))
 
     -- Where nothing is found under the name, no filter has it.
-    pub no_filter : get_by_text filters.0 name ≡ None → IsFaultless Linear arch known (λ target d. Lacks d name)
+    pub no_filter : get_by_text filters.0 name ≡ None → AreCompiled Linear arch known (λ target d. Lacks d name)
     no_filter none = shown (λ target d. Lacks d name) (λ d are. nowhere (IsUsable target) (get_by_text filters.0) d are.found name none)
 
     module _ (filter : JsonFilter) (found : get_by_text filters.0 name ≡ Some filter) where

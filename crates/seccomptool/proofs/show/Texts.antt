@@ -12,6 +12,8 @@ use Rattle.seccompiler.specs.declared.backend.BackendError.{BackendError}
 use Rattle.seccompiler.specs.declared.backend.BackendError.TheVariants as backend
 use Rattle.seccompiler.specs.declared.backend.TargetArch.{TargetArch}
 use Rattle.seccompiler.specs.declared.bpf.sock_filter.{sock_filter}
+use Rattle.seccompiler.specs.declared.layout.Layout.{Layout}
+use Rattle.seccompiler.specs.declared.layout.Layout.TheVariants.{Linear, Tree}
 use Rattle.seccompiler.specs.Errors.{from_backend}
 use Rattle.seccompiler.specs.JsonAnswers.{HasPolicy, HasSomePolicy, ArePoliciesOf, IsValueOf}
 use Rattle.seccompiler.specs.JsonFilters.{AreFound, AreAll}
@@ -21,14 +23,12 @@ use Rattle.seccompiler.specs.Policy.{Filter}
 use Rattle.seccompiler.specs.Tree.{IsTreeCompiled, IsTreeRefusal}
 use Rattle.seccomptool.specs.Errors.{from_library, IsWriteError}
 use Rattle.seccomptool.specs.Policies.{OfPolicy, IsNameOf, IsRefusedPolicy, IsRefusedText, no_architecture, of_policy}
-use Rattle.seccomptool.specs.Raw.{HasProgram, HasSomeProgram, HasNoTree}
+use Rattle.seccomptool.specs.Raw.{HasProgram, HasSomeProgram, HasNoProgram}
 use Rattle.seccompiler.specs.JsonTypes.{JsonFilter}
 use Rattle.seccomptool.specs.Show.{NamedProgram, guard_labels, shown, LabelledProgram, IsLabelledFor, AreChainsShown, IsShown, WritesPrograms, AreCompiled, IsLeastTreeless, of_text, of_tree, AnswersShow}
 use Rattle.seccomptool.specs.ShowTrees.{Entry, IsLabelled, AreLabelled, NamedFilter, IsTreeOf, AreTrees, HasTree, IsFirstTreeless, refused, no_memory, IsRefused}
 use Rattle.seccomptool.specs.declared.error.ToolError.{ToolError}
 use Rattle.seccomptool.specs.declared.error.ToolError.TheVariants as tool
-use Rattle.seccompiler.specs.declared.layout.Layout.{Layout}
-use Rattle.seccompiler.specs.declared.layout.Layout.TheVariants.{Linear, Tree}
 use Rattle.seccomp_command_line.proofs.ByName.{names_ordered}
 use Rattle.seccomptool.proofs.Found.{has_program, there, all_values, each_there, complete, all_listed, least_found}
 use Rattle.seccomptool.proofs.Pairs.{all_second, same_under}
@@ -100,7 +100,7 @@ module _ (target : TargetArch) (find : List ℕ → Option Filter) (d : Data) (p
     all_values (HasPolicy target) find d policies (HasSomePolicy target) (λ value policy is. (policy, is)),
     string_bytes f.0,
     least_found (HasPolicy target) find d policies entries order listed (λ policy. (program : List sock_filter) × IsTreeCompiled policy program) (λ policy. IsTreeRefusal policy cause)
-        (HasNoTree cause target) (HasSomeProgram Tree target) (λ value policy is own. record { policy = policy; is_policy = is; refused = own }) has_tree
+        (HasNoProgram Tree cause target) (HasSomeProgram Tree target) (λ value policy is own. record { policy = policy; is_policy = is; refused = own }) has_tree
         (record { front = front; one = f; back = back; whole = whole; before = before; own = is }),
   )
 

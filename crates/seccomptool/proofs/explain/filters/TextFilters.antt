@@ -5,6 +5,7 @@ use Rattle.serde_json.specs.Data.{Data}
 use Rattle.seccompiler.specs.declared.backend.TargetArch.{TargetArch}
 use Rattle.seccompiler.specs.declared.bpf.sock_filter.{sock_filter}
 use Rattle.seccompiler.specs.declared.json.types.JsonFilterMap.{JsonFilterMap}
+use Rattle.seccompiler.specs.declared.layout.Layout.TheVariants.{Linear}
 use Rattle.seccompiler.specs.JsonAnswers.{IsValueOf, OfValue}
 use Rattle.seccompiler.specs.JsonPolicyOf.{IsPolicyOf}
 use Rattle.seccompiler.specs.JsonPrograms.{AreProgramsOf}
@@ -14,7 +15,6 @@ use Rattle.seccompiler.specs.JsonTypes.{JsonFilter}
 use Rattle.seccompiler.specs.Reads.{Reads}
 use Rattle.seccomptool.specs.ExplainSteps.{AreUsable}
 use Rattle.seccomptool.specs.Raw.{HasSomeProgram}
-use Rattle.seccompiler.specs.declared.layout.Layout.TheVariants.{Linear}
 use Rattle.seccomptool.proofs.Found.{has_program, all_values}
 use Rattle.seccomptool.proofs.Readings.{reads_on, filters_of_value}
 

@@ -55,9 +55,12 @@ pub text_refused : (arch : List ℕ) (known : Option (List ℕ)) (target : Targe
 text_refused arch known target json.OutOfMemory named memory first = tt
 text_refused arch known target e named memory first = told arch known target e named (λ same. cc) memory first
 
--- A failed read is the first fault of a policy, on an architecture that is named.
+-- A failed read is the first fault of a policy's text, on an architecture that is named.
+pub text_unread : (arch : List ℕ) (known : Option (List ℕ)) (target : TargetArch) (e : ToolError) → IsNameOf arch target → IsPolicyReadError e → IsRefusedText arch known e
+text_unread arch known target (tool.Library (library.JsonFrontend (json.Read e))) named cause =
+    (of_policy target named (λ same. cc) (λ same. cc, cause) (reads_some known _ (λ text. tt)), tt)
+text_unread arch known target tool.OutOfMemory named cause = tt
+text_unread arch known target _ named cause = absurd cause
+
 pub policy_unread : (arch : List ℕ) (known : Option (List ℕ)) (target : TargetArch) (e : ToolError) → IsNameOf arch target → IsPolicyReadError e → IsRefusedPolicy arch known e
-policy_unread arch known target (tool.Library (library.JsonFrontend (json.Read e))) named cause =
-    of_policy target named (λ same. cc) (λ same. cc, cause) (reads_some known _ (λ text. tt))
-policy_unread arch known target tool.OutOfMemory named cause = tt
-policy_unread arch known target _ named cause = absurd cause
+policy_unread arch known target e named cause = text_is_policy arch known e (text_unread arch known target e named cause)

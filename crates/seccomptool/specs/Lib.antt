@@ -24,7 +24,7 @@ pub mod Record
 pub mod Commands
 pub mod Statuses
 -- Between layers: what the private steps of the engines promise each other.
-pub mod ShowTrees
+pub mod ShowParts
 pub mod StepsParts
 pub mod WidenedParts
 pub mod ExplainSteps

@@ -17,11 +17,11 @@ use Rattle.seccompiler.specs.declared.layout.Layout.TheVariants.{Linear, Tree}
 use Rattle.seccompiler.specs.JsonFilters.{AreAll, IsLeast}
 use Rattle.seccompiler.specs.JsonAnswers.{HasSomePolicy}
 use Rattle.seccompiler.specs.JsonShape.{Has, Under, IsFilter}
-use Rattle.seccompiler.specs.JsonTypes.{JsonFilter}
+use Rattle.seccompiler.specs.JsonTypes.{JsonFilter, JsonRule}
 use Rattle.seccompiler.specs.Architecture.{arch_text}
 use Rattle.seccomptool.specs.declared.error.ToolError.{ToolError}
 use Rattle.seccomptool.specs.declared.error.ToolError.TheVariants.{Library, Write, OutOfMemory}
-use Rattle.seccomptool.specs.Policies.{OfPolicy, IsPolicyFault, IsTextFault}
+use Rattle.seccomptool.specs.Policies.{OfPolicy, IsTextFault}
 use Rattle.seccomptool.specs.Raw.{HasProgram, HasSomeProgram, HasNoProgram}
 use Rattle.seccomptool.specs.ShowLabels.{program_labels}
 use Rattle.seccomptool.specs.ShowText.{text_of}
@@ -30,21 +30,10 @@ use Rattle.seccomptool.specs.ShowText.{text_of}
 abbrev pub guard_labels : TargetArch → List (List ℕ)
 guard_labels target = [] ∷ arch_text target ∷ []
 
--- A program with its name, which is given by its bytes.
-abbrev pub NamedProgram : Type 0
-NamedProgram = List ℕ × List sock_filter
-
--- The text of one whose places have these labels.
-abbrev pub shown : List (List ℕ) → NamedProgram → List ℕ
-shown labels p = text_of labels p.0 p.1
-
--- The text is, for each name of the value in byte order, that of a tree of the name's policy, of which the guard has labels.
-pub record AreTreesShown (target : TargetArch) (d : Data) (text : List ℕ) : Type 0 where
-  pub programs : List NamedProgram
-  pub ordered : IsStrictlySortedBy (slice_cmp nat_cmp) (map (λ p. p.0) programs)
-  pub each : All (λ p. Under d p.0 (λ value. HasProgram Tree target value p.1)) programs
-  pub complete : (name : List ℕ) (value : Data) → Has d name value → Contains (map (λ p. p.0) programs) name
-  pub texts : text ≡ concat (map (shown (guard_labels target)) programs)
+-- The labels of the program of entries in a layout: in a tree the guard alone has labels.
+abbrev pub labels_in : Layout → TargetArch → List JsonRule → List (List ℕ)
+labels_in Linear target rules = program_labels target rules
+labels_in Tree target rules = guard_labels target
 
 -- A program with its name and the labels of its places.
 abbrev pub LabelledProgram : Type 0
@@ -54,26 +43,21 @@ LabelledProgram = List ℕ × List (List ℕ) × List sock_filter
 abbrev pub labelled_text : LabelledProgram → List ℕ
 labelled_text p = text_of p.1 p.0 p.2
 
--- The program is compiled for the value's policy, and the labels are those of the value's entries.
-pub record IsLabelledFor (target : TargetArch) (value : Data) (labels : List (List ℕ)) (program : List sock_filter) : Type 0 where
-  pub compiled : HasProgram Linear target value program
+-- The program is compiled for the value's policy in this layout, and the labels are those of the value's entries.
+pub record IsLabelledFor (layout : Layout) (target : TargetArch) (value : Data) (labels : List (List ℕ)) (program : List sock_filter) : Type 0 where
+  pub compiled : HasProgram layout target value program
   pub json : JsonFilter
   pub is_filter : IsFilter value json
-  pub labelled : labels ≡ program_labels target json.rules
+  pub labelled : labels ≡ labels_in layout target json.rules
 
--- The text is, for each name of the value in byte order, that of a program that is compiled for the name's policy, whose
--- places have the labels of the filter's entries.
-pub record AreChainsShown (target : TargetArch) (d : Data) (text : List ℕ) : Type 0 where
+-- The text is, for each name of the value in byte order, that of a program that is compiled for the name's policy in this
+-- layout, whose places have the labels of the filter's entries.
+pub record IsShown (layout : Layout) (target : TargetArch) (d : Data) (text : List ℕ) : Type 0 where
   pub programs : List LabelledProgram
   pub ordered : IsStrictlySortedBy (slice_cmp nat_cmp) (map (λ p. p.0) programs)
-  pub each : All (λ p. Under d p.0 (λ value. IsLabelledFor target value p.1 p.2)) programs
+  pub each : All (λ p. Under d p.0 (λ value. IsLabelledFor layout target value p.1 p.2)) programs
   pub complete : (name : List ℕ) (value : Data) → Has d name value → Contains (map (λ p. p.0) programs) name
   pub texts : text ≡ concat (map labelled_text programs)
-
--- The text is that of the value's programs in this layout.
-abbrev pub IsShown : Layout → TargetArch → Data → List ℕ → Type 0
-IsShown Linear target d text = AreChainsShown target d text
-IsShown Tree target d text = AreTreesShown target d text
 
 -- Nothing is at fault: the value is an object, and each value in it has a program in this layout. P holds of both.
 abbrev pub AreCompiled : Layout → List ℕ → Option (List ℕ) → (TargetArch → Data → Type 0) → Type 0
@@ -85,21 +69,17 @@ pub record WritesPrograms (layout : Layout) (old new : Option (List ℕ)) (targe
   pub is_shown : IsShown layout target d text
   pub appends : Appends old new text
 
--- All values have policies; the policy of this name has no tree, for this cause, and each value of a name below it has
--- one.
-abbrev pub IsLeastTreeless : BackendError → TargetArch → Data → Type 0
-IsLeastTreeless cause target d = AreAll (HasSomePolicy target) d × (name : List ℕ) × IsLeast (HasNoProgram Tree cause target) (HasSomeProgram Tree target) d name
+-- All values have policies; the policy of this name has no program in this layout, for this cause, and each value of a name
+-- below it has one.
+abbrev pub IsLeastRefused : Layout → BackendError → TargetArch → Data → Type 0
+IsLeastRefused layout cause target d =
+    AreAll (HasSomePolicy target) d × (name : List ℕ) × IsLeast (HasNoProgram layout cause target) (HasSomeProgram layout target) d name
 
--- The first fault of the architecture's name, of the policy's text, and of the trees that are made of it.
-pub data IsTreesFault (arch : List ℕ) (known : Option (List ℕ)) (e : Error) : Type 0 where
-  of_text : IsTextFault arch known e → IsTreesFault arch known e
-  of_tree : (cause : BackendError) → cause ≢ backend.OutOfMemory → e ≡ library.Backend cause
-      → OfPolicy arch known (IsLeastTreeless cause) → IsTreesFault arch known e
-
--- The error is the first fault.
-abbrev pub IsFault : Layout → List ℕ → Option (List ℕ) → Error → Type 0
-IsFault Linear arch known e = IsPolicyFault arch known e
-IsFault Tree arch known e = IsTreesFault arch known e
+-- The first fault of the architecture's name, of the policy's text, and of the programs that are made of it.
+pub data IsFault (layout : Layout) (arch : List ℕ) (known : Option (List ℕ)) (e : Error) : Type 0 where
+  of_text : IsTextFault arch known e → IsFault layout arch known e
+  of_program : (cause : BackendError) → cause ≢ backend.OutOfMemory → e ≡ library.Backend cause
+      → OfPolicy arch known (IsLeastRefused layout cause) → IsFault layout arch known e
 
 -- The answer of `show`: the first fault, in this order: of the architecture's name and of the policy's text; of a
 -- program; and then that writing fails. It is Ok only where nothing is at fault, and the text of all programs is

@@ -1,4 +1,4 @@
--- The labels of a program's places in the layout of chains: which call, rule and condition an instruction belongs to.
+-- The labels of a program's places in the linear layout: which call, rule and condition an instruction belongs to.
 use Rattle.std.specs.Prelude.{ℕ, ℤ, pos, zero, suc, ◌+◌, List, [], ◌∷◌, ◌++◌, replicate, Option, Some, None, nat_lt, if◌then◌else◌, codes, decimal}
 use Rattle.std.specs.List.{list_any}
 use Rattle.seccompiler.specs.declared.backend.TargetArch.{TargetArch}

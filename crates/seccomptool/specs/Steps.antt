@@ -42,7 +42,7 @@ pub record IsMeasureOf (target : TargetArch) (p : List sock_filter) (m : Measure
   pub ends : Ends p (passing_record target) m.passing word
   pub only : (n w : ℕ) → Ends p (passing_record target) n w → (n ≡ m.passing) × (w ≡ word)
 
--- The numbers are those of a program in the layout of chains. Where the filter has chains, so many steps are those of each
+-- The numbers are those of a program in the linear layout. Where the filter has chains, so many steps are those of each
 -- record of this architecture whose call number has none.
 pub record HasChains (target : TargetArch) (f : Filter) (m : Measure) : Type 0 where
   pub program : List sock_filter
@@ -100,7 +100,7 @@ pub record HasBothPrograms (target : TargetArch) (value : Data) : Type 0 where
 abbrev pub IsFaultless : List ℕ → Option (List ℕ) → (TargetArch → Data → Type 0) → Type 0
 IsFaultless arch known P = OfPolicy arch known (λ target d. AreAll (HasBothPrograms target) d × P target d)
 
--- Each value has a program in the layout of chains; the tree of one is too large, n telling its length, and that of no
+-- Each value has a program in the linear layout; the tree of one is too large, n telling its length, and that of no
 -- name below its name is.
 pub record IsLeastTreeTooLarge (n : ℕ) (target : TargetArch) (d : Data) : Type 0 where
   pub chains : AreAll (λ value. (policy : Filter) × HasPolicy target value policy × ((program : List sock_filter) × IsCompiled policy program)) d

@@ -32,7 +32,7 @@ abbrev pub IsFirstRefusal : (Filter → Type 0) → (Filter → BackendError →
 IsFirstRefusal Q R filters OutOfMemory = ⊤
 IsFirstRefusal Q R filters e = IsFirst (λ f. Q f.1) (λ f. R f.1 e) filters
 
--- The numbers are those of the filter's program in the layout of chains.
+-- The numbers are those of the filter's program in the linear layout.
 pub record AreOfChains (target : TargetArch) (f : Filter) (m : Measure) : Type 0 where
   pub compilable : IsCompilable f
   pub program : List sock_filter
@@ -44,7 +44,7 @@ pub record AreOfChains (target : TargetArch) (f : Filter) (m : Measure) : Type 0
 abbrev pub named_filter : MeasuredChains → String Global × Filter
 named_filter m = (m.name, m.filter)
 
--- The numbers of each of these filters are those of its program in the layout of chains.
+-- The numbers of each of these filters are those of its program in the linear layout.
 abbrev pub AreMeasured : TargetArch → List MeasuredChains → Type 0
 AreMeasured target = All (λ (m : MeasuredChains). AreOfChains target m.filter m.measure)
 

@@ -1,16 +1,13 @@
-// A policy's text, its filters, and their programs.
+// A policy's text, and its filters.
 
 ghost use Rattle.std.specs.Prelude.{◌≡◌, IfOk, IfErr, IfSome};
 ghost use Rattle.std.specs.BTreeMap.{get_by_text};
 ghost use Rattle.seccompiler.specs.JsonAnswers.{ArePoliciesOf};
-ghost use Rattle.seccompiler.specs.JsonPrograms.{AreProgramsOf};
-ghost use Rattle.seccomptool.specs.Policies.{OfPolicy, IsPolicyReadError, IsRefusedPolicy, IsRefusedText};
+ghost use Rattle.seccomptool.specs.Policies.{OfPolicy, IsPolicyReadError, IsRefusedText};
 
 use crate::error::ToolError;
 use seccompiler::json::JsonFrontendError;
-use seccompiler::{
-    BpfProgram, Error, JsonCompiler, SeccompFilter, TargetArch, compile_from_json_in_order,
-};
+use seccompiler::{Error, JsonCompiler, SeccompFilter, TargetArch};
 use std::alloc::Global;
 use std::collections::BTreeMap;
 use std::io::{ErrorKind, Read};
@@ -43,17 +40,4 @@ pub(crate) fn filters<P: Read + Drop>(
 {
     let target = TargetArch::from_text(alloc, arch)?;
     Ok(JsonCompiler::new(target).compile_in_order(alloc, policy)?)
-}
-
-// The programs of these filters in the layout of chains.
-pub(crate) fn programs<P: Read + Drop>(
-    alloc: Global,
-    arch: &str,
-    policy: P,
-) -> Result<BTreeMap<String, BpfProgram>, ToolError>
-    ensures programs { IfOk result (λ programs. OfPolicy arch.now (P.remaining policy) (λ target. AreProgramsOf target (get_by_text programs))) }
-    ensures refused { IfErr result (IsRefusedPolicy arch.now (P.remaining policy)) }
-{
-    let target = TargetArch::from_text(alloc, arch)?;
-    Ok(compile_from_json_in_order(alloc, policy, target)?)
 }

@@ -8,13 +8,12 @@ mod text;
 ghost use Rattle.std.specs.Prelude.{IfOk, IfErr};
 ghost use Rattle.seccomptool.specs.Errors.{KeepsOutput};
 ghost use Rattle.seccomptool.specs.Show.{AnswersShow, AreCompiled, IsShown};
-ghost use Rattle.seccomptool.specs.ShowTrees.{IsRefused};
-ghost use Rattle.seccompiler.specs.declared.layout.Layout.TheVariants.{Linear, Tree};
+ghost use Rattle.seccomptool.specs.ShowParts.{IsRefused};
 
 use crate::error::ToolError;
-use crate::policy::{filters, policy_text, programs};
+use crate::policy::{filters, policy_text};
 use crate::send::send;
-use crate::show::listing::{guard_labels, listing, trees};
+use crate::show::listing::listing;
 use seccompiler::json::filters_from;
 use seccompiler::{Layout, TargetArch};
 use std::alloc::Global;
@@ -69,31 +68,9 @@ fn text_in<R: Read + Drop>(
     ensures shown { IfOk result (λ text. AreCompiled layout arch.now (R.remaining policy) (λ target d. IsShown layout target d text.items)) }
     ensures refused { IfErr result (IsRefused layout arch.now (R.remaining policy)) }
 {
-    match layout {
-        Layout::Linear => chains_text(alloc, arch, policy),
-        Layout::Tree => trees_text(alloc, arch, policy),
-    }
-}
-
-// The text of the programs in the layout of chains.
-fn chains_text<R: Read + Drop>(alloc: Global, arch: &str, policy: R) -> Result<Vec<u8>, ToolError>
-    ensures shown { IfOk result (λ text. AreCompiled Linear arch.now (R.remaining policy) (λ target d. IsShown Linear target d text.items)) }
-    ensures refused { IfErr result (IsRefused Linear arch.now (R.remaining policy)) }
-{
     let target = TargetArch::from_text(alloc, arch)?;
     let text = policy_text(alloc, policy)?;
-    let programs = programs(alloc, arch, text.as_slice())?;
-    let filters = filters_from(alloc, text.as_slice())?;
-    Ok(listing(alloc, target, &programs, &filters)?)
-}
-
-// The text of the programs in the layout of a tree.
-fn trees_text<R: Read + Drop>(alloc: Global, arch: &str, policy: R) -> Result<Vec<u8>, ToolError>
-    ensures shown { IfOk result (λ text. AreCompiled Tree arch.now (R.remaining policy) (λ target d. IsShown Tree target d text.items)) }
-    ensures refused { IfErr result (IsRefused Tree arch.now (R.remaining policy)) }
-{
-    let target = TargetArch::from_text(alloc, arch)?;
-    let filters = filters(alloc, arch, policy)?;
-    let labels = guard_labels(alloc, target)?;
-    Ok(trees(alloc, &labels, &filters)?)
+    let filters = filters(alloc, arch, text.as_slice())?;
+    let entries = filters_from(alloc, text.as_slice())?;
+    Ok(listing(alloc, target, layout, &filters, &entries)?)
 }

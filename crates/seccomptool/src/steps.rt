@@ -45,7 +45,7 @@ use std::io::{Read, Write};
 /// The first of these: `Library` with `InvalidTargetArch` and the text as it was given where `arch` is
 /// no architecture's name, ASCII case aside; `Library` with what `compile_from_json` refuses of the
 /// policy, `JsonFrontend(Read)` among it where the reader fails, and `FilterTooLarge` of a program in
-/// the layout of chains; `Library` with `FilterTooLarge` of the tree of the least name whose tree is too
+/// the linear layout; `Library` with `FilterTooLarge` of the tree of the least name whose tree is too
 /// large; `Write` where the writer fails. `OutOfMemory` comes in place of any of these where memory is
 /// refused, and where the reader fails for want of memory. On any error but `Write` nothing is written.
 pub fn steps<R: Read + Drop, W: Write>(

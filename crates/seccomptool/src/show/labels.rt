@@ -1,14 +1,15 @@
-// Which call, rule and condition the instructions of a program in the layout of chains belong to.
+// Which call, rule and condition the instructions of a program in the linear layout belong to.
 
 ghost use Rattle.std.specs.Prelude.{◌≡◌, ◌≤◌, ◌<◌, ◌^◌, ◌+◌, ◌++◌, [], ◌∷◌, pos, map, replicate, length, codes, decimal, string_bytes, option_map, IfOk, OnOk};
 ghost use Rattle.std.specs.List.{list_any};
 ghost use Rattle.seccompiler.specs.Condition.{size_of};
 ghost use Rattle.seccompiler.specs.JsonPolicyOf.{all_rules, condition_of, is_always, is_for, rules_for};
+ghost use Rattle.seccomptool.specs.Show.{labels_in};
 ghost use Rattle.seccomptool.specs.ShowLabels.{always_labels, chain_labels, conditions_labels, labels_below, name_of, named_labels, offset_before, program_labels, relay_labels, condition_label, rule_label, rule_labels, rules_labels, ruled_labels};
 
 use crate::show::listing::guard_labels;
 use seccompiler::{
-    JsonCondition, JsonRule, SeccompCmpArgLen, SeccompCmpOp, SyscallTable, TargetArch,
+    JsonCondition, JsonRule, Layout, SeccompCmpArgLen, SeccompCmpOp, SyscallTable, TargetArch,
 };
 use std::alloc::{AllocError, Global};
 
@@ -18,8 +19,23 @@ const GREATEST_OFFSET: usize = 248;
 // How many numbers a table of calls may have: they lie within 0 to 462.
 const NUMBERS: u16 = 463;
 
-// The labels of the program of these entries.
-pub(crate) fn labels(
+// The labels of the program of these entries in a layout.
+pub(crate) fn labels_in(
+    alloc: Global,
+    target: TargetArch,
+    layout: Layout,
+    entries: &[JsonRule],
+) -> Result<Vec<String>, AllocError>
+    ensures { IfOk result (λ labels. map string_bytes labels.items ≡ labels_in layout target entries.now) }
+{
+    match layout {
+        Layout::Linear => labels(alloc, target, entries),
+        Layout::Tree => guard_labels(alloc, target),
+    }
+}
+
+// The labels of the program of these entries in the linear layout.
+fn labels(
     alloc: Global,
     target: TargetArch,
     entries: &[JsonRule],

@@ -2,54 +2,39 @@
 
 ghost use Rattle.std.specs.Prelude.{◌≡◌, ◌++◌, map, IfOk, IfErr, OnOk, string_bytes, string_cmp};
 ghost use Rattle.std.specs.BTreeMap as tree;
+ghost use Rattle.seccompiler.specs.Layouts.{IsRefusalIn};
 ghost use Rattle.seccomptool.specs.Show.{guard_labels};
 ghost use Rattle.seccomptool.specs.ShowText.{label_in, text_of};
-ghost use Rattle.seccomptool.specs.ShowTrees.{AreLabelled, AreTrees, IsFirstTreeless};
+ghost use Rattle.seccomptool.specs.ShowParts.{AreLabelled, HasProgramIn};
+ghost use Rattle.seccomptool.specs.StepsParts.{IsFirstRefusal};
 
-use crate::show::labels::labels;
+use crate::show::labels::labels_in;
 use crate::show::text::{push_header, push_line};
-use seccompiler::{
-    BackendError, BpfProgram, BpfProgramRef, JsonFilterMap, SeccompFilter, TargetArch,
-};
+use seccompiler::{BackendError, BpfProgramRef, JsonFilterMap, Layout, SeccompFilter, TargetArch};
 use std::alloc::{AllocError, Global};
 use std::collections::BTreeMap;
 
-// The texts of programs whose places have the labels of their filters' entries.
+// The texts of the programs of filters in a layout, whose places have the labels of their entries.
 pub(crate) fn listing(
     alloc: Global,
     target: TargetArch,
-    programs: &BTreeMap<String, BpfProgram>,
-    filters: &JsonFilterMap,
-) -> Result<Vec<u8>, AllocError>
-    ensures texts { IfOk result (λ text. AreLabelled target (tree.get_by_text filters.now.0) programs.now.entries text.items) }
-    ensures ordered { tree.IsOrdered string_cmp programs.now }
-{
-    let mut text = Vec::new(alloc);
-    for (name, program) in programs {
-        // Each program is that of a filter.
-        let Some(filter) = filters.0.get(name.as_str()) else {
-            return Err(AllocError);
-        };
-        let labels = labels(alloc, target, filter.rules.as_slice())?;
-        push_program(alloc, &mut text, &labels, name.as_str(), program)?;
-    }
-    Ok(text)
-}
-
-// The texts of the trees of filters, whose places have these labels.
-pub(crate) fn trees(
-    alloc: Global,
-    labels: &[String],
+    layout: Layout,
     filters: &BTreeMap<String, SeccompFilter>,
+    entries: &JsonFilterMap,
 ) -> Result<Vec<u8>, BackendError>
-    ensures texts { IfOk result (λ text. AreTrees (map string_bytes labels.now) filters.now.entries text.items) }
+    ensures texts { IfOk result (λ text. AreLabelled layout target (tree.get_by_text entries.now.0) filters.now.entries text.items) }
     ensures ordered { tree.IsOrdered string_cmp filters.now }
-    ensures refused { IfErr result (IsFirstTreeless filters.now.entries) }
+    ensures refused { IfErr result (IsFirstRefusal (HasProgramIn layout) (IsRefusalIn layout) filters.now.entries) }
 {
     let mut text = Vec::new(alloc);
     for (name, filter) in filters {
-        let program = filter.to_tree_bpf(alloc)?;
-        push_program(alloc, &mut text, labels, name.as_str(), &program)?;
+        // Each filter is made of entries.
+        let Some(json) = entries.0.get(name.as_str()) else {
+            return Err(BackendError::OutOfMemory);
+        };
+        let labels = labels_in(alloc, target, layout, json.rules.as_slice())?;
+        let program = filter.to_bpf_in(alloc, layout)?;
+        push_program(alloc, &mut text, &labels, name.as_str(), &program)?;
     }
     Ok(text)
 }

@@ -1,4 +1,4 @@
-// Filters and the measures of their programs in the layout of chains.
+// Filters and the measures of their programs in the linear layout.
 
 ghost use Rattle.std.specs.Prelude.{◌≡◌, map, IfOk, IfErr, string_cmp};
 ghost use Rattle.std.specs.List.Sorted.{IsStrictlySortedBy};
@@ -11,7 +11,7 @@ use seccompiler::{BackendError, SeccompFilter, TargetArch};
 use std::alloc::Global;
 use std::collections::BTreeMap;
 
-/// A filter, and the measure of its program in the layout of chains.
+/// A filter, and the measure of its program in the linear layout.
 #[derive(Drop)]
 pub(crate) struct MeasuredChains {
     /// The filter's name.

@@ -24,7 +24,8 @@ use Rattle.seccomptool.proofs.Readings.{policy_shows}
 
 module _ (arch : List ℕ) (known : Option (List ℕ)) (name : List ℕ) (layout : Layout) where
   -- The answer where the policy's text is refused.
-  pub text_told : (e : ToolError) (old new : Option (List ℕ)) → IsRefusedText arch known e → AnswersRaw arch known name layout (Err e) old new
+  pub text_told : (e : ToolError) (old new : Option (List ℕ)) → IsRefusedText arch known e
+      → AnswersRaw arch known name layout (Err e) old new
   text_told (tool.Library e) old new refused = of_text refused
   text_told tool.OutOfMemory old new refused = tt
   text_told _ old new refused = absurd refused
@@ -39,7 +40,8 @@ module _ (arch : List ℕ) (known : Option (List ℕ)) (name : List ℕ) (layout
 
   -- The answer where a program's bytes are sent.
   pub program_sent : (program : List sock_filter) (bytes sent : List ℕ) (r : Result ⊤ ToolError) (old new : Option (List ℕ))
-      → IsFaultless arch known (UnderName name (λ target value. HasProgram layout target value program)) → bytes ≡ program_bytes program → sent ≡ bytes
+      → IsFaultless arch known (UnderName name (λ target value. HasProgram layout target value program)) → bytes ≡ program_bytes program
+      → sent ≡ bytes
       → OnOk r (Appends old new sent) → IfErr r IsWriteError → AnswersRaw arch known name layout r old new
   program_sent program bytes sent (Ok done) old new h are is appends cause =
       under_name (λ target value. HasProgram layout target value program) (WritesProgram layout old new)
@@ -51,7 +53,8 @@ module _ (arch : List ℕ) (known : Option (List ℕ)) (name : List ℕ) (layout
 
   module _ (find : List ℕ → Option Filter) (h : OfPolicy arch known (λ target. ArePoliciesOf target find)) where
     -- Nothing is at fault where each value has a policy, and P holds too.
-    with_policies : (P : TargetArch → Data → Type 0) → ((target : TargetArch) (d : Data) → ArePoliciesOf target find d → P target d) → IsFaultless arch known P
+    with_policies : (P : TargetArch → Data → Type 0) → ((target : TargetArch) (d : Data) → ArePoliciesOf target find d → P target d)
+        → IsFaultless arch known P
     with_policies P shows = policy_shows arch known (λ target. ArePoliciesOf target find) (λ target d. AreAll (HasSomePolicy target) d × P target d)
         (λ target d are. (all_values (HasPolicy target) find d are (HasSomePolicy target) (λ value policy is. (policy, is)), shows target d are)) h
 
@@ -61,13 +64,15 @@ module _ (arch : List ℕ) (known : Option (List ℕ)) (name : List ℕ) (layout
 
     module _ (policy : Filter) (is : find name ≡ Some policy) where
       -- The program of a policy that is found is that of the filter of the name.
-      pub a_program : (program : List sock_filter) → IsCompiledIn layout policy program → IsFaultless arch known (UnderName name (λ target value. HasProgram layout target value program))
+      pub a_program : (program : List sock_filter) → IsCompiledIn layout policy program
+          → IsFaultless arch known (UnderName name (λ target value. HasProgram layout target value program))
       a_program program compiled = with_policies (UnderName name (λ target value. HasProgram layout target value program)) (λ target d are.
           let value = there (HasPolicy target) find d are name policy is in
           (value.0, value.1, record { policy = policy; is_policy = value.2; compiled = compiled }))
 
       -- A policy that is found and has no program is that of the filter of the name.
-      no_program : (cause : BackendError) → IsRefusalIn layout policy cause → IsFaultless arch known (UnderName name (HasNoProgram layout cause))
+      no_program : (cause : BackendError) → IsRefusalIn layout policy cause
+          → IsFaultless arch known (UnderName name (HasNoProgram layout cause))
       no_program cause refused = with_policies (UnderName name (HasNoProgram layout cause)) (λ target d are.
           let value = there (HasPolicy target) find d are name policy is in
           (value.0, value.1, record { policy = policy; is_policy = value.2; refused = refused }))

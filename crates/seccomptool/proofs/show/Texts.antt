@@ -37,11 +37,14 @@ use Rattle.seccomptool.proofs.show.listing.Programs.{have_programs}
 module _ (layout : Layout) (target : TargetArch) (find : List ℕ → Option Filter) (d : Data) (policies : ArePoliciesOf target find d) (entries : List NamedFilter)
     (listed : (name : List ℕ) → find name ≡ lookup (is_text name) entries) (order : IsStrictlySortedBy string_cmp (keys_of entries)) where
   -- A policy's program is its value's.
-  has_some : (value : Data) (policy : Filter) → HasPolicy target value policy → HasProgramIn layout policy → HasSomeProgram layout target value
+  has_some : (value : Data) (policy : Filter) → HasPolicy target value policy → HasProgramIn layout policy
+      → HasSomeProgram layout target value
   has_some value policy is program = (program.0, record { policy = policy; is_policy = is; compiled = program.1 })
 
   -- The first filter that is refused is that of the least name.
-  least_refused : (cause : BackendError) → IsFirst (λ (f : NamedFilter). HasProgramIn layout f.1) (λ (f : NamedFilter). IsRefusalIn layout f.1 cause) entries → IsLeastRefused layout cause target d
+  least_refused : (cause : BackendError)
+      → IsFirst (λ (f : NamedFilter). HasProgramIn layout f.1) (λ (f : NamedFilter). IsRefusalIn layout f.1 cause) entries
+      → IsLeastRefused layout cause target d
   least_refused cause first = (
     all_values (HasPolicy target) find d policies (HasSomePolicy target) (λ value policy is. (policy, is)),
     string_bytes first.one.0,
@@ -51,7 +54,8 @@ module _ (layout : Layout) (target : TargetArch) (find : List ℕ → Option Fil
 
   module _ (filters : List ℕ → Option JsonFilter) (are : AreFound IsFilter filters d) where
     -- A program with its labels is the value's of its name.
-    of_label : (f : NamedFilter) (p : LabelledProgram) → IsLabelled layout target filters f p → Under d (string_bytes f.0) (λ value. HasPolicy target value f.1)
+    of_label : (f : NamedFilter) (p : LabelledProgram) → IsLabelled layout target filters f p
+        → Under d (string_bytes f.0) (λ value. HasPolicy target value f.1)
         → Under d p.0 (λ value. IsLabelledFor layout target value p.1 p.2)
     of_label f p is value =
         let other = there _ filters d are (string_bytes f.0) is.json is.found in
@@ -65,7 +69,8 @@ module _ (layout : Layout) (target : TargetArch) (find : List ℕ → Option Fil
         subst (λ name. Under d name (λ value. IsLabelledFor layout target value p.1 p.2)) (sym is.name) here
 
     -- The text of all programs.
-    text_shown : (text : List ℕ) → AreLabelled layout target filters entries text → AreAll (HasSomeProgram layout target) d × IsShown layout target d text
+    text_shown : (text : List ℕ) → AreLabelled layout target filters entries text
+        → AreAll (HasSomeProgram layout target) d × IsShown layout target d text
     text_shown text is =
         let names = same_under (IsLabelled layout target filters) (λ (f : NamedFilter). string_bytes f.0) (λ (p : LabelledProgram). p.0) (λ f p own. own.name) entries is.programs is.each in (
           all_listed (HasPolicy target) find d policies entries order listed (HasProgramIn layout) (HasSomeProgram layout target)
@@ -103,7 +108,8 @@ module _ (layout : Layout) (arch : List ℕ) (known : Option (List ℕ)) where
         (h : OfPolicy arch (Some bytes) (λ target. ArePoliciesOf target find)) (listed : (name : List ℕ) → find name ≡ lookup (is_text name) entries)
         (order : IsStrictlySortedBy string_cmp (keys_of entries)) where
       -- The text of the programs of a policy's text.
-      pub programs_shown : (filters : List ℕ → Option JsonFilter) (text : List ℕ) → ((d : Data) → IsValueOf bytes d → AreFound IsFilter filters d)
+      pub programs_shown : (filters : List ℕ → Option JsonFilter) (text : List ℕ)
+          → ((d : Data) → IsValueOf bytes d → AreFound IsFilter filters d)
           → AreLabelled layout target filters entries text → AreCompiled layout arch known (λ target d. IsShown layout target d text)
       programs_shown filters text are is =
           let value = h.2.2 in
@@ -116,7 +122,8 @@ module _ (layout : Layout) (arch : List ℕ) (known : Option (List ℕ)) where
                 (text_shown layout h.0 find value.0 value.2 entries listed order filters found text labelled)),
           )
 
-      first_refused : (cause : BackendError) → IsFirst (λ (f : NamedFilter). HasProgramIn layout f.1) (λ (f : NamedFilter). IsRefusalIn layout f.1 cause) entries
+      first_refused : (cause : BackendError)
+          → IsFirst (λ (f : NamedFilter). HasProgramIn layout f.1) (λ (f : NamedFilter). IsRefusalIn layout f.1 cause) entries
           → OfPolicy arch known (IsLeastRefused layout cause)
       first_refused cause first = (
         h.0,
@@ -126,19 +133,22 @@ module _ (layout : Layout) (arch : List ℕ) (known : Option (List ℕ)) where
       )
 
       -- The refusal of the first filter without a program.
-      pub program_refused : (cause : BackendError) → IsFirstRefusal (HasProgramIn layout) (IsRefusalIn layout) entries cause → IsRefused layout arch known (from_library (from_backend cause))
+      pub program_refused : (cause : BackendError) → IsFirstRefusal (HasProgramIn layout) (IsRefusalIn layout) entries cause
+          → IsRefused layout arch known (from_library (from_backend cause))
       program_refused backend.OutOfMemory first = tt
       program_refused cause first = of_program cause (λ no. cc) refl (first_refused cause first)
 
 module _ (arch : List ℕ) (known : Option (List ℕ)) where
   -- The answer where nothing is written.
-  pub refusal_told : (layout : Layout) (e : ToolError) (old new : Option (List ℕ)) → IsRefused layout arch known e → AnswersShow arch known layout (Err e) old new
+  pub refusal_told : (layout : Layout) (e : ToolError) (old new : Option (List ℕ)) → IsRefused layout arch known e
+      → AnswersShow arch known layout (Err e) old new
   refusal_told layout (tool.Library e) old new is = is
   refusal_told layout tool.OutOfMemory old new is = tt
   refusal_told layout e old new is = absurd is
 
   -- The answer where the text is sent.
-  pub text_sent : (layout : Layout) (text sent : List ℕ) (r : Result ⊤ ToolError) (old new : Option (List ℕ)) → AreCompiled layout arch known (λ target d. IsShown layout target d text)
+  pub text_sent : (layout : Layout) (text sent : List ℕ) (r : Result ⊤ ToolError) (old new : Option (List ℕ))
+      → AreCompiled layout arch known (λ target d. IsShown layout target d text)
       → sent ≡ text → OnOk r (Appends old new sent) → IfErr r IsWriteError → AnswersShow arch known layout r old new
   text_sent layout text sent (Ok done) old new h is appends cause =
       policy_shows arch known (λ target d. AreAll (HasSomeProgram layout target) d × IsShown layout target d text) (λ target d. AreAll (HasSomeProgram layout target) d × WritesPrograms layout old new target d)

@@ -16,8 +16,10 @@ use Rattle.seccomptool.proofs.Pairs.{all_first}
 module _ (layout : Layout) (target : TargetArch) (find : List ℕ → Option JsonFilter) where
   -- One program with its labels more.
   pub label_more : (done : List NamedFilter) (f : NamedFilter) (json : JsonFilter) (labels : List (List ℕ)) (name : List ℕ) (program : List sock_filter) (old new : List ℕ)
-      → AreLabelled layout target find done old → new ≡ old ++ text_of labels name program → name ≡ string_bytes f.0 → IsCompiledIn layout f.1 program
-      → labels ≡ labels_in layout target json.rules → find (string_bytes f.0) ≡ Some json → AreLabelled layout target find (done ++ f ∷ []) new
+      → AreLabelled layout target find done old → new ≡ old ++ text_of labels name program → name ≡ string_bytes f.0
+      → IsCompiledIn layout f.1 program
+      → labels ≡ labels_in layout target json.rules → find (string_bytes f.0) ≡ Some json
+      → AreLabelled layout target find (done ++ f ∷ []) new
   label_more done f json labels name program old new so_far more named compiled labelled found =
       let p : LabelledProgram = (string_bytes f.0, labels, program) in
       record {
@@ -30,6 +32,7 @@ module _ (layout : Layout) (target : TargetArch) (find : List ℕ → Option Jso
       }
 
   -- Filters whose programs are told have them.
-  pub have_programs : (filters : List NamedFilter) (programs : List LabelledProgram) → AllZip (IsLabelled layout target find) filters programs
+  pub have_programs : (filters : List NamedFilter) (programs : List LabelledProgram)
+      → AllZip (IsLabelled layout target find) filters programs
       → All (λ (f : NamedFilter). HasProgramIn layout f.1) filters
   have_programs filters programs all = all_first (IsLabelled layout target find) (λ (f : NamedFilter). HasProgramIn layout f.1) (λ f p is. (p.2, is.compiled)) filters programs all

@@ -273,11 +273,10 @@ WRAPPED_CALLS = [
 # What stands around the lines of C that the pages show: they are handed a policy as text.
 AROUND = """
 #define _GNU_SOURCE
-#include <linux/audit.h>
 #include <stdio.h>
 #include <unistd.h>
-#include "seccompiler.h"
-#include "seccompiler_install.h"
+
+LINES
 
 int main(int argc, char **argv)
 {
@@ -285,7 +284,8 @@ int main(int argc, char **argv)
     FILE *file = argc > 2 ? fopen(argv[1], "rb") : NULL;
     size_t length = file != NULL ? fread(text, 1, sizeof text, file) : 0;
 
-LINES
+    if (confine(text, length) != 0)
+        return 125;
     execvp(argv[2], argv + 2);
     return 126;
 }

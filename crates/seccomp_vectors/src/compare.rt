@@ -1,12 +1,8 @@
-// Programs and filters compared: what holds for the calls of a set, and what a run shows where it doesn't.
+// Programs compared: what holds for the calls of a set, and what a run shows where it doesn't.
 
 use crate::builders::{AARCH64, ALLOW, KILL_PROCESS, TRAP, X86_64};
 use crate::instructions::{give, jump, jump_at_least, jump_equal, jump_greater, load, mask};
-use crate::policies::Policy;
 use seccompiler::TargetArch;
-use seccompiler::backend::BackendError;
-use seccompiler::backend::SeccompCmpArgLen::Dword;
-use seccompiler::backend::SeccompCmpOp::Eq;
 use seccompiler::bpf::sock_filter;
 use seccompiler::compare::{Calls, Comparison, Relation, compare};
 use seccompiler::machine::{check, run};
@@ -268,63 +264,6 @@ fn too_few_sets_leave_it_undecided(rt: HostRuntime) -> Result<(), Fail> {
         let asked = (Calls::all(), Relation::Alike, most);
         let answer = answer_of(rt.alloc(), &of_39(), &of_39(), asked)?;
         assert!(rt; answer == wanted, "{most} sets: {answer:?}");
-    }
-    Ok(())
-}
-
-// What a comparison says of two policies, by what they decide for the call that it gives, if it gives one.
-fn answer_of_policies(
-    alloc: Global,
-    policy: Policy,
-    other: Policy,
-    relation: Relation,
-) -> Result<Answer, Fail> {
-    let filter = policy.filter(alloc)?;
-    let other = other.filter(alloc)?;
-    Ok(
-        match filter.compare(alloc, &other, &Calls::all(), relation, ENOUGH)? {
-            Comparison::Holds => Answer::Holds,
-            Comparison::Fails(call) => Answer::Words(filter.decide(&call), other.decide(&call)),
-            Comparison::Undecided => Answer::Undecided,
-        },
-    )
-}
-
-const FIVE: Policy = Policy::Allowed(&[1, 2, 3, 5, 7]);
-
-const FOUR: Policy = Policy::Allowed(&[1, 2, 3, 5]);
-
-#[test]
-fn policies(rt: HostRuntime) -> Result<(), Fail> {
-    let (alike, permissive) = (Relation::Alike, Relation::AtMostAsPermissive);
-    let reversed = Policy::ThreeCallsReversed(Dword);
-    for (name, policy, other, relation, wanted) in [
-        ("itself", FIVE, FIVE, alike, Answer::Holds),
-        (
-            "in another order",
-            Policy::ThreeCalls(Dword),
-            reversed,
-            alike,
-            Answer::Holds,
-        ),
-        (
-            "one call less",
-            FOUR,
-            FIVE,
-            alike,
-            Answer::Words(TRAP, ALLOW),
-        ),
-        ("permits less", FOUR, FIVE, permissive, Answer::Holds),
-        (
-            "permits more",
-            FIVE,
-            FOUR,
-            permissive,
-            Answer::Words(ALLOW, TRAP),
-        ),
-    ] {
-        let answer = answer_of_policies(rt.alloc(), policy, other, relation)?;
-        assert!(rt; answer == wanted, "{name}: {answer:?}");
     }
     Ok(())
 }

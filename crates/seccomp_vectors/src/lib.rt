@@ -10,6 +10,8 @@ mod builders;
 #[cfg(test)]
 mod compare;
 #[cfg(test)]
+mod compared_filters;
+#[cfg(test)]
 mod conditions;
 #[cfg(test)]
 mod filters;

@@ -309,3 +309,60 @@ fn masks_and_greatest_values(rt: HostRuntime) -> Result<(), Fail> {
     }
     Ok(())
 }
+
+// Conditions that hold for every argument.
+const ALWAYS: [Parts; 7] = [
+    (0, Dword, Ge, 0),
+    (5, Dword, Ge, 0x1_0000_0000),
+    (0, Qword, Ge, 0),
+    (0, Dword, Le, 0x7_ffff_ffff),
+    (5, Qword, Le, u64::MAX),
+    (0, Dword, MaskedEq(0x3_0000_0000), 0x1_0000_0005),
+    (0, Qword, MaskedEq(0), 5),
+];
+
+// Conditions that hold for none.
+const NEVER: [Parts; 5] = [
+    (0, Dword, Lt, 0),
+    (5, Dword, Lt, 0x1_0000_0000),
+    (0, Qword, Lt, 0),
+    (0, Dword, Gt, 0x7_ffff_ffff),
+    (5, Qword, Gt, u64::MAX),
+];
+
+// Conditions that hold for some, each one off those, and those whose operator leaves some and not all.
+const SOMETIMES: [Parts; 17] = [
+    (0, Dword, Ge, 1),
+    (0, Qword, Ge, 0x1_0000_0000),
+    (0, Dword, Le, 0xffff_fffe),
+    (0, Qword, Le, 0xffff_ffff),
+    (0, Qword, Le, u64::MAX - 1),
+    (0, Dword, MaskedEq(0x8000_0000), 0),
+    (0, Qword, MaskedEq(0x1_0000_0000), 0),
+    (0, Dword, MaskedEq(3), 4),
+    (0, Dword, Lt, 1),
+    (0, Qword, Lt, 0x1_0000_0000),
+    (0, Dword, Gt, 0xffff_fffe),
+    (0, Qword, Gt, 0xffff_ffff),
+    (0, Qword, Gt, u64::MAX - 1),
+    (0, Dword, Eq, 0x1_0000_0000),
+    (0, Qword, Eq, u64::MAX),
+    (0, Dword, Ne, 0x1_0000_0000),
+    (0, Qword, Ne, 0),
+];
+
+fn assert_constant(rt: &impl Abort, rows: &[Parts], constant: (bool, bool)) -> Result<(), Fail> {
+    for parts in rows {
+        let condition = condition(*parts)?;
+        let told = (condition.always_holds(), condition.never_holds());
+        assert!(rt; told == constant, "{condition:?}");
+    }
+    Ok(())
+}
+
+#[test]
+fn conditions_that_hold_for_every_argument_or_none(rt: HostRuntime) -> Result<(), Fail> {
+    assert_constant(&rt, &ALWAYS, (true, false))?;
+    assert_constant(&rt, &NEVER, (false, true))?;
+    assert_constant(&rt, &SOMETIMES, (false, false))
+}

@@ -1,0 +1,256 @@
+#!/usr/bin/env python3
+"""Checks of the pages that need no built program, a part of tools/check-documents.
+
+usage: tools/page_checks.py [--long]
+
+- Each link leads to a file or folder of the repository, and each anchor to a heading of its page. Addresses of
+  other sites are not looked at.
+- Each path in backticks that looks like one of the repository's is there. In it a part in capitals, as MODULE,
+  stands for any name. A path may be given from the top, from the page's folder or from a crate's.
+- Pages use the terms of the table 'Words' of CONTRIBUTING.md, and none of those that its last column has.
+- A table's cell has at most 200 characters, and README.md at most 1,000 words outside its blocks of code.
+- The picture in docs/ is what tools/make-picture makes of its source.
+
+The pages of LATER are still to be rewritten: of these only links, anchors and paths are looked at.
+Prints each difference, and as its last line 'N passed, M failed'. With --long it prints the sentences of more than
+30 words instead, which pages have few of.
+"""
+
+import itertools
+import pathlib
+import re
+import subprocess
+import sys
+
+TOP = pathlib.Path(__file__).resolve().parent.parent
+CELL = 200
+README_WORDS = 1000
+SENTENCE = 30
+
+# Pages that are still to be rewritten, and those that tell history.
+LATER = (
+    "README.md", "docs/ARCHITECTURE.md", "docs/C.md", "docs/DECISIONS.md", "docs/DEFINITIONS.md", "docs/DEPENDING.md",
+    "docs/DIFFERENCES.md", "docs/JAILER.md", "docs/JSON.md", "docs/TOOL.md",
+)
+HISTORY = ("CHANGELOG.md",)
+
+LINK = re.compile(r"\[[^\]]*\]\(<?([^()\s>]+)>?\)|(?:src|srcset)=\"([^\"]+)\"")
+CODE = re.compile(r"``.+?``|`[^`]+`")
+# What looks like a path: words with slashes between them, or a file's name that ends as a source's does.
+PATH = re.compile(r"[\w.*{},-]+(?:/[\w.*{},-]+)+/?|[\w-]+\.(?:antt|edit|py|rt)")
+SOURCE = re.compile(r"\.(?:antt|bpf|c|edit|h|html|json|md|py|rs|rt|svg|toml|txt)$")
+BUILT = re.compile(r"(^|/)(out|target)(/|$)")
+# Paths of other places: a reader's own repository, the kernel's headers, the Rust crate.
+ELSEWHERE = ("crates/app", ".vscode/", "linux/", "src/syscall_table/x86_64.rs")
+PLACEHOLDER = re.compile(r"\b[A-Z][A-Z_]+\b(?!\.md)")
+
+
+def pages():
+    """Returns the pages: those of the top, of docs/, and each README below."""
+    listed = subprocess.run(
+        ["git", "ls-files", "--cached", "--others", "--exclude-standard", "*.md"],
+        cwd=TOP, capture_output=True, text=True, check=True,
+    ).stdout.split("\n")
+    return [TOP / it for it in sorted(set(listed) - {""}) if (TOP / it).is_file()]
+
+
+def name_of(page):
+    """Returns a page's path from the top."""
+    return str(page.relative_to(TOP))
+
+
+def lines_of(page):
+    """Returns the lines of a page outside its blocks of code, each with its number."""
+    lines, fenced = [], False
+    for number, line in enumerate(page.read_text(encoding="utf-8").splitlines(), 1):
+        if line.lstrip().startswith("```"):
+            fenced = not fenced
+        elif not fenced and not line.startswith("    "):
+            lines.append((number, line))
+    return lines
+
+
+def anchors_of(page):
+    """Returns the anchors of a page's headings, as GitHub makes them."""
+    anchors = set()
+    for _, line in lines_of(page):
+        heading = re.match(r"#+ +(.*?) *#*$", line)
+        if heading:
+            text = re.sub(r"\[([^\]]*)\]\([^)]*\)", r"\1", heading[1]).lower()
+            anchor = re.sub(r"[^\w\- ]", "", text.replace("`", "")).replace(" ", "-")
+            again = (f"{anchor}-{k}" for k in itertools.count(1))
+            anchors.add(anchor if anchor not in anchors else next(it for it in again if it not in anchors))
+    return anchors
+
+
+def is_link_right(page, target):
+    """Returns whether a link of a page leads somewhere."""
+    if re.match(r"[a-z]+:", target):
+        return True
+    path, _, anchor = target.partition("#")
+    to = (page.parent / path).resolve() if path else page
+    if not to.exists() or (to != TOP and TOP not in to.parents):
+        return False
+    return not anchor or (to.suffix == ".md" and anchor in anchors_of(to))
+
+
+def compare_links(results):
+    """Follows each link of each page."""
+    for page in pages():
+        for number, line in lines_of(page):
+            for target in (it[0] or it[1] for it in LINK.findall(CODE.sub("", line))):
+                what = f"{name_of(page)}:{number}: the link {target}"
+                results.compare(what, ("leads somewhere",), (found(is_link_right(page, target), "leads somewhere"),))
+
+
+def found(holds, what):
+    """Returns the text of a comparison."""
+    return what if holds else f"not so: {what}"
+
+
+def spelled_out(path):
+    """Returns the paths that one with braces stands for."""
+    braces = re.search(r"\{([^{}]*)\}", path)
+    if not braces:
+        return [path]
+    return [it for part in braces[1].split(",") for it in spelled_out(path.replace(braces[0], part, 1))]
+
+
+def looks_like_path(word):
+    """Returns whether a word in backticks is meant as a path of the repository."""
+    first = word.split("/")[0]
+    if not PATH.fullmatch(word) or BUILT.search(word) or word.startswith(ELSEWHERE):
+        return False
+    return "/" not in word or bool(SOURCE.search(word)) or (first not in ("", "..") and (TOP / first).is_dir())
+
+
+def is_there(page, path):
+    """Returns whether there is a file or folder of this path, from the top, the page's folder or a crate's."""
+    pattern = PLACEHOLDER.sub("*", path).rstrip("/")
+    if "/" not in pattern:
+        return any(TOP.glob(f"crates/*/**/{pattern}")) or any(TOP.glob(f"tools/**/{pattern}"))
+    around = [TOP, page.parent, *TOP.glob("crates/*"), *TOP.glob("crates/*/src"), *TOP.glob("crates")]
+    return any(next(folder.glob(pattern), None) for folder in around if not pattern.startswith(".."))
+
+
+def compare_paths(results):
+    """Looks up each path that stands in backticks."""
+    for page in (it for it in pages() if name_of(it) not in HISTORY):
+        for number, line in lines_of(page):
+            words = [word for span in CODE.findall(line) for word in span.strip("`").split()]
+            for path in [it for word in words if looks_like_path(word) for it in spelled_out(word)]:
+                what = f"{name_of(page)}:{number}: the path {path}"
+                results.compare(what, ("is there",), (found(is_there(page, path), "is there"),))
+
+
+def section_of(page, heading):
+    """Returns the lines of a section of a page, each with its number."""
+    lines, inside = [], False
+    for number, line in lines_of(page):
+        if line.startswith("#"):
+            inside = line.lstrip("# ") == heading
+        elif inside:
+            lines.append((number, line))
+    return lines
+
+
+def cells_of(line):
+    """Returns the cells of a table's row, with links as they are read; none of another line."""
+    if not line.startswith("|"):
+        return []
+    text = re.sub(r"\[([^\]]*)\]\([^)]*\)", r"\1", line.strip().strip("|"))
+    return [it.strip().replace(r"\|", "|") for it in re.split(r"(?<!\\)\|", text)]
+
+
+def unwanted_terms():
+    """Returns the terms that pages don't use, by the last column of the table 'Words'."""
+    rows = [cells_of(line) for _, line in section_of(TOP / "CONTRIBUTING.md", "Words")]
+    return [term.strip() for row in rows[2:] if len(row) > 2 for term in row[2].split(",") if term.strip()]
+
+
+def compare_terms(results):
+    """Looks for terms that pages don't use, outside code and the table itself."""
+    terms = unwanted_terms()
+    results.compare("CONTRIBUTING.md: terms in its table 'Words'", (True,), (len(terms) > 9,))
+    unwanted = re.compile(r"\b(" + "|".join(re.escape(it) for it in terms) + r")\b", re.I)
+    table = section_of(TOP / "CONTRIBUTING.md", "Words")
+    for page in rewritten():
+        used = []
+        for number, line in lines_of(page):
+            text = LINK.sub("", CODE.sub("", line)).replace("exit status", "")
+            used += [f"{number}: {it}" for it in unwanted.findall(text) if (number, line) not in table]
+        results.compare(f"{name_of(page)}: terms that pages don't use", ([],), (used,))
+
+
+def rewritten():
+    """Returns the pages whose text is looked at."""
+    return [it for it in pages() if name_of(it) not in (*LATER, *HISTORY)]
+
+
+def compare_lengths(results):
+    """Compares the lengths of the cells of tables, and of the README."""
+    for page in rewritten():
+        rows = [(number, cell) for number, line in lines_of(page) for cell in cells_of(line)]
+        long = [f"{number}: {cell}" for number, cell in rows if len(cell) > CELL]
+        results.compare(f"{name_of(page)}: cells of more than {CELL} characters", ([],), (long,))
+        if name_of(page) == "README.md":
+            text = LINK.sub(lambda it: it[0].partition("](")[0], "\n".join(line for _, line in lines_of(page)))
+            words = len(re.findall(r"\S*\w\S*", re.sub(r"<[^>]*>", "", text)))
+            results.compare(f"README.md: at most {README_WORDS} words", (True,), (words <= README_WORDS or words,))
+
+
+def compare_picture(results):
+    """Makes the picture anew."""
+    made = subprocess.run([sys.executable, TOP / "tools/make-picture", "--print"], capture_output=True, text=True)
+    same = made.stdout == (TOP / "docs/pipeline.svg").read_text(encoding="utf-8")
+    results.compare("docs/pipeline.svg is what tools/make-picture makes", (0, True), (made.returncode, same))
+
+
+def compare_pages(results):
+    """Makes all comparisons of this file."""
+    compare_links(results)
+    compare_paths(results)
+    compare_terms(results)
+    compare_lengths(results)
+    compare_picture(results)
+
+
+def sentences_of(page):
+    """Returns the sentences of a page, those of a cell or an item by themselves, each with its line's number."""
+    sentences = []
+    for number, line in lines_of(page):
+        text = CODE.sub("code", re.sub(r"\[([^\]]*)\]\([^)]*\)", r"\1", line))
+        for part in re.split(r"\|", text) if text.startswith("|") else [text]:
+            sentences += [(number, it) for it in re.split(r"(?<=[.:;?!])\s+", part)]
+    return sentences
+
+
+class Results:
+    """Counts the comparisons, and prints what differs."""
+
+    def __init__(self):
+        self.passed = self.failed = 0
+
+    def compare(self, what, stated, given):
+        """Counts a comparison, and prints what was found where it differs."""
+        self.passed += stated == given
+        self.failed += stated != given
+        if stated != given:
+            print(f"{what}: {', '.join(map(str, given))}", flush=True)
+
+
+def main():
+    if sys.argv[1:] == ["--long"]:
+        for page in rewritten():
+            for number, sentence in sentences_of(page):
+                if len(sentence.split()) > SENTENCE:
+                    print(f"{name_of(page)}:{number}: {len(sentence.split())} words: {sentence}")
+        return 0
+    results = Results()
+    compare_pages(results)
+    print(f"{results.passed} passed, {results.failed} failed")
+    return 1 if results.failed else 0
+
+
+if __name__ == "__main__":
+    sys.exit(main())

@@ -30,7 +30,7 @@ SENTENCE = 30
 # Pages that are still to be rewritten, and those that tell history.
 LATER = (
     "README.md", "docs/ARCHITECTURE.md", "docs/C.md", "docs/DECISIONS.md", "docs/DEFINITIONS.md", "docs/DEPENDING.md",
-    "docs/DIFFERENCES.md", "docs/JAILER.md", "docs/JSON.md", "docs/TOOL.md",
+    "docs/DIFFERENCES.md", "docs/JSON.md", "docs/TOOL.md",
 )
 HISTORY = ("CHANGELOG.md",)
 
@@ -100,12 +100,8 @@ def compare_links(results):
         for number, line in lines_of(page):
             for target in (it[0] or it[1] for it in LINK.findall(CODE.sub("", line))):
                 what = f"{name_of(page)}:{number}: the link {target}"
-                results.compare(what, ("leads somewhere",), (found(is_link_right(page, target), "leads somewhere"),))
-
-
-def found(holds, what):
-    """Returns the text of a comparison."""
-    return what if holds else f"not so: {what}"
+                right = is_link_right(page, target)
+                results.compare(what, ("leads somewhere",), ("leads somewhere" if right else "leads nowhere",))
 
 
 def spelled_out(path):
@@ -140,7 +136,7 @@ def compare_paths(results):
             words = [word for span in CODE.findall(line) for word in span.strip("`").split()]
             for path in [it for word in words if looks_like_path(word) for it in spelled_out(word)]:
                 what = f"{name_of(page)}:{number}: the path {path}"
-                results.compare(what, ("is there",), (found(is_there(page, path), "is there"),))
+                results.compare(what, ("is there",), ("is there" if is_there(page, path) else "isn't there",))
 
 
 def section_of(page, heading):

@@ -29,7 +29,7 @@ SENTENCE = 30
 
 # Pages that are still to be rewritten, and those that tell history.
 LATER = (
-    "README.md", "docs/ARCHITECTURE.md", "docs/C.md", "docs/DECISIONS.md", "docs/DEFINITIONS.md", "docs/DEPENDING.md",
+    "README.md", "docs/ARCHITECTURE.md", "docs/C.md", "docs/DEFINITIONS.md", "docs/DEPENDING.md",
     "docs/DIFFERENCES.md", "docs/JSON.md", "docs/TOOL.md",
 )
 HISTORY = ("CHANGELOG.md",)
@@ -173,7 +173,7 @@ def compare_terms(results):
     for page in rewritten():
         used = []
         for number, line in lines_of(page):
-            text = LINK.sub("", CODE.sub("", line)).replace("exit status", "")
+            text = re.sub(r"(?i)exit status(es)?", "", LINK.sub("", CODE.sub("", line)))
             used += [f"{number}: {it}" for it in unwanted.findall(text) if (number, line) not in table]
         results.compare(f"{name_of(page)}: terms that pages don't use", ([],), (used,))
 
@@ -217,7 +217,7 @@ def sentences_of(page):
     for number, line in lines_of(page):
         text = CODE.sub("code", re.sub(r"\[([^\]]*)\]\([^)]*\)", r"\1", line))
         for part in re.split(r"\|", text) if text.startswith("|") else [text]:
-            sentences += [(number, it) for it in re.split(r"(?<=[.:;?!])\s+", part)]
+            sentences += [(number, it) for it in re.split(r"[.:;?!]\**\s+", part)]
     return sentences
 
 

@@ -1,25 +1,25 @@
 -- What a comparison of two programs, or of two filters, says of the calls of a set.
-use Rattle.std.specs.Prelude.{◌≡◌, ℕ, ◌≤◌, List, Option, IfSome, nat_eq, if◌then◌else◌, bit_and}
+use Rattle.std.specs.Prelude.{◌≡◌, ℕ, ◌≤◌, List, nat_eq, if◌then◌else◌, bit_and}
 use Rattle.seccompiler.specs.declared.bpf.sock_filter.{sock_filter}
 use Rattle.seccompiler.specs.declared.compare.Relation.{Relation}
 use Rattle.seccompiler.specs.declared.compare.Relation.TheVariants.{Alike, AtMostAsPermissive}
 use Rattle.seccompiler.specs.declared.compare.Comparison.{Comparison}
 use Rattle.seccompiler.specs.declared.compare.Comparison.TheVariants.{Holds, Fails, Undecided}
-use Rattle.seccompiler.specs.declared.backend.TargetArch.{TargetArch}
 use Rattle.seccompiler.specs.Record.{IsRecord, word_at}
-use Rattle.seccompiler.specs.Architecture.{audit_word}
 use Rattle.seccompiler.specs.Machine.{Ends}
 
--- A set of calls: those of an architecture, or of any, whose numbers lie within two bounds, both included.
+-- A set of calls: those whose architecture words lie within two bounds, and whose numbers do within two, all included.
 pub record CallSet : Type 0 where
-  pub arch : Option TargetArch
+  pub least_arch : ℕ
+  pub greatest_arch : ℕ
   pub least : ℕ
   pub greatest : ℕ
 
--- The record is one of these calls: of their architecture, if they are those of one, and with one of their numbers.
+-- The record is one of these calls: with one of their architecture words, and with one of their numbers.
 pub record IsCallOf (calls : CallSet) (r : List ℕ) : Type 0 where
   pub record_is : IsRecord r
-  pub arch_is : IfSome calls.arch (λ arch. word_at r 4 ≡ audit_word arch)
+  pub least_arch : calls.least_arch ≤ word_at r 4
+  pub greatest_arch : word_at r 4 ≤ calls.greatest_arch
   pub least : calls.least ≤ word_at r 0
   pub greatest : word_at r 0 ≤ calls.greatest
 

@@ -7,6 +7,7 @@ use Rattle.seccompiler.specs.declared.compare.Relation.{Relation}
 use Rattle.seccompiler.specs.declared.compare.Comparison.{Comparison}
 use Rattle.seccompiler.specs.declared.compare.Comparison.TheVariants.{Holds, Fails, Undecided}
 use Rattle.seccompiler.specs.Record.{IsRecord}
+use Rattle.seccompiler.specs.Machine.{Ends}
 use Rattle.seccompiler.specs.Checked.{IsChecked}
 use Rattle.seccompiler.specs.Policy.{Filter, IsDecision}
 use Rattle.seccompiler.specs.Compiled.{EndsAtDecision}
@@ -36,6 +37,31 @@ abbrev pub ComparesFilters : CallSet → Relation → Filter → Filter → Comp
 ComparesFilters calls relation f g Holds = (r : List ℕ) → IsCallOf calls r → DecisionsRelated relation f g r
 ComparesFilters calls relation f g (Fails r) = IsCallOf calls r × DecisionsUnrelated relation f g r
 ComparesFilters calls relation f g Undecided = Unit {0}
+
+-- A program returns a word for the record, and a filter names one, of which the relation holds.
+pub record AnswerRelated (relation : Relation) (p : List sock_filter) (f : Filter) (r : List ℕ) : Type 0 where
+  pub word : ℕ
+  pub steps : ℕ
+  pub ends : Ends p r steps word
+  pub other_word : ℕ
+  pub decision : IsDecision f r other_word
+  pub related : Related relation word other_word
+
+-- A program returns a word for the record, and a filter names one, of which the relation doesn't hold.
+pub record AnswerUnrelated (relation : Relation) (p : List sock_filter) (f : Filter) (r : List ℕ) : Type 0 where
+  pub word : ℕ
+  pub steps : ℕ
+  pub ends : Ends p r steps word
+  pub other_word : ℕ
+  pub decision : IsDecision f r other_word
+  pub unrelated : Related relation word other_word → ⊥
+
+-- What a comparison says of a program and a filter: that the relation holds of the word that the program returns and of the
+-- filter's decision on each of these calls; or a call of them on which it doesn't; or nothing.
+abbrev pub ComparesProgram : CallSet → Relation → List sock_filter → Filter → Comparison → Type 0
+ComparesProgram calls relation p f Holds = (r : List ℕ) → IsCallOf calls r → AnswerRelated relation p f r
+ComparesProgram calls relation p f (Fails r) = IsCallOf calls r × AnswerUnrelated relation p f r
+ComparesProgram calls relation p f Undecided = Unit {0}
 
 -- The filter may be compiled in one of the two layouts.
 abbrev pub IsCompilableInSome : Filter → Type 0

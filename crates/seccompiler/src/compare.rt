@@ -109,8 +109,12 @@ fn is_related(relation: Relation, word: u32, other: u32) -> bool
     }
 }
 
-// How much the action of a word permits.
-fn rank(word: u32) -> u32
+/// How much the action of a word permits: 0 for killing the process, 1 for killing the thread, 2 for
+/// trap, 3 for an error number, 4 for user notification, 5 for trace, 6 for log, 7 for allow.
+///
+/// The upper half of the word names the action; the lower half, its data, doesn't count. A word that
+/// names none of these actions kills the process.
+pub fn rank(word: u32) -> u32
     ensures { result ≡ rank word }
 {
     match word & SECCOMP_RET_ACTION_FULL {

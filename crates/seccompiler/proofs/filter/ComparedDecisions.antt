@@ -1,4 +1,4 @@
--- For `compare`: what holds of the words of two programs holds of the decisions of their filters.
+-- For `compare` and `compare_program`: what holds of the words of programs holds of the decisions of their filters.
 use Rattle.std.proofs.Common.{ℕ, List, sym, subst}
 use Rattle.seccompiler.specs.declared.bpf.sock_filter.{sock_filter}
 use Rattle.seccompiler.specs.declared.compare.Relation.{Relation}
@@ -8,7 +8,7 @@ use Rattle.seccompiler.specs.Record.{IsRecord}
 use Rattle.seccompiler.specs.Machine.{Ends}
 use Rattle.seccompiler.specs.Policy.{Filter, IsDecision}
 use Rattle.seccompiler.specs.Compare.{CallSet, Compares, AnswersRelated, AnswersUnrelated}
-use Rattle.seccompiler.specs.CompareFilters.{ComparesFilters, Decides, DecisionsRelated, DecisionsUnrelated}
+use Rattle.seccompiler.specs.CompareFilters.{ComparesFilters, Decides, DecisionsRelated, DecisionsUnrelated, ComparesProgram}
 use Rattle.seccompiler.proofs.Determinism.{ends_only}
 
 -- the word with which a filter's program ends is its decision
@@ -46,3 +46,30 @@ pub compares_filters : (calls : CallSet) (relation : Relation) (f g : Filter) (p
 compares_filters calls relation f g p q Holds of_f of_g known = λ r call. related_decisions relation f g p q r of_f of_g call.record_is (known r call)
 compares_filters calls relation f g p q (Fails r) of_f of_g known = (known.0, unrelated_decisions relation f g p q r of_f of_g known.0.record_is known.1)
 compares_filters calls relation f g p q Undecided of_f of_g known = tt
+
+-- what a comparison says of two programs it says of the first and of the filter of the second
+pub compares_program : (calls : CallSet) (relation : Relation) (p : List sock_filter) (f : Filter) (q : List sock_filter) (answer : Comparison)
+    → Decides f q → Compares calls relation p q answer → ComparesProgram calls relation p f answer
+compares_program calls relation p f q Holds of_f known = λ r call.
+    let answers = known r call in
+    record {
+      word = answers.word;
+      steps = answers.steps;
+      ends = answers.ends;
+      other_word = answers.other_word;
+      decision = ends_at_decision f q r answers.other_steps answers.other_word of_f call.record_is answers.other_ends;
+      related = answers.related;
+    }
+compares_program calls relation p f q (Fails r) of_f known =
+    let answers = known.1 in (
+      known.0,
+      record {
+        word = answers.word;
+        steps = answers.steps;
+        ends = answers.ends;
+        other_word = answers.other_word;
+        decision = ends_at_decision f q r answers.other_steps answers.other_word of_f known.0.record_is answers.other_ends;
+        unrelated = answers.unrelated;
+      },
+    )
+compares_program calls relation p f q Undecided of_f known = tt

@@ -5,11 +5,11 @@ ghost use Rattle.seccompiler.specs.Record.{IsRecord};
 ghost use Rattle.seccompiler.specs.RecordSets.{IsIn, AreTight};
 
 use super::sets::narrowed;
-use super::values::{ALL, Values, between, only};
+use super::values::{ALL, Values, between};
 use crate::backend::TargetArch;
 use std::marker::Model;
 
-/// A set of calls: all, those of an architecture, or those of one or more call numbers of one.
+/// A set of calls: all, those of an architecture or of several, or those of one or more call numbers of one.
 ///
 /// Whatever the set, their instruction pointers and arguments are any.
 ///
@@ -21,7 +21,8 @@ use std::marker::Model;
 /// ```
 #[derive(Clone, Copy, Debug)]
 pub struct Calls {
-    arch: Option<TargetArch>,
+    least_arch: u32,
+    greatest_arch: u32,
     least: u32,
     greatest: u32,
 }
@@ -31,9 +32,9 @@ impl Model for Calls {
 
     ghost Value = { CallSet };
 
-    ghost view = { λ c. record { arch = c.arch; least = c.least; greatest = c.greatest } };
+    ghost view = { λ c. record { least_arch = c.least_arch; greatest_arch = c.greatest_arch; least = c.least; greatest = c.greatest } };
 
-    ghost inverse = { λ v. record { arch = v.arch; least = v.least; greatest = v.greatest } };
+    ghost inverse = { λ v. record { least_arch = v.least_arch; greatest_arch = v.greatest_arch; least = v.least; greatest = v.greatest } };
 }
 
 impl Calls {
@@ -47,8 +48,18 @@ impl Calls {
     pub fn all() -> Self
         ensures { (r : List ℕ) → (IsCallOf result r ↔ IsRecord r) }
     {
+        Calls::of_arch_words(0, u32::MAX)
+    }
+
+    /// The calls whose architecture words lie from `least` to `greatest`, both included, with any
+    /// numbers; none where `greatest` is less. So those of all architectures but one are two such sets.
+    pub fn of_arch_words(least: u32, greatest: u32) -> Self
+        ensures { (r : List ℕ) → (IsCallOf result r
+            ↔ (IsRecord r × (least ≤ word_at r 4) × (word_at r 4 ≤ greatest))) }
+    {
         Calls {
-            arch: None,
+            least_arch: least,
+            greatest_arch: greatest,
             least: 0,
             greatest: u32::MAX,
         }
@@ -76,8 +87,10 @@ impl Calls {
         ensures { (r : List ℕ) → (IsCallOf result r
             ↔ (IsRecord r × (word_at r 4 ≡ audit_word arch) × (least ≤ word_at r 0) × (word_at r 0 ≤ greatest))) }
     {
+        let word = arch.get_audit_value();
         Calls {
-            arch: Some(arch),
+            least_arch: word,
+            greatest_arch: word,
             least,
             greatest,
         }
@@ -90,10 +103,7 @@ impl Calls {
         ensures tight { AreTight result }
     {
         let numbered = narrowed(&whole(), 0, between(self.least, self.greatest));
-        match self.arch {
-            Some(arch) => narrowed(&numbered, 1, only(arch.get_audit_value())),
-            None => numbered,
-        }
+        narrowed(&numbered, 1, between(self.least_arch, self.greatest_arch))
     }
 }
 

@@ -295,18 +295,3 @@ pub(crate) fn between(least: u32, most: u32) -> Values
 {
     Values { least, most, ..ALL }
 }
-
-/// This word alone.
-pub(crate) fn only(word: u32) -> Values
-    ensures has { HasValue result word }
-    ensures only { (x : ℕ) → x < 2 ^ 32 → HasValue result x → x ≡ word }
-    ensures tight { IsTight result }
-{
-    Values {
-        known: u32::MAX,
-        value: word,
-        mask: u32::MAX,
-        least: word,
-        most: word,
-    }
-}

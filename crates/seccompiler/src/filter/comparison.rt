@@ -1,14 +1,15 @@
-// Comparisons of filters, by their programs.
+// Comparisons of filters with filters and with programs, by the filters' programs.
 
 use super::SeccompFilter;
 use crate::backend::BackendError;
-use crate::bpf::BpfProgram;
+use crate::bpf::{BpfProgram, BpfProgramRef};
 use crate::compare::{Calls, Comparison, Relation, compare};
 use std::alloc::Global;
 
 impl SeccompFilter {
     ghost use Rattle.std.specs.Prelude.{IfOk, IfErr, OnOk};
-    ghost use Rattle.seccompiler.specs.CompareFilters.{ComparesFilters, IsCompilableInSome, IsProgramRefusal, IsComparisonRefusal, Decides};
+    ghost use Rattle.seccompiler.specs.CompareFilters.{ComparesFilters, IsCompilableInSome, IsProgramRefusal, IsComparisonRefusal, Decides, ComparesProgram};
+    ghost use Rattle.seccompiler.specs.Checked.{IsChecked};
 
     /// Compares what two filters decide, for each call of a set.
     ///
@@ -52,6 +53,38 @@ impl SeccompFilter {
         let program = self.fitting_program(alloc)?;
         let other_program = other.fitting_program(alloc)?;
         compare(alloc, &program, &other_program, calls, relation, most)
+    }
+
+    /// Compares what a program returns with what the filter decides, for each call of a set.
+    ///
+    /// `Holds` says that on every call of the set the word that the program returns and the one that
+    /// `decide` gives are related, the program's first; `Fails` has a call of the set on which they
+    /// aren't. The program must pass [`machine::check`](crate::machine::check), and may be of any
+    /// compiler. Whether it permits nothing that the policy doesn't is `AtMostAsPermissive`.
+    ///
+    /// The filter's own program is made as [`compare`](SeccompFilter::compare) makes it, and `most`
+    /// sets of records are looked at at most.
+    ///
+    /// # Errors
+    ///
+    /// `InvalidSyscallNumber` with the least key that lies outside 0 to 4294967295; `FilterTooLarge`
+    /// with `program_len` where both layouts take more than 4096 instructions. `OutOfMemory` where
+    /// memory is refused.
+    pub fn compare_program(
+        &self,
+        alloc: Global,
+        program: BpfProgramRef<'_>,
+        calls: &Calls,
+        relation: Relation,
+        most: usize,
+    ) -> Result<Comparison, BackendError>
+        requires { IsChecked program.now }
+        ensures compares { IfOk result (λ answer. ComparesProgram calls.now relation program.now self.now answer) }
+        ensures compilable { OnOk result (IsCompilableInSome self.now) }
+        ensures refused { IfErr result (IsProgramRefusal self.now) }
+    {
+        let own = self.fitting_program(alloc)?;
+        compare(alloc, program, &own, calls, relation, most)
     }
 
     // The filter's program in the second layout where that fits, else in the first.

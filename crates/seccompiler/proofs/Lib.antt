@@ -3,6 +3,7 @@
 -- beside the folder lists them.
 pub mod Words
 pub mod Parts
+pub mod Zipped
 pub mod Searches
 pub mod Runs
 pub mod Steps

@@ -1,5 +1,6 @@
 -- Lemmas for the functions of `filter`.
 pub mod WholeProgram
+pub mod FilterPlaces
 pub mod Chains
 pub mod FilterEquality
 pub mod Reordering

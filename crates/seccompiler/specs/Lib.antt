@@ -27,7 +27,7 @@ pub mod JsonAnswers
 pub mod UnderNames
 pub mod JsonPrograms
 pub mod Reads
--- What other calls promise: the code of conditions and rules; the second layout, and either layout; programs and filters
+-- What other calls promise: the code of conditions and rules; the second layout, and either layout; the places of a program; programs and filters
 -- compared; each step from JSON to filters; entries without conditions; errors and their texts; installing; the order of rules; the low half of an argument; equality.
 pub mod Code
 pub mod ConditionCode
@@ -35,6 +35,8 @@ pub mod Pieces
 pub mod Ranges
 pub mod Tree
 pub mod Layouts
+pub mod Places
+pub mod PlaceLists
 pub mod Compare
 pub mod CompareFilters
 pub mod JsonSteps

@@ -1,12 +1,18 @@
 // The chains of a filter: rules of one call number, and their code.
 
-ghost use Rattle.std.specs.Prelude.{◌≡◌, ◌≤◌, ◌<◌, ◌^◌, ◌+◌, ◌-◌, ◌↔◌, ℤ, pos, min, map, length, take, All, IsTrue, IsNone, IfOk, IfSome, IsOkUnless};
+pub(crate) mod places;
+
+ghost use Rattle.std.specs.Prelude.{◌≡◌, ℕ, ◌≤◌, ◌<◌, ◌^◌, ◌+◌, ◌-◌, ◌↔◌, ℤ, pos, min, map, length, take, All, IsTrue, IsNone, IfOk, IfSome, IsOkUnless};
 ghost use Rattle.std.specs.BTreeMap.{keys};
 ghost use Rattle.seccompiler.specs.declared.backend.BackendError.TheVariants.{OutOfMemory};
 ghost use Rattle.seccompiler.specs.Checked.{greatest_length};
-ghost use Rattle.seccompiler.specs.Policy.{chains_of, IsCallNumber, ChainMatches};
+ghost use Rattle.seccompiler.specs.Policy.{Filter, chains_of, IsCallNumber, ChainMatches};
 ghost use Rattle.seccompiler.specs.Layout.{rule_length, rules_length, chain_length, chains_length};
 ghost use Rattle.seccompiler.specs.Refusal.{AreCallNumbers, IsLeastUnfit};
+ghost use Rattle.std.specs.List.{AllZip};
+ghost use Rattle.seccompiler.specs.Action.{word_of};
+ghost use Rattle.seccompiler.specs.Places.{HasChain, HasRule, Stands};
+ghost use Rattle.seccompiler.specs.PlaceLists.{AreWords, chain_places, chains_places, numbered_places, rules_places};
 ghost use Rattle.seccompiler.specs.ChainCode.{IsReturningRuleCode, IsRulesCode, IsChainCode, IsChainsCode};
 
 use crate::backend::BackendError;
@@ -97,6 +103,7 @@ pub(crate) fn write_chains(
     requires room { length part.old ≡ chains_length (chains_of rules.now.entries) }
     requires short { length part.old ≤ greatest_length }
     ensures code { IsChainsCode (chains_of rules.now.entries) mismatch matched part.new }
+    ensures places { (f : Filter) → f.chains ≡ chains_of rules.now.entries → AreWords f mismatch matched → AllZip (Stands f) (chains_places (chains_of rules.now.entries)) part.new }
 {
     let mut start = 0;
     for (number, chain) in rules {
@@ -131,6 +138,7 @@ fn write_chain(
     requires short { length part.old ≤ greatest_length }
     ensures length { result ≡ chain_length chain.now }
     ensures code { IsChainCode number chain.now mismatch matched (take result part.new) }
+    ensures places { (f : Filter) → HasChain f number chain.now → AreWords f mismatch matched → AllZip (Stands f) (chain_places number chain.now) (take result part.new) }
 {
     if chain.is_empty() {
         part[..EMPTY_CHAIN_LEN].copy_from_slice(&[
@@ -154,6 +162,7 @@ pub(crate) fn write_rules(part: &mut [sock_filter], chain: &[SeccompRule], match
     requires short { length part.old ≤ greatest_length }
     ensures length { result ≡ rules_length chain.now }
     ensures code { IsRulesCode chain.now matched (take result part.new) }
+    ensures places { (f : Filter) (n : ℕ) → HasChain f n chain.now → matched ≡ word_of f.match_action → AllZip (Stands f) (rules_places n 0 chain.now) (take result part.new) }
 {
     let mut start = 0;
     for rule in chain {
@@ -168,6 +177,7 @@ fn write_rule(part: &mut [sock_filter], rule: &SeccompRule, matched: u32) -> usi
     requires short { length part.old ≤ greatest_length }
     ensures length { result ≡ rule_length rule.now + 1 }
     ensures code { IsReturningRuleCode rule.now matched (take result part.new) }
+    ensures places { (f : Filter) (n j : ℕ) → HasRule f n j rule.now → matched ≡ word_of f.match_action → AllZip (Stands f) (numbered_places n j rule.now) (take result part.new) }
 {
     let end = rule.code_len();
     rule.write(&mut part[..end]);

@@ -1,6 +1,7 @@
 // A policy on system calls, and its program.
 
 mod comparison;
+mod places;
 mod tree_layout;
 
 use crate::backend::{BackendError, GUARD_LEN, SeccompAction, TargetArch, arch_guard};
@@ -51,6 +52,8 @@ impl SeccompFilter {
     ghost use Rattle.seccompiler.specs.Reorder.{IsReordered, IsSameCall};
     ghost use Rattle.seccompiler.specs.Layout.{counted_length};
     ghost use Rattle.seccompiler.specs.Compiled.{IsCompiled, Passes};
+    ghost use Rattle.seccompiler.specs.Places.{ArePlaces};
+    ghost use Rattle.seccompiler.specs.PlaceLists.{linear_places};
     ghost use Rattle.seccompiler.specs.Refusal.{numbers_of, AreCallNumbers, IsLeastUnfit, IsCompilable, IsRefusal};
 
     /// Makes a filter: `rules` has the chain of each call number, its rules joined by or.
@@ -251,6 +254,7 @@ impl SeccompFilter {
         requires room { length program.old ≡ counted_length self.now }
         ensures compiled { IsCompiled self.now program.new }
         ensures passes { Passes self.now program.new }
+        ensures places { ArePlaces self.now (linear_places self.now.chains) program.new }
     {
         let mismatch = u32::from(self.mismatch_action);
         program[..GUARD_LEN].copy_from_slice(&arch_guard(self.target_arch));

@@ -1,4 +1,6 @@
-// The two layouts of a filter's program.
+// The two layouts of a filter's program, and what stands at its places.
+
+pub mod places;
 
 use crate::backend::BackendError;
 use crate::bpf::BpfProgram;

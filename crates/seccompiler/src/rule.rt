@@ -1,5 +1,7 @@
 // Conditions that must all hold.
 
+mod places;
+
 use crate::backend::BackendError;
 use crate::bpf::{BpfProgram, jump_over, return_word, sock_filter};
 use crate::condition::{GREATEST_OFFSET, SeccompCondition};
@@ -38,6 +40,9 @@ impl SeccompRule {
     ghost use Rattle.seccompiler.specs.Groups.{total_size, groups_of, relays, IsOnlyCut};
     ghost use Rattle.seccompiler.specs.Layout.{rule_length};
     ghost use Rattle.seccompiler.specs.Pieces.{IsRuleCode};
+    ghost use Rattle.std.specs.List.{AllZip};
+    ghost use Rattle.seccompiler.specs.Places.{StandsInRule};
+    ghost use Rattle.seccompiler.specs.PlaceLists.{rule_places};
 
     /// Makes a rule of the conditions, joined by and.
     ///
@@ -158,6 +163,7 @@ impl SeccompRule {
     pub fn write(&self, part: &mut [sock_filter])
         requires room { length part.old ≡ rule_length self.now }
         ensures code { IsRuleCode self.now part.new }
+        ensures places { AllZip (StandsInRule self.now) (rule_places self.now) part.new }
     {
         let mut end = part.len();
         let mut offset: u8 = 1;

@@ -7,6 +7,7 @@ use Rattle.seccompiler.specs.Layout.{chain_length, chains_length}
 use Rattle.seccompiler.specs.ChainCode.{IsChainsCode}
 use Rattle.seccompiler.proofs.Parts.{length-part, take-front}
 use Rattle.seccompiler.proofs.chain.AllChains.{chains_empty, chains_step, chains_room}
+use Rattle.seccompiler.proofs.chain.ChainPlaces.{chains_stand}
 use Rattle.seccompiler.proofs.FoundChains.{MapEntry, key_fits, rest_step}
 use Rattle.seccompiler.proofs.chain.write_chains.Goals as goal
 
@@ -23,6 +24,7 @@ loop-number-init c = record {
   done = [];
   rest = c.into_iter-number-iterator.ensures.into_iter_gives.0;
   made = chains_empty c.args.mismatch c.args.matched;
+  places = λ f is words. tt;
   within = omega arith;
 }
 
@@ -42,5 +44,7 @@ loop-number-preserved c =
       done = l.invariant.done ++ (c.in-Some.number.now, c.in-Some.chain.now) ∷ [];
       rest = rest_step c.args.rules.now.entries l.invariant.done l.number-iterator c.next.new.self (c.in-Some.number.now, c.in-Some.chain.now) c.in-Some.ensures.steps l.invariant.rest;
       made = chains_step l.invariant.done c.args.mismatch c.args.matched c.call_number.result c.in-Some.number.now c.in-Some.chain.now c.deref.result.now (take l.start l.part) (take c.write_chain-start.result c.write_chain-start.new.part) _ c.call_number.ensures c.deref.ensures.value c.write_chain-start.ensures.code written l.invariant.made;
+      places = λ f is words. chains_stand f c.args.rules.now.entries l.invariant.done l.number-iterator c.next.new.self c.in-Some.number.now c.in-Some.chain.now c.call_number.result c.deref.result.now (take l.start l.part) (take c.write_chain-start.result c.write_chain-start.new.part) _
+          is c.in-Some.ensures.steps l.invariant.rest c.call_number.ensures c.deref.ensures.value (λ has. c.write_chain-start.ensures.places f has words) written (l.invariant.places f is words);
       within = omega (arith, fits, c.write_chain-start.ensures.length, same_len_mid l.start count l.part c.write_chain-start.new.part (long ∙ sym part));
     }

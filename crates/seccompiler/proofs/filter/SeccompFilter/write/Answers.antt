@@ -7,6 +7,7 @@ use Rattle.seccompiler.specs.Refusal.{numbers_of}
 use Rattle.seccompiler.proofs.Parts.{four-written, headed}
 use Rattle.seccompiler.proofs.filter.Chains.{numbers_are_keys}
 use Rattle.seccompiler.proofs.filter.WholeProgram.{words_of, written_full, written_empty, counted_full, counted_empty}
+use Rattle.seccompiler.proofs.filter.FilterPlaces.{are_words, places_empty, places_full}
 use Rattle.seccompiler.proofs.filter.SeccompFilter.write.Goals as goal
 
 pub returns-then-is_empty : goal.returns-then-is_empty
@@ -16,7 +17,8 @@ returns-then-is_empty c =
     let written = four-written c.copy_from_slice.new.self c.args.program.now _ (jump_equal (audit_word c.args.self.now.target_arch) 1 0) _ c.return_word.result (c.copy_from_slice.ensures.after ∙ c.arch_guard.ensures ∙ ap (λ (f : Filter). guard_code (audit_word f.target_arch)) c.self.view_is) long in
     let words = words_of c.args.self.now c.self.inside.rules.entries c.self.inside.mismatch_action c.self.inside.match_action c.self.inside.target_arch c.from-mismatch.result _ c.self.view_is c.from-mismatch.ensures refl in
     let both = written_empty c.args.self.now c.self.inside.rules.entries c.from-mismatch.result _ _ words none (written ∙ cc (c.return_word.ensures.instruction)) in
-    record { compiled = both.0; passes = both.1 }
+    let places = places_empty c.args.self.now c.self.inside.rules.entries c.from-mismatch.result _ _ words none (written ∙ cc (c.return_word.ensures.instruction)) in
+    record { compiled = both.0; passes = both.1; places = places }
 
 pub write_chains-requires-clause-numbers : goal.write_chains-requires-clause-numbers
 write_chains-requires-clause-numbers c =
@@ -30,4 +32,7 @@ returns c =
     let written = headed c.copy_from_slice.new.self c.args.program.now c.write_chains.new.part _ (jump_equal (audit_word c.args.self.now.target_arch) 1 0) _ c.load_word.result c.return_word-2.result (c.copy_from_slice.ensures.after ∙ c.arch_guard.ensures ∙ ap (λ (f : Filter). guard_code (audit_word f.target_arch)) c.self.view_is) long in
     let words = words_of c.args.self.now c.self.inside.rules.entries c.self.inside.mismatch_action c.self.inside.match_action c.self.inside.target_arch c.from-mismatch.result c.into.result c.self.view_is c.from-mismatch.ensures c.into.ensures in
     let both = written_full c.args.self.now c.self.inside.rules.entries c.from-mismatch.result c.into.result c.write_chains.new.part _ words some c.requires.compilable.short c.write_chains.ensures.code (written ∙ cc (c.load_word.ensures.instruction, c.from.ensures, c.return_word-2.ensures.instruction)) in
-    record { compiled = both.0; passes = both.1 }
+    let stand = c.write_chains.ensures.places c.args.self.now (sym words.chains) (are_words c.args.self.now c.self.inside.rules.entries c.from-mismatch.result c.into.result words) in
+    let places = places_full c.args.self.now c.self.inside.rules.entries c.from-mismatch.result c.into.result c.write_chains.new.part _ words some stand
+    (written ∙ cc (c.load_word.ensures.instruction, c.from.ensures, c.return_word-2.ensures.instruction)) in
+    record { compiled = both.0; passes = both.1; places = places }

@@ -1,0 +1,10 @@
+use Rattle.std.proofs.Common.{All, ap, sym, ◌∙◌, subst}
+use Rattle.seccompiler.specs.Policy.{Filter, IsCallNumber}
+use Rattle.seccompiler.specs.Refusal.{numbers_of}
+use Rattle.seccompiler.proofs.filter.Chains.{numbers_are_keys}
+use Rattle.seccompiler.proofs.filter.SeccompFilter.linear_places.Goals as goal
+
+pub push_chains-requires : goal.push_chains-requires
+push_chains-requires c =
+    let same = sym (ap (λ (f : Filter). numbers_of f.chains) c.self.view_is) ∙ numbers_are_keys c.self.inside.rules.entries in
+    record { numbers = subst (λ numbers. All IsCallNumber numbers) same c.requires.numbers }

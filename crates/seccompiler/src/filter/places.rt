@@ -1,0 +1,66 @@
+// The program of a filter together with what stands at its places.
+
+use super::SeccompFilter;
+use crate::backend::BackendError;
+use crate::bpf::{BpfProgram, return_word};
+use crate::chain::places::push_chains;
+use crate::layout::places::Place;
+use std::alloc::{AllocError, Global};
+
+impl SeccompFilter {
+    ghost use Rattle.std.specs.Prelude.{◌≡◌, IfOk, IfErr, OnOk};
+    ghost use Rattle.seccompiler.specs.Compiled.{IsCompiled};
+    ghost use Rattle.seccompiler.specs.Refusal.{numbers_of, AreCallNumbers, IsCompilable, IsRefusal};
+    ghost use Rattle.seccompiler.specs.Places.{ArePlaces};
+    ghost use Rattle.seccompiler.specs.PlaceLists.{linear_places};
+
+    /// The filter's program, the one that [`to_bpf`](SeccompFilter::to_bpf) gives, and what stands at
+    /// each of its places.
+    ///
+    /// # Errors
+    ///
+    /// Those of `to_bpf`, in the same order; `OutOfMemory` also where memory for the places is refused.
+    ///
+    /// # Examples
+    ///
+    /// ```
+    /// let (program, places) = filter.to_bpf_with_places(alloc)?;
+    /// assert!(rt; places.len() == program.len());
+    /// assert!(rt; matches!(places[3], Place::LoadNumber));
+    /// ```
+    pub fn to_bpf_with_places(
+        &self,
+        alloc: Global,
+    ) -> Result<(BpfProgram, Vec<Place>), BackendError>
+        ensures compiled { IfOk result (λ r. IsCompiled self.now r.0.items) }
+        ensures places { IfOk result (λ r. ArePlaces self.now r.1.items r.0.items) }
+        ensures compilable { OnOk result (IsCompilable self.now) }
+        ensures refused { IfErr result (IsRefusal self.now) }
+    {
+        let mut program = vec![in alloc; return_word(0); self.compiled_len()?]?;
+        self.write(&mut program);
+        let places = self.linear_places(alloc)?;
+        Ok((program, places))
+    }
+
+    // What stands at the places of the program.
+    fn linear_places(&self, alloc: Global) -> Result<Vec<Place>, AllocError>
+        requires numbers { AreCallNumbers (numbers_of self.now.chains) }
+        ensures { IfOk result (λ places. places.items ≡ linear_places self.now.chains) }
+    {
+        let mut places = Vec::new(alloc);
+        places.extend_from_slice(&[
+            Place::LoadArchitecture,
+            Place::TestArchitecture,
+            Place::OtherArchitecture,
+        ])?;
+        if self.rules.is_empty() {
+            places.push(Place::OthersDiffer)?;
+            return Ok(places);
+        }
+        places.push(Place::LoadNumber)?;
+        push_chains(alloc, &mut places, &self.rules)?;
+        places.push(Place::OthersDiffer)?;
+        Ok(places)
+    }
+}

@@ -1,6 +1,6 @@
 // Comparisons of two programs: in how many sets of records one ends, and in what time.
 
-ghost use Rattle.seccompiler.specs.Checked.{IsChecked};
+ghost use Rattle.seccompiler.specs.Machine.{IsChecked};
 
 use crate::failure::Failure;
 use crate::filters::{calls, filter_of, rules};

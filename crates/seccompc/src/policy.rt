@@ -2,7 +2,7 @@
 
 ghost use Rattle.std.specs.Prelude.{ℕ, List, IfOk, IfErr, IfSome};
 ghost use Rattle.std.specs.BTreeMap.{get_by_text};
-ghost use Rattle.seccompiler.specs.Checked.{IsChecked};
+ghost use Rattle.seccompiler.specs.Machine.{IsChecked};
 ghost use Rattle.seccompiler.specs.JsonAnswers.{OfValue};
 ghost use Rattle.seccompiler.specs.JsonPrograms.{AreProgramsOf};
 ghost use Rattle.seccompiler.specs.Reads.{Reads};

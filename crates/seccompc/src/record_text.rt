@@ -1,7 +1,7 @@
 // The lines of records.
 
 ghost use Rattle.std.specs.Prelude.{◌≡◌, ◌++◌, IfOk, OnOk};
-ghost use Rattle.seccompiler.specs.Checked.{IsChecked};
+ghost use Rattle.seccompiler.specs.Machine.{IsChecked};
 ghost use Rattle.seccompc.specs.Lines.{AreLines, line_of};
 
 use itoa::Buffer;

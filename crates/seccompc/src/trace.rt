@@ -1,7 +1,7 @@
 // Records in, their lines out.
 
 ghost use Rattle.std.specs.Prelude.{◌≡◌, IfOk, IfErr, IfSome};
-ghost use Rattle.seccompiler.specs.Checked.{IsChecked};
+ghost use Rattle.seccompiler.specs.Machine.{IsChecked};
 ghost use Rattle.seccompiler.specs.Reads.{Reads};
 ghost use Rattle.seccompc.specs.Lines.{AreLines};
 ghost use Rattle.seccompc.specs.Errors.{KeepsOutput};

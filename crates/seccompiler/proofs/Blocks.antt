@@ -3,8 +3,7 @@ use Rattle.std.proofs.Common.{◌≡◌, ℕ, zero, suc, ◌+◌, ◌<◌, ◌�
 use Rattle.std.specs.Prelude.{slice_get}
 use Rattle.seccompiler.specs.declared.bpf.sock_filter.{sock_filter}
 use Rattle.seccompiler.specs.Code.{give, jump_equal}
-use Rattle.seccompiler.specs.Machine.{stays, Goes}
-use Rattle.seccompiler.specs.Checked.{IsInRange}
+use Rattle.seccompiler.specs.Machine.{stays, Goes, IsInRange}
 use Rattle.seccompiler.specs.Pieces.{IsInside, IsClosed, Leads}
 use Rattle.seccompiler.specs.ChainCode.{Returns, IsBlock}
 use Rattle.seccompiler.proofs.Runs.{get_before, get_behind, goes_shift, goes_on, goes_front, stands_second}

@@ -3,7 +3,7 @@ use Rattle.std.proofs.Common.{◌≡◌, ℕ, zero, suc, ◌+◌, ◌≤◌, ◌
 use Rattle.std.specs.Prelude.{slice_get}
 use Rattle.seccompiler.specs.declared.bpf.sock_filter.{sock_filter}
 use Rattle.seccompiler.specs.Code.{jump}
-use Rattle.seccompiler.specs.Checked.{IsInRange, AreInRange}
+use Rattle.seccompiler.specs.Machine.{IsInRange, AreInRange}
 use Rattle.seccompiler.specs.Pieces.{IsInside, inside_load, inside_mask, inside_jump, inside_equal, inside_greater, inside_at_least, IsClosed}
 
 -- an instruction further on, of a piece that leaves at most further on

@@ -4,8 +4,7 @@ use Rattle.std.proofs.lemmas.Bool.{cases_lt}
 use Rattle.std.specs.Prelude.{◌==◌, if◌then◌else◌}
 use Rattle.std.proofs.lemmas.Bool.Decides.{nat_tests}
 use Rattle.seccompiler.specs.declared.bpf.sock_filter.{sock_filter}
-use Rattle.seccompiler.specs.Record.{word_at}
-use Rattle.seccompiler.specs.Machine.{Does, loads, masks, jumps, is_equal, is_not_equal, is_greater, is_not_greater, is_at_least, is_less, Step, Goes, stays, then_step, Ends}
+use Rattle.seccompiler.specs.Machine.{word_at, Does, loads, masks, jumps, is_equal, is_not_equal, is_greater, is_not_greater, is_at_least, is_less, Step, Goes, stays, then_step, Ends}
 
 -- Where an instruction leads.
 abbrev place_after : sock_filter → ℕ → ℕ → ℕ

@@ -4,9 +4,8 @@ use Rattle.std.specs.Prelude.{slice_get, bit_and}
 use Rattle.std.proofs.lemmas.Bool.{cases_lt, cases_eq}
 use Rattle.std.proofs.lemmas.Nat.{and_le_l}
 use Rattle.seccompiler.specs.declared.bpf.sock_filter.{sock_filter}
-use Rattle.seccompiler.specs.Record.{word_at}
+use Rattle.seccompiler.specs.Machine.{word_at, loads, masks, jumps, is_equal, is_not_equal, is_greater, is_not_greater, is_at_least, is_less, Step, Goes}
 use Rattle.seccompiler.specs.Code.{load, mask, jump, jump_equal, jump_greater, jump_at_least}
-use Rattle.seccompiler.specs.Machine.{loads, masks, jumps, is_equal, is_not_equal, is_greater, is_not_greater, is_at_least, is_less, Step, Goes}
 use Rattle.seccompiler.specs.Pieces.{Leads}
 
 module _ (p : List sock_filter) (r : List ℕ) where

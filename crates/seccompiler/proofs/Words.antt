@@ -5,7 +5,7 @@ use Rattle.std.proofs.lemmas.Bool.{cases_lt}
 use Rattle.std.proofs.lemmas.List.Elements.{All-get_or}
 use Rattle.std.proofs.lemmas.List.{get_or_past}
 use Rattle.std.proofs.lemmas.Nat.{and_block}
-use Rattle.seccompiler.specs.Record.{IsRecord, word_at, number_at}
+use Rattle.seccompiler.specs.Machine.{IsRecord, word_at, number_at}
 
 -- a byte of a record is below 256
 byte_fits : (r : List ℕ) (k : ℕ) → IsRecord r → slice_index r k < 256

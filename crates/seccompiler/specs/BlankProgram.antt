@@ -2,7 +2,7 @@
 use Rattle.std.specs.Prelude.{◌≡◌, ◌<◌, ◌≤◌, ℕ}
 use Rattle.seccompiler.specs.declared.backend.BackendError.{BackendError}
 use Rattle.seccompiler.specs.declared.backend.BackendError.TheVariants.{FilterTooLarge, OutOfMemory}
-use Rattle.seccompiler.specs.Checked.{greatest_length}
+use Rattle.seccompiler.specs.Machine.{greatest_length}
 
 -- The refusal of a program of n instructions: it is too large, or want of memory.
 pub data RefusesLength (n : ℕ) (e : BackendError) : Type 0 where

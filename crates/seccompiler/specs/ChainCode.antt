@@ -1,9 +1,7 @@
 -- What the code of rules with their returns, of a chain and of a filter's chains promises to the code around it.
 use Rattle.std.specs.Prelude.{◌≡◌, ◌≢◌, ℕ, ℤ, ◌+◌, ◌^◌, ◌<◌, ◌⊎◌, List, length, Any, Some, None, slice_get, sum_by}
 use Rattle.seccompiler.specs.declared.bpf.sock_filter.{sock_filter}
-use Rattle.seccompiler.specs.Record.{IsRecord}
-use Rattle.seccompiler.specs.Machine.{Goes}
-use Rattle.seccompiler.specs.Checked.{AreInRange}
+use Rattle.seccompiler.specs.Machine.{IsRecord, Goes, AreInRange}
 use Rattle.seccompiler.specs.Pieces.{IsInside, Leads}
 use Rattle.seccompiler.specs.Policy.{Rule, Chain, RuleHolds, ChainMatches, chain_under}
 use Rattle.seccompiler.specs.Layout.{rule_length, rule_steps, chain_length, chain_steps, chains_length, chains_steps, rules_length}

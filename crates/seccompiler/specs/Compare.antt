@@ -5,8 +5,7 @@ use Rattle.seccompiler.specs.declared.compare.Relation.{Relation}
 use Rattle.seccompiler.specs.declared.compare.Relation.TheVariants.{Alike, AtMostAsPermissive}
 use Rattle.seccompiler.specs.declared.compare.Comparison.{Comparison}
 use Rattle.seccompiler.specs.declared.compare.Comparison.TheVariants.{Holds, Fails, Undecided}
-use Rattle.seccompiler.specs.Record.{IsRecord, word_at}
-use Rattle.seccompiler.specs.Machine.{Ends}
+use Rattle.seccompiler.specs.Machine.{IsRecord, word_at, Ends}
 
 -- A set of calls: those whose architecture words lie within two bounds, and whose numbers do within two, all included.
 pub record CallSet : Type 0 where

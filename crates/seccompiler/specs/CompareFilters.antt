@@ -6,12 +6,9 @@ use Rattle.seccompiler.specs.declared.backend.BackendError.TheVariants.{FilterTo
 use Rattle.seccompiler.specs.declared.compare.Relation.{Relation}
 use Rattle.seccompiler.specs.declared.compare.Comparison.{Comparison}
 use Rattle.seccompiler.specs.declared.compare.Comparison.TheVariants.{Holds, Fails, Undecided}
-use Rattle.seccompiler.specs.Record.{IsRecord}
-use Rattle.seccompiler.specs.Machine.{Ends}
-use Rattle.seccompiler.specs.Checked.{IsChecked}
+use Rattle.seccompiler.specs.Machine.{IsRecord, Ends, IsChecked}
 use Rattle.seccompiler.specs.Policy.{Filter, IsDecision}
-use Rattle.seccompiler.specs.Compiled.{EndsAtDecision}
-use Rattle.seccompiler.specs.Refusal.{numbers_of, AreCallNumbers, IsLeastUnfit, IsCompilable, IsTooLarge}
+use Rattle.seccompiler.specs.Compiled.{EndsAtDecision, numbers_of, AreCallNumbers, IsLeastUnfit, IsCompilable, IsTooLarge}
 use Rattle.seccompiler.specs.Tree.{IsTreeCompilable, IsTreeTooLarge}
 use Rattle.seccompiler.specs.Compare.{CallSet, IsCallOf, Related}
 

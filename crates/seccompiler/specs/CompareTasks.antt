@@ -8,7 +8,7 @@ use Rattle.seccompiler.specs.declared.compare.values.Values.{Values}
 use Rattle.seccompiler.specs.declared.compare.tasks.Task.{Task}
 use Rattle.seccompiler.specs.declared.compare.tasks.Progress.{Progress}
 use Rattle.seccompiler.specs.declared.compare.tasks.Progress.TheVariants.{Done, Shows, Splits}
-use Rattle.seccompiler.specs.Record.{IsRecord}
+use Rattle.seccompiler.specs.Machine.{IsRecord}
 use Rattle.seccompiler.specs.Compare.{AnswersRelated, AnswersUnrelated}
 use Rattle.seccompiler.specs.RecordSets.{IsIn, AreTight, Stands}
 

@@ -6,7 +6,7 @@ use Rattle.seccompiler.specs.declared.backend.SeccompCmpOp.TheVariants.{Eq, Ge, 
 use Rattle.seccompiler.specs.declared.backend.SeccompCmpArgLen.{SeccompCmpArgLen}
 use Rattle.seccompiler.specs.declared.backend.SeccompCmpArgLen.TheVariants.{Dword, Qword}
 use Rattle.seccompiler.specs.Code.{load, mask, jump_equal, jump_greater, jump_at_least}
-use Rattle.seccompiler.specs.Condition.{Condition}
+use Rattle.seccompiler.specs.Policy.{Condition}
 
 -- The code of a comparison with v of the argument whose low half stands at byte `low` of the record, its high half
 -- 4 bytes behind; where it fails it leaves d places behind its end.

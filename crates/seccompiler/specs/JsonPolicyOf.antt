@@ -10,9 +10,8 @@ use Rattle.seccompiler.specs.declared.backend.TargetArch.{TargetArch}
 use Rattle.seccompiler.specs.declared.backend.BackendError.TheVariants.{EmptyRule, IdenticalActions, InvalidArgumentNumber}
 use Rattle.seccompiler.specs.declared.json.types.JsonCondition.{JsonCondition}
 use Rattle.seccompiler.specs.JsonTypes.{JsonRule, JsonFilter}
-use Rattle.seccompiler.specs.Condition.{Condition}
-use Rattle.seccompiler.specs.Policy.{Rule, Chain, Filter}
-use Rattle.seccompiler.specs.Refusal.{numbers_of}
+use Rattle.seccompiler.specs.Policy.{Condition, Rule, Chain, Filter}
+use Rattle.seccompiler.specs.Compiled.{numbers_of}
 use Rattle.seccompiler.specs.Architecture.{table_of}
 use Rattle.seccompiler.specs.SyscallTable.{number_of}
 use Rattle.seccompiler.specs.declared.backend.BackendError.{BackendError}

@@ -2,11 +2,10 @@
 use Rattle.std.specs.Prelude.{ℕ, List, Option, Vec, ⊤}
 use Rattle.std.specs.declared.alloc.Global.{Global}
 use Rattle.serde_json.specs.Data.{Data}
-use Rattle.seccompiler.specs.Compiled.{IsCompiled, Passes}
+use Rattle.seccompiler.specs.Compiled.{IsCompiled, Passes, IsCompilable, IsRefusal, IsTooLarge}
 use Rattle.seccompiler.specs.JsonAnswers.{HasPolicy, HasSomePolicy, OfValue, TellsFrontendFault}
 use Rattle.seccompiler.specs.JsonFilters.{AreFound, AreAll, IsLeast}
 use Rattle.seccompiler.specs.Policy.{Filter}
-use Rattle.seccompiler.specs.Refusal.{IsCompilable, IsRefusal, IsTooLarge}
 use Rattle.seccompiler.specs.UnderNames.{AreMadeUnder, IsLeastGiven}
 use Rattle.seccompiler.specs.declared.backend.BackendError.{BackendError}
 use Rattle.seccompiler.specs.declared.backend.BackendError.TheVariants.{FilterTooLarge, OutOfMemory as NoMemory}

@@ -11,10 +11,9 @@ use Rattle.seccompiler.specs.declared.backend.TargetArch.{TargetArch}
 use Rattle.seccompiler.specs.declared.backend.BackendError.TheVariants.{InvalidArgumentNumber}
 use Rattle.seccompiler.specs.declared.json.types.JsonCondition.{JsonCondition}
 use Rattle.seccompiler.specs.JsonTypes.{JsonFilter}
-use Rattle.seccompiler.specs.Condition.{Condition}
+use Rattle.seccompiler.specs.Policy.{Condition, Filter}
 use Rattle.seccompiler.specs.JsonPolicyOf.{Fault, unknown_call, refused, condition_of, IsFirstFault, IsPolicyOf}
-use Rattle.seccompiler.specs.Policy.{Filter}
-use Rattle.seccompiler.specs.Refusal.{numbers_of}
+use Rattle.seccompiler.specs.Compiled.{numbers_of}
 use Rattle.seccompiler.specs.SyscallTable.{IsTableNumber}
 use Rattle.seccompiler.specs.UnderNames.{AreMadeUnder, IsLeastGiven}
 use Rattle.seccompiler.specs.declared.backend.BackendError.TheVariants as of_backend

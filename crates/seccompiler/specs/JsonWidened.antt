@@ -4,7 +4,7 @@ use Rattle.seccompiler.specs.declared.backend.TargetArch.{TargetArch}
 use Rattle.seccompiler.specs.JsonPolicyOf.{IsPolicyOf, IsFor, IsMadeOf, all_rules}
 use Rattle.seccompiler.specs.JsonTypes.{JsonFilter}
 use Rattle.seccompiler.specs.Policy.{Filter, Matches, IsDecision}
-use Rattle.seccompiler.specs.Record.{word_at}
+use Rattle.seccompiler.specs.Machine.{word_at}
 
 -- The filter is what the Rust crate makes of the JSON filter. It differs in this alone: an entry without conditions adds
 -- nothing to its number, whose chain is all rules of its other entries.

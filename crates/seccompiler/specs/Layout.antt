@@ -1,8 +1,78 @@
--- How long the program of a filter is, and how many steps a call without a chain takes, as sums.
-use Rattle.std.specs.Prelude.{ℕ, ℤ, ◌+◌, ◌*◌, List, [], ◌∷◌, sum_by}
-use Rattle.seccompiler.specs.Sizes.{guard_length, entry_length, relay_length, empty_chain_length, chain_ends, program_ends}
-use Rattle.seccompiler.specs.Groups.{total_size, relays}
-use Rattle.seccompiler.specs.Policy.{Rule, Chain, Filter}
+-- How long the program of a filter is in the linear layout, and how many steps a call without a chain takes, as sums.
+use Rattle.std.specs.Prelude.{ℕ, ◌≡◌, ◌-◌, ◌<◌, ◌≤◌, List, [], ◌∷◌, ◌++◌, length, All, sum_by, nat_le, if◌then◌else◌, ℤ, ◌+◌, ◌*◌}
+use Rattle.std.specs.List.{flat_map}
+use Rattle.seccompiler.specs.Policy.{Condition, size_of, Rule, Chain, Filter}
+
+-- ---- sizes, in instructions, and the border that ends a group
+
+-- The greatest offset of its failure exit at which any condition's jumps fit 8 bits. A group of conditions closes as
+-- soon as they take so many instructions.
+abbrev pub greatest_offset : ℕ
+greatest_offset = 248
+
+-- The guard of a program: it loads the architecture word, tests it, and kills the process.
+abbrev pub guard_length : ℕ
+guard_length = 3
+
+-- The two jumps in front of a rule.
+abbrev pub entry_length : ℕ
+entry_length = 2
+
+-- The three jumps between two groups of conditions.
+abbrev pub relay_length : ℕ
+relay_length = 3
+
+-- A chain without rules: its test, two jumps of an entry, and two returns.
+abbrev pub empty_chain_length : ℕ
+empty_chain_length = 5
+
+-- What a chain has beside its rules: its test and its last return.
+abbrev pub chain_ends : ℕ
+chain_ends = 2
+
+-- What a program has beside its guard and its chains: the load of the call number and the last return.
+abbrev pub program_ends : ℕ
+program_ends = 2
+
+-- ---- how the conditions of a rule fall into groups, between which stand relay jumps
+
+-- How many instructions the conditions take.
+abbrev pub total_size : List Condition → ℕ
+total_size q = sum_by size_of q
+
+-- No proper front of the group has a size of the border or more.
+abbrev pub ClosesLate : List Condition → Type 0
+ClosesLate group = (front back : List Condition) (c : Condition) → group ≡ front ++ c ∷ back → total_size front < greatest_offset
+
+-- The conditions, in order, cut into groups: none is empty, no proper front of a group has a size of the border or more,
+-- and every group but the last has.
+pub record IsCutIntoGroups (q : List Condition) (groups : List (List Condition)) : Type 0 where
+  pub joined : flat_map (λ group. group) groups ≡ q
+  pub some : All (λ group. 1 ≤ length group) groups
+  pub late : All ClosesLate groups
+  pub full : (front back : List (List Condition)) (group next : List Condition) → groups ≡ front ++ group ∷ next ∷ back → greatest_offset ≤ total_size group
+
+-- The groups of a group that is begun and the conditions behind it.
+abbrev pub groups_from : List Condition → List Condition → List (List Condition)
+groups_from group [] = group ∷ []
+groups_from group (c ∷ q) =
+    if nat_le greatest_offset (total_size group) then group ∷ groups_from (c ∷ []) q else groups_from (group ++ c ∷ []) q
+
+-- The groups of a rule's conditions.
+abbrev pub groups_of : List Condition → List (List Condition)
+groups_of [] = []
+groups_of (c ∷ q) = groups_from (c ∷ []) q
+
+-- These groups are a cut of the conditions, and the only one.
+pub record IsOnlyCut (q : List Condition) (groups : List (List Condition)) : Type 0 where
+  pub cut : IsCutIntoGroups q groups
+  pub only : (others : List (List Condition)) → IsCutIntoGroups q others → others ≡ groups
+
+-- How many relays a rule has: one between each two groups.
+abbrev pub relays : List Condition → ℕ
+relays q = length (groups_of q) - 1
+
+-- ---- lengths and steps
 
 -- The instructions of a rule: two jumps in front, its conditions, and three jumps for each relay.
 abbrev pub rule_length : Rule → ℕ

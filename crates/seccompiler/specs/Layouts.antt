@@ -5,8 +5,7 @@ use Rattle.seccompiler.specs.declared.bpf.sock_filter.{sock_filter}
 use Rattle.seccompiler.specs.declared.layout.Layout.{Layout}
 use Rattle.seccompiler.specs.declared.layout.Layout.TheVariants.{Linear, Tree}
 use Rattle.seccompiler.specs.Policy.{Filter}
-use Rattle.seccompiler.specs.Compiled.{IsCompiled}
-use Rattle.seccompiler.specs.Refusal.{IsCompilable, IsRefusal}
+use Rattle.seccompiler.specs.Compiled.{IsCompiled, IsCompilable, IsRefusal}
 use Rattle.seccompiler.specs.Tree.{IsTreeCompiled, IsTreeCompilable, IsTreeRefusal}
 
 -- The program is compiled for the filter in the layout.

@@ -1,19 +1,12 @@
 -- The definitions that the contracts cite.
 
 -- What is promised. The headline for filters, in reading order: call records, the machine, checked programs; architectures;
--- policies and what they decide; how long a program is; when one is compiled for a filter, and why a filter is refused.
-pub mod Record
+-- policies and what they decide; how long a program is; when one is compiled for a filter, and why a filter is rejected.
 pub mod Machine
-pub mod Checked
 pub mod Architecture
-pub mod Action
-pub mod Condition
 pub mod Policy
-pub mod Sizes
-pub mod Groups
 pub mod Layout
 pub mod Compiled
-pub mod Refusal
 -- The headline for policies as JSON text: repeated names, the shapes of values, the policy of a filter or its first fault,
 -- and what is given for a whole text.
 pub mod TextPieces

@@ -1,8 +1,8 @@
 -- Conditions on the low half of an argument that differ in high halves alone.
 use Rattle.std.specs.Prelude.{◌≡◌, ℕ, ◌%◌, ◌^◌, List}
 use Rattle.seccompiler.specs.declared.backend.SeccompCmpArgLen.TheVariants.{Dword}
-use Rattle.seccompiler.specs.Record.{argument_at}
-use Rattle.seccompiler.specs.Condition.{Condition, operator_part}
+use Rattle.seccompiler.specs.Machine.{argument_at}
+use Rattle.seccompiler.specs.Policy.{Condition, operator_part}
 
 -- Two conditions on the low half of one argument have the same operator, and agree in the low 32 bits of the value and
 -- of the mask.

@@ -1,13 +1,9 @@
 -- What the code of a condition and the code of a rule promise to the code around them.
 use Rattle.std.specs.Prelude.{◌≡◌, ℕ, ◌+◌, ◌^◌, ◌<◌, ◌⊎◌, List, length, ◌%◌, ◌≤◌, Some, slice_get}
 use Rattle.seccompiler.specs.declared.bpf.sock_filter.{sock_filter}
-use Rattle.seccompiler.specs.Record.{IsRecord}
-use Rattle.seccompiler.specs.Machine.{Goes}
-use Rattle.seccompiler.specs.Checked.{AreInRange}
-use Rattle.seccompiler.specs.Condition.{Condition, Holds, size_of}
-use Rattle.seccompiler.specs.Policy.{Rule, RuleHolds}
-use Rattle.seccompiler.specs.Groups.{relays}
-use Rattle.seccompiler.specs.Layout.{rule_length}
+use Rattle.seccompiler.specs.Machine.{IsRecord, Goes, AreInRange}
+use Rattle.seccompiler.specs.Policy.{Condition, Holds, size_of, Rule, RuleHolds}
+use Rattle.seccompiler.specs.Layout.{relays, rule_length}
 
 -- An instruction that may stand at this place of a piece whose jumps lead at most to m, and does not return.
 pub data IsInside (i : sock_filter) (place m : ℕ) : Type 0 where

@@ -10,11 +10,9 @@ use Rattle.seccompiler.specs.declared.layout.places.RulePlace.{RulePlace}
 use Rattle.seccompiler.specs.declared.layout.places.RulePlace.TheVariants.{ToConditions, PastRule, OfCondition, RelayToConditions, RelayToExit, RelayPastRule}
 use Rattle.seccompiler.specs.declared.layout.places.Place.{Place}
 use Rattle.seccompiler.specs.declared.layout.places.Place.TheVariants.{LoadArchitecture, TestArchitecture, OtherArchitecture, LoadNumber, TestNumber, ToMatch, PastMatch, OfRule, RuleHolds, CallMatches, CallDiffers, OthersDiffer}
-use Rattle.seccompiler.specs.Condition.{Condition, size_of}
-use Rattle.seccompiler.specs.Action.{word_of}
-use Rattle.seccompiler.specs.Policy.{Rule, Chain, Filter}
+use Rattle.seccompiler.specs.Policy.{Condition, size_of, word_of, Rule, Chain, Filter}
 use Rattle.seccompiler.specs.Relay.{offset_behind}
-use Rattle.seccompiler.specs.Sizes.{greatest_offset}
+use Rattle.seccompiler.specs.Layout.{greatest_offset}
 
 -- The places of a comparison.
 abbrev pub comparison_places : SeccompCmpArgLen → SeccompCmpOp → List ConditionPlace

@@ -10,10 +10,8 @@ use Rattle.seccompiler.specs.declared.layout.places.RulePlace.{RulePlace}
 use Rattle.seccompiler.specs.declared.layout.places.RulePlace.TheVariants.{ToConditions, PastRule, OfCondition, RelayToConditions, RelayToExit, RelayPastRule}
 use Rattle.seccompiler.specs.declared.layout.places.Place.{Place}
 use Rattle.seccompiler.specs.declared.layout.places.Place.TheVariants.{LoadArchitecture, TestArchitecture, OtherArchitecture, LoadNumber, TestNumber, TestLeast, FarJump, ToMatch, PastMatch, OfRule, RuleHolds, CallMatches, CallDiffers, OthersMatch, OthersDiffer}
-use Rattle.seccompiler.specs.Action.{word_of}
+use Rattle.seccompiler.specs.Policy.{word_of, Condition, Rule, Chain, Filter}
 use Rattle.seccompiler.specs.Architecture.{audit_word}
-use Rattle.seccompiler.specs.Condition.{Condition}
-use Rattle.seccompiler.specs.Policy.{Rule, Chain, Filter}
 
 -- The instruction has this code and this operand.
 abbrev pub HasCode : ℕ → ℕ → sock_filter → Type 0

@@ -1,8 +1,7 @@
 -- Sets of call records, and runs on all records of a set.
 use Rattle.std.specs.Prelude.{◌≡◌, ℕ, ◌*◌, ◌<◌, ◌≤◌, List, length, Some, slice_get, bit_and}
 use Rattle.seccompiler.specs.declared.bpf.sock_filter.{sock_filter}
-use Rattle.seccompiler.specs.Record.{IsRecord, word_at}
-use Rattle.seccompiler.specs.Machine.{Goes}
+use Rattle.seccompiler.specs.Machine.{IsRecord, word_at, Goes}
 use Rattle.seccompiler.specs.declared.compare.values.Values.{Values}
 use Rattle.seccompiler.specs.declared.compare.follow.At.{At}
 use Rattle.seccompiler.specs.WordSets.{HasValue, IsTight}

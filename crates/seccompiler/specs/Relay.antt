@@ -2,7 +2,7 @@
 use Rattle.std.specs.Prelude.{ℕ, ◌+◌, List, [], ◌∷◌, nat_lt, if◌then◌else◌}
 use Rattle.seccompiler.specs.declared.bpf.sock_filter.{sock_filter}
 use Rattle.seccompiler.specs.Code.{jump}
-use Rattle.seccompiler.specs.Sizes.{greatest_offset}
+use Rattle.seccompiler.specs.Layout.{greatest_offset}
 
 -- The two jumps in front of a rule whose failure exit is o places behind them.
 abbrev pub entry_code : ℕ → List sock_filter

@@ -3,15 +3,11 @@ use Rattle.std.specs.Prelude.{◌≡◌, ℕ, zero, suc, ◌+◌, ◌-◌, ◌*�
 use Rattle.seccompiler.specs.declared.bpf.sock_filter.{sock_filter}
 use Rattle.seccompiler.specs.declared.backend.BackendError.{BackendError}
 use Rattle.seccompiler.specs.declared.backend.BackendError.TheVariants.{FilterTooLarge, InvalidSyscallNumber, OutOfMemory}
-use Rattle.seccompiler.specs.Record.{IsRecord, word_at}
+use Rattle.seccompiler.specs.Machine.{IsRecord, word_at, Ends, greatest_length, IsChecked}
 use Rattle.seccompiler.specs.Architecture.{audit_word}
-use Rattle.seccompiler.specs.Machine.{Ends}
-use Rattle.seccompiler.specs.Checked.{greatest_length, IsChecked}
 use Rattle.seccompiler.specs.Policy.{Filter, Chain, chain_under}
-use Rattle.seccompiler.specs.Layout.{rules_length}
-use Rattle.seccompiler.specs.Compiled.{EndsAtDecision}
-use Rattle.seccompiler.specs.Refusal.{numbers_of, AreCallNumbers, IsLeastUnfit}
-use Rattle.seccompiler.specs.Sizes.{guard_length}
+use Rattle.seccompiler.specs.Layout.{rules_length, guard_length}
+use Rattle.seccompiler.specs.Compiled.{EndsAtDecision, numbers_of, AreCallNumbers, IsLeastUnfit}
 use Rattle.seccompiler.specs.Ranges.{Range, HasNoRules, AreRanges}
 
 -- The instructions that a range has of its own: none, or the rules of its chain, each with a return, and one return more.

@@ -1,10 +1,8 @@
 -- What ties the functions together that write the second layout: the code of ranges, and ranges as they are made.
 use Rattle.std.specs.Prelude.{◌≡◌, ℕ, ◌+◌, ◌*◌, ◌/◌, ◌^◌, ◌<◌, ◌≤◌, List, [], ◌∷◌, ◌++◌, Option, Some, None, Bool, true, false, length, slice_get, sum_by, nat_lt, if◌then◌else◌, ◌⊎◌}
 use Rattle.seccompiler.specs.declared.bpf.sock_filter.{sock_filter}
-use Rattle.seccompiler.specs.Record.{IsRecord}
+use Rattle.seccompiler.specs.Machine.{IsRecord, Goes, Step, IsInRange, AreInRange}
 use Rattle.seccompiler.specs.Code.{give}
-use Rattle.seccompiler.specs.Machine.{Goes, Step}
-use Rattle.seccompiler.specs.Checked.{IsInRange, AreInRange}
 use Rattle.seccompiler.specs.Pieces.{IsInside}
 use Rattle.seccompiler.specs.Policy.{Chain, ChainMatches}
 use Rattle.seccompiler.specs.ChainCode.{IsBlock}

@@ -243,7 +243,7 @@ impl EqualByParts for SeccompAction {
 /// The word that a program returns for the action.
 impl From<SeccompAction> for u32 {
     ghost use Rattle.std.specs.Prelude.{◌≡◌};
-    ghost use Rattle.seccompiler.specs.Action.{word_of};
+    ghost use Rattle.seccompiler.specs.Policy.{word_of};
 
     ghost from_gives = { λ action word. word ≡ word_of action };
 

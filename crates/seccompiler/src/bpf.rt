@@ -2,7 +2,7 @@
 
 ghost use Rattle.std.specs.Prelude.{◌≡◌};
 ghost use Rattle.seccompiler.specs.Code.{load, mask, jump, jump_equal, jump_greater, jump_at_least, give};
-ghost use Rattle.seccompiler.specs.Checked.{IsInRange};
+ghost use Rattle.seccompiler.specs.Machine.{IsInRange};
 
 use crate::equality::EqualByParts;
 

@@ -4,7 +4,7 @@ ghost use Rattle.std.specs.Prelude.{◌≡◌, ℕ, List, IfSome, IfOk, IfErr};
 ghost use Rattle.std.specs.BTreeMap as tree;
 ghost use Rattle.std.specs.HashMap as hash;
 ghost use Rattle.serde_json.specs.Data.{Data};
-ghost use Rattle.seccompiler.specs.Checked.{IsChecked};
+ghost use Rattle.seccompiler.specs.Machine.{IsChecked};
 ghost use Rattle.seccompiler.specs.Errors.{from_backend, IsNoMemoryInside};
 ghost use Rattle.seccompiler.specs.JsonAnswers.{IsValueOf, ArePoliciesOf, OfValue};
 ghost use Rattle.seccompiler.specs.JsonPrograms.{AreProgramsFor, AreProgramsOf, IsLeastUncompiled, TellsFirstFault};

@@ -27,7 +27,7 @@ pub struct SeccompCondition {
 
 impl Model for SeccompCondition {
     ghost use Rattle.std.specs.Prelude.{◌≤◌, ◌<◌, ◌^◌};
-    ghost use Rattle.seccompiler.specs.Condition.{Condition};
+    ghost use Rattle.seccompiler.specs.Policy.{Condition};
 
     ghost Value = { Condition };
 
@@ -52,12 +52,11 @@ impl SeccompCondition {
     ghost use Rattle.std.specs.Prelude.{◌≡◌, ℕ, List, ◌+◌, ◌*◌, ◌/◌, ◌%◌, ◌^◌, ◌≤◌, ◌<◌, ◌↔◌, length, IfOk, IfErr, IsOk, IsOkUnless, IsTrue};
     ghost use Rattle.seccompiler.specs.declared.backend.BackendError.TheVariants.{InvalidArgumentNumber, OutOfMemory};
     ghost use Rattle.seccompiler.specs.declared.backend.SeccompCmpArgLen.TheVariants.{Dword, Qword};
-    ghost use Rattle.seccompiler.specs.Sizes.{greatest_offset};
-    ghost use Rattle.seccompiler.specs.Condition.{Condition, Holds, size_of};
+    ghost use Rattle.seccompiler.specs.Layout.{greatest_offset};
+    ghost use Rattle.seccompiler.specs.Policy.{Condition, Holds, size_of};
     ghost use Rattle.seccompiler.specs.ConditionCode.{condition_code};
     ghost use Rattle.seccompiler.specs.LowHalf.{IsSameLowHalf, HasSameLowArgument};
-    ghost use Rattle.seccompiler.specs.Record.{IsRecord};
-    ghost use Rattle.seccompiler.specs.Checked.{AreInRange};
+    ghost use Rattle.seccompiler.specs.Machine.{IsRecord, AreInRange};
     ghost use Rattle.seccompiler.specs.Pieces.{IsConditionCode};
 
     /// Makes a condition on argument `arg_index`, numbered from 0.
@@ -310,7 +309,7 @@ impl SeccompCondition {
 }
 
 ghost use Rattle.std.specs.Prelude.{◌≡◌, ◌/◌, ◌%◌, ◌^◌, ◌↔◌, IsTrue};
-ghost use Rattle.seccompiler.specs.Condition.{part_of, operator_part, Compares};
+ghost use Rattle.seccompiler.specs.Policy.{part_of, operator_part, Compares};
 
 // What is compared of a number.
 fn part_of(length: SeccompCmpArgLen, number: u64) -> u64

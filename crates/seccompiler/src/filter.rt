@@ -51,10 +51,9 @@ impl SeccompFilter {
     ghost use Rattle.seccompiler.specs.Policy.{Filter, chains_of, Matches, IsDecision};
     ghost use Rattle.seccompiler.specs.Reorder.{IsReordered, IsSameCall};
     ghost use Rattle.seccompiler.specs.Layout.{counted_length};
-    ghost use Rattle.seccompiler.specs.Compiled.{IsCompiled, Passes};
+    ghost use Rattle.seccompiler.specs.Compiled.{IsCompiled, Passes, numbers_of, AreCallNumbers, IsLeastUnfit, IsCompilable, IsRefusal};
     ghost use Rattle.seccompiler.specs.Places.{ArePlaces};
     ghost use Rattle.seccompiler.specs.PlaceLists.{linear_places};
-    ghost use Rattle.seccompiler.specs.Refusal.{numbers_of, AreCallNumbers, IsLeastUnfit, IsCompilable, IsRefusal};
 
     /// Makes a filter: `rules` has the chain of each call number, its rules joined by or.
     ///

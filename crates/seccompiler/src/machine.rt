@@ -1,8 +1,7 @@
 // The checker of programs, and the machine that runs them on the record of a system call.
 
 ghost use Rattle.std.specs.Prelude.{◌≡◌, ◌≢◌, ℕ, ◌+◌, ◌^◌, ◌<◌, ◌≤◌, ◌↔◌, IsTrue, length};
-ghost use Rattle.seccompiler.specs.Checked.{IsFine, IsInRange, IsChecked};
-ghost use Rattle.seccompiler.specs.Machine.{Does, Ends};
+ghost use Rattle.seccompiler.specs.Machine.{IsFine, IsInRange, IsChecked, Does, Ends};
 
 use crate::bpf::{
     BPF_MAX_LEN, BpfProgramRef, JUMP, JUMP_AT_LEAST, JUMP_EQUAL, JUMP_GREATER, LOAD, MASK, RETURN,

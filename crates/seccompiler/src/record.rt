@@ -1,7 +1,7 @@
 // The numbers in the record of a system call, which are little-endian.
 
 ghost use Rattle.std.specs.Prelude.{◌≡◌, ◌≤◌};
-ghost use Rattle.seccompiler.specs.Record.{word_at, argument_at};
+ghost use Rattle.seccompiler.specs.Machine.{word_at, argument_at};
 
 use crate::bpf::{SECCOMP_DATA_ARG_SIZE, SECCOMP_DATA_ARGS_OFFSET};
 

@@ -36,9 +36,7 @@ impl SeccompRule {
     ghost use Rattle.std.specs.Prelude.{◌≡◌, ◌*◌, ◌≤◌, ◌↔◌, length, min, IfOk, IfErr, IsOk, IsOkUnless, IsTrue};
     ghost use Rattle.seccompiler.specs.declared.backend.BackendError.TheVariants.{EmptyRule, OutOfMemory};
     ghost use Rattle.seccompiler.specs.Policy.{RuleHolds};
-    ghost use Rattle.seccompiler.specs.Sizes.{greatest_offset};
-    ghost use Rattle.seccompiler.specs.Groups.{total_size, groups_of, relays, IsOnlyCut};
-    ghost use Rattle.seccompiler.specs.Layout.{rule_length};
+    ghost use Rattle.seccompiler.specs.Layout.{greatest_offset, total_size, groups_of, relays, IsOnlyCut, rule_length};
     ghost use Rattle.seccompiler.specs.Pieces.{IsRuleCode};
     ghost use Rattle.std.specs.List.{AllZip};
     ghost use Rattle.seccompiler.specs.Places.{StandsInRule};
@@ -210,8 +208,8 @@ impl EqualByParts for SeccompRule {
 }
 
 ghost use Rattle.std.specs.Prelude.{◌≡◌, ◌≤◌, ◌+◌, ◌++◌, length, drop};
-ghost use Rattle.seccompiler.specs.Checked.{AreInRange};
-ghost use Rattle.seccompiler.specs.Sizes.{entry_length, relay_length};
+ghost use Rattle.seccompiler.specs.Machine.{AreInRange};
+ghost use Rattle.seccompiler.specs.Layout.{entry_length, relay_length};
 ghost use Rattle.seccompiler.specs.Relay.{entry_code, relay_code, relay_front, offset_behind};
 
 // Puts a relay in front of what is written from `end` on, where the offset is too far for a further

@@ -4,8 +4,8 @@ ghost use Rattle.std.specs.Prelude.{◌≡◌, ◌≤◌, ◌<◌, ◌+◌, ◌-
 ghost use Rattle.std.specs.BTreeMap.{keys};
 ghost use Rattle.seccompiler.specs.declared.backend.BackendError.TheVariants.{OutOfMemory};
 ghost use Rattle.seccompiler.specs.Policy.{chains_of};
-ghost use Rattle.seccompiler.specs.Checked.{greatest_length};
-ghost use Rattle.seccompiler.specs.Refusal.{AreCallNumbers};
+ghost use Rattle.seccompiler.specs.Machine.{greatest_length};
+ghost use Rattle.seccompiler.specs.Compiled.{AreCallNumbers};
 ghost use Rattle.seccompiler.specs.Ranges.{Range, AreRanges, Ascends, HasRanges};
 ghost use Rattle.seccompiler.specs.Tree.{alike, row, own_length, tests_length, block_length, test_length, tree_length};
 ghost use Rattle.seccompiler.specs.TreeCode.{put_gap, last_chain, Puts, AreHalves, Settles, second_stands_out, settled, row_length, entry, entry_of, IsFork, IsOwnCode, IsPartCode, IsHalvedCode, IsTestCode, IsTreeCode};

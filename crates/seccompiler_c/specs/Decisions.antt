@@ -1,7 +1,6 @@
 -- What a run and a decision answer for a record.
 use Rattle.std.specs.Prelude.{◌≡◌, ◌≢◌, ℕ, ℤ, pos, ◌≤◌, List, length}
-use Rattle.seccompiler.specs.Checked.{IsChecked}
-use Rattle.seccompiler.specs.Machine.{Ends}
+use Rattle.seccompiler.specs.Machine.{IsChecked, Ends}
 use Rattle.seccompiler.specs.Policy.{Filter, IsDecision}
 use Rattle.seccompiler.specs.Reorder.{IsReordered, IsSameCall}
 use Rattle.seccompiler.specs.declared.bpf.sock_filter.{sock_filter}

@@ -1,7 +1,7 @@
 // The policy that a JSON text has under a name.
 
 ghost use Rattle.std.specs.Prelude.{◌≡◌, All, IfOk, IfErr};
-ghost use Rattle.seccompiler.specs.Refusal.{numbers_of};
+ghost use Rattle.seccompiler.specs.Compiled.{numbers_of};
 ghost use Rattle.seccompiler.specs.SyscallTable.{IsTableNumber};
 ghost use Rattle.seccompiler_c.specs.Policies.{NamesPolicy, IsPolicyFault};
 

@@ -1,7 +1,7 @@
 // The program that a caller asks for.
 
 ghost use Rattle.std.specs.Prelude.{◌≡◌, ◌≤◌, All, length, IfOk, IfErr};
-ghost use Rattle.seccompiler.specs.Refusal.{numbers_of};
+ghost use Rattle.seccompiler.specs.Compiled.{numbers_of};
 ghost use Rattle.seccompiler.specs.SyscallTable.{IsTableNumber};
 ghost use Rattle.seccompiler_c.specs.Programs.{IsProgramIn, IsUncompiledIn, OfProgram, IsRefusal};
 

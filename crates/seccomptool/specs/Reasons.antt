@@ -2,11 +2,10 @@
 use Rattle.std.specs.Prelude.{◌≡◌, ◌≢◌, ℕ, pos, ◌≤◌, List, ◌++◌, take, slice_get, Some, All, IfSome, count_by, codes, decimal}
 use Rattle.seccompiler.specs.declared.backend.TargetArch.{TargetArch}
 use Rattle.seccompiler.specs.Architecture.{audit_word}
-use Rattle.seccompiler.specs.Action.{word_of}
-use Rattle.seccompiler.specs.Condition.{Holds}
+use Rattle.seccompiler.specs.Policy.{word_of, Holds}
 use Rattle.seccompiler.specs.JsonPolicyOf.{condition_of, is_for, IsFor}
 use Rattle.seccompiler.specs.JsonTypes.{JsonRule, JsonFilter}
-use Rattle.seccompiler.specs.Record.{word_at}
+use Rattle.seccompiler.specs.Machine.{word_at}
 use Rattle.seccomptool.specs.declared.explain.reason.Reason.{Reason}
 use Rattle.seccomptool.specs.declared.explain.reason.Reason.TheVariants.{AnotherArchitecture, NoEntry, NoMatch, Entry}
 

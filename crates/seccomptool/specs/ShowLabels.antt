@@ -2,11 +2,10 @@
 use Rattle.std.specs.Prelude.{ℕ, ℤ, pos, zero, suc, ◌+◌, List, [], ◌∷◌, ◌++◌, replicate, Option, Some, None, nat_lt, if◌then◌else◌, codes, decimal}
 use Rattle.std.specs.List.{list_any}
 use Rattle.seccompiler.specs.declared.backend.TargetArch.{TargetArch}
-use Rattle.seccompiler.specs.Condition.{Condition, size_of}
+use Rattle.seccompiler.specs.Policy.{Condition, size_of, Rule}
 use Rattle.seccompiler.specs.JsonPolicyOf.{is_for, is_always, all_rules}
 use Rattle.seccompiler.specs.JsonTypes.{JsonRule}
-use Rattle.seccompiler.specs.Policy.{Rule}
-use Rattle.seccompiler.specs.Sizes.{greatest_offset}
+use Rattle.seccompiler.specs.Layout.{greatest_offset}
 use Rattle.seccompiler.specs.Architecture.{arch_text}
 
 -- A rule of a call, by its place in the chain.

@@ -12,14 +12,12 @@ use Rattle.seccompiler.specs.declared.bpf.sock_filter.{sock_filter}
 use Rattle.seccompiler.specs.declared.error.Error.{Error}
 use Rattle.seccompiler.specs.declared.error.Error.TheVariants.{Backend}
 use Rattle.seccompiler.specs.Architecture.{audit_word}
-use Rattle.seccompiler.specs.Action.{word_of}
+use Rattle.seccompiler.specs.Policy.{word_of, Filter, chain_under}
 use Rattle.seccompiler.specs.Compiled.{IsCompiled}
 use Rattle.seccompiler.specs.JsonAnswers.{HasPolicy}
 use Rattle.seccompiler.specs.JsonFilters.{AreAll, IsLeast}
 use Rattle.seccompiler.specs.JsonShape.{Under, Has}
-use Rattle.seccompiler.specs.Machine.{Ends}
-use Rattle.seccompiler.specs.Policy.{Filter, chain_under}
-use Rattle.seccompiler.specs.Record.{IsRecord, word_at}
+use Rattle.seccompiler.specs.Machine.{Ends, IsRecord, word_at}
 use Rattle.seccompiler.specs.Tree.{IsTreeCompiled, IsTreeCompilable, IsTreeTooLarge}
 use Rattle.seccomp_command_line.specs.Names.{readable}
 use Rattle.seccomptool.specs.Policies.{OfPolicy, IsPolicyFault}

@@ -6,9 +6,8 @@ use Rattle.seccompiler.specs.declared.backend.BackendError.{BackendError}
 use Rattle.seccompiler.specs.declared.backend.BackendError.TheVariants.{OutOfMemory}
 use Rattle.seccompiler.specs.declared.backend.TargetArch.{TargetArch}
 use Rattle.seccompiler.specs.declared.bpf.sock_filter.{sock_filter}
-use Rattle.seccompiler.specs.Compiled.{IsCompiled, Passes}
+use Rattle.seccompiler.specs.Compiled.{IsCompiled, Passes, IsCompilable}
 use Rattle.seccompiler.specs.Policy.{Filter}
-use Rattle.seccompiler.specs.Refusal.{IsCompilable}
 use Rattle.seccompiler.specs.Tree.{IsTreeCompilable}
 use Rattle.seccomptool.specs.Steps.{IsMeasureOf, HasTree, FilterSteps, filter_lines}
 use Rattle.seccomptool.specs.declared.steps.chains.MeasuredChains.{MeasuredChains}

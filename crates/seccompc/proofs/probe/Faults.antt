@@ -9,8 +9,7 @@ use Rattle.seccompiler.specs.Errors.{from_backend}
 use Rattle.seccompiler.specs.Texts.{IsInvalidArch}
 use Rattle.seccompiler.specs.Layout.{counted_length}
 use Rattle.seccompiler.specs.Policy.{Filter, IsCallNumber}
-use Rattle.seccompiler.specs.Compiled.{IsCompiled}
-use Rattle.seccompiler.specs.Refusal.{IsRefusal, IsCompilable, numbers_of}
+use Rattle.seccompiler.specs.Compiled.{IsCompiled, IsRefusal, IsCompilable, numbers_of}
 use Rattle.seccompc.specs.Errors.{from_library}
 use Rattle.seccompc.specs.Probe.{IsNameOf, no_architecture, no_argument, no_call_number}
 use Rattle.seccompc.specs.EngineSteps.{IsFilterFor, IsCompiledFor, IsRefusedProbe}

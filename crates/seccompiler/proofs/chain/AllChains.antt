@@ -5,8 +5,7 @@ use Rattle.std.proofs.lemmas.List.Sums.{sum_by_push, sum_by-append, sum_by-cons}
 use Rattle.std.proofs.lemmas.Bool.{cases_eq}
 use Rattle.std.specs.declared.alloc.Global.{Global}
 use Rattle.seccompiler.specs.declared.bpf.sock_filter.{sock_filter}
-use Rattle.seccompiler.specs.Record.{IsRecord}
-use Rattle.seccompiler.specs.Machine.{Goes, stays}
+use Rattle.seccompiler.specs.Machine.{IsRecord, Goes, stays}
 use Rattle.seccompiler.specs.Policy.{Rule, Chain, chains_of, chain_under}
 use Rattle.seccompiler.specs.Layout.{chain_length, chains_length, chain_steps}
 use Rattle.seccompiler.specs.ChainCode.{Returns, IsChainCode, Dispatches, in_chain, no_chain, IsChainsCode}

@@ -12,7 +12,7 @@ use Rattle.std.proofs.lemmas.Int.{ints}
 use Rattle.std.proofs.lemmas.List.Elements.{All-contains, All-from_recursion, Contains-append_cases, Contains-append_right}
 use Rattle.std.proofs.lemmas.Map.Keys.{sorted_head, sorted_tail}
 use Rattle.seccompiler.specs.Policy.{IsCallNumber}
-use Rattle.seccompiler.specs.Refusal.{IsLeastUnfit}
+use Rattle.seccompiler.specs.Compiled.{IsLeastUnfit}
 
 -- A number that fits 32 unsigned bits is a call number.
 call_number_if_fits : (z : ℤ) → FitsUnsignedBits 32 z → IsCallNumber z

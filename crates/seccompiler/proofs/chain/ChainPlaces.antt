@@ -8,9 +8,8 @@ use Rattle.std.proofs.lemmas.Option.{slice_get_read}
 use Rattle.seccompiler.specs.declared.bpf.sock_filter.{sock_filter}
 use Rattle.seccompiler.specs.declared.layout.places.Place.{Place}
 use Rattle.seccompiler.specs.declared.layout.places.Place.TheVariants.{OfRule, RuleHolds, CallDiffers}
-use Rattle.seccompiler.specs.Action.{word_of}
+use Rattle.seccompiler.specs.Policy.{word_of, Rule, Chain, Filter, chains_of}
 use Rattle.seccompiler.specs.Code.{jump, jump_equal, give}
-use Rattle.seccompiler.specs.Policy.{Rule, Chain, Filter, chains_of}
 use Rattle.seccompiler.specs.Places.{StandsInRule, Stands, HasChain, HasRule}
 use Rattle.seccompiler.specs.PlaceLists.{rule_places, numbered_places, rules_places, chain_places, chains_places, AreWords}
 use Rattle.seccompiler.proofs.FoundChains.{MapEntry}

@@ -7,8 +7,7 @@ use Rattle.std.proofs.lemmas.Bool.{cases_eq}
 use Rattle.std.proofs.lemmas.List.{get_or-set_same, get_or-set_other, length-set}
 use Rattle.std.proofs.lemmas.Option.{slice_get_within, slice_get-get_or, get_or_from_slice_get}
 use Rattle.seccompiler.specs.declared.bpf.sock_filter.{sock_filter}
-use Rattle.seccompiler.specs.Record.{IsRecord, word_at}
-use Rattle.seccompiler.specs.Machine.{stays, Ends}
+use Rattle.seccompiler.specs.Machine.{IsRecord, word_at, stays, Ends}
 use Rattle.seccompiler.specs.declared.compare.follow.At.{At}
 use Rattle.seccompiler.specs.declared.compare.Relation.{Relation}
 use Rattle.seccompiler.specs.Compare.{Related, AnswersRelated, AnswersUnrelated}

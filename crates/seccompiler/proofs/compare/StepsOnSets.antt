@@ -4,8 +4,7 @@ use Rattle.std.specs.Prelude.{slice_get, bit_and}
 use Rattle.std.proofs.lemmas.Bool.{false≢true}
 use Rattle.std.proofs.lemmas.Nat.{and_assoc, and_le_l}
 use Rattle.seccompiler.specs.declared.bpf.sock_filter.{sock_filter}
-use Rattle.seccompiler.specs.Record.{IsRecord, word_at}
-use Rattle.seccompiler.specs.Machine.{Does, masks, is_equal, is_not_equal, is_greater, is_not_greater, is_at_least, is_less, then_step}
+use Rattle.seccompiler.specs.Machine.{IsRecord, word_at, Does, masks, is_equal, is_not_equal, is_greater, is_not_greater, is_at_least, is_less, then_step}
 use Rattle.seccompiler.proofs.Words.{word_fits}
 use Rattle.seccompiler.specs.declared.compare.follow.At.{At}
 use Rattle.seccompiler.specs.WordSets.{Passes, passes_equal, passes_greater, passes_at_least}

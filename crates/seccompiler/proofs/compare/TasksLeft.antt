@@ -1,7 +1,7 @@
 -- For `compare::tasks::compare_on`: tasks that are left.
 use Rattle.std.proofs.Common.{ℕ, List, [], ◌∷◌, ◌++◌, ◌⊎◌, inl, inr, ⊎_elim}
 use Rattle.seccompiler.specs.declared.bpf.sock_filter.{sock_filter}
-use Rattle.seccompiler.specs.Record.{IsRecord}
+use Rattle.seccompiler.specs.Machine.{IsRecord}
 use Rattle.seccompiler.specs.declared.compare.Relation.{Relation}
 use Rattle.seccompiler.specs.declared.compare.values.Values.{Values}
 use Rattle.seccompiler.specs.declared.compare.tasks.Task.{Task}

@@ -7,14 +7,14 @@ use Rattle.std.proofs.lemmas.Int.{ints}
 use Rattle.std.proofs.lemmas.List.Elements.{All-contains}
 use Rattle.serde_json.specs.Data.{Data}
 use Rattle.seccompiler.specs.ByName.{ByName, AreInOrder}
-use Rattle.seccompiler.specs.Checked.{IsChecked}
+use Rattle.seccompiler.specs.Machine.{IsChecked}
 use Rattle.seccompiler.specs.Errors.{from_backend}
 use Rattle.seccompiler.specs.JsonAnswers.{IsValueOf, HasPolicy, ArePoliciesOf}
 use Rattle.seccompiler.specs.JsonPrograms.{Compiles, AreProgramsFor, AreProgramsOf, IsLeastTooLarge, IsLeastUncompiled, TellsFirstFault}
 use Rattle.seccompiler.specs.JsonSteps.{HaveTableNumbers}
 use Rattle.seccompiler.specs.Policy.{Filter, IsCallNumber}
 use Rattle.seccompiler.specs.UnderNames.{IsLeastGiven}
-use Rattle.seccompiler.specs.Refusal.{numbers_of, IsCompilable, IsRefusal, IsTooLarge}
+use Rattle.seccompiler.specs.Compiled.{numbers_of, IsCompilable, IsRefusal, IsTooLarge}
 use Rattle.seccompiler.specs.SyscallTable.{IsTableNumber}
 use Rattle.seccompiler.specs.declared.backend.BackendError.{BackendError}
 use Rattle.seccompiler.specs.declared.backend.BackendError.TheVariants as b

@@ -4,10 +4,10 @@ use Rattle.std.proofs.Math.Nat.{pow-succ'}
 use Rattle.std.specs.Prelude.{slice_index, All, replicate}
 use Rattle.std.proofs.lemmas.List.{length-replicate, append_assoc, length-append, get_or-append-add}
 use Rattle.std.proofs.lemmas.List.Elements.{All-nil, All-cons, All-append, All-replicate}
-use Rattle.seccompiler.specs.Record.{IsRecord, argument_at, number_at}
+use Rattle.seccompiler.specs.Machine.{IsRecord, argument_at, number_at}
 use Rattle.seccompiler.specs.declared.backend.SeccompCmpOp.{SeccompCmpOp}
 use Rattle.seccompiler.specs.declared.backend.SeccompCmpArgLen.{SeccompCmpArgLen}
-use Rattle.seccompiler.specs.Condition.{Condition, part_of, operator_part, Compares, Holds}
+use Rattle.seccompiler.specs.Policy.{Condition, part_of, operator_part, Compares, Holds}
 use Rattle.seccompiler.proofs.Words.{word_fits, number_halves}
 
 -- an argument has 64 bits

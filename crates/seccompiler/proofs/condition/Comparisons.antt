@@ -8,10 +8,9 @@ use Rattle.seccompiler.specs.declared.backend.SeccompCmpOp.{SeccompCmpOp}
 use Rattle.seccompiler.specs.declared.backend.SeccompCmpOp.TheVariants.{Eq, Ge, Gt, Le, Lt, MaskedEq, Ne}
 use Rattle.seccompiler.specs.declared.backend.SeccompCmpArgLen.{SeccompCmpArgLen}
 use Rattle.seccompiler.specs.declared.backend.SeccompCmpArgLen.TheVariants.{Dword, Qword}
-use Rattle.seccompiler.specs.Record.{word_at}
+use Rattle.seccompiler.specs.Machine.{word_at, Step, stays, then_step}
 use Rattle.seccompiler.specs.Code.{load, jump_equal, jump_greater}
-use Rattle.seccompiler.specs.Machine.{Step, stays, then_step}
-use Rattle.seccompiler.specs.Condition.{part_of, operator_part, Compares}
+use Rattle.seccompiler.specs.Policy.{part_of, operator_part, Compares}
 use Rattle.seccompiler.specs.ConditionCode.{comparison_code}
 use Rattle.seccompiler.specs.Pieces.{Exits}
 use Rattle.seccompiler.proofs.Words.{mask_halves}

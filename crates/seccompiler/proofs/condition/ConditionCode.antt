@@ -6,10 +6,9 @@ use Rattle.seccompiler.specs.declared.backend.SeccompCmpOp.{SeccompCmpOp}
 use Rattle.seccompiler.specs.declared.backend.SeccompCmpOp.TheVariants.{Eq, Ge, Gt, Le, Lt, MaskedEq, Ne}
 use Rattle.seccompiler.specs.declared.backend.SeccompCmpArgLen.{SeccompCmpArgLen}
 use Rattle.seccompiler.specs.declared.backend.SeccompCmpArgLen.TheVariants.{Dword, Qword}
-use Rattle.seccompiler.specs.Record.{word_at, argument_at}
-use Rattle.seccompiler.specs.Checked.{AreInRange}
+use Rattle.seccompiler.specs.Machine.{word_at, argument_at, AreInRange}
 use Rattle.seccompiler.specs.Pieces.{inside_load, inside_mask, inside_equal, inside_greater, inside_at_least, IsConditionCode}
-use Rattle.seccompiler.specs.Condition.{Condition, size_by}
+use Rattle.seccompiler.specs.Policy.{Condition, size_by}
 use Rattle.seccompiler.specs.ConditionCode.{comparison_code, condition_code}
 use Rattle.seccompiler.proofs.Closed.{EachInside, closed_from}
 use Rattle.seccompiler.proofs.Words.{word_fits, number_halves}

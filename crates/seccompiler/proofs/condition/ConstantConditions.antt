@@ -7,7 +7,7 @@ use Rattle.seccompiler.specs.declared.backend.SeccompCmpOp.{SeccompCmpOp}
 use Rattle.seccompiler.specs.declared.backend.SeccompCmpOp.TheVariants.{Eq, Ge, Gt, Le, Lt, MaskedEq, Ne}
 use Rattle.seccompiler.specs.declared.backend.SeccompCmpArgLen.{SeccompCmpArgLen}
 use Rattle.seccompiler.specs.declared.backend.SeccompCmpArgLen.TheVariants.{Dword, Qword}
-use Rattle.seccompiler.specs.Condition.{part_of}
+use Rattle.seccompiler.specs.Policy.{part_of}
 use Rattle.seccompiler.proofs.condition.AnyArgument.{Says}
 
 abbrev pub OfAll : SeccompCmpArgLen → SeccompCmpOp → ℕ → Type 0

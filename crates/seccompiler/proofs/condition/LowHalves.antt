@@ -1,7 +1,7 @@
 -- For `SeccompCondition::holds`: what a condition on the low half of an argument does not depend on.
 use Rattle.std.proofs.Common.{◌↔◌, IsTrue, ℕ, ◌%◌, ◌^◌, List, Bool, sym, ap, ◌∙◌, subst}
-use Rattle.seccompiler.specs.Record.{argument_at}
-use Rattle.seccompiler.specs.Condition.{Condition, part_of, operator_part, Compares, Holds}
+use Rattle.seccompiler.specs.Machine.{argument_at}
+use Rattle.seccompiler.specs.Policy.{Condition, part_of, operator_part, Compares, Holds}
 use Rattle.seccompiler.specs.LowHalf.{IsSameLowHalf, HasSameLowArgument}
 
 -- A condition on the low half of an argument depends on the low 32 bits of argument, value and mask alone.

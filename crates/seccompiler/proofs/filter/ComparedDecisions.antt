@@ -4,8 +4,7 @@ use Rattle.seccompiler.specs.declared.bpf.sock_filter.{sock_filter}
 use Rattle.seccompiler.specs.declared.compare.Relation.{Relation}
 use Rattle.seccompiler.specs.declared.compare.Comparison.{Comparison}
 use Rattle.seccompiler.specs.declared.compare.Comparison.TheVariants.{Holds, Fails, Undecided}
-use Rattle.seccompiler.specs.Record.{IsRecord}
-use Rattle.seccompiler.specs.Machine.{Ends}
+use Rattle.seccompiler.specs.Machine.{IsRecord, Ends}
 use Rattle.seccompiler.specs.Policy.{Filter, IsDecision}
 use Rattle.seccompiler.specs.Compare.{CallSet, Compares, AnswersRelated, AnswersUnrelated}
 use Rattle.seccompiler.specs.CompareFilters.{ComparesFilters, Decides, DecisionsRelated, DecisionsUnrelated, ComparesProgram}

@@ -10,11 +10,9 @@ use Rattle.std.specs.Ordering.{int_cmp}
 use Rattle.std.proofs.lemmas.List.{get_or_default, nil_from_length}
 use Rattle.std.proofs.lemmas.List.Elements.{All-weaker, AllZip-get_or, length_all_zip}
 use Rattle.std.proofs.lemmas.List.Sorted.{All-permutation, Contains-permutation, IsPermutation-sym, length_permutation}
-use Rattle.seccompiler.specs.Record.{number_at, word_at, argument_at}
+use Rattle.seccompiler.specs.Machine.{number_at, word_at, argument_at}
 use Rattle.seccompiler.specs.Architecture.{audit_word}
-use Rattle.seccompiler.specs.Action.{word_of}
-use Rattle.seccompiler.specs.Condition.{Condition, part_of, operator_part, Compares, Holds}
-use Rattle.seccompiler.specs.Policy.{Rule, Chain, Filter, chain_under, RuleHolds, ChainMatches, Matches, IsDecision, other_architecture, policy_matches, policy_differs}
+use Rattle.seccompiler.specs.Policy.{word_of, Condition, part_of, operator_part, Compares, Holds, Rule, Chain, Filter, chain_under, RuleHolds, ChainMatches, Matches, IsDecision, other_architecture, policy_matches, policy_differs}
 use Rattle.seccompiler.specs.Reorder.{IsReorderedRule, IsReorderedChain, IsReorderedEntry, IsReordered, IsSameCall}
 
 -- Records that agree in the bytes of a number agree in the number.

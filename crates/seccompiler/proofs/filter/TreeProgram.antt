@@ -2,14 +2,11 @@
 use Rattle.std.proofs.Common.{◌≡◌, ◌≢◌, ℕ, ◌+◌, ◌-◌, ◌*◌, ◌<◌, ◌≤◌, ◌^◌, List, [], ◌∷◌, ◌++◌, length, Option, refl, sym, ap, ◌∙◌, subst, arith, length-append, append_assoc, ⊎_elim, ℤ, Vec, Global}
 use Rattle.std.proofs.lemmas.Option.{slice_get_within}
 use Rattle.seccompiler.specs.declared.bpf.sock_filter.{sock_filter}
-use Rattle.seccompiler.specs.Record.{IsRecord, word_at}
+use Rattle.seccompiler.specs.Machine.{IsRecord, word_at, Goes, Ends, then_step, greatest_length, IsChecked, AreInRange}
 use Rattle.seccompiler.specs.Code.{load, give, jump_equal}
-use Rattle.seccompiler.specs.Machine.{Goes, Ends, then_step}
-use Rattle.seccompiler.specs.Checked.{greatest_length, IsChecked, AreInRange}
 use Rattle.seccompiler.specs.Pieces.{inside_load}
 use Rattle.seccompiler.specs.Architecture.{audit_word}
-use Rattle.seccompiler.specs.Action.{word_of}
-use Rattle.seccompiler.specs.Policy.{Rule, Chain, Filter, chain_under, ChainMatches, IsDecision, other_architecture, policy_matches, policy_differs}
+use Rattle.seccompiler.specs.Policy.{word_of, Rule, Chain, Filter, chain_under, ChainMatches, IsDecision, other_architecture, policy_matches, policy_differs}
 use Rattle.seccompiler.specs.ChainCode.{IsBlock}
 use Rattle.seccompiler.specs.Ranges.{Range, AreRanges, HasNoRules}
 use Rattle.seccompiler.specs.Tree.{DecidesWithin, IsTreeCompiled}

@@ -8,14 +8,11 @@ use Rattle.seccompiler.specs.declared.backend.SeccompAction.{SeccompAction}
 use Rattle.seccompiler.specs.declared.backend.SeccompAction.TheVariants.{Allow, Errno, KillThread, KillProcess, Log, Trace, Trap}
 use Rattle.seccompiler.specs.declared.backend.TargetArch.{TargetArch}
 use Rattle.seccompiler.specs.declared.backend.TargetArch.TheVariants.{x86_64}
-use Rattle.seccompiler.specs.Record.{IsRecord, word_at}
+use Rattle.seccompiler.specs.Machine.{IsRecord, word_at, Goes, stays, then_step, Ends, greatest_length, IsFine, fine_load, fine_mask, fine_jump, fine_equal, fine_greater, fine_at_least, fine_return, IsChecked, AreInRange, IsInRange}
 use Rattle.seccompiler.specs.Code.{load, give, jump_equal, guard_code}
-use Rattle.seccompiler.specs.Machine.{Goes, stays, then_step, Ends}
-use Rattle.seccompiler.specs.Checked.{greatest_length, IsFine, fine_load, fine_mask, fine_jump, fine_equal, fine_greater, fine_at_least, fine_return, IsChecked, AreInRange, IsInRange}
 use Rattle.seccompiler.specs.Pieces.{IsInside, inside_load, inside_mask, inside_jump, inside_equal, inside_greater, inside_at_least}
 use Rattle.seccompiler.specs.Architecture.{audit_word}
-use Rattle.seccompiler.specs.Action.{word_of}
-use Rattle.seccompiler.specs.Policy.{Rule, Chain, Filter, chains_of, chain_under, ChainMatches, IsDecision, other_architecture, policy_matches, policy_differs}
+use Rattle.seccompiler.specs.Policy.{word_of, Rule, Chain, Filter, chains_of, chain_under, ChainMatches, IsDecision, other_architecture, policy_matches, policy_differs}
 use Rattle.seccompiler.specs.Layout.{chains_length, counted_length_of, counted_length, chains_steps, passing_steps}
 use Rattle.seccompiler.specs.ChainCode.{Returns, IsBlock, Dispatches, in_chain, no_chain, IsChainsCode}
 use Rattle.seccompiler.specs.Compiled.{EndsAtDecision, IsCompiled, Passes}

@@ -4,7 +4,7 @@ use Rattle.std.proofs.lemmas.Bool.{eqb-true, cases_lt}
 use Rattle.std.specs.Prelude.{slice_get}
 use Rattle.std.proofs.lemmas.Option.{get_or_from_slice_get, slice_get-get_or, slice_get_within}
 use Rattle.seccompiler.specs.declared.bpf.sock_filter.{sock_filter}
-use Rattle.seccompiler.specs.Checked.{greatest_length, IsFine, IsInRange, IsChecked}
+use Rattle.seccompiler.specs.Machine.{greatest_length, IsFine, IsInRange, IsChecked}
 
 -- A fact of every place below j and of place j is one of every place below j + 1.
 pub one_more : (P : ℕ → sock_filter → Type 0) (p : List sock_filter) (j : ℕ) (default : sock_filter) → ((place : ℕ) → place < j → (i : sock_filter) → slice_get p place ≡ Some i → P place i) → P j (get_or p j default) → (place : ℕ) → place < j + 1 → (i : sock_filter) → slice_get p place ≡ Some i → P place i

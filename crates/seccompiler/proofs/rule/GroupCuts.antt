@@ -5,9 +5,8 @@ use Rattle.std.proofs.lemmas.Bool.Decides.{nat_tests}
 use Rattle.std.proofs.lemmas.List.{append_cancel_left}
 use Rattle.std.proofs.lemmas.List.Elements.{All-nil, All-cons, All-head, All-tail}
 use Rattle.std.proofs.lemmas.List.Sums.{sum_by-append}
-use Rattle.seccompiler.specs.Condition.{Condition, size_of}
-use Rattle.seccompiler.specs.Sizes.{greatest_offset}
-use Rattle.seccompiler.specs.Groups.{total_size, ClosesLate, IsCutIntoGroups, groups_from, groups_of, IsOnlyCut, relays}
+use Rattle.seccompiler.specs.Policy.{Condition, size_of}
+use Rattle.seccompiler.specs.Layout.{greatest_offset, total_size, ClosesLate, IsCutIntoGroups, groups_from, groups_of, IsOnlyCut, relays}
 
 -- How two fronts of one list lie: they are equal, or one is a proper front of the other.
 data Fronts (one other : List Condition) : Type 0 where

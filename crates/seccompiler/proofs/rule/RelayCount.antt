@@ -3,9 +3,8 @@
 use Rattle.std.proofs.Common.{◌≡◌, ℕ, suc, ◌+◌, ◌<◌, ◌≤◌, List, [], ◌∷◌, ◌++◌, length, sym, ap, ◌∙◌, arith, length-append, append_assoc, append-nil, Bool, true, false, nat_le}
 use Rattle.std.specs.Prelude.{if◌then◌else◌}
 use Rattle.std.proofs.lemmas.Bool.Decides.{nat_tests}
-use Rattle.seccompiler.specs.Condition.{Condition, size_of}
-use Rattle.seccompiler.specs.Sizes.{greatest_offset}
-use Rattle.seccompiler.specs.Groups.{total_size, groups_from, groups_of, relays}
+use Rattle.seccompiler.specs.Policy.{Condition, size_of}
+use Rattle.seccompiler.specs.Layout.{greatest_offset, total_size, groups_from, groups_of, relays}
 use Rattle.seccompiler.proofs.rule.RuleCode.{total_more}
 
 -- The cut of the conditions so far: k groups are closed, and the one that is begun has offset o.

@@ -9,14 +9,10 @@ use Rattle.seccompiler.specs.declared.backend.SeccompCmpOp.{SeccompCmpOp}
 use Rattle.seccompiler.specs.declared.backend.SeccompCmpOp.TheVariants.{Eq, Ge, Gt, Le, Lt, MaskedEq, Ne}
 use Rattle.seccompiler.specs.declared.backend.SeccompCmpArgLen.{SeccompCmpArgLen}
 use Rattle.seccompiler.specs.declared.backend.SeccompCmpArgLen.TheVariants.{Dword, Qword}
-use Rattle.seccompiler.specs.Record.{IsRecord}
-use Rattle.seccompiler.specs.Machine.{Goes, stays, then_step}
-use Rattle.seccompiler.specs.Checked.{AreInRange}
+use Rattle.seccompiler.specs.Machine.{IsRecord, Goes, stays, then_step, AreInRange}
 use Rattle.seccompiler.specs.Pieces.{inside_jump, IsClosed, Leads, Exits, IsConditionCode, IsRuleCode}
-use Rattle.seccompiler.specs.Condition.{Condition, Holds, size_by, size_of}
-use Rattle.seccompiler.specs.Policy.{RuleHolds}
-use Rattle.seccompiler.specs.Sizes.{greatest_offset}
-use Rattle.seccompiler.specs.Groups.{total_size, relays}
+use Rattle.seccompiler.specs.Policy.{Condition, Holds, size_by, size_of, RuleHolds}
+use Rattle.seccompiler.specs.Layout.{greatest_offset, total_size, relays}
 use Rattle.seccompiler.specs.Relay.{relay_code, entry_code}
 use Rattle.seccompiler.proofs.Runs.{goes_shift, goes_on, stands_second, leads_to, leads_from, leads_second, stays_small, leads_through, leads_both, via}
 use Rattle.seccompiler.proofs.Closed.{closed_join, closed_from, ranges_join, ranges_from, jump_in_range}

@@ -10,10 +10,9 @@ use Rattle.seccompiler.specs.declared.backend.SeccompCmpOp.TheVariants.{Eq, Ge, 
 use Rattle.seccompiler.specs.declared.backend.SeccompCmpArgLen.{SeccompCmpArgLen}
 use Rattle.seccompiler.specs.declared.backend.SeccompCmpArgLen.TheVariants.{Dword, Qword}
 use Rattle.seccompiler.specs.declared.layout.places.RulePlace.TheVariants.{OfCondition, RelayToConditions, RelayToExit, RelayPastRule}
-use Rattle.seccompiler.specs.Condition.{Condition, size_of}
+use Rattle.seccompiler.specs.Policy.{Condition, size_of, Rule}
 use Rattle.seccompiler.specs.ConditionCode.{comparison_code, condition_code}
-use Rattle.seccompiler.specs.Policy.{Rule}
-use Rattle.seccompiler.specs.Sizes.{greatest_offset}
+use Rattle.seccompiler.specs.Layout.{greatest_offset}
 use Rattle.seccompiler.specs.Relay.{relay_code, entry_code, relay_front, offset_behind}
 use Rattle.seccompiler.specs.Places.{StandsInCondition, StandsInRule}
 use Rattle.seccompiler.specs.PlaceLists.{comparison_places, condition_places, conditions_places, relay_places, rule_places}

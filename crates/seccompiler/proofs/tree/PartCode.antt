@@ -1,9 +1,8 @@
 -- For `write_halved`, `write_own` and `write_row`: what the code of ranges in a block does.
 use Rattle.std.proofs.Common.{◌≡◌, ℕ, suc, ◌+◌, ◌*◌, ◌<◌, ◌≤◌, ◌^◌, List, [], ◌∷◌, ◌++◌, length, Option, Some, None, refl, sym, ap, ap₂, zero, ◌∙◌, subst, length-append, arith, max, inr, ⊎_elim}
 use Rattle.seccompiler.specs.declared.bpf.sock_filter.{sock_filter}
-use Rattle.seccompiler.specs.Record.{IsRecord}
+use Rattle.seccompiler.specs.Machine.{IsRecord, Goes, Step, stays, then_step}
 use Rattle.seccompiler.specs.Code.{give}
-use Rattle.seccompiler.specs.Machine.{Goes, Step, stays, then_step}
 use Rattle.seccompiler.specs.Policy.{Rule, Chain}
 use Rattle.seccompiler.specs.ChainCode.{Returns, IsRulesCode}
 use Rattle.seccompiler.specs.Ranges.{Range, found_in, HasNoRules}

@@ -8,8 +8,7 @@ use Rattle.std.proofs.Math.ListN.{length-set}
 use Rattle.std.proofs.Math.Seq.{take-suc-set}
 use Rattle.seccompiler.specs.declared.bpf.sock_filter.{sock_filter}
 use Rattle.seccompiler.specs.Code.{give, jump, jump_at_least}
-use Rattle.seccompiler.specs.Machine.{Goes, stays, then_step}
-use Rattle.seccompiler.specs.Checked.{IsInRange, AreInRange}
+use Rattle.seccompiler.specs.Machine.{Goes, stays, then_step, IsInRange, AreInRange}
 use Rattle.seccompiler.specs.Pieces.{inside_jump, inside_at_least}
 use Rattle.seccompiler.specs.Policy.{Rule, Chain}
 use Rattle.seccompiler.specs.Layout.{rules_length}

@@ -3,7 +3,7 @@
 ghost use Rattle.std.specs.Prelude.{◌≡◌, ◌++◌, OnOk};
 ghost use Rattle.std.specs.BTreeMap.{keys};
 ghost use Rattle.seccompiler.specs.Policy.{chains_of};
-ghost use Rattle.seccompiler.specs.Refusal.{AreCallNumbers};
+ghost use Rattle.seccompiler.specs.Compiled.{AreCallNumbers};
 ghost use Rattle.seccompiler.specs.PlaceLists.{chain_places, chains_places, numbered_places, rules_places};
 
 use crate::chain::call_number;

@@ -1,7 +1,7 @@
 // Sets of calls, which a comparison speaks of.
 
 ghost use Rattle.std.specs.Prelude.{ℕ, List};
-ghost use Rattle.seccompiler.specs.Record.{IsRecord};
+ghost use Rattle.seccompiler.specs.Machine.{IsRecord};
 ghost use Rattle.seccompiler.specs.RecordSets.{IsIn, AreTight};
 
 use super::sets::narrowed;
@@ -39,7 +39,7 @@ impl Model for Calls {
 
 impl Calls {
     ghost use Rattle.std.specs.Prelude.{◌≡◌, ◌≤◌, ◌↔◌, ℕ, List};
-    ghost use Rattle.seccompiler.specs.Record.{IsRecord, word_at};
+    ghost use Rattle.seccompiler.specs.Machine.{IsRecord, word_at};
     ghost use Rattle.seccompiler.specs.Architecture.{audit_word};
     ghost use Rattle.seccompiler.specs.Compare.{IsCallOf};
     ghost use Rattle.seccompiler.specs.RecordSets.{IsIn, AreTight};

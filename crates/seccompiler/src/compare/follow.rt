@@ -1,9 +1,7 @@
 // Runs of a program on all records of a set at once.
 
 ghost use Rattle.std.specs.Prelude.{◌≡◌, ◌≢◌, ℕ, ◌+◌, ◌*◌, ◌<◌, length, List, IfSome};
-ghost use Rattle.seccompiler.specs.Record.{IsRecord, word_at};
-ghost use Rattle.seccompiler.specs.Checked.{IsFine, IsChecked};
-ghost use Rattle.seccompiler.specs.Machine.{Does};
+ghost use Rattle.seccompiler.specs.Machine.{IsRecord, word_at, IsFine, IsChecked, Does};
 ghost use Rattle.seccompiler.specs.WordSets.{HasValue};
 ghost use Rattle.seccompiler.specs.RecordSets.{IsIn, accumulator, Reaches};
 

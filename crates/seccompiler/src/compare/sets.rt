@@ -1,7 +1,7 @@
 // Sets of call records, each by what is known of its 16 words.
 
 ghost use Rattle.std.specs.Prelude.{◌≡◌, ◌≢◌, ℕ, ◌*◌, ◌^◌, ◌<◌, ◌⊎◌, List, Some, slice_get, IsTrue, false};
-ghost use Rattle.seccompiler.specs.Record.{IsRecord, word_at};
+ghost use Rattle.seccompiler.specs.Machine.{IsRecord, word_at};
 ghost use Rattle.seccompiler.specs.declared.compare.values.Values.{Values};
 ghost use Rattle.seccompiler.specs.WordSets.{HasValue, IsTight};
 ghost use Rattle.seccompiler.specs.RecordSets.{IsIn, AreTight, LeavesSome};

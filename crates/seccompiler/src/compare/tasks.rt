@@ -2,7 +2,7 @@
 
 ghost use Rattle.std.specs.Prelude.{◌≡◌, ◌<◌, ℕ, List, length, IfOk};
 ghost use Rattle.seccompiler.specs.declared.bpf.sock_filter.{sock_filter};
-ghost use Rattle.seccompiler.specs.Checked.{IsChecked};
+ghost use Rattle.seccompiler.specs.Machine.{IsChecked};
 ghost use Rattle.seccompiler.specs.RecordSets.{AreTight, LeavesSome};
 ghost use Rattle.seccompiler.specs.CompareTasks.{ComparesWithin, IsTask, AreParts, IsProgress};
 

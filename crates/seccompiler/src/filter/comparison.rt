@@ -9,7 +9,7 @@ use std::alloc::Global;
 impl SeccompFilter {
     ghost use Rattle.std.specs.Prelude.{IfOk, IfErr, OnOk};
     ghost use Rattle.seccompiler.specs.CompareFilters.{ComparesFilters, IsCompilableInSome, IsProgramRefusal, IsComparisonRefusal, Decides, ComparesProgram};
-    ghost use Rattle.seccompiler.specs.Checked.{IsChecked};
+    ghost use Rattle.seccompiler.specs.Machine.{IsChecked};
 
     /// Compares what two filters decide, for each call of a set.
     ///

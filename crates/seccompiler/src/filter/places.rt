@@ -9,8 +9,7 @@ use std::alloc::{AllocError, Global};
 
 impl SeccompFilter {
     ghost use Rattle.std.specs.Prelude.{◌≡◌, IfOk, IfErr, OnOk};
-    ghost use Rattle.seccompiler.specs.Compiled.{IsCompiled};
-    ghost use Rattle.seccompiler.specs.Refusal.{numbers_of, AreCallNumbers, IsCompilable, IsRefusal};
+    ghost use Rattle.seccompiler.specs.Compiled.{IsCompiled, numbers_of, AreCallNumbers, IsCompilable, IsRefusal};
     ghost use Rattle.seccompiler.specs.Places.{ArePlaces};
     ghost use Rattle.seccompiler.specs.PlaceLists.{linear_places};
 

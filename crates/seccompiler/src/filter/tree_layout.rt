@@ -1,7 +1,7 @@
 // The second layout of a filter's program: a tree of tests over ranges of call numbers.
 
 ghost use Rattle.std.specs.Prelude.{◌≡◌, ◌≤◌, vec_len, IfOk, IfErr};
-ghost use Rattle.seccompiler.specs.Checked.{greatest_length};
+ghost use Rattle.seccompiler.specs.Machine.{greatest_length};
 ghost use Rattle.seccompiler.specs.BlankProgram.{RefusesLength};
 
 use super::SeccompFilter;
@@ -15,11 +15,9 @@ use std::alloc::Global;
 
 impl SeccompFilter {
     ghost use Rattle.std.specs.Prelude.{◌≡◌, ◌≤◌, ◌+◌, ℕ, List, length, IfOk, IfErr, OnOk};
-    ghost use Rattle.seccompiler.specs.Record.{IsRecord};
-    ghost use Rattle.seccompiler.specs.Refusal.{numbers_of, AreCallNumbers};
-    ghost use Rattle.seccompiler.specs.Checked.{greatest_length};
-    ghost use Rattle.seccompiler.specs.Compiled.{IsCompiled};
-    ghost use Rattle.seccompiler.specs.Sizes.{guard_length};
+    ghost use Rattle.seccompiler.specs.Machine.{IsRecord, greatest_length};
+    ghost use Rattle.seccompiler.specs.Compiled.{numbers_of, AreCallNumbers, IsCompiled};
+    ghost use Rattle.seccompiler.specs.Layout.{guard_length};
     ghost use Rattle.seccompiler.specs.Ranges.{AreRanges, HasRanges};
     ghost use Rattle.seccompiler.specs.Tree.{tree_length, IsTreeCompiled, IsTreeCompilable, IsTreeRefusal, AnswerAlike};
 

@@ -12,7 +12,7 @@ ghost use Rattle.seccompiler.specs.JsonAnswers.{IsValueOf, OfValue, ArePoliciesO
 ghost use Rattle.seccompiler.specs.JsonSteps.{AreFilters, ArePoliciesFor, HaveTableNumbers, IsLeastPolicyRefusal, IsNoFailedRead, IsPolicyRefusal};
 ghost use Rattle.seccompiler.specs.Reads.{Reads};
 ghost use Rattle.seccompiler.specs.Policy.{Filter};
-ghost use Rattle.seccompiler.specs.Refusal.{numbers_of};
+ghost use Rattle.seccompiler.specs.Compiled.{numbers_of};
 ghost use Rattle.seccompiler.specs.SyscallTable.{IsTableNumber};
 ghost use Rattle.seccompiler.specs.JsonPolicyOf.{Fault, IsFirstFault, IsPolicyOf};
 ghost use Rattle.seccompiler.specs.JsonWidened.{DecideAlikeOff, KeepsMatches, MatchesOn, IsPolicyBefore, IsWidened};

@@ -1,6 +1,6 @@
 use Rattle.std.proofs.Common.{ℕ, List, w64, rules, subst}
 use Rattle.std.proofs.lemmas.Int.{to_z-of_z}
-use Rattle.seccompiler.specs.Checked.{IsChecked}
+use Rattle.seccompiler.specs.Machine.{IsChecked}
 use Rattle.seccompiler_c.specs.Decisions.{returned, Returns}
 use Rattle.seccompiler_c.proofs.seccompiler_run.Goals as goal
 

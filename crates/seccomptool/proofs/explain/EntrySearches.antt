@@ -11,7 +11,7 @@ use Rattle.std.proofs.lemmas.Option.{get_or_from_slice_get, slice_get_within}
 use Rattle.seccompiler.specs.declared.backend.TargetArch.{TargetArch}
 use Rattle.seccompiler.specs.JsonPolicyOf.{is_for, is_number, IsFor}
 use Rattle.seccompiler.specs.JsonTypes.{JsonRule}
-use Rattle.seccompiler.specs.Record.{word_at}
+use Rattle.seccompiler.specs.Machine.{word_at}
 use Rattle.seccompiler.specs.Architecture.{table_of}
 use Rattle.seccompiler.specs.SyscallTable.{number_of}
 use Rattle.seccomptool.specs.declared.explain.reason.Reason.{Reason}

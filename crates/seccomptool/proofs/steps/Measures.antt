@@ -16,17 +16,15 @@ use Rattle.seccompiler.specs.declared.backend.BackendError.{BackendError}
 use Rattle.seccompiler.specs.declared.backend.BackendError.TheVariants as backend
 use Rattle.seccompiler.specs.declared.bpf.sock_filter.{sock_filter}
 use Rattle.seccompiler.specs.Architecture.{audit_word, table_of}
-use Rattle.seccompiler.specs.Action.{word_of}
-use Rattle.seccompiler.specs.Compiled.{IsCompiled}
+use Rattle.seccompiler.specs.Policy.{word_of, Filter, chain_under}
+use Rattle.seccompiler.specs.Compiled.{IsCompiled, IsCompilable, IsRefusal, IsLeastUnfit, numbers_of}
 use Rattle.seccompiler.specs.Errors.{from_backend}
 use Rattle.seccompiler.specs.JsonAnswers.{OfValue, HasPolicy, HasSomePolicy, ArePoliciesOf}
 use Rattle.seccompiler.specs.JsonFilters.{AreAll, IsLeast}
 use Rattle.seccompiler.specs.JsonShape.{Has, Under}
 use Rattle.seccompiler.specs.Layout.{passing_steps}
 use Rattle.seccompiler.specs.Machine.{Ends}
-use Rattle.seccompiler.specs.Policy.{Filter, chain_under}
 use Rattle.seccompiler.specs.Reads.{Reads}
-use Rattle.seccompiler.specs.Refusal.{IsCompilable, IsRefusal, IsLeastUnfit, numbers_of}
 use Rattle.seccompiler.specs.SyscallTable.{IsCallTable}
 use Rattle.seccompiler.specs.Tree.{IsTreeCompilable, IsTreeCompiled, IsTreeRefusal}
 use Rattle.seccomptool.specs.Errors.{from_library, IsWriteError}

@@ -10,7 +10,7 @@ use Rattle.seccompiler.specs.declared.backend.TargetArch.{TargetArch}
 use Rattle.seccompiler.specs.JsonPolicyOf.{IsPolicyOf, chain_at}
 use Rattle.seccompiler.specs.JsonTypes.{JsonFilter}
 use Rattle.seccompiler.specs.Policy.{Filter, IsCallNumber, chain_under}
-use Rattle.seccompiler.specs.Refusal.{numbers_of, IsLeastUnfit}
+use Rattle.seccompiler.specs.Compiled.{numbers_of, IsLeastUnfit}
 use Rattle.seccompiler.specs.Architecture.{table_of}
 use Rattle.seccompiler.specs.SyscallTable.{Pair, IsTableNumber, IsCallTable, number_of}
 

@@ -2,9 +2,9 @@
 
 ghost use Rattle.std.specs.Prelude.{◌≡◌, ◌≤◌, ◌↔◌, pos, All, IfSome, IsTrue};
 ghost use Rattle.seccompiler.specs.Architecture.{audit_word};
-ghost use Rattle.seccompiler.specs.Condition.{Holds};
+ghost use Rattle.seccompiler.specs.Policy.{Holds};
 ghost use Rattle.seccompiler.specs.JsonPolicyOf.{condition_of, is_for, IsFineEntry, AreFineArgs};
-ghost use Rattle.seccompiler.specs.Record.{word_at};
+ghost use Rattle.seccompiler.specs.Machine.{word_at};
 ghost use Rattle.seccomptool.specs.declared.explain.reason.Reason.{Reason};
 ghost use Rattle.seccomptool.specs.Reasons.{EntryHolds, IsReason};
 

@@ -1,7 +1,7 @@
 // An instruction in words, and what it stands for by itself.
 
 ghost use Rattle.std.specs.Prelude.{◌≡◌, ◌<◌, ◌^◌, ◌++◌, IfOk, codes, string_bytes};
-ghost use Rattle.seccompiler.specs.Action.{word_of};
+ghost use Rattle.seccompiler.specs.Policy.{word_of};
 ghost use Rattle.seccompiler.specs.declared.backend.SeccompAction.{SeccompAction};
 ghost use Rattle.seccomptool.specs.ShowText.{action_text, loaded, meaning_of, operand, returned, tested, words_of};
 

@@ -2,7 +2,7 @@
 
 ghost use Rattle.std.specs.Prelude.{◌≡◌, ◌≤◌, ◌<◌, ◌^◌, ◌+◌, ◌++◌, [], ◌∷◌, pos, map, replicate, length, codes, decimal, string_bytes, option_map, IfOk, OnOk};
 ghost use Rattle.std.specs.List.{list_any};
-ghost use Rattle.seccompiler.specs.Condition.{size_of};
+ghost use Rattle.seccompiler.specs.Policy.{size_of};
 ghost use Rattle.seccompiler.specs.JsonPolicyOf.{all_rules, condition_of, is_always, is_for, rules_for};
 ghost use Rattle.seccomptool.specs.Show.{labels_in};
 ghost use Rattle.seccomptool.specs.ShowLabels.{always_labels, chain_labels, conditions_labels, labels_below, name_of, named_labels, offset_before, program_labels, relay_labels, condition_label, rule_label, rule_labels, rules_labels, ruled_labels};

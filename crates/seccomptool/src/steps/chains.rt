@@ -3,7 +3,7 @@
 ghost use Rattle.std.specs.Prelude.{◌≡◌, map, IfOk, IfErr, string_cmp};
 ghost use Rattle.std.specs.List.Sorted.{IsStrictlySortedBy};
 ghost use Rattle.std.specs.Map.{keys_of};
-ghost use Rattle.seccompiler.specs.Refusal.{IsCompilable, IsRefusal};
+ghost use Rattle.seccompiler.specs.Compiled.{IsCompilable, IsRefusal};
 ghost use Rattle.seccomptool.specs.StepsParts.{IsFirstRefusal, named_filter, AreMeasured};
 
 use super::measure::{Measure, measure_of};

@@ -1,7 +1,7 @@
 // How long a program is, and how many steps it takes.
 
 ghost use Rattle.std.specs.Prelude.{◌≡◌, ◌++◌, IfOk, OnOk, decimal};
-ghost use Rattle.seccompiler.specs.Checked.{IsChecked};
+ghost use Rattle.seccompiler.specs.Machine.{IsChecked};
 ghost use Rattle.seccomptool.specs.Steps.{IsMeasureOf, passing_record, measure_line};
 
 use super::ways::most_steps;

@@ -1,7 +1,7 @@
 // The most instructions on a way through a program.
 
 ghost use Rattle.std.specs.Prelude.{◌≡◌, ◌≢◌, ◌+◌, ◌<◌, length, IfOk};
-ghost use Rattle.seccompiler.specs.Checked.{IsFine, IsChecked};
+ghost use Rattle.seccompiler.specs.Machine.{IsFine, IsChecked};
 ghost use Rattle.seccomptool.specs.Ways.{IsMost, IsGreatestNext};
 
 use seccompiler::bpf::{

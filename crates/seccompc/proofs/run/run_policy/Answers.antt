@@ -2,7 +2,7 @@ use Rattle.std.proofs.Common.{◌≡◌, Some, None, IfSome, Vec, Global, sym, s
 use Rattle.std.proofs.lemmas.Result.{err_from_is_err_and}
 use Rattle.std.specs.BTreeMap.{get_by_text}
 use Rattle.seccompiler.specs.declared.bpf.sock_filter.{sock_filter}
-use Rattle.seccompiler.specs.Checked.{IsChecked}
+use Rattle.seccompiler.specs.Machine.{IsChecked}
 use Rattle.seccompc.proofs.Policies.{policy_run_refused, none_found, ran}
 use Rattle.seccompc.proofs.run.run_policy.Goals as goal
 

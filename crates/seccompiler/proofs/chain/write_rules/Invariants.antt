@@ -1,7 +1,6 @@
 use Rattle.std.proofs.Common.{◌≡◌, ℕ, ◌≤◌, length, take}
 use Rattle.std.specs.List.{AllZip}
-use Rattle.seccompiler.specs.Action.{word_of}
-use Rattle.seccompiler.specs.Policy.{Filter}
+use Rattle.seccompiler.specs.Policy.{word_of, Filter}
 use Rattle.seccompiler.specs.Places.{HasChain, Stands}
 use Rattle.seccompiler.specs.PlaceLists.{rules_places}
 use Rattle.seccompiler.specs.ChainCode.{IsRulesCode}

@@ -1,6 +1,6 @@
 use Rattle.std.proofs.Common.{ℕ, List, Option, Vec, Global, IfSome, string_eq, rules, sym, subst}
 use Rattle.std.specs.HashMap.{IsFromIterResult}
-use Rattle.seccompiler.specs.Checked.{IsChecked}
+use Rattle.seccompiler.specs.Machine.{IsChecked}
 use Rattle.seccompiler.specs.JsonAnswers.{OfValue}
 use Rattle.seccompiler.specs.JsonPrograms.{AreProgramsOf}
 use Rattle.seccompiler.specs.Reads.{Reads}

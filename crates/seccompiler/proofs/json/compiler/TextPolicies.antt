@@ -9,7 +9,7 @@ use Rattle.seccompiler.specs.JsonPolicyOf.{Fault, refused, unknown_call, IsPolic
 use Rattle.seccompiler.specs.JsonSteps.{AreFilters, ArePoliciesFor, IsFaultless, IsLeastPolicyRefusal, IsPolicyRefusal, HaveTableNumbers}
 use Rattle.seccompiler.specs.JsonShape.{IsFilter}
 use Rattle.seccompiler.specs.Policy.{Filter}
-use Rattle.seccompiler.specs.Refusal.{numbers_of}
+use Rattle.seccompiler.specs.Compiled.{numbers_of}
 use Rattle.seccompiler.specs.SyscallTable.{IsTableNumber}
 use Rattle.seccompiler.specs.UnderNames.{IsLeastGiven}
 use Rattle.seccompiler.specs.declared.backend.TargetArch.{TargetArch}

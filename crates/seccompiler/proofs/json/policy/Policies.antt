@@ -26,7 +26,7 @@ use Rattle.seccompiler.specs.JsonGathered.{added, chain_of, rules_at, AreGathere
 use Rattle.seccompiler.specs.JsonWidened.{IsPolicyBefore}
 use Rattle.seccompiler.specs.JsonTypes.{JsonRule, JsonFilter}
 use Rattle.seccompiler.specs.Policy.{Rule, Chain, Filter, chains_of}
-use Rattle.seccompiler.specs.Refusal.{numbers_of}
+use Rattle.seccompiler.specs.Compiled.{numbers_of}
 use Rattle.seccompiler.specs.Architecture.{table_of}
 use Rattle.seccompiler.specs.SyscallTable.{IsTableNumber, number_of}
 use Rattle.seccompiler.proofs.json.policy.EntryFaults.{all_fine_or_fault, none_wrong, one_first}

@@ -14,10 +14,9 @@ use Rattle.seccompiler.specs.JsonGathered.{added, rules_at, AreGathered, numbers
 use Rattle.seccompiler.specs.JsonPolicyOf.{all_rules, chain_for, rules_of, chain_at, is_for, is_always, IsFor, IsPolicyOf}
 use Rattle.seccompiler.specs.JsonWidened.{IsPolicyBefore, IsWidened, DecideAlikeOff, MatchesOn}
 use Rattle.seccompiler.specs.JsonTypes.{JsonRule, JsonFilter}
-use Rattle.seccompiler.specs.Policy.{Rule, Filter, Matches, IsDecision, other_architecture, policy_matches, policy_differs}
+use Rattle.seccompiler.specs.Policy.{Rule, Filter, Matches, IsDecision, other_architecture, policy_matches, policy_differs, word_of}
 use Rattle.seccompiler.specs.Architecture.{audit_word}
-use Rattle.seccompiler.specs.Action.{word_of}
-use Rattle.seccompiler.specs.Record.{word_at}
+use Rattle.seccompiler.specs.Machine.{word_at}
 use Rattle.seccompiler.proofs.json.policy.Policies.{any_decides, for_decides, some_rules, for_either, found_in}
 
 none_decides : (o : Option (List JsonCondition)) → Decides (is_none o) (o ≡ None)

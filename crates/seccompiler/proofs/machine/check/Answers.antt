@@ -1,6 +1,6 @@
 use Rattle.std.proofs.Common.{refl, ◌<◌, ◌≤◌, length, arith}
 use Rattle.std.proofs.lemmas.Bool.Decides.{nat_tests}
-use Rattle.seccompiler.specs.Checked.{greatest_length, IsFine, IsInRange}
+use Rattle.seccompiler.specs.Machine.{greatest_length, IsFine, IsInRange}
 use Rattle.seccompiler.proofs.machine.CheckedLemmas.{one_more, checked_if}
 use Rattle.seccompiler.proofs.machine.check.Goals as goal
 

@@ -1,7 +1,7 @@
 use Rattle.std.proofs.Common.{◌≡◌, ℕ, ◌<◌, length, Some}
 use Rattle.std.specs.Prelude.{slice_get}
 use Rattle.seccompiler.specs.declared.bpf.sock_filter.{sock_filter}
-use Rattle.seccompiler.specs.Checked.{IsFine, IsInRange}
+use Rattle.seccompiler.specs.Machine.{IsFine, IsInRange}
 use Rattle.seccompiler.proofs.machine.check.Given as goal
 
 -- each instruction so far is fine, and within its fields' ranges

@@ -4,7 +4,7 @@ use Rattle.std.specs.BTreeMap.{get_by_text}
 use Rattle.std.proofs.lemmas.Result.{err_from_is_err_and}
 use Rattle.seccompiler.specs.JsonAnswers.{OfValue, ArePoliciesOf}
 use Rattle.seccompiler.specs.Policy.{Filter}
-use Rattle.seccompiler.specs.Refusal.{numbers_of}
+use Rattle.seccompiler.specs.Compiled.{numbers_of}
 use Rattle.seccompiler.specs.SyscallTable.{IsTableNumber}
 use Rattle.seccompiler.specs.declared.backend.TargetArch.{TargetArch}
 use Rattle.seccompiler_c.specs.Policies.{IsPolicyFault, from_frontend, NamesPolicy, NamesNone}

@@ -10,12 +10,10 @@ use Rattle.std.proofs.lemmas.Option.{get_or_from_slice_get, slice_get_within, sl
 use Rattle.seccompiler.specs.declared.backend.TargetArch.{TargetArch}
 use Rattle.seccompiler.specs.declared.json.types.JsonCondition.{JsonCondition}
 use Rattle.seccompiler.specs.Architecture.{audit_word}
-use Rattle.seccompiler.specs.Action.{word_of}
-use Rattle.seccompiler.specs.Condition.{Condition, Holds}
+use Rattle.seccompiler.specs.Policy.{word_of, Condition, Holds, Rule, Filter, RuleHolds, ChainMatches, Matches, IsDecision, other_architecture, policy_matches, policy_differs}
 use Rattle.seccompiler.specs.JsonPolicyOf.{condition_of, rules_of, rules_for, is_for, is_always, IsFor, chain_for, all_rules, IsPolicyOf}
 use Rattle.seccompiler.specs.JsonTypes.{JsonRule, JsonFilter}
-use Rattle.seccompiler.specs.Policy.{Rule, Filter, RuleHolds, ChainMatches, Matches, IsDecision, other_architecture, policy_matches, policy_differs}
-use Rattle.seccompiler.specs.Record.{word_at}
+use Rattle.seccompiler.specs.Machine.{word_at}
 use Rattle.seccomptool.specs.declared.explain.reason.Reason.{Reason}
 use Rattle.seccomptool.specs.declared.explain.reason.Reason.TheVariants.{AnotherArchitecture, NoEntry, NoMatch, Entry}
 use Rattle.seccomptool.specs.Reasons.{MatchesAlone, IsNoEntry, IsNoMatch, IsFirstMatch, IsReason, reason_word}

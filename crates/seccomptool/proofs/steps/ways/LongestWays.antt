@@ -4,8 +4,7 @@ use Rattle.std.specs.Prelude.{slice_get, slice_index}
 use Rattle.std.proofs.lemmas.Bool.{cases_eq, cases_lt}
 use Rattle.std.proofs.lemmas.Option.{slice_get_within}
 use Rattle.seccompiler.specs.declared.bpf.sock_filter.{sock_filter}
-use Rattle.seccompiler.specs.Checked.{IsFine, fine_load, fine_mask, fine_jump, fine_equal, fine_greater, fine_at_least, fine_return}
-use Rattle.seccompiler.specs.Machine.{Does, loads, masks, jumps, is_equal, is_not_equal, is_greater, is_not_greater, is_at_least, is_less, Goes, stays, then_step}
+use Rattle.seccompiler.specs.Machine.{IsFine, fine_load, fine_mask, fine_jump, fine_equal, fine_greater, fine_at_least, fine_return, Does, loads, masks, jumps, is_equal, is_not_equal, is_greater, is_not_greater, is_at_least, is_less, Goes, stays, then_step}
 use Rattle.seccomptool.specs.Ways.{IsTest, equal, greater, at_least, LeadsTo, load_leads, mask_leads, jump_leads, true_leads, false_leads, IsWay, way_ends, way_leads, IsLongest, IsMost, IsGreatestNext}
 
 -- ---- one step of a way

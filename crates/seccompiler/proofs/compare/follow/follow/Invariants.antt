@@ -1,5 +1,5 @@
 use Rattle.std.proofs.Common.{ℕ, ◌-◌, ◌<◌, length, List}
-use Rattle.seccompiler.specs.Record.{IsRecord}
+use Rattle.seccompiler.specs.Machine.{IsRecord}
 use Rattle.seccompiler.specs.RecordSets.{IsIn, Reaches}
 use Rattle.seccompiler.proofs.compare.follow.follow.Given as goal
 

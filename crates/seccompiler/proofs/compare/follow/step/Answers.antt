@@ -1,6 +1,6 @@
 use Rattle.std.proofs.Common.{◌+◌, ◌*◌, ◌<◌, length, refl, subst, rules, bit_and}
 use Rattle.std.proofs.lemmas.Option.{slice_get-get_or}
-use Rattle.seccompiler.specs.Record.{word_at}
+use Rattle.seccompiler.specs.Machine.{word_at}
 use Rattle.seccompiler.specs.WordSets.{Passes}
 use Rattle.seccompiler.specs.RecordSets.{accumulator}
 use Rattle.seccompiler.proofs.compare.StepsOnSets.{does_then, does_else, does_mask}

@@ -3,7 +3,7 @@ use Rattle.std.specs.Prelude.{slice_get, bit_or}
 use Rattle.std.proofs.lemmas.Bool.{cases_eq}
 use Rattle.std.proofs.lemmas.List.Elements.{All-replicate}
 use Rattle.std.proofs.lemmas.Option.{slice_get_within, get_or_from_slice_get}
-use Rattle.seccompiler.specs.Record.{word_at}
+use Rattle.seccompiler.specs.Machine.{word_at}
 use Rattle.seccompiler.specs.declared.compare.values.Values.{Values}
 use Rattle.seccompiler.specs.WordSets.{HasValue}
 use Rattle.seccompiler.proofs.compare.sets.member.Goals as goal

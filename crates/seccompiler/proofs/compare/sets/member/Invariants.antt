@@ -1,6 +1,6 @@
 use Rattle.std.proofs.Common.{◌≡◌, ℕ, ◌*◌, ◌<◌, Some}
 use Rattle.std.specs.Prelude.{slice_get, bit_or}
-use Rattle.seccompiler.specs.Record.{IsRecord, word_at}
+use Rattle.seccompiler.specs.Machine.{IsRecord, word_at}
 use Rattle.seccompiler.specs.declared.compare.values.Values.{Values}
 use Rattle.seccompiler.proofs.compare.sets.member.Given as goal
 

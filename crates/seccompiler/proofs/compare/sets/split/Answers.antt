@@ -1,6 +1,6 @@
 use Rattle.std.proofs.Common.{◌*◌, ◌<◌, length, rules, ⊎_elim, inl, inr, subst}
 use Rattle.std.proofs.lemmas.Option.{slice_get-get_or, get_or_from_slice_get}
-use Rattle.seccompiler.specs.Record.{word_at}
+use Rattle.seccompiler.specs.Machine.{word_at}
 use Rattle.seccompiler.specs.WordSets.{HasValue}
 use Rattle.seccompiler.proofs.Words.{word_fits}
 use Rattle.seccompiler.proofs.compare.sets.split.Goals as goal

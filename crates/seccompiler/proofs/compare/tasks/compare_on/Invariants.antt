@@ -1,5 +1,5 @@
 use Rattle.std.proofs.Common.{ℕ, List, ◌⊎◌}
-use Rattle.seccompiler.specs.Record.{IsRecord}
+use Rattle.seccompiler.specs.Machine.{IsRecord}
 use Rattle.seccompiler.specs.Compare.{AnswersRelated}
 use Rattle.seccompiler.specs.RecordSets.{IsIn}
 use Rattle.seccompiler.specs.CompareTasks.{AreTasks, InSome}

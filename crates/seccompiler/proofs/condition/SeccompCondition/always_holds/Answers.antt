@@ -1,7 +1,7 @@
 use Rattle.std.proofs.Common.{◌≡◌, ◌<◌, ◌^◌, ◌∙◌, subst, sym, ⊎_elim, arith}
 use Rattle.std.specs.Int.Bits.{and_zero_r}
 use Rattle.std.specs.Prelude.{bit_and}
-use Rattle.seccompiler.specs.Condition.{part_of}
+use Rattle.seccompiler.specs.Policy.{part_of}
 use Rattle.seccompiler.specs.declared.backend.SeccompCmpOp.TheVariants.{Eq, Ge, Gt, Le, Lt, MaskedEq, Ne}
 use Rattle.seccompiler.proofs.condition.AnyArgument.{of_all}
 use Rattle.seccompiler.proofs.condition.ConstantConditions.{tells, tells_never}

@@ -1,5 +1,5 @@
 use Rattle.std.proofs.Common.{rules, ◌↔◌, IsTrue}
-use Rattle.seccompiler.specs.Condition.{Holds}
+use Rattle.seccompiler.specs.Policy.{Holds}
 use Rattle.seccompiler.proofs.condition.LowHalves.{low_half_test}
 use Rattle.seccompiler.proofs.condition.SeccompCondition.holds.Goals as goal
 

@@ -1,5 +1,5 @@
 use Rattle.std.proofs.Common.{ap}
-use Rattle.seccompiler.specs.Condition.{Condition}
+use Rattle.seccompiler.specs.Policy.{Condition}
 use Rattle.seccompiler.proofs.condition.ConditionCode.{written_meets}
 use Rattle.seccompiler.proofs.condition.SeccompCondition.write.Goals as goal
 

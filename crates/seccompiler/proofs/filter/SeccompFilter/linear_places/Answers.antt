@@ -1,6 +1,6 @@
 use Rattle.std.proofs.Common.{All, ap, sym, ◌∙◌, subst}
 use Rattle.seccompiler.specs.Policy.{Filter, IsCallNumber}
-use Rattle.seccompiler.specs.Refusal.{numbers_of}
+use Rattle.seccompiler.specs.Compiled.{numbers_of}
 use Rattle.seccompiler.proofs.filter.Chains.{numbers_are_keys}
 use Rattle.seccompiler.proofs.filter.SeccompFilter.linear_places.Goals as goal
 

@@ -2,7 +2,7 @@ use Rattle.std.proofs.Common.{rules, ◌≡◌, Some, None, pos, ap, sym, ◌∙
 use mir.Val.{SFits}
 use Rattle.std.specs.Prelude.{IsTrue}
 use Rattle.std.proofs.lemmas.Int.{to_z-of_z}
-use Rattle.seccompiler.specs.Record.{word_at}
+use Rattle.seccompiler.specs.Machine.{word_at}
 use Rattle.seccompiler.specs.Policy.{Filter, chain_under, ChainMatches}
 use Rattle.seccompiler.proofs.filter.Chains.{found_chain, matches_by_chain, differs_without_chain}
 use Rattle.seccompiler.proofs.filter.SeccompFilter.matches.Goals as goal

@@ -3,7 +3,7 @@ use Rattle.std.proofs.lemmas.List.Elements.{All-contains}
 use Rattle.std.proofs.lemmas.Result.{err_from_is_err_and}
 use Rattle.seccompiler.specs.declared.backend.BackendError.{BackendError}
 use Rattle.seccompiler.specs.Policy.{Filter, IsCallNumber}
-use Rattle.seccompiler.specs.Refusal.{numbers_of, AreCallNumbers}
+use Rattle.seccompiler.specs.Compiled.{numbers_of, AreCallNumbers}
 use Rattle.seccompiler.specs.BlankProgram.{RefusesLength, too_large, no_memory}
 use Rattle.seccompiler.specs.Ranges.{Range, AreRanges}
 use Rattle.seccompiler.specs.Tree.{tree_length, IsTreeRefusal}

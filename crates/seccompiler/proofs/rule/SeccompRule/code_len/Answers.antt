@@ -1,5 +1,5 @@
 use Rattle.std.proofs.Common.{◌≡◌, ◌≤◌, ◌^◌, ◌-◌, ◌∙◌, ap, length, min, arith}
-use Rattle.seccompiler.specs.Condition.{size_of}
+use Rattle.seccompiler.specs.Policy.{size_of}
 use Rattle.seccompiler.specs.Layout.{rule_length}
 use Rattle.seccompiler.proofs.rule.GroupCuts.{groups_of-only, relays_small}
 use Rattle.seccompiler.proofs.rule.RuleLoops.{counted_empty, counted_more, counted_relay, counted_at, counted_rule}

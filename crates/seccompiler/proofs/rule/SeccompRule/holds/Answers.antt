@@ -1,5 +1,5 @@
 use Rattle.std.proofs.Common.{◌≡◌, sym, ◌∙◌, refl}
-use Rattle.seccompiler.specs.Condition.{Condition, Holds}
+use Rattle.seccompiler.specs.Policy.{Condition, Holds}
 use Rattle.seccompiler.proofs.Searches.{All-one_more, All-whole}
 use Rattle.std.proofs.lemmas.List.Elements.{All-same}
 use Rattle.seccompiler.proofs.rule.SeccompRule.holds.Goals as goal

@@ -1,6 +1,6 @@
 use Rattle.std.proofs.Common.{take}
 use Rattle.std.specs.Prelude.{All}
-use Rattle.seccompiler.specs.Condition.{Holds}
+use Rattle.seccompiler.specs.Policy.{Holds}
 use Rattle.seccompiler.proofs.rule.SeccompRule.holds.Given as goal
 
 -- each condition so far holds

@@ -1,6 +1,6 @@
 use Rattle.std.proofs.Common.{refl}
 use Rattle.std.proofs.lemmas.List.Elements.{All-more}
-use Rattle.seccompiler.specs.Condition.{Holds}
+use Rattle.seccompiler.specs.Policy.{Holds}
 use Rattle.seccompiler.specs.JsonPolicyOf.{condition_of}
 use Rattle.seccomptool.proofs.explain.EntrySearches.{whole}
 use Rattle.seccomptool.proofs.explain.reason.all_hold.Goals as goal

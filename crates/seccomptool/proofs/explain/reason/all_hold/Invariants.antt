@@ -1,6 +1,6 @@
 use Rattle.std.proofs.Common.{take}
 use Rattle.std.specs.Prelude.{All}
-use Rattle.seccompiler.specs.Condition.{Holds}
+use Rattle.seccompiler.specs.Policy.{Holds}
 use Rattle.seccompiler.specs.JsonPolicyOf.{condition_of}
 use Rattle.seccomptool.proofs.explain.reason.all_hold.Given as goal
 

@@ -1,7 +1,7 @@
 use Rattle.std.proofs.Common.{◌≡◌, Bool, pos, sym, subst, ◌∙◌}
 use Rattle.std.proofs.lemmas.Bool.{false≢true}
 use Rattle.seccompiler.specs.JsonPolicyOf.{is_for}
-use Rattle.seccompiler.specs.Record.{word_at}
+use Rattle.seccompiler.specs.Machine.{word_at}
 use Rattle.seccomptool.proofs.explain.EntrySearches.{behind_rule, behind_other}
 use Rattle.seccomptool.proofs.explain.reason.reason_on_target.Goals.{then-is_for+else-entry_holds, else-is_for}
 use Rattle.seccomptool.proofs.explain.reason.reason_on_target.Goals as goal

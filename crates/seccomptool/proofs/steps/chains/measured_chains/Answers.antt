@@ -3,7 +3,7 @@ use Rattle.std.proofs.lemmas.List.{map-append}
 use Rattle.std.proofs.lemmas.List.Elements.{All-nil, All-push, All-map, All-weaker}
 use Rattle.std.proofs.lemmas.Result.{err_from_is_err_and}
 use Rattle.seccompiler.specs.Policy.{Filter}
-use Rattle.seccompiler.specs.Refusal.{IsCompilable, IsRefusal}
+use Rattle.seccompiler.specs.Compiled.{IsCompilable, IsRefusal}
 use Rattle.seccomptool.specs.StepsParts.{NamedFilters, named_filter, AreOfChains, AreMeasured}
 use Rattle.seccomptool.specs.declared.steps.chains.MeasuredChains.{MeasuredChains}
 use Rattle.seccomptool.proofs.steps.Refusals.{first_refusal}

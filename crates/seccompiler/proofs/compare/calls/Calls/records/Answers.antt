@@ -1,5 +1,5 @@
 use Rattle.std.proofs.Common.{sym, subst, arith}
-use Rattle.seccompiler.specs.Record.{word_at}
+use Rattle.seccompiler.specs.Machine.{word_at}
 use Rattle.seccompiler.specs.Compare.{IsCallOf}
 use Rattle.seccompiler.proofs.Words.{word_fits}
 use Rattle.seccompiler.proofs.compare.calls.Calls.records.Goals as goal

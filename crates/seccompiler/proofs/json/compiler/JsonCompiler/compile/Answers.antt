@@ -4,7 +4,7 @@ use Rattle.std.specs.HashMap.{IsFromIterResult}
 use Rattle.seccompiler.specs.JsonAnswers.{OfValue, ArePoliciesOf}
 use Rattle.seccompiler.specs.Policy.{Filter}
 use Rattle.seccompiler.specs.Reads.{Reads}
-use Rattle.seccompiler.specs.Refusal.{numbers_of}
+use Rattle.seccompiler.specs.Compiled.{numbers_of}
 use Rattle.seccompiler.specs.SyscallTable.{IsTableNumber}
 use Rattle.seccompiler.proofs.ByName.{rehashed}
 use Rattle.seccompiler.proofs.json.compiler.JsonCompiler.compile.Goals as goal

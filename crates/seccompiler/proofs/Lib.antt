@@ -13,6 +13,7 @@ pub mod Blocks
 pub mod CappedLengths
 pub mod FoundChains
 pub mod RangesOnly
+pub mod RangesOf
 pub mod TableFacts
 pub mod TableNames
 pub mod ByName

@@ -7,3 +7,4 @@ pub mod RangesMade
 pub mod RangesExist
 pub mod TreeLengths
 pub mod TreeCode
+pub mod TreePlaces

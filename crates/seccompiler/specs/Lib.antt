@@ -47,6 +47,7 @@ pub mod JsonEquality
 pub mod Relay
 pub mod ChainCode
 pub mod TreeCode
+pub mod TreePlaces
 pub mod WordSets
 pub mod RecordSets
 pub mod CompareTasks

@@ -6,6 +6,7 @@ use crate::backend::BackendError;
 use crate::bpf::BpfProgram;
 use crate::equality::EqualByParts;
 use crate::filter::SeccompFilter;
+use crate::layout::places::Place;
 use std::alloc::Global;
 
 /// How a filter's program finds the rules of a call number.
@@ -34,6 +35,7 @@ impl EqualByParts for Layout {
 impl SeccompFilter {
     ghost use Rattle.std.specs.Prelude.{IfOk, IfErr, OnOk};
     ghost use Rattle.seccompiler.specs.Layouts.{IsCompiledIn, IsCompilableIn, IsRefusalIn};
+    ghost use Rattle.seccompiler.specs.Places.{ArePlaces};
 
     /// The filter's program in a layout: that of [`to_bpf`](SeccompFilter::to_bpf), or that of
     /// [`to_tree_bpf`](SeccompFilter::to_tree_bpf).
@@ -57,6 +59,36 @@ impl SeccompFilter {
         match layout {
             Layout::Linear => self.to_bpf(alloc),
             Layout::Tree => self.to_tree_bpf(alloc),
+        }
+    }
+
+    /// The filter's program in a layout, the one that [`to_bpf_in`](SeccompFilter::to_bpf_in) gives,
+    /// and what stands at each of its places: at each index the instruction is what the place tells.
+    ///
+    /// # Errors
+    ///
+    /// Those of `to_bpf_in`, in the same order; `OutOfMemory` also where memory for the places is
+    /// refused.
+    ///
+    /// # Examples
+    ///
+    /// ```
+    /// let (program, places) = filter.to_bpf_with_places_in(alloc, Layout::Tree)?;
+    /// assert!(rt; places.len() == program.len());
+    /// ```
+    pub fn to_bpf_with_places_in(
+        &self,
+        alloc: Global,
+        layout: Layout,
+    ) -> Result<(BpfProgram, Vec<Place>), BackendError>
+        ensures compiled { IfOk result (λ r. IsCompiledIn layout self.now r.0.items) }
+        ensures places { IfOk result (λ r. ArePlaces self.now r.1.items r.0.items) }
+        ensures compilable { OnOk result (IsCompilableIn layout self.now) }
+        ensures refused { IfErr result (IsRefusalIn layout self.now) }
+    {
+        match layout {
+            Layout::Linear => self.to_bpf_with_places(alloc),
+            Layout::Tree => self.to_tree_bpf_with_places(alloc),
         }
     }
 }

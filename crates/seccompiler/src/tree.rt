@@ -1,9 +1,16 @@
 // A tree of tests over ranges of call numbers: the ranges of a map of chains, and their code.
 
+pub(crate) mod places;
+
 ghost use Rattle.std.specs.Prelude.{◌≡◌, ◌≤◌, ◌<◌, ◌+◌, ◌-◌, ◌^◌, ◌∷◌, ◌++◌, [], ◌↔◌, IsTrue, Some, ℕ, List, pos, min, length, IfOk, IsOkUnless};
 ghost use Rattle.std.specs.BTreeMap.{keys};
 ghost use Rattle.seccompiler.specs.declared.backend.BackendError.TheVariants.{OutOfMemory};
-ghost use Rattle.seccompiler.specs.Policy.{chains_of};
+ghost use Rattle.std.specs.List.{AllZip};
+ghost use Rattle.seccompiler.specs.declared.layout.places.Place.TheVariants.{TestLeast};
+ghost use Rattle.seccompiler.specs.Places.{Stands};
+ghost use Rattle.seccompiler.specs.PlaceLists.{AreWords};
+ghost use Rattle.seccompiler.specs.TreePlaces.{AreRangesOf, HasPlaces, IsBlockPlaces, IsRangeOf, IsTreePlaces, alone_places, first_start, own_places, row_places, row_test_place, test_places};
+ghost use Rattle.seccompiler.specs.Policy.{Filter, chains_of};
 ghost use Rattle.seccompiler.specs.Machine.{greatest_length};
 ghost use Rattle.seccompiler.specs.Compiled.{AreCallNumbers};
 ghost use Rattle.seccompiler.specs.Ranges.{Range, AreRanges, Ascends, HasRanges};
@@ -101,6 +108,7 @@ impl<'a> CallRange<'a> {
         requires room { length part.old ≡ own_length self.now.chain }
         requires short { length part.old ≤ greatest_length }
         ensures code { IsOwnCode self.now mismatch matched part.new }
+        ensures places { (f : Filter) → IsRangeOf f self.now → AreWords f mismatch matched → AllZip (Stands f) (own_places self.now) part.new }
     {
         if let Some(chain) = self.chain {
             if chain.is_empty() {
@@ -116,6 +124,7 @@ impl<'a> CallRange<'a> {
         requires room { length part.old ≡ own_length self.now.chain + 1 }
         requires short { length part.old ≤ greatest_length }
         ensures code { IsTreeCode (self.now ∷ []) mismatch matched part.new }
+        ensures places { (f : Filter) → IsRangeOf f self.now → AreWords f mismatch matched → AllZip (Stands f) (alone_places self.now) part.new }
     {
         if self.is_matched() {
             part.copy_from_slice(&[return_word(matched)]);
@@ -240,7 +249,8 @@ fn entry_to(ranges: &[CallRange<'_>], start: usize, end: usize) -> usize
 fn row_test(ranges: &[CallRange<'_>], to_one: u8, to_rest: u8) -> sock_filter
     requires some { 2 ≤ length ranges.now }
     requires ascends { Ascends ranges.now }
-    ensures { (one : Range) (rest : List Range) → Settles ranges.now one rest → IsFork ranges.now (one ∷ []) rest to_one to_rest result }
+    ensures fork { (one : Range) (rest : List Range) → Settles ranges.now one rest → IsFork ranges.now (one ∷ []) rest to_one to_rest result }
+    ensures place { (f : Filter) → Stands f (row_test_place ranges.now) result }
 {
     let border = ranges[1].start();
     if stands_out(ranges) {
@@ -260,7 +270,8 @@ fn border_test(
     requires low { 1 ≤ length low.now }
     requires high { 1 ≤ length high.now }
     requires ascends { Ascends (low.now ++ high.now) }
-    ensures { IsFork (low.now ++ high.now) low.now high.now to_low to_high result }
+    ensures fork { IsFork (low.now ++ high.now) low.now high.now to_low to_high result }
+    ensures place { (f : Filter) → Stands f (TestLeast (first_start high.now)) result }
 {
     jump_if_at_least(high[0].start(), to_high, to_low)
 }
@@ -278,7 +289,8 @@ fn write_row(
     requires ascends { Ascends ranges.now }
     requires room { length part.old ≡ row_length ranges.now }
     requires short { length part.old + after ≤ 255 }
-    ensures { IsPartCode ranges.now mismatch matched after (row ranges.now) part.new }
+    ensures code { IsPartCode ranges.now mismatch matched after (row ranges.now) part.new }
+    ensures places { (f : Filter) → AreRangesOf f ranges.now → AreWords f mismatch matched → AllZip (Stands f) (row_places ranges.now) part.new }
 {
     if ranges.len() == 1 {
         ranges[0].write_own(part, mismatch, matched);
@@ -311,7 +323,8 @@ fn write_halved(
     requires ascends { Ascends ranges.now }
     requires room { length part.old ≡ block_length ranges.now }
     requires short { length part.old + after ≤ 255 }
-    ensures { IsHalvedCode ranges.now mismatch matched after part.new }
+    ensures code { IsHalvedCode ranges.now mismatch matched after part.new }
+    ensures places { HasPlaces (IsBlockPlaces ranges.now) ranges.now mismatch matched part.new }
 {
     if row_len(ranges) <= MOST {
         write_row(part, ranges, mismatch, matched, after);
@@ -338,7 +351,8 @@ fn write_block(part: &mut [sock_filter], ranges: &[CallRange<'_>], mismatch: u32
     requires ascends { Ascends ranges.now }
     requires room { length part.old ≡ block_length ranges.now + 2 }
     requires short { block_length ranges.now ≤ 255 }
-    ensures { IsTreeCode ranges.now mismatch matched part.new }
+    ensures code { IsTreeCode ranges.now mismatch matched part.new }
+    ensures places { HasPlaces (IsTreePlaces ranges.now) ranges.now mismatch matched part.new }
 {
     let (code, returns) = part.split_at_mut(part.len() - 2);
     write_halved(code, ranges, mismatch, matched, 0);
@@ -349,7 +363,8 @@ fn write_block(part: &mut [sock_filter], ranges: &[CallRange<'_>], mismatch: u32
 fn write_test(part: &mut [sock_filter], border: u32, distance: usize)
     requires room { length part.old ≡ test_length distance }
     requires short { distance ≤ greatest_length }
-    ensures { IsTestCode border distance part.new }
+    ensures code { IsTestCode border distance part.new }
+    ensures places { (f : Filter) → AllZip (Stands f) (test_places border distance) part.new }
 {
     if distance <= 255 {
         part.copy_from_slice(&[jump_if_at_least(border, distance as u8, 0)]);
@@ -369,6 +384,7 @@ pub(crate) fn write_tree(
     requires room { length part.old ≡ tree_length ranges.now }
     requires short { length part.old ≤ greatest_length }
     ensures code { IsTreeCode ranges.now mismatch matched part.new }
+    ensures places { HasPlaces (IsTreePlaces ranges.now) ranges.now mismatch matched part.new }
 {
     if ranges.len() == 1 {
         ranges[0].write_alone(part, mismatch, matched);

@@ -19,6 +19,7 @@ impl SeccompFilter {
     ghost use Rattle.seccompiler.specs.Compiled.{numbers_of, AreCallNumbers, IsCompiled};
     ghost use Rattle.seccompiler.specs.Layout.{guard_length};
     ghost use Rattle.seccompiler.specs.Ranges.{AreRanges, HasRanges};
+    ghost use Rattle.seccompiler.specs.TreePlaces.{HasProgramPlaces};
     ghost use Rattle.seccompiler.specs.Tree.{tree_length, IsTreeCompiled, IsTreeCompilable, IsTreeRefusal, AnswerAlike};
 
     /// The filter's program in a second layout, which finds a call's rules by few tests.
@@ -59,8 +60,24 @@ impl SeccompFilter {
     {
         self.check_numbers()?;
         let ranges = ranges_of(alloc, &self.rules)?;
-        let mut program = blank_program(alloc, tree_len(&ranges).saturating_add(GUARD_LEN + 1))?;
-        self.write_by_ranges(&mut program, &ranges);
+        self.program_of_ranges(alloc, &ranges)
+    }
+
+    /// The program of the filter's ranges in the second layout.
+    pub(super) fn program_of_ranges(
+        &self,
+        alloc: Global,
+        ranges: &[CallRange<'_>],
+    ) -> Result<BpfProgram, BackendError>
+        requires numbers { AreCallNumbers (numbers_of self.now.chains) }
+        requires ranges { AreRanges self.now.chains ranges.now }
+        ensures compiled { IfOk result (λ program. IsTreeCompiled self.now program.items) }
+        ensures places { IfOk result (λ program. HasProgramPlaces self.now ranges.now program.items) }
+        ensures compilable { OnOk result (IsTreeCompilable self.now) }
+        ensures refused { IfErr result (IsTreeRefusal self.now) }
+    {
+        let mut program = blank_program(alloc, tree_len(ranges).saturating_add(GUARD_LEN + 1))?;
+        self.write_by_ranges(&mut program, ranges);
         Ok(program)
     }
 
@@ -80,6 +97,7 @@ impl SeccompFilter {
         requires room { length program.old ≡ guard_length + 1 + tree_length ranges.now }
         requires short { length program.old ≤ greatest_length }
         ensures compiled { IsTreeCompiled self.now program.new }
+        ensures places { HasProgramPlaces self.now ranges.now program.new }
     {
         let (head, tree) = program.split_at_mut(GUARD_LEN + 1);
         head[..GUARD_LEN].copy_from_slice(&arch_guard(self.target_arch));

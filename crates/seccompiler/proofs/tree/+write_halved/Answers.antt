@@ -4,6 +4,7 @@ use Rattle.seccompiler.specs.Tree.{row, block_length}
 use Rattle.seccompiler.proofs.tree.RangesFound.{halves_ascend, halves_long}
 use Rattle.seccompiler.proofs.tree.TreeLengths.{row_long, block_row, block_cut}
 use Rattle.seccompiler.proofs.tree.PartCode.{halved_row, halves_joined}
+use Rattle.seccompiler.proofs.tree.TreePlaces.{block_of_row, block_of_halves}
 use Rattle.seccompiler.proofs.tree.+write_halved.Goals as goal
 
 pub write_row-requires-clause-room : goal.write_row-requires-clause-room
@@ -14,7 +15,10 @@ write_row-requires-clause-room t c =
 pub returns-then-row_len-le-MOST : goal.returns-then-row_len-le-MOST
 returns-then-row_len-le-MOST t c =
     let short : row c.args.ranges.now ≤ 6 = grind (arith, nat_tests) in
-    halved_row c.args.ranges.now c.args.mismatch c.args.matched c.args.after c.write_row.new.part c.requires.some short c.write_row.ensures
+    record {
+      code = halved_row c.args.ranges.now c.args.mismatch c.args.matched c.args.after c.write_row.new.part c.requires.some short c.write_row.ensures.code;
+      places = block_of_row c.args.ranges.now c.args.mismatch c.args.matched c.write_row.new.part short c.write_row.ensures.places;
+    }
 
 pub overflow_sub-end : goal.overflow_sub-end
 overflow_sub-end t c =
@@ -93,8 +97,13 @@ returns t c =
     let is_front : c.block_len-start.result ≡ length front = sym (c.write_halved.auto.part ∙ front_len) in
     let is_back : length c.split_at_mut-front.result.1.now ≡ length back = sym c.write_halved-2.auto.part in
     let end = length c.args.part.now - 1 + c.args.after in
-    halves_joined c.args.ranges.now low high c.args.mismatch c.args.matched c.args.after c.entry_to.result c.entry_to-2.result
+    let code = halves_joined c.args.ranges.now low high c.args.mismatch c.args.matched c.args.after c.entry_to.result c.entry_to-2.result
     c.block_len-start.result end (length c.split_at_mut-front.result.1.now) c.border_test.result c.copy_from_slice.new.self front
     back some c.halves.ensures
-    c.border_test.ensures c.copy_from_slice.ensures.after c.entry_to.ensures c.entry_to-2.ensures is_front is_back
-    (omega (arith, cut, whole, is_front, is_back, back_len, exact, c.requires.room)) c.write_halved.ensures c.write_halved-2.ensures
+    c.border_test.ensures.fork c.copy_from_slice.ensures.after c.entry_to.ensures c.entry_to-2.ensures is_front is_back
+    (omega (arith, cut, whole, is_front, is_back, back_len, exact, c.requires.room)) c.write_halved.ensures.code c.write_halved-2.ensures.code in
+    record {
+      code = code;
+      places = block_of_halves c.args.ranges.now low high c.args.mismatch c.args.matched c.border_test.result c.copy_from_slice.new.self front back long c.halves.ensures
+          c.copy_from_slice.ensures.after c.border_test.ensures.place c.write_halved.ensures.places c.write_halved-2.ensures.places;
+    }

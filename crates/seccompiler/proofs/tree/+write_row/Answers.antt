@@ -4,13 +4,17 @@ use Rattle.seccompiler.specs.Tree.{own_length, row}
 use Rattle.seccompiler.proofs.tree.RangesFound.{only_one}
 use Rattle.seccompiler.proofs.tree.Rows.{settles_row, row_room}
 use Rattle.seccompiler.proofs.tree.PartCode.{row_alone, fork_joined}
+use Rattle.seccompiler.proofs.tree.TreePlaces.{settled_of, row_one_stands, row_stands}
 use Rattle.seccompiler.proofs.tree.+write_row.Goals as goal
 
 pub returns-then-ranges-eq1 : goal.returns-then-ranges-eq1
 returns-then-ranges-eq1 t c =
     let one : length c.args.ranges.now ≡ 1 = grind (arith, nat_tests) in
-    row_alone c.args.ranges.now c.index-ranges-0.result c.args.mismatch c.args.matched c.args.after c.write_own.new.part
-    (only_one c.args.ranges.now c.index-ranges-0.result one c.index-ranges-0.is) c.write_own.ensures.code
+    let is = only_one c.args.ranges.now c.index-ranges-0.result one c.index-ranges-0.is in
+    record {
+      code = row_alone c.args.ranges.now c.index-ranges-0.result c.args.mismatch c.args.matched c.args.after c.write_own.new.part is c.write_own.ensures.code;
+      places = λ f all words. row_one_stands f c.args.ranges.now c.index-ranges-0.result c.write_own.new.part is all (λ of. c.write_own.ensures.places f of words);
+    }
 
 pub returns : goal.returns
 returns t c =
@@ -31,10 +35,17 @@ returns t c =
     let is_back : length c.split_at_mut-front.result.1.now ≡ length back = sym c.write_row.auto.part in
     let end = length c.args.part.now - 1 + c.args.after in
     let own = c.write_own-2.ensures.code in
-    fork_joined ranges (one ∷ []) rest c.args.mismatch c.args.matched c.args.after 0 (row rest) (row ranges) c.entry.result
+    let code = fork_joined ranges (one ∷ []) rest c.args.mismatch c.args.matched c.args.after 0 (row rest) (row ranges) c.entry.result
     c.entry_to.result c.own_len-start.result end (length c.split_at_mut-front.result.1.now) c.row_test.result
     c.copy_from_slice.new.self front back some
-    (c.row_test.ensures one rest c.settle.ensures) c.copy_from_slice.ensures.after c.entry.ensures c.entry_to.ensures is_front is_back
+    (c.row_test.ensures.fork one rest c.settle.ensures) c.copy_from_slice.ensures.after c.entry.ensures c.entry_to.ensures is_front is_back
     (omega (arith, room, whole, is_front, is_back, back_len, exact, c.requires.room))
-    (own.part (length c.split_at_mut-front.result.1.now + c.args.after)) c.write_row.ensures (omega (arith, tests))
-    (omega (arith, tests))
+    (own.part (length c.split_at_mut-front.result.1.now + c.args.after)) c.write_row.ensures.code (omega (arith, tests))
+    (omega (arith, tests)) in
+    record {
+      code = code;
+      places = λ f all words.
+          let of = settled_of f ranges one rest c.settle.ensures all in
+          row_stands f ranges one rest c.row_test.result c.copy_from_slice.new.self front back c.settle.ensures c.copy_from_slice.ensures.after (c.row_test.ensures.place f)
+          (c.write_own-2.ensures.places f of.0 words) (c.write_row.ensures.places f of.1 words);
+    }

@@ -2,7 +2,9 @@ use Rattle.std.proofs.Common.{◌≡◌, ◌∷◌, [], ◌++◌, length, ap₂,
 use Rattle.seccompiler.specs.declared.bpf.sock_filter.{sock_filter}
 use Rattle.seccompiler.specs.Tree.{block_length}
 use Rattle.seccompiler.specs.TreeCode.{IsTreeCode}
+use Rattle.seccompiler.specs.TreePlaces.{IsTreePlaces, HasPlaces}
 use Rattle.seccompiler.proofs.tree.TreeCode.{block_closed}
+use Rattle.seccompiler.proofs.tree.TreePlaces.{tree_of_block}
 use Rattle.seccompiler.proofs.tree.write_block.Goals as goal
 
 pub returns : goal.returns
@@ -14,6 +16,10 @@ returns c =
     let written =
     c.copy_from_slice.ensures.after
     ∙ ap₂ (λ (i j : sock_filter). i ∷ j ∷ []) c.return_word.ensures.instruction c.return_word-2.ensures.instruction in
-    subst (λ l. IsTreeCode ranges c.args.mismatch c.args.matched (code ++ l)) (sym written)
-    (block_closed ranges c.args.mismatch c.args.matched code c.requires.some (omega arith) (omega arith) long c.requires.short
-    c.write_halved.ensures)
+    record {
+      code = subst (λ l. IsTreeCode ranges c.args.mismatch c.args.matched (code ++ l)) (sym written)
+          (block_closed ranges c.args.mismatch c.args.matched code c.requires.some (omega arith) (omega arith) long c.requires.short
+          c.write_halved.ensures.code);
+      places = subst (λ l. HasPlaces (IsTreePlaces ranges) ranges c.args.mismatch c.args.matched (code ++ l)) (sym written)
+          (tree_of_block ranges c.args.mismatch c.args.matched code c.requires.some c.requires.short c.write_halved.ensures.places);
+    }

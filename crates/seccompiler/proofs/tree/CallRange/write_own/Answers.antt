@@ -5,6 +5,7 @@ use Rattle.seccompiler.specs.Ranges.{Range}
 use Rattle.seccompiler.specs.Tree.{own_length}
 use Rattle.seccompiler.proofs.tree.TreeCode.{last_written, own_some}
 use Rattle.seccompiler.proofs.tree.PartCode.{own_empty, own_gap, own_rules}
+use Rattle.seccompiler.proofs.tree.TreePlaces.{own_stand, own_empty_stands, own_gap_stands, range_chain}
 use Rattle.seccompiler.proofs.tree.CallRange.write_own.Goals as goal
 
 pub returns-then-is_empty : goal.returns-then-is_empty
@@ -12,7 +13,10 @@ returns-then-is_empty c =
     let none : length c.in-Some.chain.now ≡ 0 = grind (arith, nat_tests) in
     let has : c.args.self.now.chain ≡ Some c.in-Some.chain.now =
     ap (λ (x : Range). x.chain) (sym c.self.view_is) ∙ ap (option_map (λ (chain : Bor Chain). chain.now)) c.in-Some.is in
-    record { code = own_empty c.args.self.now c.in-Some.chain.now c.args.mismatch c.args.matched _ has none c.requires.room }
+    record {
+      code = own_empty c.args.self.now c.in-Some.chain.now c.args.mismatch c.args.matched _ has none c.requires.room;
+      places = λ f of words. own_empty_stands f c.args.self.now c.in-Some.chain.now _ has none c.requires.room;
+    }
 
 pub returns-else-is_empty : goal.returns-else-is_empty
 returns-else-is_empty c =
@@ -35,10 +39,17 @@ returns-else-is_empty c =
       code =
           own_rules c.args.self.now c.in-Some.chain.now c.args.mismatch c.args.matched rules _ has some (omega arith)
           c.write_rules-end.ensures.code (written ∙ ap (λ x. rules ++ x ∷ []) c.return_word.ensures.instruction);
+      places = λ f of words.
+          own_stand f c.args.self.now c.in-Some.chain.now c.args.mismatch c.args.matched rules _ has some of words
+          (c.write_rules-end.ensures.places f c.args.self.now.start (range_chain f c.args.self.now c.in-Some.chain.now has some of) words.matched_is)
+          (written ∙ ap (λ x. rules ++ x ∷ []) c.return_word.ensures.instruction);
     }
 
 pub returns-in_default : goal.returns-in_default
 returns-in_default c =
     let has : c.args.self.now.chain ≡ None =
     ap (λ (x : Range). x.chain) (sym c.self.view_is) ∙ ap (option_map (λ (chain : Bor Chain). chain.now)) c.in_default.is in
-    record { code = own_gap c.args.self.now c.args.mismatch c.args.matched _ has c.requires.room }
+    record {
+      code = own_gap c.args.self.now c.args.mismatch c.args.matched _ has c.requires.room;
+      places = λ f of words. own_gap_stands f c.args.self.now _ has c.requires.room;
+    }

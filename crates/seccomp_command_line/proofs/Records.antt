@@ -1,11 +1,16 @@
 -- Bytes in chunks of 64 are records and a rest.
-use Rattle.std.proofs.Common.{◌≡◌, ℕ, zero, suc, ◌+◌, ◌*◌, ◌/◌, ◌≤◌, List, ◌++◌, length, take, drop, All, Option, refl, sym, subst, ap, ◌∙◌, append_assoc, take-append-drop, length-drop, length-take-le, arith}
+use Rattle.std.proofs.Common.{◌≡◌, ℕ, zero, suc, ◌+◌, ◌*◌, ◌/◌, ◌≤◌, List, ◌++◌, length, take, drop, All, Option, Err, refl, sym, subst, ap, ◌∙◌, append_assoc, take-append-drop, length-drop, length-take-le, arith}
 use Rattle.std.specs.List.{concat}
 use Rattle.std.specs.Simd.{first_chunks}
 use Rattle.std.proofs.lemmas.List.{drop-drop}
 use Rattle.std.proofs.lemmas.List.Elements.{All-nil, All-cons}
 use Rattle.std.specs.Io.KnownBytes.{Appends}
-use Rattle.seccomp_command_line.specs.Records.{IsCutIntoRecords, WritesLines}
+use Rattle.seccompiler.specs.Reads.{Reads}
+use Rattle.seccomp_command_line.specs.Errors.{IsReadError}
+use Rattle.seccomp_command_line.specs.Records.{IsCutIntoRecords, WritesLines, AnswersRecords}
+use Rattle.seccomp_command_line.specs.declared.error.ToolError.{ToolError}
+use Rattle.seccomp_command_line.specs.declared.error.ToolError.TheVariants as tool
+use Rattle.seccomp_command_line.proofs.Readings.{reads_some}
 
 -- The chunks and what is left behind them are the bytes.
 chunks_joined : (k : ℕ) (bytes : List ℕ) → concat (first_chunks 64 k bytes) ++ drop (k * 64) bytes ≡ bytes
@@ -22,7 +27,8 @@ chunks_joined (suc k) bytes =
 chunks_whole : (k : ℕ) (bytes : List ℕ) → k * 64 ≤ length bytes → All (λ (call : List ℕ). length call ≡ 64) (first_chunks 64 k bytes)
 chunks_whole zero bytes room = All-nil (λ (call : List ℕ). length call ≡ 64)
 chunks_whole (suc k) bytes room =
-    All-cons (λ (call : List ℕ). length call ≡ 64) (take 64 bytes) (first_chunks 64 k (drop 64 bytes)) (length-take-le 64 bytes (omega arith))
+    All-cons (λ (call : List ℕ). length call ≡ 64) (take 64 bytes) (first_chunks 64 k (drop 64 bytes))
+    (length-take-le 64 bytes (omega arith))
     (chunks_whole k (drop 64 bytes) (omega (arith, length-drop 64 bytes)))
 
 -- The whole chunks and the rest are a cut into records.
@@ -34,7 +40,8 @@ cut_by_chunks bytes = record {
 }
 
 -- The text of the chunks of all items, once it is sent.
-pub lines_sent : (IsTextOf : List (List ℕ) → List ℕ → Type 0) (items slice tail text sent : List ℕ) (records : List (List ℕ)) (rest : ℕ) (old new : Option (List ℕ))
+pub lines_sent : (IsTextOf : List (List ℕ) → List ℕ → Type 0) (items slice tail text sent : List ℕ) (records : List (List ℕ)) (rest : ℕ)
+    (old new : Option (List ℕ))
     → slice ≡ items → records ≡ first_chunks 64 (length slice / 64) slice → tail ≡ drop (length slice / 64 * 64) slice → length tail ≡ rest
     → IsTextOf records text → sent ≡ text → Appends old new sent → WritesLines IsTextOf items rest old new
 lines_sent IsTextOf items slice tail text sent records rest old new same chunks behind left told is appends = record {
@@ -48,8 +55,10 @@ lines_sent IsTextOf items slice tail text sent records rest old new same chunks 
 }
 
 -- Where a text of records is one in other words too, what is written of them is.
-pub retold : (IsTextOf IsOther : List (List ℕ) → List ℕ → Type 0) → ((records : List (List ℕ)) (text : List ℕ) → IsTextOf records text → IsOther records text)
-    → (bytes : List ℕ) (rest : ℕ) (old new : Option (List ℕ)) → WritesLines IsTextOf bytes rest old new → WritesLines IsOther bytes rest old new
+pub retold : (IsTextOf IsOther : List (List ℕ) → List ℕ → Type 0)
+    → ((records : List (List ℕ)) (text : List ℕ) → IsTextOf records text → IsOther records text)
+    → (bytes : List ℕ) (rest : ℕ) (old new : Option (List ℕ)) → WritesLines IsTextOf bytes rest old new
+    → WritesLines IsOther bytes rest old new
 retold IsTextOf IsOther tells bytes rest old new w = record {
   records = w.records;
   tail = w.tail;
@@ -59,3 +68,16 @@ retold IsTextOf IsOther tells bytes rest old new w = record {
   told = tells w.records w.text w.told;
   appends = w.appends;
 }
+
+-- An error that tells of no rest of a record says nothing of the records.
+pub answers_none : (IsTextOf : List (List ℕ) → List ℕ → Type 0) (e : ToolError) → ((rest : ℕ) → e ≡ tool.ShortRecord rest → ⊥)
+    → (bytes : List ℕ) (old new : Option (List ℕ)) → AnswersRecords IsTextOf bytes (Err e) old new
+answers_none IsTextOf (tool.ShortRecord rest) none bytes old new = absurd (none rest refl)
+answers_none IsTextOf _ none bytes old new = tt
+
+-- Where reading fails, nothing is said of the records.
+pub unread : (IsTextOf : List (List ℕ) → List ℕ → Type 0) (known : Option (List ℕ)) (e : ToolError) (old new : Option (List ℕ))
+    → IsReadError e
+    → Reads known (λ bytes. AnswersRecords IsTextOf bytes (Err e) old new)
+unread IsTextOf known e old new cause =
+    reads_some known _ (λ bytes. answers_none IsTextOf e (λ rest is. subst IsReadError is cause) bytes old new)

@@ -1,4 +1,8 @@
--- The definitions that the contracts cite, and those that the programs' definitions are built of.
+-- The definitions that the contracts cite, and those that the programs' definitions are built of: names and numbers as
+-- they are written; what goes wrong; what is told of records, and what of a policy; and what an engine answers.
 pub mod Hexadecimal
 pub mod Names
+pub mod Errors
 pub mod Records
+pub mod Policies
+pub mod Answers

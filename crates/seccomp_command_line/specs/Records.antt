@@ -1,7 +1,9 @@
 -- Records of system calls, one after the other, and what is written for them.
-use Rattle.std.specs.Prelude.{◌≡◌, ℕ, ◌<◌, List, ◌++◌, length, All, Option}
+use Rattle.std.specs.Prelude.{◌≡◌, ℕ, ◌<◌, List, ◌++◌, length, All, Option, Result, Ok, Err, ⊤}
 use Rattle.std.specs.Io.KnownBytes.{Appends}
 use Rattle.std.specs.List.{concat}
+use Rattle.seccomp_command_line.specs.declared.error.ToolError.{ToolError}
+use Rattle.seccomp_command_line.specs.declared.error.ToolError.TheVariants.{ShortRecord}
 
 -- The bytes are these records of 64 bytes, one after the other, and then a rest that is shorter.
 pub record IsCutIntoRecords (bytes : List ℕ) (records : List (List ℕ)) (rest : List ℕ) : Type 0 where
@@ -18,3 +20,10 @@ pub record WritesLines (IsTextOf : List (List ℕ) → List ℕ → Type 0) (byt
   pub text : List ℕ
   pub told : IsTextOf records text
   pub appends : Appends old new text
+
+-- The answer on these bytes: the text of all records is written where no byte is left, and that of the whole ones, with
+-- the number of bytes that are left, where some are.
+abbrev pub AnswersRecords : (List (List ℕ) → List ℕ → Type 0) → List ℕ → Result ⊤ ToolError → Option (List ℕ) → Option (List ℕ) → Type 0
+AnswersRecords IsTextOf bytes (Ok done) old new = WritesLines IsTextOf bytes 0 old new
+AnswersRecords IsTextOf bytes (Err (ShortRecord rest)) old new = (0 < rest) × WritesLines IsTextOf bytes rest old new
+AnswersRecords IsTextOf bytes (Err e) old new = ⊤

@@ -1,9 +1,14 @@
-//! What the programs at the command line have in common: the words that they are called with, numbers in
-//! hexadecimal digits, and names of filters as they are written.
+//! What the programs at the command line have in common: the words that they are called with and the
+//! architecture that one names; names of filters and numbers as they are written; what is read to its end,
+//! written at once and told of records; and the errors of all this.
 //!
-//! What records one after the other are, and what it means to write a line for each, stands in `specs/`.
+//! What an engine answers, and which fault of a policy it tells, stands in `specs/`.
 #![tactic(auto)]
 
+pub mod architecture;
 pub mod arguments;
+pub mod error;
 pub mod hexadecimal;
 pub mod names;
+pub mod record_texts;
+pub mod streams;

@@ -1,19 +1,10 @@
 -- What each command answers and writes.
-use Rattle.std.specs.Prelude.{ℕ, ℤ, List, Option, Result, Ok, ⊤}
-use Rattle.seccompiler.specs.declared.backend.TargetArch.{TargetArch}
-use Rattle.seccompiler.specs.Reads.{Reads}
-use Rattle.seccompc.specs.Answers.{AnswersRecords}
-use Rattle.seccompc.specs.Lines.{Traced}
+use Rattle.std.specs.Prelude.{ℕ, List, Option, Result, Ok, ⊤}
 use Rattle.seccompc.specs.Policies.{AnswersList, AnswersRun}
-use Rattle.seccompc.specs.Probe.{probe_filter, IsNameOf, AnswersWords}
-use Rattle.seccompc.specs.declared.error.ToolError.{ToolError}
+use Rattle.seccompc.specs.Probe.{AnswersProbe}
+use Rattle.seccomp_command_line.specs.declared.error.ToolError.{ToolError}
 use Rattle.seccompc.specs.declared.words.Command.{Command}
 use Rattle.seccompc.specs.declared.words.Command.TheVariants.{Probe, List as Listing, Run}
-
--- The answer of a probe: it is as the words have it, and the lines are those of the words' filter.
-pub record AnswersProbe (arch : List ℕ) (nr : ℤ) (index value : ℕ) (records : Option (List ℕ)) (answer : Result ⊤ ToolError) (old new : Option (List ℕ)) : Type 0 where
-  pub words : AnswersWords arch nr index answer
-  pub traced : Reads records (λ bytes. (target : TargetArch) → IsNameOf arch target → AnswersRecords (Traced (probe_filter target nr index value)) bytes answer old new)
 
 -- The answer of a command, where FILE has these bytes and standard input those: a probe's is of its own words and the
 -- records of the input, a listing's of the policy of the input, a run's of FILE's policy, its filter of this name and

@@ -1,12 +1,13 @@
 // The programs of a policy, as text.
 
 ghost use Rattle.std.specs.Prelude.{IfErr};
-ghost use Rattle.seccompc.specs.Errors.{KeepsOutput};
+ghost use Rattle.seccomp_command_line.specs.Errors.{KeepsOutput};
 ghost use Rattle.seccompc.specs.Policies.{AnswersList};
 
-use crate::error::ToolError;
 use crate::policy::compiled;
 use crate::program_text::listing;
+use seccomp_command_line::error::ToolError;
+use seccomp_command_line::streams::send;
 use std::alloc::Global;
 use std::io::{Read, Write};
 
@@ -39,8 +40,5 @@ pub fn list<R: Read + Drop, W: Write>(
 {
     let programs = compiled(alloc, arch, policy)?;
     let text = listing(alloc, &programs)?;
-    match out.write_all(text.as_slice()) {
-        Ok(()) => Ok(()),
-        Err(error) => Err(ToolError::Write(error)),
-    }
+    send(out, text.as_slice())
 }

@@ -1,7 +1,6 @@
 // Compiles seccomp filters, and shows what their programs do with the records of system calls.
 #![tactic(auto)]
 
-mod error;
 mod list;
 mod perform;
 mod policy;
@@ -9,7 +8,6 @@ mod probe;
 mod program_text;
 mod record_text;
 mod run;
-mod trace;
 mod words;
 
 ghost use Rattle.std.specs.Prelude.{◌≡◌, ◌≤◌, IfSome, IfNone, OnOk, OnErr};
@@ -17,10 +15,10 @@ ghost use Rattle.std.specs.Process.{exit_status};
 ghost use Rattle.seccompc.specs.Commands.{IsPerformed};
 ghost use Rattle.seccompc.specs.Statuses.{HasNoFault};
 
-use crate::error::ToolError;
 use crate::perform::perform;
 use crate::words::{Command, read_words};
 use seccomp_command_line::arguments::behind_the_name;
+use seccomp_command_line::error::ToolError;
 use std::io::ErrorKind;
 use std::process::ExitCode;
 use std::rt::Files;

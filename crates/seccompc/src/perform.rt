@@ -2,13 +2,13 @@
 
 ghost use Rattle.std.specs.Prelude.{IfErr};
 ghost use Rattle.seccompc.specs.Commands.{AnswersCommand};
-ghost use Rattle.seccompc.specs.Errors.{KeepsOutput};
+ghost use Rattle.seccomp_command_line.specs.Errors.{KeepsOutput};
 
-use crate::error::ToolError;
 use crate::list::list;
 use crate::probe::probe;
 use crate::run::run_policy;
 use crate::words::Command;
+use seccomp_command_line::error::ToolError;
 use std::alloc::Global;
 use std::io::{Read, Write};
 

@@ -1,19 +1,17 @@
 // The filter of one condition, and what its program does with records.
 
-ghost use Rattle.std.specs.Prelude.{◌≡◌, IfOk, IfErr};
-ghost use Rattle.seccompiler.specs.Reads.{Reads};
-ghost use Rattle.seccompiler.specs.declared.backend.TargetArch.{TargetArch};
-ghost use Rattle.seccompc.specs.Lines.{Traced};
-ghost use Rattle.seccompc.specs.Errors.{KeepsOutput};
-ghost use Rattle.seccompc.specs.Answers.{AnswersRecords};
-ghost use Rattle.seccompc.specs.Probe.{probe_filter, IsNameOf, AnswersWords};
-ghost use Rattle.seccompc.specs.EngineSteps.{IsFilterFor, IsCompiledFor, IsRefusedProbe};
+ghost use Rattle.std.specs.Prelude.{IfOk, IfErr};
+ghost use Rattle.seccomp_command_line.specs.Errors.{KeepsOutput};
+ghost use Rattle.seccompc.specs.Probe.{IsRefusedProbe, AnswersProbe};
+ghost use Rattle.seccompc.specs.EngineSteps.{IsFilterFor, IsCompiledFor};
 
-use crate::error::ToolError;
-use crate::trace::trace;
+use crate::record_text::Trace;
+use seccomp_command_line::architecture::architecture_of;
+use seccomp_command_line::error::ToolError;
+use seccomp_command_line::record_texts::tell_records;
 use seccompiler::{
     BpfProgram, SeccompAction, SeccompCmpArgLen, SeccompCmpOp, SeccompCondition, SeccompFilter,
-    SeccompRule, TargetArch,
+    SeccompRule,
 };
 use std::alloc::Global;
 use std::collections::BTreeMap;
@@ -48,15 +46,12 @@ pub fn probe<R: Read + Drop, W: Write>(
     records: R,
     out: &mut W,
 ) -> Result<(), ToolError>
-    // When each answer comes.
-    ensures words { AnswersWords arch.now nr index result }
-
-    // What it answers and writes.
-    ensures traced { Reads (R.remaining records) (λ bytes. (target : TargetArch) → IsNameOf arch.now target → AnswersRecords (Traced (probe_filter target nr index value)) bytes result (W.contents out.old) (W.contents out.new)) }
+    // When each answer comes, and what is written.
+    ensures answers { AnswersProbe arch.now nr index value (R.remaining records) result (W.contents out.old) (W.contents out.new) }
     ensures unwritten { IfErr result (λ e. KeepsOutput e out.old out.new) }
 {
     let program = program_of(alloc, arch, nr, index, value)?;
-    trace(alloc, &program, records, out)
+    tell_records(alloc, &Trace(program.as_slice()), records, out)
 }
 
 // The filter's program.
@@ -84,7 +79,7 @@ fn probe_filter(
     ensures made { IfOk result (IsFilterFor arch.now nr index value) }
     ensures refused { IfErr result (IsRefusedProbe arch.now nr index) }
 {
-    let arch = TargetArch::from_text(alloc, arch)?;
+    let arch = architecture_of(alloc, arch)?;
     let condition = SeccompCondition::new(index, SeccompCmpArgLen::Qword, SeccompCmpOp::Eq, value)?;
     let rule = SeccompRule::new(vec![in alloc; condition]?)?;
     let mut rules = BTreeMap::new(alloc);

@@ -1,4 +1,4 @@
-// The lines of records.
+// What a program does with records, as text.
 
 ghost use Rattle.std.specs.Prelude.{◌≡◌, ◌++◌, IfOk, OnOk};
 ghost use Rattle.seccompiler.specs.Machine.{IsChecked};
@@ -6,12 +6,27 @@ ghost use Rattle.seccompc.specs.Lines.{AreLines, line_of};
 
 use itoa::Buffer;
 use seccomp_command_line::hexadecimal::eight_digits;
+use seccomp_command_line::record_texts::TellsRecords;
 use seccompiler::BpfProgramRef;
 use seccompiler::machine::{Outcome, run};
 use std::alloc::{AllocError, Global};
 
+/// A program, of whose runs on records a line each is told.
+#[derive(Clone, Copy)]
+pub(crate) struct Trace<'a>(pub BpfProgramRef<'a>);
+
+impl TellsRecords for Trace<'_> {
+    ghost can_tell = { λ trace. IsChecked trace.0.now };
+
+    ghost is_text_of = { λ trace records text. AreLines trace.0.now records text };
+
+    fn text_of(&self, alloc: Global, records: &[[u8; 64]]) -> Result<Vec<u8>, AllocError> {
+        lines(alloc, self.0, records)
+    }
+}
+
 // The lines of a program on records, one for each, in order.
-pub(crate) fn lines(
+fn lines(
     alloc: Global,
     program: BpfProgramRef<'_>,
     records: &[[u8; 64]],

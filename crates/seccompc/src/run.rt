@@ -1,12 +1,13 @@
 // A filter of a policy, and what its program does with records.
 
 ghost use Rattle.std.specs.Prelude.{IfErr};
-ghost use Rattle.seccompc.specs.Errors.{KeepsOutput};
+ghost use Rattle.seccomp_command_line.specs.Errors.{KeepsOutput};
 ghost use Rattle.seccompc.specs.Policies.{AnswersRun};
 
-use crate::error::ToolError;
 use crate::policy::compiled;
-use crate::trace::trace;
+use crate::record_text::Trace;
+use seccomp_command_line::error::ToolError;
+use seccomp_command_line::record_texts::tell_records;
 use std::alloc::Global;
 use std::io::{Read, Write};
 
@@ -45,5 +46,5 @@ pub fn run_policy<P: Read + Drop, R: Read + Drop, W: Write>(
     let Some(program) = programs.get(name) else {
         return Err(ToolError::NoFilter(String::from_str(alloc, name)?));
     };
-    trace(alloc, program, records, out)
+    tell_records(alloc, &Trace(program.as_slice()), records, out)
 }

@@ -1,10 +1,11 @@
-// Why an engine of the program fails.
+// Why an engine of a program fails.
 
-use seccompiler::BackendError;
+use seccompiler::json::JsonFrontendError;
+use seccompiler::{BackendError, TargetArch};
 use std::alloc::{AllocError, AllocFailed};
 use std::{fmt, io};
 
-/// Why an engine of the program fails.
+/// Why an engine of a program fails.
 ///
 /// Want of memory stands here alone, and never inside another variant.
 #[derive(Debug, Drop)]
@@ -13,10 +14,14 @@ pub enum ToolError {
     Library(seccompiler::Error),
     /// No filter of the policy has this name.
     NoFilter(String),
+    /// The architecture has no call of this name or number.
+    UnknownCall(String, TargetArch),
     /// The records end inside a record, after so many bytes of it, from 1 to 63.
     ShortRecord(usize),
     /// The records can't be read.
     Read(io::Error),
+    /// The policy has a fault that has a place; the text tells the place, what stands there and what may.
+    Fault(String),
     /// The output can't be written; how much of it went out is not known.
     Write(io::Error),
     /// A growth of memory was refused, or reading failed for want of memory.
@@ -25,7 +30,7 @@ pub enum ToolError {
 
 /// The error's text.
 impl fmt::Display for ToolError {
-    ghost use Rattle.seccompc.specs.Errors.{tool_text};
+    ghost use Rattle.seccomp_command_line.specs.Errors.{tool_text};
 
     ghost output = { tool_text };
 
@@ -33,6 +38,9 @@ impl fmt::Display for ToolError {
         match self {
             ToolError::Library(error) => write!(f, "{error}"),
             ToolError::NoFilter(name) => write!(f, "No filter has this name: {name}."),
+            ToolError::UnknownCall(call, arch) => {
+                write!(f, "No call of {arch} has this name or number: {call}.")
+            }
             ToolError::ShortRecord(rest) => {
                 write!(
                     f,
@@ -40,6 +48,7 @@ impl fmt::Display for ToolError {
                 )
             }
             ToolError::Read(_) => f.write_str("Error reading input."),
+            ToolError::Fault(told) => f.write_str(told.as_str()),
             ToolError::Write(_) => f.write_str("Error writing output."),
             ToolError::OutOfMemory => f.write_str("Out of memory."),
         }
@@ -51,7 +60,7 @@ impl std::error::Error for ToolError {}
 /// The library's want of memory is the program's.
 impl From<seccompiler::Error> for ToolError {
     ghost use Rattle.std.specs.Prelude.{◌≡◌};
-    ghost use Rattle.seccompc.specs.Errors.{from_library};
+    ghost use Rattle.seccomp_command_line.specs.Errors.{from_library};
 
     ghost from_gives = { λ refusal error. error ≡ from_library refusal };
 
@@ -67,7 +76,7 @@ impl From<seccompiler::Error> for ToolError {
 impl From<BackendError> for ToolError {
     ghost use Rattle.std.specs.Prelude.{◌≡◌};
     ghost use Rattle.seccompiler.specs.Errors.{from_backend};
-    ghost use Rattle.seccompc.specs.Errors.{from_library};
+    ghost use Rattle.seccomp_command_line.specs.Errors.{from_library};
 
     ghost from_gives = { λ refusal error. error ≡ from_library (from_backend refusal) };
 
@@ -76,9 +85,22 @@ impl From<BackendError> for ToolError {
     }
 }
 
+/// As the library's root answers it.
+impl From<JsonFrontendError> for ToolError {
+    ghost use Rattle.std.specs.Prelude.{◌≡◌};
+    ghost use Rattle.seccompiler.specs.Errors.{from_frontend};
+    ghost use Rattle.seccomp_command_line.specs.Errors.{from_library};
+
+    ghost from_gives = { λ refusal error. error ≡ from_library (from_frontend refusal) };
+
+    fn from(refusal: JsonFrontendError) -> ToolError {
+        seccompiler::Error::from(refusal).into()
+    }
+}
+
 impl From<AllocError> for ToolError {
     ghost use Rattle.std.specs.Prelude.{◌≡◌};
-    ghost use Rattle.seccompc.specs.declared.error.ToolError.TheVariants.{OutOfMemory};
+    ghost use Rattle.seccomp_command_line.specs.declared.error.ToolError.TheVariants.{OutOfMemory};
 
     ghost from_gives = { λ _ error. error ≡ OutOfMemory };
 
@@ -89,7 +111,7 @@ impl From<AllocError> for ToolError {
 
 impl<T: Drop> From<AllocFailed<T>> for ToolError {
     ghost use Rattle.std.specs.Prelude.{◌≡◌};
-    ghost use Rattle.seccompc.specs.declared.error.ToolError.TheVariants.{OutOfMemory};
+    ghost use Rattle.seccomp_command_line.specs.declared.error.ToolError.TheVariants.{OutOfMemory};
 
     ghost from_gives = { λ _ error. error ≡ OutOfMemory };
 

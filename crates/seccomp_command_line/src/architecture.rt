@@ -1,0 +1,21 @@
+// The architecture that a word names.
+
+ghost use Rattle.std.specs.Prelude.{IfOk, IfErr};
+ghost use Rattle.seccomp_command_line.specs.Policies.{IsNameOf, IsRefusedName};
+
+use crate::error::ToolError;
+use seccompiler::TargetArch;
+use std::alloc::Global;
+
+/// The architecture of this name, ASCII case aside.
+///
+/// # Errors
+///
+/// `Library` with `InvalidTargetArch` and the name as it was given where no architecture has it, or
+/// `OutOfMemory` where memory is refused.
+pub fn architecture_of(alloc: Global, name: &str) -> Result<TargetArch, ToolError>
+    ensures named { IfOk result (IsNameOf name.now) }
+    ensures refused { IfErr result (IsRefusedName name.now) }
+{
+    Ok(TargetArch::from_text(alloc, name)?)
+}

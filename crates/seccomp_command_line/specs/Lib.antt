@@ -2,6 +2,7 @@
 -- they are written; what goes wrong; what is told of records, and what of a policy; and what an engine answers.
 pub mod Hexadecimal
 pub mod Names
+pub mod Numbers
 pub mod Errors
 pub mod Records
 pub mod Policies

@@ -10,5 +10,6 @@ pub mod arguments;
 pub mod error;
 pub mod hexadecimal;
 pub mod names;
+pub mod numbers;
 pub mod record_texts;
 pub mod streams;

@@ -1,23 +1,13 @@
 -- The words that the program is called with, and the command that they are.
-use Rattle.std.specs.Prelude.{◌≡◌, ℕ, ℤ, pos, neg_ℤ, ◌≤ℤ◌, ◌<ℤ◌, ◌+◌, ◌-◌, ◌*◌, ◌^◌, ◌<◌, ◌≤◌, List, [], ◌∷◌, ◌++◌, length, All, codes}
+use Rattle.std.specs.Prelude.{◌≡◌, ℕ, ℤ, pos, neg_ℤ, ◌≤ℤ◌, ◌<ℤ◌, ◌^◌, ◌<◌, List, [], ◌∷◌, ◌++◌, codes}
+use Rattle.seccomp_command_line.specs.Numbers.{IsWritten}
 use Rattle.seccompc.specs.declared.words.Command.{Command}
 use Rattle.seccompc.specs.declared.words.Command.TheVariants.{Probe, List as Listing, Run}
 
--- The number that decimal digits write: each digit has the weight of its place.
-abbrev pub written_number : List ℕ → ℕ
-written_number [] = 0
-written_number (digit ∷ digits) = (digit - 48) * 10 ^ length digits + written_number digits
-
--- The text is one ASCII digit or more and nothing else, and they write this number.
-pub record IsNumberText (text : List ℕ) (n : ℕ) : Type 0 where
-  pub some : 1 ≤ length text
-  pub digits : All (λ c. (48 ≤ c) × (c ≤ 57)) text
-  pub value : n ≡ written_number text
-
--- The text is such digits, with one `-` in front or none, and they write this number.
+-- The text is decimal digits, one or more, with one `-` in front or none, and they write this number.
 pub data IsSignedText (text : List ℕ) (z : ℤ) : Type 0 where
-  unsigned : (n : ℕ) → IsNumberText text n → z ≡ pos n → IsSignedText text z
-  after_minus : (digits : List ℕ) (n : ℕ) → text ≡ codes "-" ++ digits → IsNumberText digits n → z ≡ neg_ℤ (pos n) → IsSignedText text z
+  unsigned : (n : ℕ) → IsWritten 10 text n → z ≡ pos n → IsSignedText text z
+  after_minus : (digits : List ℕ) (n : ℕ) → text ≡ codes "-" ++ digits → IsWritten 10 digits n → z ≡ neg_ℤ (pos n) → IsSignedText text z
 
 -- A number that 64 bits hold, the sign among them.
 abbrev pub IsSigned64 : ℤ → Type 0
@@ -31,10 +21,9 @@ pub record IsProbe (words : List (List ℕ)) (arch : List ℕ) (nr : ℤ) (index
   pub all : words ≡ codes "probe" ∷ arch ∷ nr_text ∷ index_text ∷ value_text ∷ []
   pub nr_written : IsSignedText nr_text nr
   pub nr_fits : IsSigned64 nr
-  pub index_written : IsNumberText index_text index
+  pub index_written : IsWritten 10 index_text index
   pub index_fits : index < 2 ^ 8
-  pub value_written : IsNumberText value_text value
-  pub value_fits : value < 2 ^ 64
+  pub value_written : IsWritten 10 value_text value
 
 -- The words are this command.
 abbrev pub IsCommand : List (List ℕ) → Command → Type 0

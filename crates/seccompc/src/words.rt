@@ -1,8 +1,10 @@
 // The words that the program is called with.
 
-ghost use Rattle.std.specs.Prelude.{◌≡◌, ℕ, ℤ, ◌<◌, ◌^◌, [], ◌∷◌, IfSome, IfNone, map, codes, string_bytes};
+ghost use Rattle.std.specs.Prelude.{◌≡◌, ℤ, [], ◌∷◌, IfSome, IfNone, map, codes, string_bytes};
 ghost use Rattle.seccompc.specs.declared.words.Command.{Command};
-ghost use Rattle.seccompc.specs.Words.{IsNumberText, IsSignedText, IsSigned64, IsCommand};
+ghost use Rattle.seccompc.specs.Words.{IsSignedText, IsSigned64, IsCommand};
+
+use seccomp_command_line::numbers::read_digits;
 
 /// A command of the program.
 #[derive(Clone, Copy)]
@@ -105,20 +107,9 @@ fn probe_of<'a>(arch: &'a str, nr: &str, index: &str, value: &str) -> Option<Com
     Some(Command::Probe {
         arch,
         nr: read_signed(nr)?,
-        index: u8::try_from(read_number(index)?).ok()?,
-        value: read_number(value)?,
+        index: u8::try_from(read_digits(index, 10)?).ok()?,
+        value: read_digits(value, 10)?,
     })
-}
-
-// The number that a text of decimal digits writes, where 64 bits hold it.
-fn read_number(text: &str) -> Option<u64>
-    ensures read { IfSome result (IsNumberText text.now) }
-    ensures unread { IfNone result ((n : ℕ) → n < 2 ^ 64 → IsNumberText text.now n → ⊥) }
-{
-    if text.starts_with('+') {
-        return None;
-    }
-    text.parse().ok()
 }
 
 // The number that a text of decimal digits writes, a `-` in front or not, where 64 bits hold it.

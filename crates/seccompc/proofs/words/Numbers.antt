@@ -1,46 +1,17 @@
--- For `read_number` and `read_signed`: what std's `parse` reads, in the words of `specs/Words.antt`.
-use Rattle.std.proofs.Common.{◌≡◌, ◌≢◌, ℕ, ℤ, pos, neg_ℤ, ◌<◌, ◌≤◌, ◌^◌, List, [], ◌∷◌, length, All, Option, Result, Ok, Err, IfSome, IfNone, slice_index, refl, sym, subst, ap, ⊎_elim, arith}
+-- For `read_signed`: what std's `parse` reads, in the words of `specs/Words.antt`.
+use Rattle.std.proofs.Common.{◌≡◌, ◌≢◌, ℕ, ℤ, pos, neg_ℤ, ◌<◌, ◌≤◌, ◌^◌, List, [], ◌∷◌, length, Option, Result, Ok, Err, IfSome, IfNone, slice_index, refl, sym, subst, ap, ⊎_elim, arith}
 use Rattle.std.proofs.lemmas.Int.{ints}
 use Rattle.std.proofs.lemmas.Bool.{cases_eq}
 use Rattle.std.specs.Result.{OkIff, result_ok}
-use Rattle.std.specs.Str.Parse.{ParsesUnsigned, ParsesSigned}
-use Rattle.std.proofs.lemmas.List.Elements.{All-nil, All-head, All-tail, All-cons}
-use Rattle.std.proofs.lemmas.Str.Parse.{IsDigitsTest, IsNumeralModel, numerals_by_weight, parse_plain, parse_signed_plain, parse_signed_minus}
-use Rattle.seccompc.specs.Words.{written_number, IsNumberText, IsSignedText, IsSigned64, unsigned, after_minus}
+use Rattle.std.specs.Str.Parse.{AllDigits, ParsesSigned, digits_value}
+use Rattle.std.proofs.lemmas.Str.Parse.{IsNumeralModel, parse_signed_plain, parse_signed_minus}
+use Rattle.seccomp_command_line.specs.Numbers.{IsWritten}
+use Rattle.seccompc.specs.Words.{IsSignedText, IsSigned64, unsigned, after_minus}
 use mir.Syntax.{w64}
 
-abbrev IsDigit : ℕ → Type 0
-IsDigit c = (48 ≤ c) × (c ≤ 57)
-
--- The test of digits is std's.
-digits_test : IsDigitsTest (All IsDigit)
-digits_test = record {
-  empty = All-nil IsDigit;
-  parts = λ c cs h. (All-head IsDigit c cs h, All-tail IsDigit c cs h);
-  more = λ c cs h t. All-cons IsDigit c cs h t;
-}
-
--- The number of digits is the one that std's `parse` reads.
-numerals : IsNumeralModel (All IsDigit) written_number
-numerals = numerals_by_weight (All IsDigit) digits_test written_number (record { empty = refl; more = λ c cs h. refl })
-
--- A number's text begins with a digit.
-number_begins : (text : List ℕ) (n : ℕ) → IsNumberText text n → IsDigit (slice_index text 0)
-number_begins text n is = is.digits 0 0 (omega arith)
-
--- The number of the text, where it is one of 64 bits, and else none.
-pub record IsNumberRead (text : List ℕ) (r : Option ℕ) : Type 0 where
-  pub read : IfSome r (IsNumberText text)
-  pub unread : IfNone r ((n : ℕ) → n < 2 ^ 64 → IsNumberText text n → ⊥)
-
-number_cases : {E : Type 0} (text : List ℕ) (r : Result ℕ E)
-    → OkIff r (All IsDigit text × (0 < length text) × (written_number text < 2 ^ 64)) (written_number text) → IsNumberRead text (result_ok r)
-number_cases text (Ok n) h = record { read = record { some = omega arith; digits = h.0.0; value = h.1 }; unread = tt }
-number_cases text (Err e) h = record { read = tt; unread = λ n few is. h (is.digits, omega arith, subst (λ m. m < 2 ^ 64) is.value few) }
-
--- What `parse` reads of a text without a plus in front.
-pub number_read : {E : Type 0} (text : List ℕ) (r : Result ℕ E) → ParsesUnsigned 64 10 text r → slice_index text 0 ≢ 43 → IsNumberRead text (result_ok r)
-number_read text r h differs = number_cases text r (parse_plain numerals 64 text r h differs)
+-- Numerals are said in std's own words.
+numerals : IsNumeralModel (AllDigits 10) (digits_value 10)
+numerals = record { to = λ ds all. all; from = λ ds all. all; same = λ ds all. refl }
 
 -- The number of the text, where it is one of 64 bits with its sign, and else none.
 pub record IsSignedRead (text : List ℕ) (r : Option ℤ) : Type 0 where
@@ -49,42 +20,47 @@ pub record IsSignedRead (text : List ℕ) (r : Option ℤ) : Type 0 where
 
 -- Where no sign stands in front.
 unsigned_cases : {E : Type 0} (text : List ℕ) (r : Result ℤ E) → slice_index text 0 ≢ 45
-    → OkIff r (All IsDigit text × (0 < length text) × (written_number text < 2 ^ 63)) (pos (written_number text)) → IsSignedRead text (result_ok r)
+    → OkIff r (AllDigits 10 text × (0 < length text) × (digits_value 10 text < 2 ^ 63)) (pos (digits_value 10 text))
+    → IsSignedRead text (result_ok r)
 unsigned_cases text (Ok z) differs h = record {
-  read = unsigned (written_number text) (record { some = omega arith; digits = h.0.0; value = refl }) h.1;
+  read = unsigned (digits_value 10 text) (record { digits = (h.0.1, h.0.0); value = refl; fits = omega (arith, h.0.2) }) h.1;
   unread = tt;
 }
 unsigned_cases text (Err e) differs h = record {
   read = tt;
   unread = λ z fits is. elim is [
-    | unsigned n written same ↦ h (written.digits, omega arith, omega (arith, ints, written.value))
+    | unsigned n written same ↦ h (written.digits.1, written.digits.0, omega (arith, ints, written.value))
     | after_minus digits n same written gives ↦ differs (ap (λ s. slice_index s 0) same)
   ];
 }
 
 -- Where a minus does.
 minus_cases : {E : Type 0} (digits : List ℕ) (r : Result ℤ E)
-    → OkIff r (All IsDigit digits × (0 < length digits) × (written_number digits ≤ 2 ^ 63)) (neg_ℤ (pos (written_number digits)))
+    → OkIff r (AllDigits 10 digits × (0 < length digits) × (digits_value 10 digits ≤ 2 ^ 63)) (neg_ℤ (pos (digits_value 10 digits)))
     → IsSignedRead (45 ∷ digits) (result_ok r)
 minus_cases digits (Ok z) h = record {
-  read = after_minus digits (written_number digits) refl (record { some = omega arith; digits = h.0.0; value = refl }) h.1;
+  read = after_minus digits (digits_value 10 digits) refl (record { digits = (h.0.1, h.0.0); value = refl; fits = omega (arith, h.0.2) })
+      h.1;
   unread = tt;
 }
 minus_cases digits (Err e) h = record {
   read = tt;
   unread = λ z fits is. elim is [
-    | unsigned n written same ↦ absurd (omega (arith, number_begins (45 ∷ digits) n written))
+    | unsigned n written same ↦ absurd (omega (arith, written.digits.1.0))
     | after_minus others n same written gives ↦
         let e : digits ≡ others = cc in
-        let here = subst (λ ds. IsNumberText ds n) (sym e) written in
-        h (here.digits, omega arith, omega (arith, ints, here.value))
+        let here = subst (λ ds. IsWritten 10 ds n) (sym e) written in
+        h (here.digits.1, here.digits.0, omega (arith, ints, here.value))
   ];
 }
 
 -- What `parse` reads of a text without a plus in front.
-pub signed_read : {E : Type 0} (text : List ℕ) (r : Result ℤ E) → ParsesSigned w64 10 text r → slice_index text 0 ≢ 43 → IsSignedRead text (result_ok r)
-signed_read [] r h differs = unsigned_cases [] r (λ e. absurd (omega arith)) (parse_signed_plain numerals w64 [] r h differs (λ e. absurd (omega arith)))
+pub signed_read : {E : Type 0} (text : List ℕ) (r : Result ℤ E) → ParsesSigned w64 10 text r → slice_index text 0 ≢ 43
+    → IsSignedRead text (result_ok r)
+signed_read [] r h differs =
+    unsigned_cases [] r (λ e. absurd (omega arith)) (parse_signed_plain numerals w64 [] r h differs (λ e. absurd (omega arith)))
 signed_read (c ∷ digits) r h differs = ⊎_elim
-    (λ e. subst (λ b. IsSignedRead (b ∷ digits) (result_ok r)) (sym e) (minus_cases digits r (parse_signed_minus numerals w64 (c ∷ digits) r h e)))
+    (λ e. subst (λ b. IsSignedRead (b ∷ digits) (result_ok r)) (sym e)
+    (minus_cases digits r (parse_signed_minus numerals w64 (c ∷ digits) r h e)))
     (λ other. unsigned_cases (c ∷ digits) r other (parse_signed_plain numerals w64 (c ∷ digits) r h differs other))
     (cases_eq c 45)

@@ -1,9 +1,10 @@
 use Rattle.std.proofs.Common.{◌≡◌, ℕ, ℤ, pos, negsuc, ◌<◌, ◌^◌, List, [], ◌∷◌, Result, Ok, Err, Some, codes, sym, subst, refl, ◌∙◌, arith, rules, w64, FitsSigned}
 use Rattle.std.specs.Result.{OkIff, result_ok}
 use Rattle.std.proofs.lemmas.Int.{ints, to_z-of_z}
+use Rattle.seccomp_command_line.specs.Numbers.{IsWritten}
 use Rattle.seccompc.specs.declared.words.Command.{Command}
 use Rattle.seccompc.specs.declared.words.Command.TheVariants.{Probe, List as Listing, Run}
-use Rattle.seccompc.specs.Words.{IsNumberText, IsSignedText, IsSigned64, IsCommand}
+use Rattle.seccompc.specs.Words.{IsSignedText, IsSigned64, IsCommand}
 use Rattle.seccompc.proofs.words.probe_of.Goals as goal
 
 -- Words whose third is no number with a sign are no probe.
@@ -34,7 +35,7 @@ pub returns-clause-read : goal.returns-clause-read
 returns-clause-read c =
     let nr = c.in_ok-read_signed.field-0 in
     let fits : FitsSigned w64 nr = search rules in
-    let byte = byte_same c.in_ok-read_number.field-0 c.in_ok-ok.field-0 c.try_from.result c.try_from.ensures c.in_ok-ok.ensures.value in
+    let byte = byte_same c.in_ok-read_digits.field-0 c.in_ok-ok.field-0 c.try_from.result c.try_from.ensures c.in_ok-ok.ensures.value in
     rw (to_z-of_z w64 nr fits) (record {
       nr_text = c.args.nr.now;
       index_text = c.args.index.now;
@@ -42,8 +43,7 @@ returns-clause-read c =
       all = refl;
       nr_written = c.in_ok-read_signed.ensures.read;
       nr_fits = signed_fits nr fits;
-      index_written = subst (λ n. IsNumberText c.args.index.now n) (sym byte.0) c.in_ok-read_number.ensures.read;
+      index_written = subst (λ n. IsWritten 10 c.args.index.now n) (sym byte.0) c.in_ok-read_digits.ensures.read;
       index_fits = omega (arith, byte);
-      value_written = c.in_ok-read_number-2.ensures.read;
-      value_fits = search rules;
+      value_written = c.in_ok-read_digits-2.ensures.read;
     })

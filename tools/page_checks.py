@@ -37,18 +37,22 @@ CODE = re.compile(r"``.+?``|`[^`]+`")
 PATH = re.compile(r"[\w.*{},-]+(?:/[\w.*{},-]+)+/?|[\w-]+\.(?:antt|edit|py|rt)")
 SOURCE = re.compile(r"\.(?:antt|bpf|c|edit|h|html|json|md|py|rs|rt|svg|toml|txt)$")
 BUILT = re.compile(r"(^|/)(out|target)(/|$)")
+HIDDEN = re.compile(r"/(out|target|__pycache__|\.[^/]+)/")
 # Paths of other places: a reader's own repository, the kernel's headers, the Rust crate.
 ELSEWHERE = ("crates/app", ".vscode/", "linux/", "src/syscall_table/x86_64.rs")
 PLACEHOLDER = re.compile(r"\b[A-Z][A-Z_]+\b(?!\.md)")
 
 
+def files_below(folder, pattern="*"):
+    """Returns the files of a folder of the repository and below it, but for what is built or hidden."""
+    found = (it for it in folder.rglob(pattern) if it.is_file())
+    return sorted(it for it in found if not HIDDEN.search(f"/{it.relative_to(TOP)}"))
+
+
 def pages():
     """Returns the pages: those of the top, of docs/, and each README below."""
-    listed = subprocess.run(
-        ["git", "ls-files", "--cached", "--others", "--exclude-standard", "*.md"],
-        cwd=TOP, capture_output=True, text=True, check=True,
-    ).stdout.split("\n")
-    return [TOP / it for it in sorted(set(listed) - {""}) if (TOP / it).is_file()]
+    found = {*TOP.glob("*.md"), *TOP.glob("docs/*.md"), *files_below(TOP, "README.md")}
+    return sorted(found, key=name_of)
 
 
 def name_of(page):

@@ -16,7 +16,10 @@ Prints each difference, and as its last line 'N passed, M failed'. With --long i
 30 words instead, which pages have few of.
 """
 
+import fnmatch
+import functools
 import itertools
+import os
 import pathlib
 import re
 import subprocess
@@ -37,22 +40,31 @@ CODE = re.compile(r"``.+?``|`[^`]+`")
 PATH = re.compile(r"[\w.*{},-]+(?:/[\w.*{},-]+)+/?|[\w-]+\.(?:antt|edit|py|rt)")
 SOURCE = re.compile(r"\.(?:antt|bpf|c|edit|h|html|json|md|py|rs|rt|svg|toml|txt)$")
 BUILT = re.compile(r"(^|/)(out|target)(/|$)")
-HIDDEN = re.compile(r"/(out|target|__pycache__|\.[^/]+)/")
+PASSED_OVER = ("out", "target", "__pycache__")
 # Paths of other places: a reader's own repository, the kernel's headers, the Rust crate.
 ELSEWHERE = ("crates/app", ".vscode/", "linux/", "src/syscall_table/x86_64.rs")
 PLACEHOLDER = re.compile(r"\b[A-Z][A-Z_]+\b(?!\.md)")
 
 
-def files_below(folder, pattern="*"):
+def files_below(folder):
     """Returns the files of a folder of the repository and below it, but for what is built or hidden."""
-    found = (it for it in folder.rglob(pattern) if it.is_file())
-    return sorted(it for it in found if not HIDDEN.search(f"/{it.relative_to(TOP)}"))
+    found = []
+    for place, folders, names in os.walk(folder):
+        folders[:] = [it for it in folders if it not in PASSED_OVER and not it.startswith(".")]
+        found += [pathlib.Path(place, it) for it in names]
+    return sorted(found)
+
+
+@functools.cache
+def file_names():
+    """Returns the names of the files of the repository."""
+    return {it.name for it in files_below(TOP)}
 
 
 def pages():
     """Returns the pages: those of the top, of docs/, and each README below."""
-    found = {*TOP.glob("*.md"), *TOP.glob("docs/*.md"), *files_below(TOP, "README.md")}
-    return sorted(found, key=name_of)
+    below = (it for it in files_below(TOP) if it.name == "README.md")
+    return sorted({*TOP.glob("*.md"), *TOP.glob("docs/*.md"), *below}, key=name_of)
 
 
 def name_of(page):
@@ -125,7 +137,7 @@ def is_there(page, path):
     """Returns whether there is a file or folder of this path, from the top, the page's folder or a crate's."""
     pattern = PLACEHOLDER.sub("*", path).rstrip("/")
     if "/" not in pattern:
-        return any(TOP.glob(f"crates/*/**/{pattern}")) or any(TOP.glob(f"tools/**/{pattern}"))
+        return bool(fnmatch.filter(file_names(), pattern))
     around = [TOP, page.parent, *TOP.glob("crates/*"), *TOP.glob("crates/*/src"), *TOP.glob("crates")]
     return any(next(folder.glob(pattern), None) for folder in around if not pattern.startswith(".."))
 

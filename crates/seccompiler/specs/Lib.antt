@@ -20,8 +20,9 @@ pub mod JsonAnswers
 pub mod UnderNames
 pub mod JsonPrograms
 pub mod Reads
--- What other calls promise: the code of conditions and rules; the second layout, and either layout; the places of a program; programs and filters
--- compared; each step from JSON to filters; entries without conditions; errors and their texts; installing; the order of rules; the low half of an argument; equality.
+-- What other calls promise: the code of conditions and rules; the tree layout, and either layout; the places of a program;
+-- programs and filters compared; the first place of a program that isn't taken; each step from JSON to filters; entries
+-- without conditions; errors and their texts; installing; the order of rules; the low half of an argument; equality.
 pub mod Code
 pub mod ConditionCode
 pub mod Pieces
@@ -32,6 +33,7 @@ pub mod Places
 pub mod PlaceLists
 pub mod Compare
 pub mod CompareFilters
+pub mod FirstUnfit
 pub mod JsonSteps
 pub mod JsonOrigins
 pub mod JsonWidened

@@ -1,7 +1,8 @@
 // The checker of programs, and the machine that runs them on the record of a system call.
 
-ghost use Rattle.std.specs.Prelude.{◌≡◌, ◌≢◌, ℕ, ◌+◌, ◌^◌, ◌<◌, ◌≤◌, ◌↔◌, IsTrue, length};
+ghost use Rattle.std.specs.Prelude.{◌≡◌, ◌≢◌, ℕ, ◌+◌, ◌^◌, ◌<◌, ◌≤◌, ◌↔◌, IsTrue, IfSome, IsNone, length};
 ghost use Rattle.seccompiler.specs.Machine.{IsFine, IsInRange, IsChecked, Does, Ends};
+ghost use Rattle.seccompiler.specs.FirstUnfit.{IsFirstUnfit};
 
 use crate::bpf::{
     BPF_MAX_LEN, BpfProgramRef, JUMP, JUMP_AT_LEAST, JUMP_EQUAL, JUMP_GREATER, LOAD, MASK, RETURN,
@@ -58,6 +59,42 @@ pub fn check(prog: BpfProgramRef<'_>) -> bool
         }
     }
     prog[prog.len() - 1].code == RETURN
+}
+
+/// Tells the first place of a program that keeps [`check`] from passing it, if there is one.
+///
+/// That is the place of the first instruction that may not stand where it does; or 4096, where there are
+/// more and those before may; or the last place, where all may and the last instruction doesn't return.
+/// Of no instructions it is 0.
+///
+/// ```
+/// let program = [
+///     bpf_stmt(BPF_RET | BPF_K, 1),
+///     bpf_stmt(BPF_LD | BPF_W | BPF_ABS, 62),
+///     bpf_stmt(BPF_RET | BPF_K, 1),
+/// ];
+/// assert!(rt; first_unfit(&program) == Some(1));
+/// ```
+pub fn first_unfit(prog: BpfProgramRef<'_>) -> Option<usize>
+    ensures unfit { IfSome result (IsFirstUnfit prog.now) }
+    ensures checked { IsNone result ↔ IsChecked prog.now }
+{
+    if prog.is_empty() {
+        return Some(0);
+    }
+    for (place, instruction) in prog.iter().enumerate() {
+        if place == BPF_MAX_LEN {
+            return Some(place);
+        }
+        if !is_fine(*instruction, place, prog.len()) {
+            return Some(place);
+        }
+    }
+    if prog[prog.len() - 1].code == RETURN {
+        None
+    } else {
+        Some(prog.len() - 1)
+    }
 }
 
 /// Runs a program that passes [`check`] on the record of a system call.

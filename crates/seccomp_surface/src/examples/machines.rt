@@ -3,7 +3,7 @@
 use seccompiler::bpf::{
     BPF_ABS, BPF_JEQ, BPF_JMP, BPF_K, BPF_LD, BPF_RET, BPF_W, bpf_jump, bpf_stmt,
 };
-use seccompiler::machine::{Outcome, check, run};
+use seccompiler::machine::{Outcome, check, first_unfit, run};
 use seccompiler::{SyscallTable, TargetArch};
 use std::test::Fail;
 
@@ -15,6 +15,16 @@ fn a_checked_program(rt: HostRuntime) {
     ];
     // Its load reads past the end of the record.
     assert!(rt; !check(&program));
+}
+
+#[test]
+fn the_first_place_that_is_unfit(rt: HostRuntime) {
+    let program = [
+        bpf_stmt(BPF_RET | BPF_K, 1),
+        bpf_stmt(BPF_LD | BPF_W | BPF_ABS, 62),
+        bpf_stmt(BPF_RET | BPF_K, 1),
+    ];
+    assert!(rt; first_unfit(&program) == Some(1));
 }
 
 #[test]

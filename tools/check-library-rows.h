@@ -20,8 +20,9 @@ static const char README[] =
     "{\"index\":1,\"type\":\"dword\",\"op\":\"eq\",\"val\":1,\"comment\":\"F_GETFD\"}]}]}}";
 static const char NAME[] = "main_thread";
 
-/* A filter without actions, whose name has two bytes. */
+/* A filter without actions, whose name has two bytes, and what is said of it. */
 static const char SHAPELESS[] = "{\"\xc2\xb5\":{}}";
+static const char SHAPELESS_SAID[] = "Json filter has a wrong shape: \xc2\xb5.";
 
 /* The filter `a` names a call that no architecture has, and the filter `b` is fine. */
 static const char UNKNOWN[] =
@@ -43,12 +44,12 @@ static const int64_t CODES[][2] = {
     {SECCOMPILER_OUT_OF_MEMORY, -1},
     {SECCOMPILER_UNKNOWN_ARCHITECTURE, -2},
     {SECCOMPILER_UNKNOWN_LAYOUT, -3},
-    {SECCOMPILER_REFUSED, -4},
+    {SECCOMPILER_REJECTED, -4},
     {SECCOMPILER_NO_FILTER, -5},
     {SECCOMPILER_TOO_LARGE, -6},
     {SECCOMPILER_NO_ROOM, -7},
     {SECCOMPILER_NOT_CHECKED, -8},
-    {SECCOMPILER_NOT_A_RECORD, -9},
+    {SECCOMPILER_UNKNOWN_RELATION, -9},
     {SECCOMPILER_UNKNOWN_CALL, -10},
     {SECCOMPILER_LAYOUT_LINEAR, 0},
     {SECCOMPILER_LAYOUT_TREE, 1},
@@ -61,6 +62,10 @@ static const int64_t CODES[][2] = {
     {SECCOMPILER_EQUAL_ACTIONS, -17},
     {SECCOMPILER_BAD_ORDER, -18},
     {SECCOMPILER_BAD_NUMBER, -19},
+    {SECCOMPILER_UNDECIDED, -20},
+    {SECCOMPILER_ALIKE, 0},
+    {SECCOMPILER_AT_MOST_AS_PERMISSIVE, 1},
+    {SECCOMPILER_ALL_CALLS, 0},
     {SECCOMPILER_DWORD, 4},
     {SECCOMPILER_QWORD, 8},
     {SECCOMPILER_EQ, 0},
@@ -71,6 +76,31 @@ static const int64_t CODES[][2] = {
     {SECCOMPILER_LE, 5},
     {SECCOMPILER_MASKED_EQ, 6},
 };
+
+/* What the codes from -1 downwards mean, and numbers that are no codes. */
+static const char *const SENTENCES[] = {
+    "Out of memory.",
+    "Unknown architecture.",
+    "Unknown layout.",
+    "The policy is rejected.",
+    "The policy has no such filter.",
+    "The program would have more than 4096 instructions.",
+    "The program has more instructions than the array.",
+    "The instructions are no program that may be run.",
+    "Unknown relation.",
+    "Unknown system call.",
+    "Unknown action.",
+    "The counts don't add up to the rules or the conditions.",
+    "The argument of a condition is above 5.",
+    "The length of a condition is neither 4 nor 8.",
+    "The operator of a condition is above 6.",
+    "A rule has no conditions.",
+    "The two actions are the same.",
+    "The numbers of the chains don't ascend.",
+    "The number of a chain is below 0 or above 4294967295.",
+    "The comparison is undecided.",
+};
+static const int64_t NO_CODES[] = {0, 1, 24, -21, INT64_MAX, INT64_MIN};
 
 /* Calls, and what the README's policy decides for them on x86_64. */
 static const struct {
@@ -143,7 +173,7 @@ static const struct {
 static const struct {
     const char *text, *name;
     uint32_t arch, layout;
-    size_t room;
+    size_t capacity;
     int64_t code;
     const char *said;
 } REFUSED[] = {
@@ -151,13 +181,13 @@ static const struct {
     {"", "b", AUDIT_ARCH_I386, 0, 0, SECCOMPILER_UNKNOWN_ARCHITECTURE, "Unknown architecture."},
     {"", "b", 0xc000003f, 0, 0, SECCOMPILER_UNKNOWN_ARCHITECTURE, "Unknown architecture."},
     {"", "b", AUDIT_ARCH_X86_64, 2, 0, SECCOMPILER_UNKNOWN_LAYOUT, "Unknown layout."},
-    {"[]", "b", AUDIT_ARCH_X86_64, 0, 0, SECCOMPILER_REFUSED, "Json is not an object of filters."},
-    {"{\"a\":{\"x\":1,\"x\":1}}", "b", AUDIT_ARCH_X86_64, 0, 0, SECCOMPILER_REFUSED, "Repeated key in Json."},
-    {SHAPELESS, "b", AUDIT_ARCH_X86_64, 1, 0, SECCOMPILER_REFUSED, "Json filter has a wrong shape: \xc2\xb5."},
+    {"[]", "b", AUDIT_ARCH_X86_64, 0, 0, SECCOMPILER_REJECTED, "Json is not an object of filters."},
+    {"{\"a\":{\"x\":1,\"x\":1}}", "b", AUDIT_ARCH_X86_64, 0, 0, SECCOMPILER_REJECTED, "Repeated key in Json."},
+    {SHAPELESS, "b", AUDIT_ARCH_X86_64, 1, 0, SECCOMPILER_REJECTED, "Json filter has a wrong shape: \xc2\xb5."},
     {"{\"a\":{\"mismatch_action\":\"trap\",\"match_action\":\"allow\",\"filter\":[{\"syscall\":\"nosyscall\"}]}}",
-     "b", AUDIT_ARCH_AARCH64, 0, 0, SECCOMPILER_REFUSED,
+     "b", AUDIT_ARCH_AARCH64, 0, 0, SECCOMPILER_REJECTED,
      "Invalid syscall name: nosyscall for given arch: aarch64."},
-    {UNKNOWN, "b", AUDIT_ARCH_X86_64, 0, 0, SECCOMPILER_REFUSED,
+    {UNKNOWN, "b", AUDIT_ARCH_X86_64, 0, 0, SECCOMPILER_REJECTED,
      "Invalid syscall name: nosyscall for given arch: x86_64."},
     {README, "b", AUDIT_ARCH_X86_64, 0, 0, SECCOMPILER_NO_FILTER, "No filter has this name."},
     {README, "main", AUDIT_ARCH_X86_64, 0, 0, SECCOMPILER_NO_FILTER, "No filter has this name."},
@@ -175,24 +205,108 @@ static const char NO_JSON_SAID[] = "Error parsing Json: ";
 static const char TOO_LARGE[] =
     "The seccomp filter contains too many BPF instructions: 4097. Max length is 4096.";
 
-/* How many bytes there is room for, and how many are written of "Json filter has a wrong shape: \xc2\xb5.". */
-static const int64_t CUTS[][2] = {{0, 0}, {1, 1}, {31, 31}, {32, 31}, {33, 33}, {34, 34}, {35, 34}};
+/* How many bytes a message has, and how many are written of SHAPELESS_SAID, besides the byte 0. */
+static const struct {
+    size_t capacity, bytes;
+} CUTS[] = {{0, 0}, {1, 0}, {2, 1}, {32, 31}, {33, 31}, {34, 33}, {35, 34}, {36, 34}};
+
+/* Two filters, which stand in the other order in the text; their names, one with a byte 0, and the lengths. Both
+ * have faults that only a compilation finds, which play no part. */
+static const char NAMED[] =
+    "{\"b\\u0000c\":{\"mismatch_action\":\"trap\",\"match_action\":\"allow\",\"filter\":[{\"syscall\":\"nosyscall\"}]},\n"
+    "\"b\":{\"mismatch_action\":\"trap\",\"match_action\":\"trap\",\"filter\":[]}}";
+static const struct {
+    const char *name;
+    int64_t bytes;
+} FILTERS[] = {{"b", 1}, {"b\0c", 3}};
+static const char SHORT_NAME[] =
+    "{\"a\xc2\xb5\":{\"mismatch_action\":\"trap\",\"match_action\":\"allow\",\"filter\":[]}}";
+
+/* What has no name at this index. */
+static const struct {
+    const char *text;
+    size_t index;
+    int64_t code;
+    const char *said;
+} NO_NAMES[] = {
+    {NAMED, 2, SECCOMPILER_NO_FILTER, "No filter has this index."},
+    {NAMED, SIZE_MAX, SECCOMPILER_NO_FILTER, "No filter has this index."},
+    {"{}", 0, SECCOMPILER_NO_FILTER, "No filter has this index."},
+    {"[]", 0, SECCOMPILER_REJECTED, "Json is not an object of filters."},
+    {SHAPELESS, 7, SECCOMPILER_REJECTED, SHAPELESS_SAID},
+};
+
+/* Programs of so many returns with this instruction at a place: whether they may be run, and the first place that
+ * isn't taken; SIZE_MAX where the place is as it was. */
+static const struct {
+    const char *what;
+    size_t count, at;
+    struct sock_filter instruction;
+    int32_t answer;
+    size_t place;
+} PLACES[] = {
+    {"one return", 1, 0, {6, 0, 0, 0}, 1, SIZE_MAX},
+    {"as many returns as may be", 4096, 0, {6, 0, 0, 0}, 1, SIZE_MAX},
+    {"one return too many", 4097, 0, {6, 0, 0, 0}, 0, 4096},
+    {"an unknown instruction before one return too many", 4097, 4095, {7, 0, 0, 0}, 0, 4095},
+    {"nothing", 0, 0, {6, 0, 0, 0}, 0, 0},
+    {"an unknown instruction", 3, 1, {0xffff, 0, 0, 0}, 0, 1},
+    {"a load past the record", 3, 1, {0x20, 0, 0, 64}, 0, 1},
+    {"a load of the last word", 3, 1, {0x20, 0, 0, 60}, 1, SIZE_MAX},
+    {"a load of no word", 3, 0, {0x20, 0, 0, 2}, 0, 0},
+    {"a jump to the last instruction", 3, 0, {5, 0, 0, 1}, 1, SIZE_MAX},
+    {"a jump past the end", 3, 0, {5, 0, 0, 2}, 0, 0},
+    {"a test that leads past the end", 3, 1, {0x15, 0, 1, 0}, 0, 1},
+    {"no return at the end", 3, 2, {0x20, 0, 0, 0}, 0, 2},
+};
+
+/* Programs that allow call 39, and kill the process or log at another one; and one that jumps past its end. */
+static const struct sock_filter STRICT[] = {
+    {0x20, 0, 0, 0}, {0x15, 0, 1, 39}, {0x06, 0, 0, 0x7fff0000}, {0x06, 0, 0, 0x80000000}};
+static const struct sock_filter LAX[] = {
+    {0x20, 0, 0, 0}, {0x15, 0, 1, 39}, {0x06, 0, 0, 0x7fff0000}, {0x06, 0, 0, 0x7ffc0000}};
+static const struct sock_filter JUMPS[] = {{0x05, 0, 0, 0}};
+
+/* Comparisons, and what they answer. Each refused one has the faults of the later ones that it can have. */
+static const struct {
+    const char *what;
+    const struct sock_filter *program;
+    size_t count;
+    const struct sock_filter *other;
+    size_t other_count;
+    uint32_t relation, arch, least, greatest;
+    size_t most;
+    int64_t answer;
+} COMPARED[] = {
+    {"an unknown architecture", JUMPS, 1, JUMPS, 1, 2, 1, 0, 0, 0, SECCOMPILER_UNKNOWN_ARCHITECTURE},
+    {"an unknown relation", JUMPS, 1, JUMPS, 1, 2, AUDIT_ARCH_X86_64, 0, 0, 0, SECCOMPILER_UNKNOWN_RELATION},
+    {"an unknown relation of all calls", JUMPS, 1, JUMPS, 1, 2, 0, 0, 0, 0, SECCOMPILER_UNKNOWN_RELATION},
+    {"a first program that isn't checked", JUMPS, 1, LAX, 4, 0, 0, 0, 0, 0, SECCOMPILER_NOT_CHECKED},
+    {"a second program that isn't checked", LAX, 4, JUMPS, 1, 1, 0, 0, 0, 0, SECCOMPILER_NOT_CHECKED},
+    {"no set of calls", STRICT, 4, LAX, 4, 0, 0, 0, 0, 0, SECCOMPILER_UNDECIDED},
+    {"the strict one is at most as permissive", STRICT, 4, LAX, 4, 1, 0, 0, 0, 1000, 1},
+    {"the lax one isn't", LAX, 4, STRICT, 4, 1, 0, 0, 0, 1000, 0},
+    {"they aren't alike", STRICT, 4, LAX, 4, 0, 0, 0, 0, 1000, 0},
+    {"they are for call 39", LAX, 4, STRICT, 4, 0, AUDIT_ARCH_X86_64, 39, 39, 1000, 1},
+    {"they aren't for calls 39 and 40", LAX, 4, STRICT, 4, 0, AUDIT_ARCH_AARCH64, 39, 40, 1000, 0},
+    {"they are for no calls", LAX, 4, STRICT, 4, 0, AUDIT_ARCH_RISCV64, 40, 39, 1000, 1},
+    {"the same program", LAX, 4, LAX, 4, 0, 0, 0, 0, 1000, 1},
+};
 
 /* What is not decided. Each row has the faults of all later ones that it can have. */
 static const struct {
     const char *text, *name;
     uint32_t arch;
-    size_t bytes;
     int64_t code;
+    const char *said;
 } UNDECIDED[] = {
-    {"", "b", 0, 0, SECCOMPILER_UNKNOWN_ARCHITECTURE},
-    {"", "b", 0, 63, SECCOMPILER_UNKNOWN_ARCHITECTURE},
-    {"", "b", AUDIT_ARCH_X86_64, 63, SECCOMPILER_NOT_A_RECORD},
-    {"", "b", AUDIT_ARCH_X86_64, 64, SECCOMPILER_REFUSED},
-    {UNKNOWN, "c", AUDIT_ARCH_X86_64, 64, SECCOMPILER_REFUSED},
-    {"{}", "b", AUDIT_ARCH_X86_64, 64, SECCOMPILER_NO_FILTER},
-    {README, "b", AUDIT_ARCH_X86_64, 64, SECCOMPILER_NO_FILTER},
-    {README, "\xc2", AUDIT_ARCH_X86_64, 64, SECCOMPILER_NO_FILTER},
+    {"[]", "b", 0, SECCOMPILER_UNKNOWN_ARCHITECTURE, "Unknown architecture."},
+    {"[]", "b", AUDIT_ARCH_X86_64, SECCOMPILER_REJECTED, "Json is not an object of filters."},
+    {UNKNOWN, "c", AUDIT_ARCH_X86_64, SECCOMPILER_REJECTED,
+     "Invalid syscall name: nosyscall for given arch: x86_64."},
+    {"{}", "b", AUDIT_ARCH_X86_64, SECCOMPILER_NO_FILTER, "No filter has this name."},
+    {README, "b", AUDIT_ARCH_X86_64, SECCOMPILER_NO_FILTER, "No filter has this name."},
+    {README, "\xc2", AUDIT_ARCH_X86_64, SECCOMPILER_NO_FILTER, "No filter has this name."},
 };
 
 /* Names of calls, and their numbers. */

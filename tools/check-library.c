@@ -111,16 +111,47 @@ static struct seccomp_data call_of(uint32_t arch, int number, uint64_t first, ui
 
 /* ---- programs */
 
-static int64_t compile(const char *text, size_t length, uint32_t arch, const char *name, size_t name_length,
-                       uint32_t layout, size_t room)
+/* What each call that takes a message is lent. */
+static char message[256];
+
+static void mark_message(void)
 {
-    mark();
-    return seccompiler_compile(text, length, arch, name, name_length, layout, program, room);
+    memset(message, '#', sizeof message);
 }
 
-static int64_t compile_readme(uint32_t layout, size_t room)
+/* The message is this sentence, and what is behind its byte 0 is as it was. */
+static int is_told(const char *said)
 {
-    return compile(README, strlen(README), AUDIT_ARCH_X86_64, NAME, strlen(NAME), layout, room);
+    size_t bytes = strlen(said) + 1;
+    if (bytes > sizeof message || memcmp(message, said, bytes) != 0)
+        return 0;
+    while (bytes < sizeof message)
+        if (message[bytes++] != '#')
+            return 0;
+    return 1;
+}
+
+static int64_t compile(const char *text, size_t length, uint32_t arch, const char *name, size_t name_length,
+                       uint32_t layout, size_t capacity)
+{
+    mark();
+    mark_message();
+    int64_t answer = seccompiler_compile(text, length, arch, name, name_length, layout, program, capacity,
+                                         message, sizeof message);
+    check(answer < 0 || is_told(""), "the message of a program");
+    check(answer >= 0 || (message[0] != 0 && memchr(message, 0, sizeof message) != NULL), "the message of a code");
+    return answer;
+}
+
+static int64_t compile_readme(uint32_t layout, size_t capacity)
+{
+    return compile(README, strlen(README), AUDIT_ARCH_X86_64, NAME, strlen(NAME), layout, capacity);
+}
+
+static int64_t decide(const char *text, const char *name, uint32_t arch, const struct seccomp_data *call)
+{
+    mark_message();
+    return seccompiler_decide(text, strlen(text), arch, name, strlen(name), call, message, sizeof message);
 }
 
 static void check_calls(int64_t count)
@@ -128,10 +159,9 @@ static void check_calls(int64_t count)
     for (size_t i = 0; i < sizeof CALLS / sizeof *CALLS; i++) {
         struct seccomp_data call =
             call_of(CALLS[i].arch, CALLS[i].number, CALLS[i].first, CALLS[i].second, CALLS[i].third);
-        equal(seccompiler_run(program, count, &call, sizeof call), CALLS[i].word, "a run");
-        equal(seccompiler_decide(README, strlen(README), AUDIT_ARCH_X86_64, NAME, strlen(NAME), &call,
-                                 sizeof call),
-              CALLS[i].word, "a decision");
+        equal(seccompiler_run(program, count, &call), CALLS[i].word, "a run");
+        equal(decide(README, NAME, AUDIT_ARCH_X86_64, &call), CALLS[i].word, "a decision");
+        check(is_told(""), "the message of a decision");
     }
 }
 
@@ -157,7 +187,7 @@ struct asked {
     struct seccompiler_chain chains[3];
     struct seccompiler_rule rules[3];
     struct seccompiler_condition conditions[16];
-    size_t chain_count, rule_count, condition_count, room;
+    size_t chain_count, rule_count, condition_count, capacity;
     uint32_t mismatch_kind, mismatch_data, match_kind, match_data, arch, layout;
 };
 
@@ -167,11 +197,26 @@ static struct asked fine(uint32_t layout)
     memcpy(asked.chains, CHAINS, sizeof CHAINS);
     memcpy(asked.rules, RULES, sizeof RULES);
     memcpy(asked.conditions, CONDITIONS, sizeof CONDITIONS);
-    asked.chain_count = 3, asked.rule_count = 3, asked.condition_count = 16, asked.room = 4100;
+    asked.chain_count = 3, asked.rule_count = 3, asked.condition_count = 16, asked.capacity = 4100;
     asked.mismatch_kind = SECCOMP_RET_TRAP, asked.mismatch_data = 3;
     asked.match_kind = SECCOMP_RET_ERRNO, asked.match_data = 13;
     asked.arch = AUDIT_ARCH_X86_64, asked.layout = layout;
     return asked;
+}
+
+static int64_t length_of_rules(const struct asked *asked)
+{
+    return seccompiler_rules_length(asked->chains, asked->chain_count, asked->rules, asked->rule_count,
+                                    asked->conditions, asked->condition_count, asked->mismatch_kind,
+                                    asked->mismatch_data, asked->match_kind, asked->match_data, asked->arch,
+                                    asked->layout);
+}
+
+static int64_t decide_rules(const struct asked *asked, const struct seccomp_data *call)
+{
+    return seccompiler_decide_rules(asked->chains, asked->chain_count, asked->rules, asked->rule_count,
+                                    asked->conditions, asked->condition_count, asked->mismatch_kind,
+                                    asked->mismatch_data, asked->match_kind, asked->match_data, asked->arch, call);
 }
 
 static int64_t compile_rules(const struct asked *asked)
@@ -180,15 +225,28 @@ static int64_t compile_rules(const struct asked *asked)
     int64_t answer = seccompiler_compile_rules(
         asked->chains, asked->chain_count, asked->rules, asked->rule_count, asked->conditions,
         asked->condition_count, asked->mismatch_kind, asked->mismatch_data, asked->match_kind, asked->match_data,
-        asked->arch, asked->layout, program, asked->room);
+        asked->arch, asked->layout, program, asked->capacity);
     check(is_marked(answer < 0 ? 0 : answer), "behind a program of rules");
+    if (refused_from <= refused_to)
+        return answer;
+    int64_t length = length_of_rules(asked);
+    if (answer == SECCOMPILER_NO_ROOM)
+        check(length > (int64_t)asked->capacity, "the length of rules for which there is no room");
+    else
+        equal(length, answer, "the length of rules");
     return answer;
 }
 
 static int64_t ran(int64_t count, int number, uint64_t first)
 {
     struct seccomp_data call = call_of(AUDIT_ARCH_X86_64, number, first, 1, 0);
-    return seccompiler_run(program, count, &call, sizeof call);
+    return seccompiler_run(program, count, &call);
+}
+
+static int64_t decided_by(const struct asked *asked, int number, uint64_t first)
+{
+    struct seccomp_data call = call_of(AUDIT_ARCH_X86_64, number, first, 1, 0);
+    return decide_rules(asked, &call);
 }
 
 /* The arrays have the program of the same policy as a text, in both layouts. */
@@ -201,13 +259,26 @@ static void check_rules(void)
         check(count > 0, "a program of rules");
         equal(seccompiler_check(program, count), 1, "a check of a program of rules");
         equal(ran(count, 39, 0), SECCOMP_RET_ERRNO | 13, "a chain without rules");
+        equal(decided_by(&asked, 39, 0), SECCOMP_RET_ERRNO | 13, "a chain without rules, decided");
         equal(ran(count, 1, 5), SECCOMP_RET_ERRNO | 13, "a rule that holds");
+        equal(decided_by(&asked, 1, 5), SECCOMP_RET_ERRNO | 13, "a rule that holds, decided");
         equal(ran(count, 1, 6), SECCOMP_RET_TRAP, "rules that don't hold");
+        equal(decided_by(&asked, 1, 6), SECCOMP_RET_TRAP, "rules that don't hold, decided");
         equal(ran(count, 0, 5), SECCOMP_RET_TRAP, "a call without a chain");
+        equal(decided_by(&asked, 0, 5), SECCOMP_RET_TRAP, "a call without a chain, decided");
         memcpy(of_rules, program, sizeof of_rules);
         equal(compile(SAME, strlen(SAME), AUDIT_ARCH_X86_64, "f", 1, layout, 4096), count, "the same as a text");
         check(memcmp(program, of_rules, count * sizeof *program) == 0, "the instructions of the same as a text");
     }
+}
+
+/* What is refused of a program is refused of a decision with the same code, unless it is about the program. */
+static int64_t refused_rules(const struct asked *asked)
+{
+    int64_t answer = compile_rules(asked);
+    if (answer != SECCOMPILER_UNKNOWN_LAYOUT)
+        equal(decided_by(asked, 0, 0), answer, "what is refused of a decision");
+    return answer;
 }
 
 /* The first cause is told: each fault is mended once it was, and those of the next ones stay. */
@@ -217,32 +288,32 @@ static void check_rules_refused(void)
     a.arch = 1, a.mismatch_kind = 1, a.match_kind = 2, a.rules[0].conditions = 2;
     a.conditions[1].argument = 6, a.conditions[9].length = 5, a.conditions[3].op = 7;
     a.chains[1].number = -1, a.chains[2].number = 1;
-    equal(compile_rules(&a), SECCOMPILER_UNKNOWN_ARCHITECTURE, "an architecture"), a.arch = AUDIT_ARCH_X86_64;
-    equal(compile_rules(&a), SECCOMPILER_UNKNOWN_LAYOUT, "a layout"), a.layout = 1;
-    equal(compile_rules(&a), SECCOMPILER_UNKNOWN_ACTION, "a mismatch action"), a.mismatch_kind = SECCOMP_RET_TRAP;
-    equal(compile_rules(&a), SECCOMPILER_UNKNOWN_ACTION, "a match action"), a.match_kind = SECCOMP_RET_TRAP;
-    equal(compile_rules(&a), SECCOMPILER_BAD_COUNTS, "one condition less"), a.rules[0].conditions = 0;
-    equal(compile_rules(&a), SECCOMPILER_BAD_COUNTS, "one condition more");
+    equal(refused_rules(&a), SECCOMPILER_UNKNOWN_ARCHITECTURE, "an architecture"), a.arch = AUDIT_ARCH_X86_64;
+    equal(refused_rules(&a), SECCOMPILER_UNKNOWN_LAYOUT, "a layout"), a.layout = 1;
+    equal(refused_rules(&a), SECCOMPILER_UNKNOWN_ACTION, "a mismatch action"), a.mismatch_kind = SECCOMP_RET_TRAP;
+    equal(refused_rules(&a), SECCOMPILER_UNKNOWN_ACTION, "a match action"), a.match_kind = SECCOMP_RET_TRAP;
+    equal(refused_rules(&a), SECCOMPILER_BAD_COUNTS, "one condition less"), a.rules[0].conditions = 0;
+    equal(refused_rules(&a), SECCOMPILER_BAD_COUNTS, "one condition more");
     a.rules[0].conditions = SIZE_MAX, a.rules[2].conditions = 15;
-    equal(compile_rules(&a), SECCOMPILER_BAD_COUNTS, "counts whose sum wraps");
+    equal(refused_rules(&a), SECCOMPILER_BAD_COUNTS, "counts whose sum wraps");
     a.rules[0].conditions = 0, a.rules[1].conditions = 3, a.rules[2].conditions = 13, a.chains[2].rules = 1;
-    equal(compile_rules(&a), SECCOMPILER_BAD_COUNTS, "one rule less"), a.chains[2].rules = 0, a.chains[1].rules = 0;
-    equal(compile_rules(&a), SECCOMPILER_BAD_COUNTS, "one rule more"), a.chains[1].rules = 1;
-    equal(compile_rules(&a), SECCOMPILER_BAD_ARGUMENT, "an argument"), a.conditions[1].argument = 5;
-    equal(compile_rules(&a), SECCOMPILER_UNKNOWN_LENGTH, "a length"), a.conditions[9].length = SECCOMPILER_QWORD;
-    equal(compile_rules(&a), SECCOMPILER_UNKNOWN_OPERATOR, "an operator"), a.conditions[3].op = SECCOMPILER_EQ;
-    equal(compile_rules(&a), SECCOMPILER_EMPTY_RULE, "no conditions"), a.rules[0].conditions = 1;
+    equal(refused_rules(&a), SECCOMPILER_BAD_COUNTS, "one rule less"), a.chains[2].rules = 0, a.chains[1].rules = 0;
+    equal(refused_rules(&a), SECCOMPILER_BAD_COUNTS, "one rule more"), a.chains[1].rules = 1;
+    equal(refused_rules(&a), SECCOMPILER_BAD_ARGUMENT, "an argument"), a.conditions[1].argument = 5;
+    equal(refused_rules(&a), SECCOMPILER_UNKNOWN_LENGTH, "a length"), a.conditions[9].length = SECCOMPILER_QWORD;
+    equal(refused_rules(&a), SECCOMPILER_UNKNOWN_OPERATOR, "an operator"), a.conditions[3].op = SECCOMPILER_EQ;
+    equal(refused_rules(&a), SECCOMPILER_EMPTY_RULE, "no conditions"), a.rules[0].conditions = 1;
     a.rules[1].conditions = 2;
-    equal(compile_rules(&a), SECCOMPILER_EQUAL_ACTIONS, "actions"), a.match_kind = SECCOMP_RET_ALLOW;
-    equal(compile_rules(&a), SECCOMPILER_BAD_ORDER, "a number below the one before"), a.chains[0].number = -2;
-    equal(compile_rules(&a), SECCOMPILER_BAD_NUMBER, "a number below 0"), a.chains[0].number = 1;
+    equal(refused_rules(&a), SECCOMPILER_EQUAL_ACTIONS, "actions"), a.match_kind = SECCOMP_RET_ALLOW;
+    equal(refused_rules(&a), SECCOMPILER_BAD_ORDER, "a number below the one before"), a.chains[0].number = -2;
+    equal(refused_rules(&a), SECCOMPILER_BAD_NUMBER, "a number below 0"), a.chains[0].number = 1;
     a.chains[1].number = 1, a.chains[2].number = 4294967296;
-    equal(compile_rules(&a), SECCOMPILER_BAD_ORDER, "a number twice"), a.chains[0].number = 0;
-    equal(compile_rules(&a), SECCOMPILER_BAD_NUMBER, "a number above 32 bits"), a.chains[2].number = 4294967295;
+    equal(refused_rules(&a), SECCOMPILER_BAD_ORDER, "a number twice"), a.chains[0].number = 0;
+    equal(refused_rules(&a), SECCOMPILER_BAD_NUMBER, "a number above 32 bits"), a.chains[2].number = 4294967295;
     int64_t count = compile_rules(&a);
     check(count > 0, "no fault");
-    a.room = count - 1, equal(compile_rules(&a), SECCOMPILER_NO_ROOM, "no room");
-    a.room = count, equal(compile_rules(&a), count, "room");
+    a.capacity = count - 1, equal(compile_rules(&a), SECCOMPILER_NO_ROOM, "no room");
+    a.capacity = count, equal(compile_rules(&a), count, "room");
 }
 
 static void check_actions(void)
@@ -266,7 +337,7 @@ static void check_actions(void)
     equal(compile_rules(&asked), SECCOMPILER_EQUAL_ACTIONS, "data that don't count");
 }
 
-static int64_t compile_many(size_t count, size_t room)
+static int64_t compile_many(size_t count, size_t capacity)
 {
     static struct seccompiler_rule rules[818];
     static struct seccompiler_condition conditions[818];
@@ -277,7 +348,7 @@ static int64_t compile_many(size_t count, size_t room)
     }
     mark();
     return seccompiler_compile_rules(&chain, 1, rules, count, conditions, count, SECCOMP_RET_TRAP, 0,
-                                     SECCOMP_RET_ALLOW, 0, AUDIT_ARCH_X86_64, 0, program, room);
+                                     SECCOMP_RET_ALLOW, 0, AUDIT_ARCH_X86_64, 0, program, capacity);
 }
 
 /* Nothing; a chain without rules; and n rules of 5 instructions each, which have 5 n + 7 in all. */
@@ -301,76 +372,156 @@ static void check_refusals(void)
 {
     for (size_t i = 0; i < sizeof REFUSED / sizeof *REFUSED; i++) {
         const char *text = REFUSED[i].text, *name = REFUSED[i].name, *said = REFUSED[i].said;
-        char buffer[256];
-        memset(buffer, '#', sizeof buffer);
         equal(compile(text, strlen(text), REFUSED[i].arch, name, strlen(name), REFUSED[i].layout,
-                      REFUSED[i].room),
+                      REFUSED[i].capacity),
               REFUSED[i].code, said);
         check(is_marked(0), "an array after a refusal");
-        equal(seccompiler_refusal(text, strlen(text), REFUSED[i].arch, name, strlen(name), REFUSED[i].layout,
-                                  REFUSED[i].room, buffer, sizeof buffer),
-              strlen(said), said);
-        check(memcmp(buffer, said, strlen(said)) == 0, said);
-        check(buffer[strlen(said)] == '#', "behind the text of a refusal");
+        check(is_told(said), said);
     }
-    char buffer[64] = "#";
-    equal(seccompiler_refusal(README, strlen(README), AUDIT_ARCH_X86_64, NAME, strlen(NAME), 0, 24, buffer,
-                              sizeof buffer),
-          0, "no refusal");
-    check(buffer[0] == '#', "a buffer with no refusal");
-    equal(compile("", 0, AUDIT_ARCH_X86_64, "b", 1, 0, 0), SECCOMPILER_REFUSED, "no text");
+    equal(compile("", 0, AUDIT_ARCH_X86_64, "b", 1, 0, 0), SECCOMPILER_REJECTED, "no text");
     check(is_marked(0), "an array after no text");
     for (size_t i = 0; i < sizeof NO_JSON / sizeof *NO_JSON; i++) {
-        char why[256];
-        int64_t bytes = seccompiler_refusal(NO_JSON[i], strlen(NO_JSON[i]), AUDIT_ARCH_X86_64, "b", 1, 0, 0, why,
-                                            sizeof why);
-        check(bytes > (int64_t)strlen(NO_JSON_SAID), "words behind the beginning of a text of no JSON");
-        check(memcmp(why, NO_JSON_SAID, strlen(NO_JSON_SAID)) == 0, "the text of no JSON");
+        equal(compile(NO_JSON[i], strlen(NO_JSON[i]), AUDIT_ARCH_X86_64, "b", 1, 0, 0), SECCOMPILER_REJECTED,
+              "a text of no JSON");
+        check(strlen(message) > strlen(NO_JSON_SAID), "words behind the beginning of a text of no JSON");
+        check(memcmp(message, NO_JSON_SAID, strlen(NO_JSON_SAID)) == 0, "the text of no JSON");
     }
 }
 
 static void check_cuts(void)
 {
     for (size_t i = 0; i < sizeof CUTS / sizeof *CUTS; i++) {
-        char buffer[64];
-        memset(buffer, '#', sizeof buffer);
-        equal(seccompiler_refusal(SHAPELESS, strlen(SHAPELESS), AUDIT_ARCH_X86_64, "b", 1, 0, 0, buffer,
-                                  CUTS[i][0]),
-              CUTS[i][1], "a text that is cut");
-        check(buffer[CUTS[i][1]] == '#', "behind a text that is cut");
+        size_t capacity = CUTS[i].capacity, bytes = CUTS[i].bytes;
+        mark_message();
+        equal(seccompiler_compile(SHAPELESS, strlen(SHAPELESS), AUDIT_ARCH_X86_64, "b", 1, 0, program, 0, message,
+                                  capacity),
+              SECCOMPILER_REJECTED, "a code whose text is cut");
+        check(memcmp(message, SHAPELESS_SAID, bytes) == 0, "a text that is cut");
+        check(capacity == 0 || message[bytes++] == 0, "the end of a text that is cut");
+        check(message[bytes] == '#', "behind a text that is cut");
     }
+}
+
+/* ---- names of filters */
+
+static int64_t name_at(const char *text, size_t index, char *name, size_t capacity)
+{
+    mark_message();
+    return seccompiler_filter_names(text, strlen(text), index, name, capacity, message, sizeof message);
+}
+
+static void check_names(void)
+{
+    for (size_t i = 0; i < sizeof FILTERS / sizeof *FILTERS; i++) {
+        char name[16];
+        memset(name, '#', sizeof name);
+        equal(name_at(NAMED, i, name, sizeof name), FILTERS[i].bytes, "the length of a name");
+        check(is_told(""), "the message of a name");
+        check(memcmp(name, FILTERS[i].name, FILTERS[i].bytes + 1) == 0, "a name");
+        check(name[FILTERS[i].bytes + 1] == '#', "behind a name");
+    }
+    for (size_t i = 0; i < sizeof NO_NAMES / sizeof *NO_NAMES; i++) {
+        char name[16];
+        memset(name, '#', sizeof name);
+        equal(name_at(NO_NAMES[i].text, NO_NAMES[i].index, name, sizeof name), NO_NAMES[i].code, NO_NAMES[i].said);
+        check(is_told(NO_NAMES[i].said), NO_NAMES[i].said);
+        check(name[0] == '#', "a name that isn't told");
+    }
+    char name[4] = "###";
+    equal(name_at(SHORT_NAME, 0, name, 3), 3, "the length of a name that is cut");
+    check(memcmp(name, "a\0#", 3) == 0, "a name that is cut");
+    equal(name_at(NAMED, 0, name, 0), FILTERS[0].bytes, "the length of a name without room");
+    check(memcmp(name, "a\0#", 3) == 0, "a name without room");
 }
 
 static void check_codes(void)
 {
     for (size_t i = 0; i < sizeof CODES / sizeof *CODES; i++)
         equal(CODES[i][0], CODES[i][1], "a name of the header");
+    for (int64_t i = 0; i < (int64_t)(sizeof SENTENCES / sizeof *SENTENCES); i++) {
+        mark_message();
+        equal(seccompiler_strerror(-1 - i, message, sizeof message), strlen(SENTENCES[i]), SENTENCES[i]);
+        check(is_told(SENTENCES[i]), SENTENCES[i]);
+    }
+    for (size_t i = 0; i < sizeof NO_CODES / sizeof *NO_CODES; i++) {
+        mark_message();
+        equal(seccompiler_strerror(NO_CODES[i], message, sizeof message), 13, "the length of what is no code");
+        check(is_told("Unknown code."), "what is no code");
+    }
+    mark_message();
+    equal(seccompiler_strerror(-1, message, 4), 14, "the length of a sentence that is cut");
+    check(memcmp(message, "Out\0#", 5) == 0, "a sentence that is cut");
+    equal(seccompiler_strerror(-1, message, 0), 14, "the length of a sentence without room");
+    check(memcmp(message, "Out\0#", 5) == 0, "a sentence without room");
+    equal(seccompiler_version(), SECCOMPILER_VERSION, "the version");
+    equal(SECCOMPILER_VERSION, 65536, "the version of the header");
 }
 
 static void check_runs(void)
 {
-    static const unsigned char record[65];
+    static const struct seccomp_data record;
     static const struct sock_filter returns = {6, 0, 0, 7};
     static const struct sock_filter jumps = {5, 0, 0, 0};
     static const struct sock_filter unknown = {0xffff, 0xff, 0xff, 0xffffffff};
-    equal(seccompiler_run(&returns, 1, record, 64), 7, "a run of one return");
-    equal(seccompiler_run(&jumps, 1, record, 63), SECCOMPILER_NOT_CHECKED, "a run of a jump past the end");
-    equal(seccompiler_run(&unknown, 1, record, 64), SECCOMPILER_NOT_CHECKED, "a run of an unknown instruction");
-    equal(seccompiler_run(&returns, 0, record, 64), SECCOMPILER_NOT_CHECKED, "a run of nothing");
-    equal(seccompiler_run(&returns, 0, record, 63), SECCOMPILER_NOT_CHECKED, "a run of nothing on 63 bytes");
-    equal(seccompiler_run(&returns, 1, record, 63), SECCOMPILER_NOT_A_RECORD, "a run on 63 bytes");
-    equal(seccompiler_run(&returns, 1, record, 65), SECCOMPILER_NOT_A_RECORD, "a run on 65 bytes");
+    equal(seccompiler_run(&returns, 1, &record), 7, "a run of one return");
+    equal(seccompiler_run(&jumps, 1, &record), SECCOMPILER_NOT_CHECKED, "a run of a jump past the end");
+    equal(seccompiler_run(&unknown, 1, &record), SECCOMPILER_NOT_CHECKED, "a run of an unknown instruction");
+    equal(seccompiler_run(&returns, 0, &record), SECCOMPILER_NOT_CHECKED, "a run of nothing");
+}
+
+/* The first place that isn't taken, of programs of returns with one instruction changed. */
+static void check_places(void)
+{
+    static struct sock_filter returns[4097];
+    for (size_t i = 0; i < 4097; i++)
+        returns[i].code = 6;
+    for (size_t i = 0; i < sizeof PLACES / sizeof *PLACES; i++) {
+        size_t place = SIZE_MAX, last = PLACES[i].at;
+        struct sock_filter before = returns[last];
+        returns[last] = PLACES[i].instruction;
+        equal(seccompiler_check_at(returns, PLACES[i].count, &place), PLACES[i].answer, PLACES[i].what);
+        equal(place, PLACES[i].place, PLACES[i].what);
+        equal(seccompiler_check(returns, PLACES[i].count), PLACES[i].answer, PLACES[i].what);
+        returns[last] = before;
+    }
 }
 
 static void check_undecided(void)
 {
     struct seccomp_data call = call_of(AUDIT_ARCH_X86_64, 0, 0, 0, 0);
     for (size_t i = 0; i < sizeof UNDECIDED / sizeof *UNDECIDED; i++) {
-        const char *text = UNDECIDED[i].text, *name = UNDECIDED[i].name;
-        equal(seccompiler_decide(text, strlen(text), UNDECIDED[i].arch, name, strlen(name), &call,
-                                 UNDECIDED[i].bytes),
-              UNDECIDED[i].code, "what is not decided");
+        equal(decide(UNDECIDED[i].text, UNDECIDED[i].name, UNDECIDED[i].arch, &call), UNDECIDED[i].code,
+              UNDECIDED[i].said);
+        check(is_told(UNDECIDED[i].said), UNDECIDED[i].said);
     }
+}
+
+/* ---- comparisons */
+
+static void check_comparisons(void)
+{
+    static const struct seccomp_data zero;
+    for (size_t i = 0; i < sizeof COMPARED / sizeof *COMPARED; i++) {
+        struct seccomp_data record = zero;
+        equal(seccompiler_compare(COMPARED[i].program, COMPARED[i].count, COMPARED[i].other, COMPARED[i].other_count,
+                                  COMPARED[i].relation, COMPARED[i].arch, COMPARED[i].least, COMPARED[i].greatest,
+                                  COMPARED[i].most, &record),
+              COMPARED[i].answer, COMPARED[i].what);
+        if (COMPARED[i].answer == 0)
+            check(seccompiler_run(COMPARED[i].program, COMPARED[i].count, &record)
+                      != seccompiler_run(COMPARED[i].other, COMPARED[i].other_count, &record),
+                  COMPARED[i].what);
+        else
+            check(memcmp(&record, &zero, sizeof zero) == 0, COMPARED[i].what);
+    }
+    static struct sock_filter linear[24];
+    struct seccomp_data record = zero;
+    equal(compile_readme(SECCOMPILER_LAYOUT_LINEAR, 24), 24, "a program to compare");
+    memcpy(linear, program, sizeof linear);
+    equal(compile_readme(SECCOMPILER_LAYOUT_TREE, 24), 21, "the tree to compare");
+    equal(seccompiler_compare(linear, 24, program, 21, SECCOMPILER_ALIKE, SECCOMPILER_ALL_CALLS, 0, 0, 1000000,
+                              &record),
+          1, "both layouts");
 }
 
 static void check_numbers(void)
@@ -404,13 +555,8 @@ static void check_lengths(void)
     equal(compile(fits, strlen(fits), AUDIT_ARCH_X86_64, "a", 1, 0, 4091), SECCOMPILER_NO_ROOM, "no room");
     equal(compile(large, strlen(large), AUDIT_ARCH_X86_64, "a", 1, 0, 0), SECCOMPILER_TOO_LARGE, "too large");
     check(is_marked(0), "an array after a filter that is too large");
+    check(is_told(TOO_LARGE), TOO_LARGE);
     equal(compile(large, strlen(large), AUDIT_ARCH_X86_64, "b", 1, 0, 4), 4, "beside a filter that is too large");
-    char buffer[128];
-    memset(buffer, '#', sizeof buffer);
-    equal(seccompiler_refusal(large, strlen(large), AUDIT_ARCH_X86_64, "a", 1, 0, 4096, buffer, sizeof buffer),
-          strlen(TOO_LARGE), TOO_LARGE);
-    check(memcmp(buffer, TOO_LARGE, strlen(TOO_LARGE)) == 0, TOO_LARGE);
-    check(buffer[strlen(TOO_LARGE)] == '#', "behind the text of a filter that is too large");
     free(fits);
     free(large);
 }
@@ -457,7 +603,7 @@ static int64_t as_tree(void)
 static int64_t decided(void)
 {
     struct seccomp_data call = call_of(AUDIT_ARCH_X86_64, 288, 0, 0, 0);
-    return seccompiler_decide(README, strlen(README), AUDIT_ARCH_X86_64, NAME, strlen(NAME), &call, 64);
+    return decide(README, NAME, AUDIT_ARCH_X86_64, &call);
 }
 
 static int64_t rules_linear(void)
@@ -472,25 +618,43 @@ static int64_t rules_as_tree(void)
     return compile_rules(&asked);
 }
 
-/* The refusal of a shape, whose text has 34 bytes; that of want of memory has 14. */
-static int64_t refusal(void)
+static int64_t rules_decided(void)
 {
-    static const char SAID[] = "Json filter has a wrong shape: \xc2\xb5.", OUT[] = "Out of memory.";
-    char buffer[64];
-    int64_t bytes = seccompiler_refusal(SHAPELESS, strlen(SHAPELESS), AUDIT_ARCH_X86_64, "b", 1, 0, 0, buffer,
-                                        sizeof buffer);
-    check(memcmp(buffer, bytes == 34 ? SAID : OUT, bytes == 34 ? 34 : 14) == 0, "the text of a refusal");
-    return bytes;
+    struct asked asked = fine(SECCOMPILER_LAYOUT_LINEAR);
+    return decided_by(&asked, 1, 5);
 }
 
-/* The refusal of a program that there is, where nothing is said; want of memory is, in 14 bytes. */
-static int64_t no_refusal(void)
+static int64_t rules_long(void)
 {
-    char buffer[32] = "#";
-    int64_t bytes = seccompiler_refusal(README, strlen(README), AUDIT_ARCH_X86_64, NAME, strlen(NAME),
-                                        SECCOMPILER_LAYOUT_TREE, 30, buffer, sizeof buffer);
-    check(memcmp(buffer, bytes == 0 ? "#" : "Out of memory.", bytes == 0 ? 1 : 14) == 0, "the text of no refusal");
-    return bytes;
+    struct asked asked = fine(SECCOMPILER_LAYOUT_TREE);
+    return length_of_rules(&asked);
+}
+
+static int64_t named(void)
+{
+    char name[16] = "#";
+    int64_t answer = name_at(NAMED, 0, name, sizeof name);
+    check(answer < 0 ? name[0] == '#' : strcmp(name, FILTERS[0].name) == 0, "a name with a refused request");
+    return answer;
+}
+
+static int64_t compared(void)
+{
+    static const struct seccomp_data zero;
+    struct seccomp_data record = zero;
+    int64_t answer = seccompiler_compare(STRICT, 4, LAX, 4, SECCOMPILER_ALIKE, SECCOMPILER_ALL_CALLS, 0, 0, 1000, &record);
+    check(answer == 0 || memcmp(&record, &zero, sizeof zero) == 0, "a record with a refused request");
+    return answer;
+}
+
+/* A refusal of a shape: where memory is refused for its text, the message is what the code means. */
+static int64_t shape(void)
+{
+    int64_t answer = compile(SHAPELESS, strlen(SHAPELESS), AUDIT_ARCH_X86_64, "b", 1, 0, 0);
+    check(answer == SECCOMPILER_REJECTED ? is_told(SHAPELESS_SAID) || is_told("The policy is rejected.")
+                                         : is_told("Out of memory."),
+          "a text with a refused request");
+    return answer;
 }
 
 /* The functions that take no memory make no request for any, and answer where none is granted. */
@@ -500,7 +664,11 @@ static void without_memory(void)
     equal(compile_readme(SECCOMPILER_LAYOUT_LINEAR, 24), 24, "the README's policy");
     refuse(1, LONG_MAX);
     equal(seccompiler_check(program, 24), 1, "a check");
-    equal(seccompiler_run(program, 24, &call, 64), SECCOMP_RET_ALLOW, "a run");
+    equal(seccompiler_run(program, 24, &call), SECCOMP_RET_ALLOW, "a run");
+    size_t place;
+    equal(seccompiler_check_at(program, 24, &place), 1, "a check for a place");
+    equal(seccompiler_strerror(SECCOMPILER_NO_ROOM, message, sizeof message), 49, "a sentence");
+    equal(seccompiler_version(), SECCOMPILER_VERSION, "the version");
     equal(seccompiler_call_number(AUDIT_ARCH_X86_64, "accept4", 7), 288, "a call's number");
     equal(requests, 0, "requests of the functions that take no memory");
     refuse(1, 0);
@@ -525,9 +693,12 @@ int main(void)
     check_rules_lengths();
     check_refusals();
     check_cuts();
+    check_names();
     check_codes();
     check_runs();
+    check_places();
     check_undecided();
+    check_comparisons();
     check_numbers();
     check_lengths();
     held = 0;
@@ -538,8 +709,11 @@ int main(void)
     sweep(rules_linear, linear, SECCOMPILER_OUT_OF_MEMORY);
     sweep(rules_as_tree, tree, SECCOMPILER_OUT_OF_MEMORY);
     sweep(decided, SECCOMP_RET_ALLOW, SECCOMPILER_OUT_OF_MEMORY);
-    sweep(refusal, 34, 14);
-    sweep(no_refusal, 0, 14);
+    sweep(rules_decided, SECCOMP_RET_ERRNO | 13, SECCOMPILER_OUT_OF_MEMORY);
+    sweep(rules_long, tree, SECCOMPILER_OUT_OF_MEMORY);
+    sweep(named, FILTERS[0].bytes, SECCOMPILER_OUT_OF_MEMORY);
+    sweep(compared, 0, SECCOMPILER_OUT_OF_MEMORY);
+    sweep(shape, SECCOMPILER_REJECTED, SECCOMPILER_OUT_OF_MEMORY);
     without_memory();
     printf("%d passed, %d failed\n", passed, failed);
     return failed != 0;

@@ -104,33 +104,19 @@ static struct text read_whole(const char *path)
     return text;
 }
 
-/* Says why the filter of this name is refused, and ends. */
-static _Noreturn void refuse(const struct policy *policy, const char *name, size_t name_length)
-{
-    char reason[4097] = {0};
-    int64_t length = seccompiler_refusal(policy->text.bytes, policy->text.length, ARCHITECTURE, name,
-                                         name_length, policy->layout, BPF_MAXINSNS, reason,
-                                         sizeof reason - 1);
-
-    /* Only want of memory can have passed since. */
-    if (length <= 0)
-        strcpy(reason, "Out of memory.");
-    else
-        reason[length] = '\0';
-    fprintf(stderr, "jail: %s: %s\n", policy->path, reason);
-    exit(FAILED);
-}
-
-/* Compiles the filter of this name. */
+/* Compiles the filter of this name; where it is rejected, says why, and ends. */
 static void compile(const struct policy *policy, const char *name, size_t name_length,
                     struct program *program)
 {
+    char reason[4097];
     int64_t length = seccompiler_compile(policy->text.bytes, policy->text.length, ARCHITECTURE, name,
                                          name_length, policy->layout, program->instructions,
-                                         BPF_MAXINSNS);
+                                         BPF_MAXINSNS, reason, sizeof reason);
 
-    if (length < 0)
-        refuse(policy, name, name_length);
+    if (length < 0) {
+        fprintf(stderr, "jail: %s: %s\n", policy->path, reason);
+        exit(FAILED);
+    }
     program->length = (unsigned short)length;
 }
 

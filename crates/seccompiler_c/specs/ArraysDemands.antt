@@ -1,5 +1,5 @@
 -- What is demanded of arrays, and which demand is the first that isn't met.
-use Rattle.std.specs.Prelude.{◌≡◌, ◌≢◌, ◌≤◌, ◌⊎◌, ℕ, ℤ, pos, neg_ℤ, List, All, length, map, ⊤}
+use Rattle.std.specs.Prelude.{◌≡◌, ◌≢◌, ◌≤◌, ◌⊎◌, ℕ, ℤ, List, All, length, map, ⊤}
 use Rattle.std.specs.List.{sum_by}
 use Rattle.std.specs.List.Sorted.{IsStrictlySortedBy}
 use Rattle.std.specs.Ordering.{int_cmp}
@@ -9,29 +9,35 @@ use Rattle.seccompiler.specs.declared.backend.BackendError.TheVariants as backen
 use Rattle.seccompiler.specs.declared.backend.SeccompAction.{SeccompAction}
 use Rattle.seccompiler.specs.declared.backend.SeccompAction.TheVariants.{Allow, Errno, KillThread, KillProcess, Log, Trace, Trap}
 use Rattle.seccompiler_c.specs.Arrays.{HasArgument, HasConditions, conditions_of_rule, rules_of_chain, number_of}
+use Rattle.seccompiler_c.specs.Codes.{code_number}
+use Rattle.seccompiler_c.specs.declared.code.Code.{Code}
+use Rattle.seccompiler_c.specs.declared.code.Code.TheVariants as code
 use Rattle.seccompiler_c.specs.declared.arrays.seccompiler_chain.{seccompiler_chain}
 use Rattle.seccompiler_c.specs.declared.arrays.seccompiler_rule.{seccompiler_rule}
 use Rattle.seccompiler_c.specs.declared.arrays.seccompiler_condition.{seccompiler_condition}
 use Rattle.seccompiler_c.specs.declared.arrays_fault.ArraysFault.{ArraysFault}
 use Rattle.seccompiler_c.specs.declared.arrays_fault.ArraysFault.TheVariants.{OutOfMemory, UnknownArchitecture, UnknownLayout, UnknownAction, Counts, Argument, Length, Operator, EmptyRule, EqualActions, Order, Number, TooLarge, NoRoom}
 
--- The code of a fault, as the C header has it: each has one of its own, and those that a text's request can have are
--- that request's.
+-- The code of a fault: each has one of its own, and those that a text's request can have are that request's.
+abbrev pub arrays_fault_code : ArraysFault → Code
+arrays_fault_code OutOfMemory = code.OutOfMemory
+arrays_fault_code UnknownArchitecture = code.UnknownArchitecture
+arrays_fault_code UnknownLayout = code.UnknownLayout
+arrays_fault_code TooLarge = code.TooLarge
+arrays_fault_code NoRoom = code.NoRoom
+arrays_fault_code UnknownAction = code.UnknownAction
+arrays_fault_code Counts = code.BadCounts
+arrays_fault_code Argument = code.BadArgument
+arrays_fault_code Length = code.UnknownLength
+arrays_fault_code Operator = code.UnknownOperator
+arrays_fault_code EmptyRule = code.EmptyRule
+arrays_fault_code EqualActions = code.EqualActions
+arrays_fault_code Order = code.BadOrder
+arrays_fault_code Number = code.BadNumber
+
+-- Its number.
 abbrev pub arrays_code_of : ArraysFault → ℤ
-arrays_code_of OutOfMemory = neg_ℤ (pos 1)
-arrays_code_of UnknownArchitecture = neg_ℤ (pos 2)
-arrays_code_of UnknownLayout = neg_ℤ (pos 3)
-arrays_code_of TooLarge = neg_ℤ (pos 6)
-arrays_code_of NoRoom = neg_ℤ (pos 7)
-arrays_code_of UnknownAction = neg_ℤ (pos 11)
-arrays_code_of Counts = neg_ℤ (pos 12)
-arrays_code_of Argument = neg_ℤ (pos 13)
-arrays_code_of Length = neg_ℤ (pos 14)
-arrays_code_of Operator = neg_ℤ (pos 15)
-arrays_code_of EmptyRule = neg_ℤ (pos 16)
-arrays_code_of EqualActions = neg_ℤ (pos 17)
-arrays_code_of Order = neg_ℤ (pos 18)
-arrays_code_of Number = neg_ℤ (pos 19)
+arrays_code_of f = code_number (arrays_fault_code f)
 
 -- The backend's refusal of a filter, as a fault.
 abbrev pub arrays_fault_of : BackendError → ArraysFault

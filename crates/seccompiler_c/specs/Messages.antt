@@ -1,19 +1,19 @@
--- The texts of refusals, and what is written of them.
-use Rattle.std.specs.Prelude.{◌≡◌, ℕ, ℤ, pos, ◌<◌, ◌≤◌, ◌⊎◌, List, [], ◌++◌, take, drop, length, Option, Some, codes, decimal}
+-- The sentences that tell refusals, and what is written of them into a caller's buffer.
+use Rattle.std.specs.Prelude.{◌≡◌, ℕ, ◌+◌, ℤ, pos, ◌<◌, ◌⊎◌, List, ◌++◌, ◌∷◌, take, drop, length, Option, Some, codes, decimal}
 use Rattle.std.specs.Str.{IsUtf8, IsCharBoundary}
 use Rattle.seccompiler.specs.Texts.{json_text, backend_text, IsJsonText}
-use Rattle.seccompiler_c.specs.Programs.{Request, OfProgram, IsRefusal}
+use Rattle.seccompiler_c.specs.Codes.{fault_code, code_text, IsSentence}
 use Rattle.seccompiler_c.specs.declared.fault.Fault.{Fault}
-use Rattle.seccompiler_c.specs.declared.fault.Fault.TheVariants.{OutOfMemory, UnknownArchitecture, UnknownLayout, NotARecord, Text, NoFilter, Filter, NoRoom}
+use Rattle.seccompiler_c.specs.declared.fault.Fault.TheVariants.{OutOfMemory, UnknownArchitecture, UnknownLayout, Text, NoFilter, NoIndex, Filter, NoRoom}
 
 -- The text of a fault, where all of it is known: that of JSON that can't be read ends in serde_json's own words.
 abbrev pub fault_text : Fault → Option (List ℕ)
 fault_text OutOfMemory = Some (codes "Out of memory.")
 fault_text UnknownArchitecture = Some (codes "Unknown architecture.")
 fault_text UnknownLayout = Some (codes "Unknown layout.")
-fault_text NotARecord = Some (codes "A call record has 64 bytes.")
 fault_text (Text e) = json_text e
 fault_text NoFilter = Some (codes "No filter has this name.")
+fault_text NoIndex = Some (codes "No filter has this index.")
 fault_text (Filter e) = Some (backend_text e)
 fault_text (NoRoom n) = Some (codes "The array has too little room for the program: it has " ++ decimal n ++ codes " instructions.")
 
@@ -22,37 +22,34 @@ abbrev pub IsFaultText : Fault → List ℕ → Type 0
 IsFaultText (Text e) said = IsJsonText e said
 IsFaultText fault said = fault_text fault ≡ Some said
 
--- What is to be said of a request: the text of its refusal, or that of want of memory in its place; or nothing where it
--- isn't refused.
-pub data Says (r : Request) (said : List ℕ) : Type 0 where
-  refused : (fault : Fault) → IsRefusal r fault → IsFaultText fault said → Says r said
-  out_of_memory : (fault : Fault) → IsRefusal r fault → said ≡ codes "Out of memory." → Says r said
-  compiled : OfProgram r (λ program. length program ≤ r.room) → said ≡ [] → Says r said
-
--- The buffer holds the front of a text, as many whole characters of it as there is room for, and behind them what it
--- held; the answer is how many bytes these are.
-pub record HoldsFront (said old new : List ℕ) (answer : ℤ) : Type 0 where
+-- The front of the buffer holds the front of a text, as many whole characters of it as there is room for with a byte 0
+-- behind them; this byte; and behind it what it held.
+pub record HoldsFront (said old new : List ℕ) : Type 0 where
   pub count : ℕ
   pub boundary : IsCharBoundary said count
-  pub room : count ≤ length old
-  pub most : (more : ℕ) → count < more → more ≤ length old → IsCharBoundary said more → ⊥
-  pub written : new ≡ take count said ++ drop count old
-  pub told : answer ≡ pos count
+  pub room : count < length old
+  pub most : (more : ℕ) → count < more → more < length old → IsCharBoundary said more → ⊥
+  pub written : new ≡ take count said ++ (0 ∷ drop (count + 1) old)
 
--- The text is that of the fault, or that of want of memory.
-abbrev pub IsTextOf : Fault → List ℕ → Type 0
-IsTextOf fault said = IsFaultText fault said ⊎ (said ≡ codes "Out of memory.")
+-- The buffer holds a text so, or it has no byte.
+pub data HoldsMessage (said old new : List ℕ) : Type 0 where
+  holds : HoldsFront said old new → HoldsMessage said old new
+  no_byte : length old ≡ 0 → new ≡ old → HoldsMessage said old new
 
--- The buffer holds the front of the fault's text, or of that of want of memory.
-pub record HoldsText (fault : Fault) (old new : List ℕ) (answer : ℤ) : Type 0 where
+-- The sentence is the fault's text, or, where memory is refused for it, what the fault's code means.
+abbrev pub IsTold : Fault → List ℕ → Type 0
+IsTold fault said = IsFaultText fault said ⊎ (said ≡ code_text (fault_code fault))
+
+-- The buffer holds a sentence that tells the fault.
+pub record TellsFault (fault : Fault) (old new : List ℕ) : Type 0 where
   pub said : List ℕ
   pub utf8 : IsUtf8 said
-  pub text : IsTextOf fault said
-  pub holds : HoldsFront said old new answer
+  pub told : IsTold fault said
+  pub holds : HoldsMessage said old new
 
--- What seccompiler_refusal answers, and what the buffer then holds.
-pub record AnswersRefusal (r : Request) (old new : List ℕ) (answer : ℤ) : Type 0 where
+-- What seccompiler_strerror answers, and what the buffer then holds: the sentence of the number, and its length.
+pub record AnswersSentence (number : ℤ) (old new : List ℕ) (answer : ℤ) : Type 0 where
   pub said : List ℕ
-  pub utf8 : IsUtf8 said
-  pub says : Says r said
-  pub holds : HoldsFront said old new answer
+  pub sentence : IsSentence number said
+  pub holds : HoldsMessage said old new
+  pub told : answer ≡ pos (length said)

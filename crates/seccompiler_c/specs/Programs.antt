@@ -1,5 +1,5 @@
 -- The program that a caller asks for, and why it is not given.
-use Rattle.std.specs.Prelude.{◌≡◌, ℕ, ℤ, pos, ◌<◌, ◌≤◌, List, ◌++◌, drop, length, ⊤}
+use Rattle.std.specs.Prelude.{◌≡◌, ℕ, ℤ, pos, ◌<◌, ◌≤◌, List, [], ◌++◌, drop, length, ⊤}
 use Rattle.seccompiler.specs.Compiled.{Passes}
 use Rattle.seccompiler.specs.Layouts.{IsCompiledIn, IsRefusalIn}
 use Rattle.seccompiler.specs.Policy.{Filter}
@@ -11,9 +11,10 @@ use Rattle.seccompiler.specs.declared.layout.Layout.{Layout}
 use Rattle.seccompiler.specs.declared.layout.Layout.TheVariants.{Linear}
 use Rattle.seccompiler_c.specs.Arguments.{IsNoArchitecture, OfArchitecture, IsNoLayout, OfLayout}
 use Rattle.seccompiler_c.specs.Codes.{code_of}
+use Rattle.seccompiler_c.specs.Messages.{HoldsMessage, TellsFault}
 use Rattle.seccompiler_c.specs.Policies.{NamesPolicy, NamesNone, TellsTextFault}
 use Rattle.seccompiler_c.specs.declared.fault.Fault.{Fault}
-use Rattle.seccompiler_c.specs.declared.fault.Fault.TheVariants.{OutOfMemory, UnknownArchitecture, UnknownLayout, NotARecord, Text, NoFilter, Filter as TooLarge, NoRoom}
+use Rattle.seccompiler_c.specs.declared.fault.Fault.TheVariants.{OutOfMemory, UnknownArchitecture, UnknownLayout, Text, NoFilter, Filter as TooLarge, NoRoom}
 
 -- What a caller asks for: the filter of a name in a JSON text, compiled for the architecture of a word in the layout of
 -- a number, where the program has at most so many instructions.
@@ -22,7 +23,7 @@ pub record Request : Type 0 where
   pub architecture : ℕ
   pub name : List ℕ
   pub layout : ℕ
-  pub room : ℕ
+  pub capacity : ℕ
 
 -- The program is compiled for the policy in this layout. In the linear one it passes every call that the policy has no
 -- chain for; in the other one its compilation says how many steps such a call takes.
@@ -59,11 +60,11 @@ abbrev pub IsRefusal : Request → Fault → Type 0
 IsRefusal r OutOfMemory = OfWords r (λ target layout. ⊤)
 IsRefusal r UnknownArchitecture = IsNoArchitecture r.architecture
 IsRefusal r UnknownLayout = OfArchitecture r.architecture (λ target. IsNoLayout r.layout)
-IsRefusal r NotARecord = ⊥
 IsRefusal r (Text e) = OfWords r (λ target layout. TellsTextFault target r.text e)
 IsRefusal r NoFilter = OfWords r (λ target layout. NamesNone target r.text r.name)
 IsRefusal r (TooLarge e) = OfPolicy r (λ layout policy. IsTooLargeIn layout policy e)
-IsRefusal r (NoRoom n) = OfProgram r (λ program. (n ≡ length program) × (r.room < length program))
+IsRefusal r (NoRoom n) = OfProgram r (λ program. (n ≡ length program) × (r.capacity < length program))
+IsRefusal r f = ⊥
 
 -- The array holds the program, and behind it what it held; the answer is the program's length.
 pub record Holds (old new : List sock_filter) (answer : ℤ) (program : List sock_filter) : Type 0 where
@@ -71,8 +72,10 @@ pub record Holds (old new : List sock_filter) (answer : ℤ) (program : List soc
   pub written : new ≡ program ++ drop (length program) old
   pub told : answer ≡ pos (length program)
 
--- What seccompiler_compile answers, and what the array then holds: the program; or what it held before, where the
--- request is refused, and the answer is the refusal's code.
-pub data AnswersCompile (r : Request) (old new : List sock_filter) (answer : ℤ) : Type 0 where
-  compiled : OfProgram r (Holds old new answer) → AnswersCompile r old new answer
-  refused : (fault : Fault) → IsRefusal r fault → answer ≡ code_of fault → new ≡ old → AnswersCompile r old new answer
+-- What seccompiler_compile answers, what the array then holds, and what the message: the program, and an empty sentence;
+-- or what the array held before, where the request is refused; the answer is the refusal's code, and the sentence tells it.
+pub data AnswersCompile (r : Request) (old new : List sock_filter) (answer : ℤ) (message_old message_new : List ℕ) : Type 0 where
+  compiled : OfProgram r (Holds old new answer) → HoldsMessage [] message_old message_new
+      → AnswersCompile r old new answer message_old message_new
+  refused : (fault : Fault) → IsRefusal r fault → answer ≡ code_of fault → new ≡ old → TellsFault fault message_old message_new
+      → AnswersCompile r old new answer message_old message_new

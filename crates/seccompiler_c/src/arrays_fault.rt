@@ -1,15 +1,9 @@
-// Why no program of arrays is given, and its code.
+// Why no program or decision of arrays is given, and its code.
 
-ghost use Rattle.std.specs.Prelude.{◌≡◌, ◌<ℤ◌, pos};
-ghost use Rattle.seccompiler_c.specs.ArraysDemands.{arrays_code_of};
+ghost use Rattle.std.specs.Prelude.{◌≡◌};
+ghost use Rattle.seccompiler_c.specs.ArraysDemands.{arrays_code_of, arrays_fault_code};
 
-use crate::codes::{
-    SECCOMPILER_BAD_ARGUMENT, SECCOMPILER_BAD_COUNTS, SECCOMPILER_BAD_NUMBER,
-    SECCOMPILER_BAD_ORDER, SECCOMPILER_EMPTY_RULE, SECCOMPILER_EQUAL_ACTIONS, SECCOMPILER_NO_ROOM,
-    SECCOMPILER_OUT_OF_MEMORY, SECCOMPILER_TOO_LARGE, SECCOMPILER_UNKNOWN_ACTION,
-    SECCOMPILER_UNKNOWN_ARCHITECTURE, SECCOMPILER_UNKNOWN_LAYOUT, SECCOMPILER_UNKNOWN_LENGTH,
-    SECCOMPILER_UNKNOWN_OPERATOR,
-};
+use crate::code::Code;
 use seccompiler::BackendError;
 
 /// Why no program of arrays is given.
@@ -46,27 +40,33 @@ pub(crate) enum ArraysFault {
 }
 
 impl ArraysFault {
-    /// The code that the exported function answers.
-    pub fn code(self) -> i64
-        ensures code { result ≡ arrays_code_of self }
-        ensures negative { result <ℤ pos 0 }
+    /// The code of the fault.
+    pub fn code(self) -> Code
+        ensures { result ≡ arrays_fault_code self }
     {
         match self {
-            ArraysFault::OutOfMemory => SECCOMPILER_OUT_OF_MEMORY,
-            ArraysFault::UnknownArchitecture => SECCOMPILER_UNKNOWN_ARCHITECTURE,
-            ArraysFault::UnknownLayout => SECCOMPILER_UNKNOWN_LAYOUT,
-            ArraysFault::UnknownAction => SECCOMPILER_UNKNOWN_ACTION,
-            ArraysFault::Counts => SECCOMPILER_BAD_COUNTS,
-            ArraysFault::Argument => SECCOMPILER_BAD_ARGUMENT,
-            ArraysFault::Length => SECCOMPILER_UNKNOWN_LENGTH,
-            ArraysFault::Operator => SECCOMPILER_UNKNOWN_OPERATOR,
-            ArraysFault::EmptyRule => SECCOMPILER_EMPTY_RULE,
-            ArraysFault::EqualActions => SECCOMPILER_EQUAL_ACTIONS,
-            ArraysFault::Order => SECCOMPILER_BAD_ORDER,
-            ArraysFault::Number => SECCOMPILER_BAD_NUMBER,
-            ArraysFault::TooLarge => SECCOMPILER_TOO_LARGE,
-            ArraysFault::NoRoom => SECCOMPILER_NO_ROOM,
+            ArraysFault::OutOfMemory => Code::OutOfMemory,
+            ArraysFault::UnknownArchitecture => Code::UnknownArchitecture,
+            ArraysFault::UnknownLayout => Code::UnknownLayout,
+            ArraysFault::UnknownAction => Code::UnknownAction,
+            ArraysFault::Counts => Code::BadCounts,
+            ArraysFault::Argument => Code::BadArgument,
+            ArraysFault::Length => Code::UnknownLength,
+            ArraysFault::Operator => Code::UnknownOperator,
+            ArraysFault::EmptyRule => Code::EmptyRule,
+            ArraysFault::EqualActions => Code::EqualActions,
+            ArraysFault::Order => Code::BadOrder,
+            ArraysFault::Number => Code::BadNumber,
+            ArraysFault::TooLarge => Code::TooLarge,
+            ArraysFault::NoRoom => Code::NoRoom,
         }
+    }
+
+    /// The number of its code, which the exported functions answer.
+    pub fn number(self) -> i64
+        ensures { result ≡ arrays_code_of self }
+    {
+        self.code().number()
     }
 }
 

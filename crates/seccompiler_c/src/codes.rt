@@ -9,10 +9,10 @@ pub const SECCOMPILER_UNKNOWN_ARCHITECTURE: i64 = -2;
 /// The number names no layout.
 pub const SECCOMPILER_UNKNOWN_LAYOUT: i64 = -3;
 
-/// The bytes are no JSON text of filters, or one of its filters has no policy on the architecture.
-pub const SECCOMPILER_REFUSED: i64 = -4;
+/// The bytes are no JSON text of filters, or one of its filters has a fault on the architecture.
+pub const SECCOMPILER_REJECTED: i64 = -4;
 
-/// No filter of the text has the name.
+/// No filter of the policy has the name, or the index.
 pub const SECCOMPILER_NO_FILTER: i64 = -5;
 
 /// The filter's program would have more than 4096 instructions.
@@ -24,8 +24,8 @@ pub const SECCOMPILER_NO_ROOM: i64 = -7;
 /// The instructions are no program that passes `seccompiler_check`.
 pub const SECCOMPILER_NOT_CHECKED: i64 = -8;
 
-/// The record doesn't have 64 bytes.
-pub const SECCOMPILER_NOT_A_RECORD: i64 = -9;
+/// The number names no relation.
+pub const SECCOMPILER_UNKNOWN_RELATION: i64 = -9;
 
 /// No system call of the architecture has the name.
 pub const SECCOMPILER_UNKNOWN_CALL: i64 = -10;
@@ -56,6 +56,12 @@ pub const SECCOMPILER_BAD_ORDER: i64 = -18;
 
 /// A chain's number doesn't fit 32 bits.
 pub const SECCOMPILER_BAD_NUMBER: i64 = -19;
+
+/// A comparison looked at as many sets of calls as was allowed, and found neither answer.
+pub const SECCOMPILER_UNDECIDED: i64 = -20;
+
+/// The version of the interface: its number, times 65536, and behind it how often it was added to.
+pub const SECCOMPILER_VERSION: u32 = 0x1_0000;
 
 /// The layout of the Rust crate, which tests one call number after the other.
 pub const SECCOMPILER_LAYOUT_LINEAR: u32 = 0;
@@ -89,6 +95,15 @@ pub const SECCOMPILER_LE: u8 = 5;
 
 /// The argument and the value have the same bits under the mask.
 pub const SECCOMPILER_MASKED_EQ: u8 = 6;
+
+/// Two programs return the same word.
+pub const SECCOMPILER_ALIKE: u32 = 0;
+
+/// The first program permits as much as the second, or less.
+pub const SECCOMPILER_AT_MOST_AS_PERMISSIVE: u32 = 1;
+
+/// In place of an architecture: all calls, of whatever architecture.
+pub const SECCOMPILER_ALL_CALLS: u32 = 0;
 
 /// The kind of `SeccompAction::Allow`, as the others below of `linux/seccomp.h`.
 pub const SECCOMP_RET_ALLOW: u32 = 0x7fff_0000;

@@ -1,13 +1,9 @@
 // Why an exported function has no other answer, its code and its text.
 
-ghost use Rattle.std.specs.Prelude.{◌≡◌, ◌<ℤ◌, pos};
-ghost use Rattle.seccompiler_c.specs.Codes.{code_of};
+ghost use Rattle.std.specs.Prelude.{◌≡◌};
+ghost use Rattle.seccompiler_c.specs.Codes.{code_of, fault_code};
 
-use crate::codes::{
-    SECCOMPILER_NO_FILTER, SECCOMPILER_NO_ROOM, SECCOMPILER_NOT_A_RECORD,
-    SECCOMPILER_OUT_OF_MEMORY, SECCOMPILER_REFUSED, SECCOMPILER_TOO_LARGE,
-    SECCOMPILER_UNKNOWN_ARCHITECTURE, SECCOMPILER_UNKNOWN_LAYOUT,
-};
+use crate::code::Code;
 use seccompiler::{BackendError, JsonFrontendError};
 use std::fmt;
 
@@ -20,12 +16,12 @@ pub(crate) enum Fault {
     UnknownArchitecture,
     /// The number names no layout.
     UnknownLayout,
-    /// The record doesn't have 64 bytes.
-    NotARecord,
     /// The text has this fault, which is neither want of memory nor a reader's.
     Text(JsonFrontendError),
     /// No filter of the text has the name.
     NoFilter,
+    /// The text has no more filters than the index.
+    NoIndex,
     /// The filter is refused so, and not for want of memory.
     Filter(BackendError),
     /// The program has so many instructions, and there is room for less.
@@ -33,21 +29,26 @@ pub(crate) enum Fault {
 }
 
 impl Fault {
-    /// The code that the exported functions answer.
-    pub fn code(&self) -> i64
-        ensures code { result ≡ code_of self.now }
-        ensures negative { result <ℤ pos 0 }
+    /// The code of the fault.
+    pub fn code(&self) -> Code
+        ensures { result ≡ fault_code self.now }
     {
         match self {
-            Fault::OutOfMemory => SECCOMPILER_OUT_OF_MEMORY,
-            Fault::UnknownArchitecture => SECCOMPILER_UNKNOWN_ARCHITECTURE,
-            Fault::UnknownLayout => SECCOMPILER_UNKNOWN_LAYOUT,
-            Fault::NotARecord => SECCOMPILER_NOT_A_RECORD,
-            Fault::Text(_) => SECCOMPILER_REFUSED,
-            Fault::NoFilter => SECCOMPILER_NO_FILTER,
-            Fault::Filter(_) => SECCOMPILER_TOO_LARGE,
-            Fault::NoRoom(_) => SECCOMPILER_NO_ROOM,
+            Fault::OutOfMemory => Code::OutOfMemory,
+            Fault::UnknownArchitecture => Code::UnknownArchitecture,
+            Fault::UnknownLayout => Code::UnknownLayout,
+            Fault::Text(_) => Code::Rejected,
+            Fault::NoFilter | Fault::NoIndex => Code::NoFilter,
+            Fault::Filter(_) => Code::TooLarge,
+            Fault::NoRoom(_) => Code::NoRoom,
         }
+    }
+
+    /// The number of its code, which the exported functions answer.
+    pub fn number(&self) -> i64
+        ensures { result ≡ code_of self.now }
+    {
+        self.code().number()
     }
 }
 
@@ -55,7 +56,7 @@ impl Fault {
 impl fmt::Display for Fault {
     ghost use Rattle.std.specs.Fmt.{DisplaysOnOk};
     ghost use Rattle.seccompiler.specs.Texts.{WritesOne};
-    ghost use Rattle.seccompiler_c.specs.Refusals.{fault_text, IsFaultText};
+    ghost use Rattle.seccompiler_c.specs.Messages.{fault_text, IsFaultText};
 
     ghost output = { fault_text };
 
@@ -67,9 +68,9 @@ impl fmt::Display for Fault {
             Fault::OutOfMemory => f.write_str("Out of memory."),
             Fault::UnknownArchitecture => f.write_str("Unknown architecture."),
             Fault::UnknownLayout => f.write_str("Unknown layout."),
-            Fault::NotARecord => f.write_str("A call record has 64 bytes."),
             Fault::Text(error) => error.fmt(f),
             Fault::NoFilter => f.write_str("No filter has this name."),
+            Fault::NoIndex => f.write_str("No filter has this index."),
             Fault::Filter(error) => write!(f, "{error}"),
             Fault::NoRoom(length) => write!(
                 f,

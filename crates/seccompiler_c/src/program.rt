@@ -19,11 +19,11 @@ pub(crate) fn program_of(
     architecture: u32,
     name: &[u8],
     layout: u32,
-    room: usize,
+    capacity: usize,
 ) -> Result<BpfProgram, Fault>
-    ensures program { IfOk result (λ found. OfProgram (record { text = text.now; architecture = architecture; name = name.now; layout = layout; room = room }) (λ program. program ≡ found.items)) }
-    ensures fits { IfOk result (λ found. length found.items ≤ room) }
-    ensures refused { IfErr result (IsRefusal (record { text = text.now; architecture = architecture; name = name.now; layout = layout; room = room })) }
+    ensures program { IfOk result (λ found. OfProgram (record { text = text.now; architecture = architecture; name = name.now; layout = layout; capacity = capacity }) (λ program. program ≡ found.items)) }
+    ensures fits { IfOk result (λ found. length found.items ≤ capacity) }
+    ensures refused { IfErr result (IsRefusal (record { text = text.now; architecture = architecture; name = name.now; layout = layout; capacity = capacity })) }
 {
     let Some(target) = architecture_of(architecture) else {
         return Err(Fault::UnknownArchitecture);
@@ -33,7 +33,7 @@ pub(crate) fn program_of(
     };
     let policy = policy_of(alloc, text, target, name)?;
     let program = program_in(alloc, layout, &policy)?;
-    if program.len() > room {
+    if program.len() > capacity {
         return Err(Fault::NoRoom(program.len()));
     }
     Ok(program)

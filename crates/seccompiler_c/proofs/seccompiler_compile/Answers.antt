@@ -14,9 +14,19 @@ returns-in-Ok c =
     let same : front ≡ items = cc in
     let long : length c.deref.result.now ≡ n = cc in
     let small : n < 2 ^ 63 = omega (arith, long, c.deref.type_inv.1) in
-    let request : Request = record { text = c.args.text.now; architecture = c.args.architecture; name = c.args.name.now; layout = c.args.layout; room = length old } in
+    let request : Request = record {
+      text = c.args.policy.now;
+      architecture = c.args.architecture;
+      name = c.args.name.now;
+      layout = c.args.layout;
+      capacity = length old;
+    } in
     let written = holds old items front n count same c.in-Ok.ensures.fits small in
-    record { answers = compiled (programs_so request (λ program. program ≡ items) (Holds old _ _) written c.in-Ok.ensures.program) }
+    let program = programs_so request (λ program. program ≡ items) (Holds old _ _) written c.in-Ok.ensures.program in
+    record { answers = compiled program c.write_message.ensures }
 
 pub returns-in-Err : goal.returns-in-Err
-returns-in-Err c = rw (to_z-of_z w64 c.code.result (record { sfits = c.code.type_inv })) (record { answers = refused c.in-Err.refusal c.in-Err.ensures.refused c.code.ensures.code refl })
+returns-in-Err c =
+    let code = c.number in
+    rw (to_z-of_z w64 code.result (record { sfits = code.type_inv }))
+    (record { answers = refused c.in-Err.fault c.in-Err.ensures.refused code.ensures refl c.tell.ensures })

@@ -31,13 +31,13 @@ returns-in-Ok c =
       rules = c.args.rules.now;
       conditions = c.args.conditions.now;
       words = words;
-      room = length old;
+      capacity = length old;
     } in
     let written = holds old items front n count same c.in-Ok.ensures.fits small in
     record { answers = compiled (arrays_program_so request (λ program. program ≡ items) (Holds old _ _) written c.in-Ok.ensures.program) }
 
 pub returns-in-Err : goal.returns-in-Err
-returns-in-Err c = rw (to_z-of_z w64 c.code.result (record { sfits = c.code.type_inv })) (record {
+returns-in-Err c = rw (to_z-of_z w64 c.number.result (record { sfits = c.number.type_inv })) (record {
   answers = refused c.in-Err.fault
-      c.in-Err.ensures.refused c.code.ensures.code refl;
+      c.in-Err.ensures.refused c.number.ensures refl;
 })

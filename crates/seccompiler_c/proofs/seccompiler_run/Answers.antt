@@ -1,14 +1,17 @@
-use Rattle.std.proofs.Common.{ℕ, List, w64, rules, subst}
+use Rattle.std.proofs.Common.{w64, rules}
 use Rattle.std.proofs.lemmas.Int.{to_z-of_z}
 use Rattle.seccompiler.specs.Machine.{IsChecked}
 use Rattle.seccompiler_c.specs.Decisions.{returned, Returns}
 use Rattle.seccompiler_c.proofs.seccompiler_run.Goals as goal
 
-pub returns-in-Some : goal.returns-in-Some
-returns-in-Some c =
+pub returns : goal.returns
+returns c =
     let checked : IsChecked c.args.program.now = search rules in
-    let whole = c.in-Some.ensures.cases in
     let word = c.run.result.word in
-    let ran : Returns c.args.program.now c.in-Some.call.now word = record { steps = c.run.result.steps; ends = c.run.ensures.ends; few = c.run.ensures.steps; only = c.run.ensures.only } in
-    let run = subst (λ (call : List ℕ). Returns c.args.program.now call word) whole.same ran in
-    rw (to_z-of_z w64 c.from.result (record { sfits = c.from.type_inv })) (record { answers = returned word checked whole.long run c.from.ensures })
+    let ran : Returns c.args.program.now c.args.call.now word = record {
+      steps = c.run.result.steps;
+      ends = c.run.ensures.ends;
+      few = c.run.ensures.steps;
+      only = c.run.ensures.only;
+    } in
+    rw (to_z-of_z w64 c.from.result (record { sfits = c.from.type_inv })) (record { answers = returned word checked ran c.from.ensures })

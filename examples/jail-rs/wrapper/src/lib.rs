@@ -13,26 +13,16 @@ use std::fmt;
 
 extern "C" {
     fn seccompiler_compile(
-        text: *const u8,
-        text_length: usize,
+        policy: *const u8,
+        policy_length: usize,
         architecture: u32,
         name: *const u8,
         name_length: usize,
         layout: u32,
         program: *mut Instruction,
-        program_length: usize,
-    ) -> i64;
-
-    fn seccompiler_refusal(
-        text: *const u8,
-        text_length: usize,
-        architecture: u32,
-        name: *const u8,
-        name_length: usize,
-        layout: u32,
-        room: usize,
-        buffer: *mut u8,
-        buffer_length: usize,
+        capacity: usize,
+        message: *mut u8,
+        message_capacity: usize,
     ) -> i64;
 }
 
@@ -47,8 +37,8 @@ const ARCHITECTURE: u32 = 0xc000_00f3;
 /// The most instructions of a program.
 const MOST: usize = 4096;
 
-/// The most bytes of a refusal's text that are kept.
-const REASON: usize = 4096;
+/// The bytes of a refusal's text that are kept, with the byte 0 behind them.
+const REASON: usize = 4097;
 
 /// One instruction: `struct sock_filter` of `linux/filter.h`.
 #[derive(Clone, Copy, Debug, Default, PartialEq, Eq)]
@@ -103,6 +93,7 @@ impl Program {
     /// What the library refuses, with its code and its text.
     pub fn compile(policy: &[u8], name: &[u8], layout: Layout) -> Result<Program, Refusal> {
         let mut instructions = vec![Instruction::default(); MOST];
+        let mut message = vec![0; REASON];
         // SAFETY: the pointers and lengths are those of slices that are borrowed for the call.
         let length = unsafe {
             seccompiler_compile(
@@ -114,6 +105,8 @@ impl Program {
                 layout as u32,
                 instructions.as_mut_ptr(),
                 instructions.len(),
+                message.as_mut_ptr(),
+                message.len(),
             )
         };
         match usize::try_from(length) {
@@ -123,7 +116,7 @@ impl Program {
             }
             Err(_) => Err(Refusal {
                 code: length,
-                text: reason(policy, name, layout),
+                text: text_of(&message),
             }),
         }
     }
@@ -135,26 +128,8 @@ impl Program {
     }
 }
 
-/// Returns the text of the refusal of this filter.
-fn reason(policy: &[u8], name: &[u8], layout: Layout) -> String {
-    let mut text = vec![0; REASON];
-    // SAFETY: the pointers and lengths are those of slices that are borrowed for the call.
-    let length = unsafe {
-        seccompiler_refusal(
-            policy.as_ptr(),
-            policy.len(),
-            ARCHITECTURE,
-            name.as_ptr(),
-            name.len(),
-            layout as u32,
-            MOST,
-            text.as_mut_ptr(),
-            text.len(),
-        )
-    };
-    match usize::try_from(length) {
-        // Only want of memory can have passed since.
-        Err(_) | Ok(0) => String::from("Out of memory."),
-        Ok(length) => String::from_utf8_lossy(&text[..length]).into_owned(),
-    }
+/// Returns the text in front of the first byte 0.
+fn text_of(message: &[u8]) -> String {
+    let length = message.iter().position(|byte| *byte == 0);
+    String::from_utf8_lossy(&message[..length.unwrap_or(message.len())]).into_owned()
 }

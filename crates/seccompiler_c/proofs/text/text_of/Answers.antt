@@ -1,6 +1,6 @@
 use Rattle.std.proofs.Common.{◌≡◌, ◌++◌, string_bytes, sym, ap, ◌∙◌, subst, rules}
 use Rattle.std.proofs.lemmas.Fmt.{contents_after_writes}
-use Rattle.seccompiler_c.specs.Refusals.{IsFaultText}
+use Rattle.seccompiler_c.specs.Messages.{IsFaultText}
 use Rattle.seccompiler_c.proofs.text.text_of.Goals as goal
 
 pub returns : goal.returns

@@ -1,0 +1,17 @@
+use Rattle.std.proofs.Common.{w64, rules}
+use Rattle.std.proofs.lemmas.Int.{to_z-of_z}
+use mir.Val.{SFits}
+use Rattle.seccompiler_c.specs.Names.{named, unnamed}
+use Rattle.seccompiler_c.proofs.seccompiler_filter_names.Goals as goal
+
+pub returns-in-Ok : goal.returns-in-Ok
+returns-in-Ok c =
+    let told = c.in-Ok.ensures.named in
+    let fits : SFits w64 c.in-Ok.length = search rules in
+    rw (to_z-of_z w64 c.in-Ok.length fits) (record { answers = named told.0 told.1 told.2 told.3 c.write_message.ensures })
+
+pub returns-in-Err : goal.returns-in-Err
+returns-in-Err c =
+    let code = c.number in
+    rw (to_z-of_z w64 code.result (record { sfits = code.type_inv }))
+    (record { answers = unnamed c.in-Err.fault c.in-Err.ensures.unnamed code.ensures c.in-Err.ensures.left c.tell.ensures })

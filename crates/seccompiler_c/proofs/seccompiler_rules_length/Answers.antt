@@ -1,0 +1,10 @@
+use Rattle.std.proofs.Common.{w64}
+use Rattle.std.proofs.lemmas.Int.{to_z-of_z}
+use Rattle.seccompiler_c.specs.ArraysDecisions.{refused}
+use Rattle.seccompiler_c.proofs.seccompiler_rules_length.Goals as goal
+
+pub returns-in-Err : goal.returns-in-Err
+returns-in-Err c =
+    let code = c.number in
+    rw (to_z-of_z w64 code.result (record { sfits = code.type_inv }))
+    (record { answers = refused c.in-Err.fault c.in-Err.ensures.refused code.ensures })

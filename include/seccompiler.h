@@ -269,8 +269,12 @@ int64_t seccompiler_compile_rules(const struct seccompiler_chain *chains, size_t
                                   struct sock_filter *program, size_t capacity);
 
 /*
- * Tells how many instructions the program has that seccompiler_compile_rules writes of these arguments, 1 to 4096.
- * Or returns one of its codes but NO_ROOM, in the same cases.
+ * Tells how long the program is that seccompiler_compile_rules compiles of these arguments, or would be where that is
+ * more than 4096 instructions.
+ *
+ * Returns the number of instructions, or 9223372036854775807, if that is less. Or returns one of the codes of
+ * seccompiler_compile_rules but TOO_LARGE and NO_ROOM, in the same cases; OUT_OF_MEMORY may come in place of a number
+ * alone.
  */
 int64_t seccompiler_rules_length(const struct seccompiler_chain *chains, size_t chain_count,
                                  const struct seccompiler_rule *rules, size_t rule_count,
@@ -278,6 +282,20 @@ int64_t seccompiler_rules_length(const struct seccompiler_chain *chains, size_t 
                                  size_t condition_count, uint32_t mismatch_kind,
                                  uint32_t mismatch_data, uint32_t match_kind, uint32_t match_data,
                                  uint32_t architecture, uint32_t layout);
+
+/*
+ * Writes the code of the rule of these conditions into the front of the array `code`, which has `capacity`
+ * instructions. It is no whole program, but what stands for the rule in one: entered at its first instruction, it
+ * leaves at its end where the rule holds for the call record, and one instruction further where it doesn't.
+ *
+ * Returns the number of instructions, which may be more than 4096. The rest of the array is as it was.
+ *
+ * Returns a code, and leaves the whole array as it was, in these cases: BAD_ARGUMENT, UNKNOWN_LENGTH,
+ * UNKNOWN_OPERATOR, EMPTY_RULE, NO_ROOM; or OUT_OF_MEMORY in place of the last one or of the code. What a code tells is
+ * looked at in all conditions before what the next one tells.
+ */
+int64_t seccompiler_compile_rule(const struct seccompiler_condition *conditions,
+                                 size_t condition_count, struct sock_filter *code, size_t capacity);
 
 /*
  * Tells what the filter that the arrays are decides for a call record, without making a program.

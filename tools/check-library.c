@@ -366,6 +366,60 @@ static void check_rules_lengths(void)
     check(is_marked(0), "an array after rules that are too many");
 }
 
+/* ---- lengths, and the code of a rule */
+
+/* n rules of 5 instructions each have 5 n + 7 in all; 1000 chains without rules 5 each and 5 in all, or fewer in the tree. */
+static void check_rules_length(void)
+{
+    static struct seccompiler_chain chains[1000];
+    for (uint32_t layout = 0; layout < 2; layout++) {
+        struct asked asked = fine(layout);
+        equal(length_of_rules(&asked), compile_rules(&asked), "the length of a program of rules");
+        asked.match_kind = 1, equal(length_of_rules(&asked), SECCOMPILER_UNKNOWN_ACTION, "the length of no action's program");
+        asked.layout = 2, equal(length_of_rules(&asked), SECCOMPILER_UNKNOWN_LAYOUT, "a length in no layout");
+        asked.arch = 0, equal(length_of_rules(&asked), SECCOMPILER_UNKNOWN_ARCHITECTURE, "a length for no architecture");
+        asked = fine(layout), asked.rules[0].conditions = 2;
+        equal(length_of_rules(&asked), SECCOMPILER_BAD_COUNTS, "the length of bad counts");
+        asked = fine(layout), asked.chains[2].number = 4294967296;
+        equal(length_of_rules(&asked), SECCOMPILER_BAD_NUMBER, "the length with a number above 32 bits");
+        for (size_t i = 0; i < 1000; i++)
+            chains[i].number = (int64_t)(2 * i), chains[i].rules = 0;
+        int64_t length = seccompiler_rules_length(chains, 1000, RULES, 0, CONDITIONS, 0, SECCOMP_RET_TRAP, 0,
+                                                  SECCOMP_RET_ALLOW, 0, AUDIT_ARCH_X86_64, layout);
+        check(layout == 0 ? length == 5005 : length > 4 && length < 4096, "the length of 1000 chains");
+    }
+}
+
+static int64_t compile_rule(const struct seccompiler_condition *conditions, size_t count, size_t room)
+{
+    mark();
+    int64_t answer = seccompiler_compile_rule(conditions, count, program, room);
+    check(is_marked(answer < 0 ? 0 : answer), "behind the code of a rule");
+    return answer;
+}
+
+/* The first rule of CONDITIONS is `JA 1; JA 4; LD 16; JEQ 5,0,1`. */
+static void check_rule(void)
+{
+    static const struct sock_filter CODE[] = {{0x05, 0, 0, 1}, {0x05, 0, 0, 4}, {0x20, 0, 0, 16}, {0x15, 0, 1, 5}};
+    equal(compile_rule(CONDITIONS, 1, 4096), 4, "the code of a rule");
+    check(memcmp(program, CODE, sizeof CODE) == 0, "the instructions of a rule");
+    equal(compile_rule(CONDITIONS, 1, 4), 4, "the code of a rule with room for it alone");
+    equal(compile_rule(CONDITIONS, 1, 3), SECCOMPILER_NO_ROOM, "no room for the code of a rule");
+    static struct seccompiler_condition many[1900];
+    for (size_t i = 0; i < 1900; i++)
+        many[i] = CONDITIONS[0];
+    /* 124 conditions close a group of 248 instructions, and 15 relays of 3 stand between 16 groups. */
+    equal(compile_rule(many, 1900, 4096), 2 + 2 * 1900 + 3 * 15, "the code of a long rule");
+    struct seccompiler_condition bad[] = {CONDITIONS[0], CONDITIONS[1], CONDITIONS[2]};
+    bad[2].argument = 6, bad[1].length = 5, bad[0].op = 7;
+    equal(compile_rule(bad, 3, 0), SECCOMPILER_BAD_ARGUMENT, "an argument of a rule"), bad[2].argument = 5;
+    equal(compile_rule(bad, 3, 0), SECCOMPILER_UNKNOWN_LENGTH, "a length of a rule"), bad[1].length = 4;
+    equal(compile_rule(bad, 3, 0), SECCOMPILER_UNKNOWN_OPERATOR, "an operator of a rule"), bad[0].op = 6;
+    equal(compile_rule(bad, 3, 0), SECCOMPILER_NO_ROOM, "no fault of a rule");
+    equal(compile_rule(bad, 0, 0), SECCOMPILER_EMPTY_RULE, "a rule without conditions");
+}
+
 /* ---- codes and texts */
 
 static void check_refusals(void)
@@ -618,6 +672,11 @@ static int64_t rules_as_tree(void)
     return compile_rules(&asked);
 }
 
+static int64_t rule_code(void)
+{
+    return compile_rule(CONDITIONS, 16, 4096);
+}
+
 static int64_t rules_decided(void)
 {
     struct asked asked = fine(SECCOMPILER_LAYOUT_LINEAR);
@@ -691,6 +750,8 @@ int main(void)
     check_rules_refused();
     check_actions();
     check_rules_lengths();
+    check_rules_length();
+    check_rule();
     check_refusals();
     check_cuts();
     check_names();
@@ -708,6 +769,9 @@ int main(void)
     held = 0;
     sweep(rules_linear, linear, SECCOMPILER_OUT_OF_MEMORY);
     sweep(rules_as_tree, tree, SECCOMPILER_OUT_OF_MEMORY);
+    int64_t code = rule_code();
+    held = 0;
+    sweep(rule_code, code, SECCOMPILER_OUT_OF_MEMORY);
     sweep(decided, SECCOMP_RET_ALLOW, SECCOMPILER_OUT_OF_MEMORY);
     sweep(rules_decided, SECCOMP_RET_ERRNO | 13, SECCOMPILER_OUT_OF_MEMORY);
     sweep(rules_long, tree, SECCOMPILER_OUT_OF_MEMORY);

@@ -1,14 +1,9 @@
--- What a look at arrays answers that writes no program: how long the program is, and what the filter decides for a record.
-use Rattle.std.specs.Prelude.{◌≡◌, ℕ, ℤ, pos, List, length}
+-- What the filter of arrays decides for a record.
+use Rattle.std.specs.Prelude.{◌≡◌, ℕ, ℤ, List}
 use Rattle.seccompiler_c.specs.ArraysDemands.{arrays_code_of}
-use Rattle.seccompiler_c.specs.ArraysPrograms.{ArraysRequest, IsNoFilter, IsNoProgram, OfArraysProgram, OfFilter}
+use Rattle.seccompiler_c.specs.ArraysPrograms.{ArraysRequest, IsNoFilter, OfFilter}
 use Rattle.seccompiler_c.specs.Decisions.{Decides}
 use Rattle.seccompiler_c.specs.declared.arrays_fault.ArraysFault.{ArraysFault}
-
--- What seccompiler_rules_length answers: the length of the program; or the code of why there is none. No room plays a part.
-pub data AnswersLength (r : ArraysRequest) (answer : ℤ) : Type 0 where
-  long : OfArraysProgram r (λ program. answer ≡ pos (length program)) → AnswersLength r answer
-  refused : (fault : ArraysFault) → IsNoProgram r fault → answer ≡ arrays_code_of fault → AnswersLength r answer
 
 -- What seccompiler_decide_rules answers: the word that the filter of the arrays decides for the record; or the code of why
 -- the arrays are no filter. No layout plays a part, so the request's is the linear one.

@@ -1,6 +1,6 @@
 use Rattle.std.proofs.Common.{w64}
 use Rattle.std.proofs.lemmas.Int.{to_z-of_z}
-use Rattle.seccompiler_c.specs.ArraysDecisions.{refused}
+use Rattle.seccompiler_c.specs.ArraysLengths.{refused}
 use Rattle.seccompiler_c.proofs.seccompiler_rules_length.Goals as goal
 
 pub returns-in-Err : goal.returns-in-Err

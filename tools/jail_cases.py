@@ -299,15 +299,17 @@ version = "0.1.0"
 edition = "2021"
 
 [dependencies]
-seccompiler_wrapper = { path = "WRAPPER" }
+seccompiler = { path = "CRATE", features = ["json"] }
 
 [workspace]
 """
 AROUND_RUST = """
-use seccompiler_wrapper::{Layout, Program};
+use seccompiler::{apply_filter_all_threads, compile_from_json};
+use std::env::consts::ARCH;
+use std::fs::File;
 use std::os::unix::process::CommandExt;
 use std::process::Command;
-use std::{error, fs};
+use std::error;
 
 fn main() -> Result<(), Box<dyn error::Error>> {
 LINES

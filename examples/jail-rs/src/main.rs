@@ -11,8 +11,9 @@
 
 #![forbid(unsafe_code)]
 
-use seccompiler_wrapper::{InstallError, Layout, Program, Refusal};
-use std::env;
+use seccompiler::{apply_filter_all_threads, compile_from_json_in, BpfProgram, Layout};
+use std::env::{self, consts::ARCH};
+use std::error::Error;
 use std::ffi::{OsStr, OsString};
 use std::fmt;
 use std::fs;
@@ -20,6 +21,7 @@ use std::io;
 use std::os::unix::ffi::OsStrExt;
 use std::os::unix::process::CommandExt;
 use std::process::{Command, ExitCode};
+use std::str;
 
 /// What keeps a command from being run.
 enum Failure {
@@ -27,10 +29,12 @@ enum Failure {
     Words,
     /// The policy can't be read.
     Policy(OsString, io::Error),
-    /// One of the filters is refused.
-    Filter(OsString, Refusal),
+    /// The policy is rejected.
+    Filter(OsString, seccompiler::Error),
+    /// The policy has no filter of one of the names.
+    NoFilter(OsString),
     /// The kernel doesn't take one of the programs.
-    Install(InstallError),
+    Install(seccompiler::Error),
     /// The command can't be run.
     Command(OsString, io::Error),
 }
@@ -55,25 +59,41 @@ impl fmt::Display for Failure {
             Failure::Policy(path, error) | Failure::Command(path, error) => {
                 write!(f, "jail-rs: {}: {error}", path.to_string_lossy())
             }
-            Failure::Filter(path, refusal) => {
-                write!(f, "jail-rs: {}: {refusal}", path.to_string_lossy())
+            Failure::Filter(path, error) => {
+                let told = error.source().map(ToString::to_string);
+                let told = told.unwrap_or_else(|| error.to_string());
+                write!(f, "jail-rs: {}: {told}", path.to_string_lossy())
+            }
+            Failure::NoFilter(path) => {
+                let path = path.to_string_lossy();
+                write!(f, "jail-rs: {path}: No filter has this name.")
+            }
+            Failure::Install(seccompiler::Error::Prctl(error)) => {
+                write!(f, "jail-rs: prctl: {error}")
+            }
+            Failure::Install(seccompiler::Error::Seccomp(error)) => {
+                write!(f, "jail-rs: seccomp: {error}")
             }
             Failure::Install(error) => write!(f, "jail-rs: {error}"),
         }
     }
 }
 
-/// Returns the programs of the filters whose names stand between commas.
-fn compiled(path: OsString, names: &OsStr, layout: Layout) -> Result<Vec<Program>, Failure> {
+/// Reads the policy, and returns the programs of the filters whose names stand between commas.
+fn compiled(path: OsString, names: &OsStr, layout: Layout) -> Result<Vec<BpfProgram>, Failure> {
     let policy = match fs::read(&path) {
         Ok(policy) => policy,
         Err(error) => return Err(Failure::Policy(path, error)),
     };
+    let arch = ARCH.try_into().map_err(seccompiler::Error::Backend);
+    let programs = match arch.and_then(|arch| compile_from_json_in(&policy[..], arch, layout)) {
+        Ok(programs) => programs,
+        Err(error) => return Err(Failure::Filter(path, error)),
+    };
+    let program = |name| programs.get(str::from_utf8(name).ok()?).cloned();
     let names = names.as_bytes().split(|byte| *byte == b',');
-    names
-        .map(|name| Program::compile(&policy, name, layout))
-        .collect::<Result<_, _>>()
-        .map_err(|refusal| Failure::Filter(path, refusal))
+    let found: Option<_> = names.map(program).collect();
+    found.ok_or(Failure::NoFilter(path))
 }
 
 /// Does what the words ask for. Where it goes well this program is gone, and the command in its place.
@@ -89,7 +109,7 @@ fn jail(mut words: impl Iterator<Item = OsString>) -> Result<(), Failure> {
         _ => return Err(Failure::Words),
     };
     for program in &compiled(path, &names, layout)? {
-        program.install().map_err(Failure::Install)?;
+        apply_filter_all_threads(program).map_err(Failure::Install)?;
     }
     let error = Command::new(&command).args(words).exec();
     Err(Failure::Command(command, error))

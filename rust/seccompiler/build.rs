@@ -1,0 +1,104 @@
+//! Finds the proved library for C, and links it.
+//!
+//! It is looked for, in this order,
+//!
+//! 1. in the folder that the environment variable `SECCOMPILER_LIB` names;
+//! 2. where this crate lies in a package or an installation: `lib` at its top;
+//! 3. where this crate lies in the repository: where `rt lib` puts it;
+//! 4. where pkg-config finds `seccompiler`.
+//!
+//! A package has `libseccompiler.a`, which is whole. What `rt lib` makes, `libseccompiler_c.a`, wants an archive of the
+//! kit as well, through which it asks for memory: in the folder that `RATTLE_KIT` names, or in the kit of `rt`.
+
+use std::env;
+use std::path::{Path, PathBuf};
+use std::process::{self, Command};
+
+/// The archive of a package, and that of the repository.
+const WHOLE: &str = "libseccompiler.a";
+const BARE: &str = "libseccompiler_c.a";
+
+const INSTALLED: &str = "../../../../lib";
+const BUILT: &str = "../../crates/seccompiler_c/out";
+
+const ADVICE: &str = "\
+The proved library for C isn't found, which this crate is a layer over. Either
+  - set SECCOMPILER_LIB to the folder of a package that has libseccompiler.a, as /usr/local/lib;
+  - or set PKG_CONFIG_PATH so that `pkg-config --variable=libdir seccompiler` prints that folder;
+  - or, with the Rattle kit, run `rt lib` in crates/seccompiler_c of the repository.";
+
+/// Returns what a command prints in one line, where it can be run and ends well.
+fn printed(command: &str, words: &[&str]) -> Option<String> {
+    let ran = Command::new(command).args(words).output().ok()?;
+    let line = String::from_utf8(ran.stdout).ok()?.trim().to_string();
+    (ran.status.success() && !line.is_empty()).then_some(line)
+}
+
+/// Returns the folder of the kit's archive: `rt doc` prints the path of a page at the kit's top.
+fn kit() -> Option<PathBuf> {
+    let top = match env::var_os("RATTLE_KIT") {
+        Some(top) => PathBuf::from(top),
+        None => Path::new(&printed("rt", &["doc"])?).parent()?.to_path_buf(),
+    };
+    Some(top.join("c")).filter(|folder| folder.join("liblibc_c.a").exists())
+}
+
+/// Returns the folders where the library may be, the first one first.
+fn places() -> Vec<PathBuf> {
+    if let Some(named) = env::var_os("SECCOMPILER_LIB") {
+        return vec![PathBuf::from(named)];
+    }
+    let own = PathBuf::from(env::var_os("CARGO_MANIFEST_DIR").expect("cargo sets it"));
+    let told = printed("pkg-config", &["--variable=libdir", "seccompiler"]);
+    let places = [own.join(INSTALLED), own.join(BUILT)];
+    places.into_iter().chain(told.map(PathBuf::from)).collect()
+}
+
+/// Links the archive of this name in a folder.
+fn link(folder: &Path, archive: &str) {
+    let name = archive.trim_start_matches("lib").trim_end_matches(".a");
+    println!("cargo:rustc-link-search=native={}", folder.display());
+    println!("cargo:rustc-link-lib=static={name}");
+    println!("cargo:rerun-if-changed={}", folder.join(archive).display());
+}
+
+/// Links the library, or says what to do.
+fn link_library() -> Result<(), String> {
+    let target = |part| env::var(part).unwrap_or_default();
+    if target("CARGO_CFG_TARGET_OS") != "linux" || target("CARGO_CFG_TARGET_ARCH") != "x86_64" {
+        return Err("The proved library runs on Linux on x86_64 alone.".to_string());
+    }
+    let places = places();
+    for folder in &places {
+        if folder.join(WHOLE).exists() {
+            link(folder, WHOLE);
+            return Ok(());
+        }
+        if folder.join(BARE).exists() {
+            let kit = kit().ok_or(
+                "The archive of `rt lib` wants liblibc_c.a of the Rattle kit: `rt` has to be on the path, \
+                 or RATTLE_KIT to name the kit's folder.",
+            )?;
+            link(folder, BARE);
+            link(&kit, "liblibc_c.a");
+            return Ok(());
+        }
+    }
+    let tried: String = places
+        .iter()
+        .map(|it| format!("\n  {}", it.display()))
+        .collect();
+    Err(format!(
+        "{ADVICE}\nNeither {WHOLE} nor {BARE} is in any of{tried}"
+    ))
+}
+
+fn main() {
+    for variable in ["SECCOMPILER_LIB", "RATTLE_KIT", "PKG_CONFIG_PATH"] {
+        println!("cargo:rerun-if-env-changed={variable}");
+    }
+    if let Err(text) = link_library() {
+        eprintln!("{text}");
+        process::exit(1);
+    }
+}

@@ -1,0 +1,191 @@
+//! Filters from JSON.
+
+use crate::backend::{BackendError, TargetArch};
+use crate::library::{self, filled, OUT_OF_MEMORY, TOO_LARGE};
+use crate::program::{BpfProgram, Layout, BLANK, BPF_MAX_LEN};
+use crate::sys::{self, Named};
+use crate::{BpfMap, Error, Result};
+use std::error;
+use std::fmt;
+use std::io::{self, Read};
+
+/// The most bytes of a message, but for the names of the policy that it tells.
+const MESSAGE: usize = 4096;
+
+/// Why a text gives no filters: a sentence that tells the cause, or the error of its reader.
+///
+/// The crate's error has a variant for each of three kinds of causes, but can't be named outside of it.
+#[derive(Debug)]
+pub struct JsonFrontendError(Cause);
+
+/// What stands in the way.
+#[derive(Debug)]
+enum Cause {
+    /// The text can't be read.
+    Read(io::Error),
+    /// The text is rejected.
+    Text(String),
+}
+
+impl error::Error for JsonFrontendError {
+    fn source(&self) -> Option<&(dyn error::Error + 'static)> {
+        match &self.0 {
+            Cause::Read(error) => Some(error),
+            Cause::Text(_) => None,
+        }
+    }
+}
+
+impl fmt::Display for JsonFrontendError {
+    fn fmt(&self, f: &mut fmt::Formatter<'_>) -> fmt::Result {
+        match &self.0 {
+            Cause::Read(error) => write!(f, "Error parsing Json: {error}"),
+            Cause::Text(text) => f.write_str(text),
+        }
+    }
+}
+
+/// Reads a JSON policy to its end, and returns the program of each of its filters, under the filter's name.
+///
+/// The programs are in the linear layout. The format is the crate's; an entry without `args` matches its call always.
+///
+/// # Errors
+///
+/// - `JsonFrontend` where the reader fails, or the policy is rejected: it is no JSON, has another form, names an
+///   unknown system call, or one of its filters is none.
+/// - `Backend` with `FilterTooLarge` where a program would have more than 4096 instructions, of the first such
+///   filter by name; with `OutOfMemory` where memory is refused.
+///
+/// # Examples
+///
+/// ```
+/// use seccompiler::{compile_from_json, TargetArch};
+///
+/// let policy = r#"{
+///     "main_thread": {
+///         "mismatch_action": { "errno": 1 },
+///         "match_action": "allow",
+///         "filter": [
+///             { "syscall": "write", "args": [{ "index": 0, "type": "dword", "op": "le", "val": 2 }] },
+///             { "syscall": "exit_group" }
+///         ]
+///     }
+/// }"#;
+/// let programs = compile_from_json(policy.as_bytes(), TargetArch::x86_64)?;
+/// assert_eq!(programs["main_thread"].len(), 17);
+/// let error = compile_from_json("[]".as_bytes(), TargetArch::x86_64).unwrap_err();
+/// assert_eq!(error.to_string(), "Json Frontend error: Json is not an object of filters.");
+/// # Ok::<(), seccompiler::Error>(())
+/// ```
+pub fn compile_from_json<R: Read>(reader: R, arch: TargetArch) -> Result<BpfMap> {
+    compile_from_json_in(reader, arch, Layout::Linear)
+}
+
+/// Reads a JSON policy as [`compile_from_json`] does, and returns programs in a layout.
+///
+/// An addition.
+///
+/// # Errors
+///
+/// Those of [`compile_from_json`].
+pub fn compile_from_json_in<R: Read>(
+    mut reader: R,
+    arch: TargetArch,
+    layout: Layout,
+) -> Result<BpfMap> {
+    let mut text = Vec::new();
+    reader
+        .read_to_end(&mut text)
+        .map_err(|error| match error.kind() {
+            io::ErrorKind::OutOfMemory => Error::Backend(BackendError::OutOfMemory),
+            _ => Error::JsonFrontend(JsonFrontendError(Cause::Read(error))),
+        })?;
+    let mut policy = Policy::of(&text, arch)?;
+    let names = policy.names()?;
+    let mut programs = BpfMap::new();
+    programs
+        .try_reserve(names.len())
+        .map_err(|_| BackendError::OutOfMemory)?;
+    for name in names {
+        let program = policy.program(&name, layout)?;
+        programs.insert(name, program);
+    }
+    Ok(programs)
+}
+
+/// A policy, and what the library writes of it.
+struct Policy<'a> {
+    text: &'a [u8],
+    arch: TargetArch,
+    /// Room for a message. What it tells of the policy are names, which are no longer than the policy.
+    message: Vec<u8>,
+}
+
+impl<'a> Policy<'a> {
+    /// Returns the policy of a text.
+    fn of(text: &'a [u8], arch: TargetArch) -> Result<Self> {
+        let message = filled(0, text.len().saturating_add(MESSAGE))?;
+        Ok(Policy {
+            text,
+            arch,
+            message,
+        })
+    }
+
+    /// Returns the names of the filters, ascending.
+    fn names(&mut self) -> Result<Vec<String>> {
+        const NO_FILTER: i64 = -5;
+        // A name stands in the text, and a byte 0 behind it here.
+        let mut room = filled(0, self.text.len().saturating_add(1))?;
+        let mut names = Vec::new();
+        loop {
+            let answer = sys::filter_name(self.text, names.len(), &mut room, &mut self.message);
+            match usize::try_from(answer) {
+                Ok(length) => {
+                    names
+                        .try_reserve(1)
+                        .map_err(|_| BackendError::OutOfMemory)?;
+                    names.push(library::text(&room[..length])?);
+                }
+                Err(_) if answer == NO_FILTER => return Ok(names),
+                Err(_) => return Err(self.rejection(answer)),
+            }
+        }
+    }
+
+    /// Returns the program of the filter of this name, in a layout.
+    fn program(&mut self, name: &str, layout: Layout) -> Result<BpfProgram> {
+        let filter = Named {
+            policy: self.text,
+            architecture: self.arch.audit_arch(),
+            name: name.as_bytes(),
+        };
+        let mut array = filled(BLANK, BPF_MAX_LEN)?;
+        let answer = sys::compile(filter, layout as u32, &mut array, &mut self.message);
+        match usize::try_from(answer) {
+            Ok(length) => Ok(library::program(&array[..length])?),
+            Err(_) => Err(self.rejection(answer)),
+        }
+    }
+
+    /// Returns the error of a code, of which the message is written.
+    fn rejection(&self, code: i64) -> Error {
+        // The message ends in a byte 0, and behind it is what was there before: zeros.
+        let end = self.message.iter().rposition(|byte| *byte != 0);
+        let message = match library::text(&self.message[..end.map_or(0, |last| last + 1)]) {
+            Ok(message) => message,
+            Err(error) => return error.into(),
+        };
+        match (code, too_large(&message)) {
+            (OUT_OF_MEMORY, _) => BackendError::OutOfMemory.into(),
+            (TOO_LARGE, Some(length)) => BackendError::FilterTooLarge(length).into(),
+            _ => JsonFrontendError(Cause::Text(message)).into(),
+        }
+    }
+}
+
+/// Returns the length that the message of a filter that is too large tells.
+fn too_large(message: &str) -> Option<usize> {
+    let (_, behind) = message.split_once("BPF instructions: ")?;
+    behind.split_once('.')?.0.parse().ok()
+}

@@ -1,0 +1,228 @@
+//! Filters from JSON policies.
+
+use seccompiler::{
+    compile_from_json, run, BackendError, BpfMap, BpfProgram, Error, JsonFrontendError,
+    SeccompAction, SeccompCmpArgLen, SeccompCmpOp, SeccompCondition, SeccompFilter, SeccompRule,
+    TargetArch,
+};
+use std::error::Error as _;
+use std::io::{self, Read};
+
+const ALLOW: u32 = 0x7fff_0000;
+const TRAP: u32 = 0x0003_0000;
+
+/// The call with a reader that is borrowed.
+const _: fn(&'static [u8], TargetArch) -> seccompiler::Result<BpfMap> = compile_from_json;
+
+/// A policy of one filter that has these entries.
+fn policy(entries: &str) -> String {
+    format!(
+        r#"{{"main": {{"mismatch_action": "trap", "match_action": "allow", "filter": [{entries}]}}}}"#
+    )
+}
+
+/// The error of a text.
+fn refused(text: &[u8]) -> Error {
+    compile_from_json(text, TargetArch::x86_64).expect_err("it is rejected")
+}
+
+/// The program of the filter `main` of a text.
+fn main_program(text: &str) -> BpfProgram {
+    let mut programs = compile_from_json(text.as_bytes(), TargetArch::x86_64).expect("a policy");
+    programs.remove("main").expect("a filter")
+}
+
+#[test]
+fn json_and_code_give_the_same_program() {
+    let text = policy(
+        r#"{"syscall": "accept4", "comment": "any"},
+           {"syscall": "fcntl", "args": [
+               {"index": 1, "type": "dword", "op": "eq", "val": 2, "comment": "F_SETFD"},
+               {"index": 2, "type": "qword", "op": {"masked_eq": 5}, "val": 1}]},
+           {"syscall": "fcntl", "args": [{"index": 1, "type": "dword", "op": "ne", "val": 1}]}"#,
+    );
+    let condition = |index, length, operator, value| {
+        SeccompCondition::new(index, length, operator, value).expect("an argument")
+    };
+    let (dword, qword) = (SeccompCmpArgLen::Dword, SeccompCmpArgLen::Qword);
+    let both = vec![
+        condition(1, dword.clone(), SeccompCmpOp::Eq, 2),
+        condition(2, qword, SeccompCmpOp::MaskedEq(5), 1),
+    ];
+    let one = vec![condition(1, dword, SeccompCmpOp::Ne, 1)];
+    let rules = [both, one].map(|it| SeccompRule::new(it).expect("conditions"));
+    let filter = SeccompFilter::new(
+        [(288, vec![]), (72, rules.to_vec())].into(),
+        SeccompAction::Trap,
+        SeccompAction::Allow,
+        TargetArch::x86_64,
+    );
+    let program = BpfProgram::try_from(filter.expect("a filter")).expect("a program");
+    assert_eq!(main_program(&text), program);
+}
+
+#[test]
+fn each_filter_has_its_program() {
+    let filter = r#"{"default_action": {"errno": 1}, "filter_action": "allow", "filter": []}"#;
+    let text = format!(r#"{{"b": {filter}, "": {filter}, "a\u0000\n\u00e9": {filter}}}"#);
+    for arch in [TargetArch::x86_64, TargetArch::aarch64, TargetArch::riscv64] {
+        let programs = compile_from_json(text.as_bytes(), arch).expect("a policy");
+        let mut names: Vec<_> = programs.keys().map(String::as_str).collect();
+        names.sort_unstable();
+        assert_eq!(names, ["", "a\0\n\u{e9}", "b"]);
+        for program in programs.values() {
+            assert_eq!(program.len(), 4);
+            assert_eq!(program[3].k, SeccompAction::Errno(1).into());
+        }
+    }
+    let none = compile_from_json("{}".as_bytes(), TargetArch::x86_64).expect("a policy");
+    assert!(none.is_empty());
+}
+
+/// `close` is 3 on x86_64 and 57 elsewhere.
+#[test]
+fn numbers_are_those_of_the_architecture() {
+    let text = policy(r#"{"syscall": "close"}"#);
+    for (arch, number) in [
+        (TargetArch::x86_64, 3),
+        (TargetArch::aarch64, 57),
+        (TargetArch::riscv64, 57),
+    ] {
+        let programs = compile_from_json(text.as_bytes(), arch).expect("a policy");
+        assert_eq!(programs["main"][4].k, number, "{arch:?}");
+    }
+}
+
+/// The crate lets only the entry with `args` count.
+#[test]
+fn an_entry_without_args_matches_always() {
+    let with =
+        r#"{"syscall": "read", "args": [{"index": 0, "type": "dword", "op": "eq", "val": 5}]}"#;
+    let mut record = [0; 64];
+    record[4..8].copy_from_slice(&0xc000_003e_u32.to_le_bytes());
+    let mixed = main_program(&policy(&format!(r#"{{"syscall": "read"}}, {with}"#)));
+    assert_eq!(run(&mixed, &record), Ok(ALLOW));
+    assert_eq!(run(&main_program(&policy(with)), &record), Ok(TRAP));
+}
+
+#[test]
+fn what_is_no_policy_is_told() {
+    let entry = |args: &str| policy(&format!(r#"{{"syscall": "read", "args": [{args}]}}"#));
+    let rows = [
+        ("[]".to_string(), "Json is not an object of filters."),
+        (
+            r#"{"a": {}}"#.to_string(),
+            "Json filter has a wrong shape: a.",
+        ),
+        (
+            policy(r#"{"syscall": "nosyscall"}"#),
+            "Invalid syscall name: nosyscall for given arch: x86_64.",
+        ),
+        (entry(""), "The condition vector of a rule cannot be empty."),
+        (
+            entry(r#"{"index": 6, "type": "dword", "op": "eq", "val": 0}"#),
+            "The seccomp rule contains an invalid argument index. Maximum index value: 5",
+        ),
+        (
+            policy("").replace("trap", "allow"),
+            "`match_action` and `mismatch_action` are equal.",
+        ),
+    ];
+    for (text, told) in rows {
+        let error = refused(text.as_bytes());
+        let Error::JsonFrontend(inner) = &error else {
+            panic!("{error:?}");
+        };
+        // A path of the place may stand in front.
+        assert!(inner.to_string().ends_with(told), "{inner}");
+        assert_eq!(error.to_string(), format!("Json Frontend error: {inner}"));
+        let source = error.source().expect("the front end's");
+        assert_eq!(source.to_string(), inner.to_string());
+        assert!(source.downcast_ref::<JsonFrontendError>().is_some());
+        assert!(inner.source().is_none(), "{told}");
+    }
+}
+
+#[test]
+fn what_is_no_json_is_told() {
+    for text in [
+        &b""[..],
+        b"hjkln",
+        b"{1}",
+        b"{} {}",
+        b"{\"\xff\": 1}",
+        &[b'['; 200],
+    ] {
+        let text_of_error = refused(text).to_string();
+        let front = "Json Frontend error: Error parsing Json: ";
+        assert!(text_of_error.starts_with(front), "{text_of_error}");
+        assert!(text_of_error.len() > front.len(), "{text_of_error}");
+    }
+}
+
+/// 1000 rules of one condition take 5 instructions each, and 8 are around them; the first such filter by name is told.
+#[test]
+fn a_filter_that_is_too_large_is_an_error_of_the_backend() {
+    let rule =
+        r#"{"syscall": "read", "args": [{"index": 0, "type": "dword", "op": "le", "val": 1}]}"#;
+    let filter = |count: usize| {
+        let entries = vec![rule; count].join(",");
+        format!(r#"{{"mismatch_action": "trap", "match_action": "allow", "filter": [{entries}]}}"#)
+    };
+    let text = format!(
+        r#"{{"c": {}, "b": {}, "a": {}}}"#,
+        filter(1001),
+        filter(1000),
+        filter(1)
+    );
+    match refused(text.as_bytes()) {
+        Error::Backend(error) => assert_eq!(error, BackendError::FilterTooLarge(5008)),
+        error => panic!("{error:?}"),
+    }
+    // A fault of the front end comes first, wherever it is.
+    let text = format!(r#"{{"b": {}, "z": {{}}}}"#, filter(1000));
+    assert!(matches!(refused(text.as_bytes()), Error::JsonFrontend(_)));
+}
+
+/// A reader that gives one byte, and then fails.
+struct Failing(bool);
+
+impl Read for Failing {
+    fn read(&mut self, buffer: &mut [u8]) -> io::Result<usize> {
+        if std::mem::replace(&mut self.0, true) {
+            return Err(io::Error::new(io::ErrorKind::BrokenPipe, "the pipe broke"));
+        }
+        buffer[0] = b'{';
+        Ok(1)
+    }
+}
+
+#[test]
+fn a_failed_read_is_the_source_of_the_error() {
+    let error = compile_from_json(Failing(false), TargetArch::x86_64).expect_err("it fails");
+    assert_eq!(
+        error.to_string(),
+        "Json Frontend error: Error parsing Json: the pipe broke"
+    );
+    let inner = error
+        .source()
+        .and_then(|it| it.source())
+        .expect("the reader's");
+    let inner: &io::Error = inner.downcast_ref().expect("an error of a reader");
+    assert_eq!(inner.kind(), io::ErrorKind::BrokenPipe);
+}
+
+/// A reader that gives a byte at a time is read to its end.
+#[test]
+fn a_policy_is_read_in_pieces() {
+    struct Slow<'a>(&'a [u8]);
+    impl Read for Slow<'_> {
+        fn read(&mut self, buffer: &mut [u8]) -> io::Result<usize> {
+            let count = buffer.len().min(1);
+            self.0.read(&mut buffer[..count])
+        }
+    }
+    let text = policy(r#"{"syscall": "read"}"#);
+    let programs = compile_from_json(Slow(text.as_bytes()), TargetArch::x86_64).expect("a policy");
+    assert_eq!(programs["main"], main_program(&text));
+}

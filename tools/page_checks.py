@@ -7,6 +7,8 @@ usage: tools/page_checks.py [--long]
   other sites are not looked at.
 - Each path in backticks that looks like one of the repository's is there. In it a part in capitals, as MODULE,
   stands for any name. A path may be given from the top, from the page's folder or from a crate's.
+- The files of definitions that docs/PROMISES.md lists to be read are there, and promised: they stand in the first block
+  of a Lib.antt.
 - Pages use the terms of the table 'Words' of CONTRIBUTING.md, and none of those that its last column has.
 - A table's cell has at most 200 characters, and README.md at most 1,000 words outside its blocks of code.
 - The picture in docs/ is what tools/make-picture makes of its source.
@@ -152,6 +154,22 @@ def compare_paths(results):
                 results.compare(what, ("is there",), ("is there" if is_there(page, path) else "isn't there",))
 
 
+def promised_definitions():
+    """Returns the files of definitions that are promised: those that a Lib.antt lists above its second block."""
+    texts = (path.read_text(encoding="utf-8") for path in TOP.glob("crates/*/specs/Lib.antt"))
+    promised = (text.split("\n-- Between layers")[0] for text in texts)
+    return {name for text in promised for name in re.findall(r"^pub mod (\w+)", text, re.M)}
+
+
+def compare_definitions(results):
+    """Looks up the definitions that docs/PROMISES.md lists to be read."""
+    page, promised = TOP / "docs/PROMISES.md", promised_definitions()
+    rows = [cells_of(line) for _, line in section_of(page, "What to read to believe it")]
+    listed = {name for row in rows if len(row) > 1 for name in re.findall(r"`([A-Z]\w+)`", row[1])}
+    results.compare("docs/PROMISES.md lists definitions", (True,), (bool(listed),))
+    results.compare("docs/PROMISES.md: definitions that aren't promised", ([],), (sorted(listed - promised),))
+
+
 def section_of(page, heading):
     """Returns the lines of a section of a page, each with its number."""
     lines, inside = [], False
@@ -219,6 +237,7 @@ def compare_pages(results):
     """Makes all comparisons of this file."""
     compare_links(results)
     compare_paths(results)
+    compare_definitions(results)
     compare_terms(results)
     compare_lengths(results)
     compare_picture(results)

@@ -64,12 +64,12 @@
  *     A call record: the 64 bytes of a `struct seccomp_data` of <linux/seccomp.h>, little-endian.
  *
  * message, message_capacity
- *     A buffer for the sentence that tells why there is another answer than a code, and how many bytes it has.
- *     The sentence is UTF-8 in one line, ends in a byte 0, and is never empty where a code is returned; where
- *     none is, it is the empty one: a byte 0 alone. Where the buffer is too short it is cut behind the last
- *     character that fits with the byte 0; a buffer of 0 bytes is left alone. What is behind the byte 0 is as
- *     it was. 256 bytes are enough for every sentence but those that tell a name of the policy, which
- *     they do as it stands there, line feeds and U+0000 included.
+ *     A buffer for the sentence that tells why a code is returned, and how many bytes it has. The sentence
+ *     is UTF-8, ends in a byte 0, and where no code is returned it is empty: a byte 0 alone. Where the
+ *     buffer is too short, the sentence is cut behind the last character that fits with the byte 0; a buffer
+ *     of 0 bytes is left alone. What is behind the byte 0 is as it was. 256 bytes are enough for every
+ *     sentence but those that tell a name of the policy, which they do as it stands there, line feeds and
+ *     U+0000 included. Where memory is refused for a sentence, it is that of seccompiler_strerror.
  *
  * Where a function takes a pointer and a length, the pointer isn't null, even for a length of 0: the functions
  * are proved over references of Rust, which are never null, so the proofs say nothing of such a call. A
@@ -104,7 +104,8 @@
 extern "C" {
 #endif
 
-/* The version of this interface: its number, times 65536, and behind it how often it was added to. */
+/* The version of this interface, 1.0: the first number times 65536, and the second one. A larger second number
+ * says that something was added, and a larger first one that callers have to change. */
 #define SECCOMPILER_VERSION 0x10000
 
 /* Memory was refused. Each function says in place of which answers it may come. */

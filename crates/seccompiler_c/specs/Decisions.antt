@@ -42,8 +42,11 @@ IsUndecided text architecture name f = OfArchitecture architecture (λ target. I
 
 -- What seccompiler_decide answers, and what the message then holds: the word, and an empty sentence; or the code of why
 -- there is none, and a sentence that tells it.
-pub data AnswersDecide (text : List ℕ) (architecture : ℕ) (name call : List ℕ) (answer : ℤ) (message_old message_new : List ℕ) : Type 0 where
+pub data AnswersDecide (text : List ℕ) (architecture : ℕ) (name call : List ℕ) (answer : ℤ)
+    (message_old message_new : List ℕ) : Type 0 where
   decided : OfArchitecture architecture (λ target. NamesPolicy target text name (Decides call answer))
-      → HoldsMessage [] message_old message_new → AnswersDecide text architecture name call answer message_old message_new
-  undecided : (fault : Fault) → IsUndecided text architecture name fault → answer ≡ code_of fault → TellsFault fault message_old message_new
+      → HoldsMessage [] message_old message_new
+      → AnswersDecide text architecture name call answer message_old message_new
+  undecided : (fault : Fault) → IsUndecided text architecture name fault → answer ≡ code_of fault
+      → TellsFault fault message_old message_new
       → AnswersDecide text architecture name call answer message_old message_new

@@ -43,9 +43,11 @@ IsUnnamed text index f = ⊥
 
 -- What seccompiler_filter_names answers, and what the buffer of the name and the message then hold: the name, its length,
 -- and an empty sentence; or the code of why there is none, and a sentence that tells it, and the buffer is as it was.
-pub data AnswersNames (text : List ℕ) (index : ℕ) (name_old name_new : List ℕ) (answer : ℤ) (message_old message_new : List ℕ) : Type 0 where
+pub data AnswersNames (text : List ℕ) (index : ℕ) (name_old name_new : List ℕ) (answer : ℤ)
+    (message_old message_new : List ℕ) : Type 0 where
   named : (name : List ℕ) → OfNames text (λ names. slice_get names index ≡ Some name) → answer ≡ pos (length name)
       → HoldsMessage name name_old name_new → HoldsMessage [] message_old message_new
       → AnswersNames text index name_old name_new answer message_old message_new
-  unnamed : (fault : Fault) → IsUnnamed text index fault → answer ≡ code_of fault → name_new ≡ name_old → TellsFault fault message_old message_new
+  unnamed : (fault : Fault) → IsUnnamed text index fault → answer ≡ code_of fault → name_new ≡ name_old
+      → TellsFault fault message_old message_new
       → AnswersNames text index name_old name_new answer message_old message_new

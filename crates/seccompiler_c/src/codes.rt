@@ -60,7 +60,7 @@ pub const SECCOMPILER_BAD_NUMBER: i64 = -19;
 /// A comparison looked at as many sets of calls as was allowed, and found neither answer.
 pub const SECCOMPILER_UNDECIDED: i64 = -20;
 
-/// The version of the interface: its number, times 65536, and behind it how often it was added to.
+/// The version of the interface, 1.0: the first number times 65536, and the second one.
 pub const SECCOMPILER_VERSION: u32 = 0x1_0000;
 
 /// The layout of the Rust crate, which tests one call number after the other.

@@ -32,7 +32,8 @@ module _ {X : Type 0} where
   by_text q (e ∷ entries) = rw (is_eq-slice_cmp q (string_bytes e.0), by_text q entries) refl
 
   -- A name that is found is there.
-  found_name : (q : List ℕ) (x : X) (entries : List (String Global × X)) → lookup (is_text q) entries ≡ Some x → Contains (names_of entries) q
+  found_name : (q : List ℕ) (x : X) (entries : List (String Global × X)) → lookup (is_text q) entries ≡ Some x
+      → Contains (names_of entries) q
   found_name q x [] there = cc
   found_name q x (e ∷ entries) there = elim (cases_Bool (bytes_eq q (string_bytes e.0))) [
     | inl t ↦ (0, omega arith, sym ((bytes_eq-Decides q (string_bytes e.0)).0 t))
@@ -61,14 +62,16 @@ above_all : (first : String Global) (keys : List (String Global)) → AllByRecur
 above_all first [] all = tt
 above_all first (k ∷ keys) all = (all.0, above_all first keys all.1)
 
-names_ordered : (keys : List (String Global)) → IsStrictlySortedBy string_cmp keys → IsStrictlySortedBy (slice_cmp nat_cmp) (map string_bytes keys)
+names_ordered : (keys : List (String Global)) → IsStrictlySortedBy string_cmp keys
+    → IsStrictlySortedBy (slice_cmp nat_cmp) (map string_bytes keys)
 unfolding IsStrictlySortedBy
 names_ordered [] order = tt
 names_ordered (k ∷ keys) order = (above_all k keys order.0, names_ordered keys order.1)
 
 module _ (d : Data) (filters : JsonFilterMap) (are : AreFilters d filters) where
   -- What stands under a name of the map has a value there.
-  has_value : (name : List ℕ) → Contains (names_of filters.0.entries) name → (o : Option Data) → get name d ≡ o → (value : Data) × Has d name value
+  has_value : (name : List ℕ) → Contains (names_of filters.0.entries) name → (o : Option Data) → get name d ≡ o
+      → (value : Data) × Has d name value
   has_value name there None lacks =
       let found = there_found name filters.0.entries there in
       let none : Some found.0 ≡ None = sym found.1 ∙ sym (by_text name filters.0.entries) ∙ are.no_other name lacks in cc
@@ -81,13 +84,14 @@ module _ (d : Data) (filters : JsonFilterMap) (are : AreFilters d filters) where
     ascending = names_ordered (keys_of filters.0.entries) order;
     each = λ name. (
       λ there. has_value name there (get name d) refl,
-      λ has. let own = are.each name has.0 has.1 in found_name name own.found filters.0.entries (sym (by_text name filters.0.entries) ∙ own.there),
+      λ has. let own = are.each name has.0 has.1 in
+      found_name name own.found filters.0.entries (sym (by_text name filters.0.entries) ∙ own.there),
     );
   }
 
 -- What the front end refuses of a text before it looks for policies is that it is none of filters, or want of memory.
-pub shape_refused : (text : List ℕ) (index : ℕ) (e : JsonFrontendError) → ((target : TargetArch) → TellsFrontendFault target text e) → IsBeforePolicies e
-    → IsNoFailedRead e → IsUnnamed text index (from_frontend e)
+pub shape_refused : (text : List ℕ) (index : ℕ) (e : JsonFrontendError) → ((target : TargetArch) → TellsFrontendFault target text e) 
+    → IsBeforePolicies e → IsNoFailedRead e → IsUnnamed text index (from_frontend e)
 shape_refused text index (frontend.Read cause) tells before none = absurd none
 shape_refused text index frontend.OutOfMemory tells before none = tt
 shape_refused text index _ tells before none = (before, tells)

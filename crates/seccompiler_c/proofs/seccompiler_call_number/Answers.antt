@@ -12,4 +12,7 @@ returns-in_default-from_utf8 c =
     let code = c.number-in_default-from_utf8 in
     let target = c.in-Some.target in
     rw (to_z-of_z w64 code.result (record { sfits = code.type_inv }))
-    (record { answers = unknown_call (target, c.in-Some.ensures.found, no_call (table_of target) c.args.name.now table c.in_default-from_utf8.ensures.cases.0) code.ensures.number })
+    (record {
+      answers = unknown_call (target, c.in-Some.ensures.found, no_call (table_of target) c.args.name.now table c.in_default-from_utf8.ensures.cases.0)
+          code.ensures.number;
+    })

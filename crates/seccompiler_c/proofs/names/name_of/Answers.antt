@@ -27,5 +27,6 @@ returns-clause-unnamed c =
     let read = c.in_ok-filters.ensures.filters in
     let keys = keys_of c.in_ok-filters.filters.0.entries in
     let names = are_names read.0 c.in_ok-filters.filters read.2 c.write_key.ensures.ordered in
-    let few : length (map string_bytes keys) ≤ c.args.index = subst (λ (n : ℕ). n ≤ c.args.index) (sym (length-map keys string_bytes)) c.in-None.ensures.none in
+    let few : length (map string_bytes keys) ≤ c.args.index =
+    subst (λ (n : ℕ). n ≤ c.args.index) (sym (length-map keys string_bytes)) c.in-None.ensures.none in
     (read.0, read.1, (map string_bytes keys, names, few))

@@ -14,8 +14,10 @@ name_at keys done left key index whole count =
     let all = done ++ key ∷ left in
     let long : length all ≡ length done + length (key ∷ left) = length-append done (key ∷ left) in
     let within : length done < length all = omega (arith, long) in
-    let here : slice_get all (length done) ≡ Some key = slice_get_read all (length all) (length done) key refl within (sym (get_or-append_seam done key left key)) in
-    let there : slice_get keys index ≡ Some key = ap (λ (k : List (String Global)). slice_get k index) whole ∙ ap (slice_get all) (sym count) ∙ here in
+    let here : slice_get all (length done) ≡ Some key =
+    slice_get_read all (length all) (length done) key refl within (sym (get_or-append_seam done key left key)) in
+    let there : slice_get keys index ≡ Some key =
+    ap (λ (k : List (String Global)). slice_get k index) whole ∙ ap (slice_get all) (sym count) ∙ here in
     slice_get-map string_bytes keys index ∙ ap (option_map string_bytes) there
 
 pub returns-then-place-index-clause-found : goal.returns-then-place-index-clause-found
@@ -24,7 +26,8 @@ returns-then-place-index-clause-found c =
     let done : List (String Global) = so_far.done in
     let left : List (String Global) = c.next.new.self in
     let key : String Global = c.in-Some.key.now in
-    let whole : keys_of c.args.filters.now.0.entries ≡ done ++ key ∷ left = so_far.whole ∙ ap (λ (ks : List (String Global)). done ++ ks) c.in-Some.ensures.steps in
+    let whole : keys_of c.args.filters.now.0.entries ≡ done ++ key ∷ left =
+    so_far.whole ∙ ap (λ (ks : List (String Global)). done ++ ks) c.in-Some.ensures.steps in
     let wrote = c.write_text in
     let said = string_bytes key in
     let holds : HoldsMessage said c.args.name.now wrote.new.buffer =
@@ -32,7 +35,12 @@ returns-then-place-index-clause-found c =
     (subst (λ (old : List ℕ). HoldsMessage c.as_str.result.now old wrote.new.buffer) so_far.left wrote.ensures.holds) in
     let long = wrote.ensures.told ∙ ap (λ (t : List ℕ). pos (length t)) c.as_str.ensures.value in
     rw (to_z-of_z w64 wrote.result (record { sfits = wrote.type_inv }))
-    (said, name_at (keys_of c.args.filters.now.0.entries) done left key c.args.index whole (so_far.count ∙ c.if-place-index.true), long, holds)
+    (
+      said,
+      name_at (keys_of c.args.filters.now.0.entries) done left key c.args.index whole (so_far.count ∙ c.if-place-index.true),
+      long,
+      holds,
+    )
 
 pub loop-key-preserved : goal.loop-key-preserved
 loop-key-preserved c =
@@ -43,7 +51,8 @@ loop-key-preserved c =
     let long : length (done ++ key ∷ []) ≡ length done + 1 = length-append done (key ∷ []) in
     record {
       done = done ++ key ∷ [];
-      whole = so_far.whole ∙ ap (λ (ks : List (String Global)). done ++ ks) c.in-Some.ensures.steps ∙ sym (append_assoc done (key ∷ []) left);
+      whole = so_far.whole ∙ ap (λ (ks : List (String Global)). done ++ ks) c.in-Some.ensures.steps
+          ∙ sym (append_assoc done (key ∷ []) left);
       count = long ∙ ap (λ n. n + 1) so_far.count;
       before = omega (arith, so_far.before, c.if-place-index.false);
       left = so_far.left;

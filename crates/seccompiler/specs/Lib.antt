@@ -28,9 +28,10 @@ pub mod ConditionCode
 pub mod Pieces
 pub mod Ranges
 pub mod Tree
-pub mod Layouts
 pub mod Places
 pub mod PlaceLists
+pub mod TreePlaces
+pub mod Layouts
 pub mod Compare
 pub mod CompareFilters
 pub mod FirstUnfit
@@ -49,7 +50,6 @@ pub mod JsonEquality
 pub mod Relay
 pub mod ChainCode
 pub mod TreeCode
-pub mod TreePlaces
 pub mod WordSets
 pub mod RecordSets
 pub mod CompareTasks

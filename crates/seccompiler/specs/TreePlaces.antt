@@ -7,7 +7,7 @@ use Rattle.seccompiler.specs.declared.layout.places.Place.TheVariants.{LoadNumbe
 use Rattle.seccompiler.specs.Policy.{Rule, Chain, Filter}
 use Rattle.seccompiler.specs.Places.{Stands, HasChain, ArePlaces}
 use Rattle.seccompiler.specs.PlaceLists.{AreWords, guard_places, rules_places}
-use Rattle.seccompiler.specs.Ranges.{Range}
+use Rattle.seccompiler.specs.Ranges.{Range, AreRanges}
 use Rattle.seccompiler.specs.Tree.{stands_out, row, most, block_length, tree_length}
 use Rattle.seccompiler.specs.TreeCode.{AreHalves, second_stands_out}
 
@@ -74,6 +74,12 @@ pub record AreProgramPlaces (ranges : List Range) (places : List Place) : Type 0
   pub behind : List Place
   pub tree : IsTreePlaces ranges behind
   pub whole : places ≡ guard_places ++ LoadNumber ∷ behind
+
+-- The places of a filter's program in the tree layout.
+pub record AreTreePlaces (f : Filter) (places : List Place) : Type 0 where
+  pub ranges : List Range
+  pub are_ranges : AreRanges f.chains ranges
+  pub are_places : AreProgramPlaces ranges places
 
 -- They are its places, and the only ones.
 pub record AreOnlyPlaces (ranges : List Range) (places : List Place) : Type 0 where

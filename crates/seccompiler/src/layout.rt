@@ -34,7 +34,7 @@ impl EqualByParts for Layout {
 
 impl SeccompFilter {
     ghost use Rattle.std.specs.Prelude.{IfOk, IfErr, OnOk};
-    ghost use Rattle.seccompiler.specs.Layouts.{IsCompiledIn, IsCompilableIn, IsRefusalIn};
+    ghost use Rattle.seccompiler.specs.Layouts.{AreInOrder, IsCompiledIn, IsCompilableIn, IsRefusalIn};
     ghost use Rattle.seccompiler.specs.Places.{ArePlaces};
 
     /// The filter's program in a layout: that of [`to_bpf`](SeccompFilter::to_bpf), or that of
@@ -83,6 +83,7 @@ impl SeccompFilter {
     ) -> Result<(BpfProgram, Vec<Place>), BackendError>
         ensures compiled { IfOk result (λ r. IsCompiledIn layout self.now r.0.items) }
         ensures places { IfOk result (λ r. ArePlaces self.now r.1.items r.0.items) }
+        ensures order { IfOk result (λ r. AreInOrder layout self.now r.1.items) }
         ensures compilable { OnOk result (IsCompilableIn layout self.now) }
         ensures refused { IfErr result (IsRefusalIn layout self.now) }
     {

@@ -15,6 +15,7 @@ impl SeccompFilter {
     ghost use Rattle.seccompiler.specs.Tree.{IsTreeCompiled, IsTreeCompilable, IsTreeRefusal};
     ghost use Rattle.seccompiler.specs.Places.{ArePlaces};
     ghost use Rattle.seccompiler.specs.PlaceLists.{linear_places};
+    ghost use Rattle.seccompiler.specs.TreePlaces.{AreTreePlaces};
 
     /// The filter's program in the linear layout, the one that [`to_bpf`](SeccompFilter::to_bpf)
     /// gives, and what stands at each of its places.
@@ -36,6 +37,7 @@ impl SeccompFilter {
     ) -> Result<(BpfProgram, Vec<Place>), BackendError>
         ensures compiled { IfOk result (λ r. IsCompiled self.now r.0.items) }
         ensures places { IfOk result (λ r. ArePlaces self.now r.1.items r.0.items) }
+        ensures order { IfOk result (λ r. r.1.items ≡ linear_places self.now.chains) }
         ensures compilable { OnOk result (IsCompilable self.now) }
         ensures refused { IfErr result (IsRefusal self.now) }
     {
@@ -58,6 +60,7 @@ impl SeccompFilter {
     ) -> Result<(BpfProgram, Vec<Place>), BackendError>
         ensures compiled { IfOk result (λ r. IsTreeCompiled self.now r.0.items) }
         ensures places { IfOk result (λ r. ArePlaces self.now r.1.items r.0.items) }
+        ensures order { IfOk result (λ r. AreTreePlaces self.now r.1.items) }
         ensures compilable { OnOk result (IsTreeCompilable self.now) }
         ensures refused { IfErr result (IsTreeRefusal self.now) }
     {

@@ -2,9 +2,9 @@ use Rattle.std.proofs.Common.{All, List, ap, sym, ◌∙◌, subst}
 use Rattle.seccompiler.specs.declared.layout.places.Place.{Place}
 use Rattle.seccompiler.specs.Policy.{Filter, IsCallNumber}
 use Rattle.seccompiler.specs.Places.{ArePlaces}
-use Rattle.seccompiler.specs.Ranges.{Range}
+use Rattle.seccompiler.specs.Ranges.{Range, AreRanges}
 use Rattle.seccompiler.specs.Compiled.{numbers_of}
-use Rattle.seccompiler.specs.TreePlaces.{AreProgramPlaces}
+use Rattle.seccompiler.specs.TreePlaces.{AreProgramPlaces, AreTreePlaces}
 use Rattle.seccompiler.proofs.filter.Chains.{numbers_are_keys}
 use Rattle.seccompiler.proofs.filter.SeccompFilter.to_tree_bpf_with_places.Goals as goal
 
@@ -19,3 +19,12 @@ returns-clause-places c =
     let same = c.deref.ensures.value ∙ sym c.deref-2.ensures.value in
     let only = c.in_ok-places.ensures.only told.places (subst (λ (l : List Range). AreProgramPlaces l told.places) same told.are) in
     subst (λ (l : List Place). ArePlaces c.args.self.now l c.in_ok-program.program.items) only told.stand
+
+pub returns-clause-order : goal.returns-clause-order
+returns-clause-order c =
+    let are = subst (λ chains. AreRanges chains c.in_ok-ranges.ranges.items) (ap (λ (f : Filter). f.chains) c.self.view_is) c.in_ok-ranges.ensures.ranges in
+    record {
+      ranges = c.in_ok-ranges.ranges.items;
+      are_ranges = are;
+      are_places = subst (λ (l : List Range). AreProgramPlaces l c.in_ok-places.places.items) c.deref-2.ensures.value c.in_ok-places.ensures.are;
+    }

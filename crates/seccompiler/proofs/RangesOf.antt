@@ -31,7 +31,8 @@ first_of_filter f x ranges ascends fits each q chain has =
 all_of_filter : (f : Filter) (ranges : List Range) → Ascends ranges → AreTight ranges
     → ((a : ℕ) → first_start ranges ≤ a → a < 2 ^ 32 → found_in ranges a ≡ chain_under f.chains a) → AreRangesOf f ranges
 all_of_filter f [] ascends tight each = absurd ascends
-all_of_filter f (x ∷ []) ascends tight each = All-cons (IsRangeOf f) x [] (first_of_filter f x [] ascends tight.0 each) (All-nil (IsRangeOf f))
+all_of_filter f (x ∷ []) ascends tight each = All-cons (IsRangeOf f) x [] (first_of_filter f x [] ascends tight.0 each) (All-nil (IsRangeOf
+    f))
 all_of_filter f (x ∷ y ∷ ranges) ascends tight each =
     All-cons (IsRangeOf f) x (y ∷ ranges) (first_of_filter f x (y ∷ ranges) ascends tight.0 each)
     (all_of_filter f (y ∷ ranges) ascends.1 tight.1.1 (λ a from fits. behind a from ∙ each a (omega (arith, ascends.0)) fits))

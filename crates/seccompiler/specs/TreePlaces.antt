@@ -62,7 +62,8 @@ test_places border n = if nat_le n 255 then TestLeast border ∷ [] else TestLea
 
 -- All ranges: one alone; a block with its two returns; or a test, and both halves.
 pub data IsTreePlaces : List Range → List Place → Type 0 where
-  is_alone : (ranges : List Range) (x : Range) (places : List Place) → ranges ≡ x ∷ [] → places ≡ alone_places x → IsTreePlaces ranges places
+  is_alone : (ranges : List Range) (x : Range) (places : List Place) → ranges ≡ x ∷ [] → places ≡ alone_places x
+      → IsTreePlaces ranges places
   is_block : (ranges : List Range) (inner places : List Place) → 2 ≤ length ranges → block_length ranges ≤ 255 → IsBlockPlaces ranges inner
       → places ≡ inner ++ OthersMatch ∷ OthersDiffer ∷ [] → IsTreePlaces ranges places
   is_cut : (ranges low high : List Range) (below above places : List Place) → 2 ≤ length ranges → 255 < block_length ranges

@@ -22,25 +22,32 @@ use Rattle.seccompiler.proofs.tree.RangesFound.{halves_taken}
 -- ---- one range
 
 -- the chain of a range that has rules
-pub range_chain : (f : Filter) (x : Range) (chain : Chain) → x.chain ≡ Some chain → 0 < length chain → IsRangeOf f x → HasChain f x.start chain
+pub range_chain : (f : Filter) (x : Range) (chain : Chain) → x.chain ≡ Some chain → 0 < length chain → IsRangeOf f x
+    → HasChain f x.start chain
 range_chain f x [] has some h = absurd (omega arith)
 range_chain f x (q ∷ chain) has some h = h q chain has
 
-owned_stand : (f : Filter) (n : ℕ) (found : Option Chain) (chain : Chain) (mismatch matched : ℕ) (rules : List sock_filter) → found ≡ Some chain → 0 < length chain
+owned_stand : (f : Filter) (n : ℕ) (found : Option Chain) (chain : Chain) (mismatch matched : ℕ) (rules : List sock_filter)
+    → found ≡ Some chain → 0 < length chain
     → HasChain f n chain → AreWords f mismatch matched → AllZip (Stands f) (rules_places n 0 chain) rules
     → AllZip (Stands f) (owned_places n found) (rules ++ give mismatch ∷ [])
 owned_stand f n found [] mismatch matched rules is some has words h = absurd (omega arith)
 owned_stand f n found (q ∷ chain) mismatch matched rules is some has words h =
-    rw is (all_zip_append (Stands f) (rules_places n 0 (q ∷ chain)) (CallDiffers n ∷ []) rules (give mismatch ∷ []) h ((q ∷ chain, has, (refl, words.mismatch_is)), tt))
+    rw is (all_zip_append (Stands f) (rules_places n 0 (q ∷ chain)) (CallDiffers n ∷ []) rules (give mismatch ∷ []) h ((q ∷ chain, has,
+        (refl, words.mismatch_is)), tt))
 
-pub own_stand : (f : Filter) (x : Range) (chain : Chain) (mismatch matched : ℕ) (rules code : List sock_filter) → x.chain ≡ Some chain → 0 < length chain
-    → IsRangeOf f x → AreWords f mismatch matched → AllZip (Stands f) (rules_places x.start 0 chain) rules → code ≡ rules ++ give mismatch ∷ []
+pub own_stand : (f : Filter) (x : Range) (chain : Chain) (mismatch matched : ℕ) (rules code : List sock_filter) → x.chain ≡ Some chain
+    → 0 < length chain
+    → IsRangeOf f x → AreWords f mismatch matched → AllZip (Stands f) (rules_places x.start 0 chain) rules
+        → code ≡ rules ++ give mismatch ∷ []
     → AllZip (Stands f) (own_places x) code
 own_stand f x chain mismatch matched rules code has some of words h is =
-    subst (AllZip (Stands f) (own_places x)) (sym is) (owned_stand f x.start x.chain chain mismatch matched rules has some (range_chain f x chain has some of) words h)
+    subst (AllZip (Stands f) (own_places x)) (sym is) (owned_stand f x.start x.chain chain mismatch matched rules has some (range_chain f x
+        chain has some of) words h)
 
 -- a range without rules has nothing of its own
-own_none_stand : (f : Filter) (x : Range) (code : List sock_filter) → HasNoRules x.chain → length code ≡ 0 → AllZip (Stands f) (own_places x) code
+own_none_stand : (f : Filter) (x : Range) (code : List sock_filter) → HasNoRules x.chain → length code ≡ 0
+    → AllZip (Stands f) (own_places x) code
 own_none_stand f x (i ∷ code) plain none = absurd (omega arith)
 own_none_stand f x [] plain none = go x.chain plain
   where
@@ -49,16 +56,19 @@ own_none_stand f x [] plain none = go x.chain plain
     go (Some []) plain = tt
     go (Some (q ∷ chain)) plain = absurd plain
 
-pub own_gap_stands : (f : Filter) (x : Range) (code : List sock_filter) → x.chain ≡ None → length code ≡ own_length x.chain → AllZip (Stands f) (own_places x) code
+pub own_gap_stands : (f : Filter) (x : Range) (code : List sock_filter) → x.chain ≡ None → length code ≡ own_length x.chain
+    → AllZip (Stands f) (own_places x) code
 own_gap_stands f x code has long = own_none_stand f x code (subst HasNoRules (sym has) tt) (long ∙ ap own_length has)
 
-pub own_empty_stands : (f : Filter) (x : Range) (chain : Chain) (code : List sock_filter) → x.chain ≡ Some chain → length chain ≡ 0 → length code ≡ own_length x.chain
+pub own_empty_stands : (f : Filter) (x : Range) (chain : Chain) (code : List sock_filter) → x.chain ≡ Some chain → length chain ≡ 0
+    → length code ≡ own_length x.chain
     → AllZip (Stands f) (own_places x) code
 own_empty_stands f x [] code has none long = own_none_stand f x code (subst HasNoRules (sym has) tt) (long ∙ ap own_length has)
 own_empty_stands f x (q ∷ chain) code has none long = absurd (omega arith)
 
 -- a range alone whose numbers match
-pub alone_match : (f : Filter) (x : Range) (mismatch matched : ℕ) (code : List sock_filter) → x.chain ≡ Some [] → AreWords f mismatch matched → code ≡ give matched ∷ []
+pub alone_match : (f : Filter) (x : Range) (mismatch matched : ℕ) (code : List sock_filter) → x.chain ≡ Some []
+    → AreWords f mismatch matched → code ≡ give matched ∷ []
     → AllZip (Stands f) (alone_places x) code
 alone_match f x mismatch matched code has words is = subst (AllZip (Stands f) (alone_places x)) (sym is) (go x.chain has)
   where
@@ -74,10 +84,12 @@ alone_is x other = go x.chain other
     go (Some []) other = absurd (other refl)
     go (Some (q ∷ chain)) other = refl
 
-pub alone_stand : (f : Filter) (x : Range) (mismatch matched : ℕ) (own code : List sock_filter) → (x.chain ≡ Some [] → ⊥) → AreWords f mismatch matched
+pub alone_stand : (f : Filter) (x : Range) (mismatch matched : ℕ) (own code : List sock_filter) → (x.chain ≡ Some [] → ⊥)
+    → AreWords f mismatch matched
     → AllZip (Stands f) (own_places x) own → code ≡ own ++ give mismatch ∷ [] → AllZip (Stands f) (alone_places x) code
 alone_stand f x mismatch matched own code other words h is =
-    rw (alone_is x other, is) (all_zip_append (Stands f) (own_places x) (OthersDiffer ∷ []) own (give mismatch ∷ []) h ((refl, words.mismatch_is), tt))
+    rw (alone_is x other, is) (all_zip_append (Stands f) (own_places x) (OthersDiffer ∷ []) own (give mismatch ∷ []) h ((refl,
+        words.mismatch_is), tt))
 
 -- ---- a row
 
@@ -86,45 +98,57 @@ pub row_settled : (ranges : List Range) (one : Range) (rest : List Range) → Se
     → row_places ranges ≡ row_test_place ranges ∷ (own_places one ++ row_places rest)
 row_settled ranges one rest (stands x z behind is left e) =
     let whole : row_places (x ∷ one ∷ z ∷ behind) ≡ TestNumber one.start ∷ (own_places one ++ row_places (z ∷ behind)) =
-    ap (λ (b : Bool). if b then TestNumber one.start ∷ (own_places one ++ row_places (z ∷ behind)) else TestLeast one.start ∷ (own_places x ++ row_places (one ∷ z ∷ behind))) e in
-    let first : row_test_place (x ∷ one ∷ z ∷ behind) ≡ TestNumber one.start = ap (λ (b : Bool). if b then TestNumber one.start else TestLeast one.start) e in
-    ap row_places is ∙ whole ∙ ap₂ (λ (p : Place) (l : List Range). p ∷ (own_places one ++ row_places l)) (sym (ap row_test_place is ∙ first)) (sym left)
+    ap (λ (b : Bool). if b then TestNumber one.start ∷ (own_places one ++ row_places (z ∷ behind)) else TestLeast one.start ∷ (own_places x
+        ++ row_places (one ∷ z ∷ behind))) e in
+    let first : row_test_place (x ∷ one ∷ z ∷ behind) ≡ TestNumber one.start =
+        ap (λ (b : Bool). if b then TestNumber one.start else TestLeast one.start) e in
+    ap row_places is ∙ whole ∙ ap₂ (λ (p : Place) (l : List Range). p ∷ (own_places one ++ row_places l)) (sym (ap row_test_place is
+        ∙ first)) (sym left)
 row_settled ranges one [] (is_first is some e) = absurd (omega arith)
-row_settled ranges one (y ∷ []) (is_first is some e) = ap row_places is ∙ ap (λ (p : Place). p ∷ (own_places one ++ own_places y)) (sym (ap row_test_place is))
+row_settled ranges one (y ∷ []) (is_first is some e) = ap row_places is
+    ∙ ap (λ (p : Place). p ∷ (own_places one ++ own_places y)) (sym (ap row_test_place is))
 row_settled ranges one (y ∷ z ∷ behind) (is_first is some e) =
     let out : stands_out one y z ≡ false = ap second_stands_out (sym is) ∙ e in
     let whole : row_places (one ∷ y ∷ z ∷ behind) ≡ TestLeast y.start ∷ (own_places one ++ row_places (y ∷ z ∷ behind)) =
-    ap (λ (b : Bool). if b then TestNumber y.start ∷ (own_places y ++ row_places (z ∷ behind)) else TestLeast y.start ∷ (own_places one ++ row_places (y ∷ z ∷ behind))) out in
-    let first : row_test_place (one ∷ y ∷ z ∷ behind) ≡ TestLeast y.start = ap (λ (b : Bool). if b then TestNumber y.start else TestLeast y.start) out in
+    ap (λ (b : Bool). if b then TestNumber y.start ∷ (own_places y ++ row_places (z ∷ behind)) else TestLeast y.start ∷ (own_places one ++
+        row_places (y ∷ z ∷ behind))) out in
+    let first : row_test_place (one ∷ y ∷ z ∷ behind) ≡ TestLeast y.start =
+        ap (λ (b : Bool). if b then TestNumber y.start else TestLeast y.start) out in
     ap row_places is ∙ whole ∙ ap (λ (p : Place). p ∷ (own_places one ++ row_places (y ∷ z ∷ behind))) (sym (ap row_test_place is ∙ first))
 
 -- what the first test of a row tells
-row_test_equal : (ranges : List Range) (y : Range) → 2 ≤ length ranges → second_stands_out ranges ≡ true → y ≡ get_or ranges 1 y → row_test_place ranges ≡ TestNumber y.start
+row_test_equal : (ranges : List Range) (y : Range) → 2 ≤ length ranges → second_stands_out ranges ≡ true → y ≡ get_or ranges 1 y
+    → row_test_place ranges ≡ TestNumber y.start
 row_test_equal [] y some out is = absurd (omega arith)
 row_test_equal (x ∷ []) y some out is = absurd (omega arith)
 row_test_equal (x ∷ z ∷ ranges) y some out is =
     ap (λ (b : Bool). if b then TestNumber z.start else TestLeast z.start) out ∙ ap (λ (v : Range). TestNumber v.start) (sym is)
 
-row_test_least : (ranges : List Range) (y : Range) → 2 ≤ length ranges → second_stands_out ranges ≡ false → y ≡ get_or ranges 1 y → row_test_place ranges ≡ TestLeast y.start
+row_test_least : (ranges : List Range) (y : Range) → 2 ≤ length ranges → second_stands_out ranges ≡ false → y ≡ get_or ranges 1 y
+    → row_test_place ranges ≡ TestLeast y.start
 row_test_least [] y some out is = absurd (omega arith)
 row_test_least (x ∷ []) y some out is = absurd (omega arith)
 row_test_least (x ∷ z ∷ ranges) y some out is =
     ap (λ (b : Bool). if b then TestNumber z.start else TestLeast z.start) out ∙ ap (λ (v : Range). TestLeast v.start) (sym is)
 
-pub row_equal_stands : (f : Filter) (ranges : List Range) (y : Range) (border jt jf : ℕ) (i : sock_filter) → 2 ≤ length ranges → second_stands_out ranges ≡ true
+pub row_equal_stands : (f : Filter) (ranges : List Range) (y : Range) (border jt jf : ℕ) (i : sock_filter) → 2 ≤ length ranges
+    → second_stands_out ranges ≡ true
     → y ≡ get_or ranges 1 y → border ≡ y.start → i ≡ jump_equal border jt jf → Stands f (row_test_place ranges) i
 row_equal_stands f ranges y border jt jf i some out is at e = rw (row_test_equal ranges y some out is, e) (refl, at)
 
-pub row_least_stands : (f : Filter) (ranges : List Range) (y : Range) (border jt jf : ℕ) (i : sock_filter) → 2 ≤ length ranges → second_stands_out ranges ≡ false
+pub row_least_stands : (f : Filter) (ranges : List Range) (y : Range) (border jt jf : ℕ) (i : sock_filter) → 2 ≤ length ranges
+    → second_stands_out ranges ≡ false
     → y ≡ get_or ranges 1 y → border ≡ y.start → i ≡ jump_at_least border jt jf → Stands f (row_test_place ranges) i
 row_least_stands f ranges y border jt jf i some out is at e = rw (row_test_least ranges y some out is, e) (refl, at)
 
 -- the ranges that a row's first test settles and leaves are the filter's
-pub settled_of : (f : Filter) (ranges : List Range) (one : Range) (rest : List Range) → Settles ranges one rest → AreRangesOf f ranges → IsRangeOf f one × AreRangesOf f rest
+pub settled_of : (f : Filter) (ranges : List Range) (one : Range) (rest : List Range) → Settles ranges one rest → AreRangesOf f ranges
+    → IsRangeOf f one × AreRangesOf f rest
 settled_of f ranges one rest (stands x z behind is left e) all =
     let whole : All (IsRangeOf f) (x ∷ one ∷ z ∷ behind) = subst (All (IsRangeOf f)) is all in
     let behind_x = All-tail (IsRangeOf f) x (one ∷ z ∷ behind) whole in
-    (All-head (IsRangeOf f) one (z ∷ behind) behind_x, subst (All (IsRangeOf f)) (sym left) (All-tail (IsRangeOf f) one (z ∷ behind) behind_x))
+    (All-head (IsRangeOf f) one (z ∷ behind) behind_x, subst (All (IsRangeOf f)) (sym left) (All-tail (IsRangeOf f) one (z ∷ behind)
+        behind_x))
 settled_of f ranges one rest (is_first is some e) all =
     let whole : All (IsRangeOf f) (one ∷ rest) = subst (All (IsRangeOf f)) is all in
     (All-head (IsRangeOf f) one rest whole, All-tail (IsRangeOf f) one rest whole)
@@ -132,9 +156,11 @@ settled_of f ranges one rest (is_first is some e) all =
 pub row_one_stands : (f : Filter) (ranges : List Range) (x : Range) (code : List sock_filter) → ranges ≡ x ∷ [] → AreRangesOf f ranges
     → (IsRangeOf f x → AllZip (Stands f) (own_places x) code) → AllZip (Stands f) (row_places ranges) code
 row_one_stands f ranges x code is all h =
-    subst (λ (l : List Range). AllZip (Stands f) (row_places l) code) (sym is) (h (All-head (IsRangeOf f) x [] (subst (All (IsRangeOf f)) is all)))
+    subst (λ (l : List Range). AllZip (Stands f) (row_places l) code) (sym is) (h (All-head (IsRangeOf f) x [] (subst (All (IsRangeOf f))
+        is all)))
 
-pub row_stands : (f : Filter) (ranges : List Range) (one : Range) (rest : List Range) (i : sock_filter) (first front back : List sock_filter) → Settles ranges one rest → first ≡ i ∷ []
+pub row_stands : (f : Filter) (ranges : List Range) (one : Range) (rest : List Range) (i : sock_filter) (first front back : List
+    sock_filter) → Settles ranges one rest → first ≡ i ∷ []
     → Stands f (row_test_place ranges) i → AllZip (Stands f) (own_places one) front → AllZip (Stands f) (row_places rest) back
     → AllZip (Stands f) (row_places ranges) (first ++ (front ++ back))
 row_stands f ranges one rest i first front back settles is test own behind =
@@ -143,7 +169,8 @@ row_stands f ranges one rest i first front back settles is test own behind =
 -- ---- halves
 
 -- both halves of a filter's ranges are the filter's
-pub halves_of_filter : (f : Filter) (ranges low high : List Range) → AreHalves ranges low high → AreRangesOf f ranges → AreRangesOf f low × AreRangesOf f high
+pub halves_of_filter : (f : Filter) (ranges low high : List Range) → AreHalves ranges low high → AreRangesOf f ranges
+    → AreRangesOf f low × AreRangesOf f high
 halves_of_filter f ranges low high h all =
     let parts = halves_taken ranges low high h in (
       subst (All (IsRangeOf f)) parts.0 (All-take (IsRangeOf f) (length ranges / 2) ranges all),
@@ -151,20 +178,24 @@ halves_of_filter f ranges low high h all =
     )
 
 -- where the upper half starts
-pub starts_at : (high : List Range) (y : Range) (border : ℕ) → 1 ≤ length high → y ≡ get_or high 0 y → border ≡ y.start → first_start high ≡ border
+pub starts_at : (high : List Range) (y : Range) (border : ℕ) → 1 ≤ length high → y ≡ get_or high 0 y → border ≡ y.start
+    → first_start high ≡ border
 starts_at [] y border some is at = absurd (omega arith)
 starts_at (x ∷ high) y border some is at = ap (λ (v : Range). v.start) (sym is) ∙ sym at
 
-pub border_stands : (f : Filter) (high : List Range) (y : Range) (border jt jf : ℕ) (i : sock_filter) → 1 ≤ length high → y ≡ get_or high 0 y → border ≡ y.start
+pub border_stands : (f : Filter) (high : List Range) (y : Range) (border jt jf : ℕ) (i : sock_filter) → 1 ≤ length high
+    → y ≡ get_or high 0 y → border ≡ y.start
     → i ≡ jump_at_least border jt jf → Stands f (TestLeast (first_start high)) i
 border_stands f high y border jt jf i some is at e = rw (starts_at high y border some is at, e) (refl, refl)
 
 pub block_of_row : (ranges : List Range) (mismatch matched : ℕ) (code : List sock_filter) → row ranges ≤ most
     → ((f : Filter) → AreRangesOf f ranges → AreWords f mismatch matched → AllZip (Stands f) (row_places ranges) code)
     → HasPlaces (IsBlockPlaces ranges) ranges mismatch matched code
-block_of_row ranges mismatch matched code short h = record { places = row_places ranges; are = is_row ranges (row_places ranges) short refl; stand = h }
+block_of_row ranges mismatch matched code short h = record { places = row_places ranges; are =
+    is_row ranges (row_places ranges) short refl; stand = h }
 
-pub block_of_halves : (ranges low high : List Range) (mismatch matched : ℕ) (i : sock_filter) (first front back : List sock_filter) → most < row ranges → AreHalves ranges low high
+pub block_of_halves : (ranges low high : List Range) (mismatch matched : ℕ) (i : sock_filter) (first front back : List sock_filter)
+    → most < row ranges → AreHalves ranges low high
     → first ≡ i ∷ [] → ((f : Filter) → Stands f (TestLeast (first_start high)) i)
     → HasPlaces (IsBlockPlaces low) low mismatch matched front → HasPlaces (IsBlockPlaces high) high mismatch matched back
     → HasPlaces (IsBlockPlaces ranges) ranges mismatch matched (first ++ (front ++ back))
@@ -174,7 +205,8 @@ block_of_halves ranges low high mismatch matched i first front back long halves 
       are = is_halved ranges low high below.places above.places _ long halves below.are above.are refl;
       stand = λ f all words.
           let parts = halves_of_filter f ranges low high halves all in
-          rw is (test f, all_zip_append (Stands f) below.places above.places front back (below.stand f parts.0 words) (above.stand f parts.1 words));
+          rw is (test f, all_zip_append (Stands f) below.places above.places front back (below.stand f parts.0 words) (above.stand f
+              parts.1 words));
     }
 
 -- ---- all ranges
@@ -200,17 +232,20 @@ tree_of_block ranges mismatch matched code some short h = record {
 }
 
 -- a test near enough, and one that is not
-pub near_places : (f : Filter) (border n : ℕ) (code : List sock_filter) → n ≤ 255 → code ≡ jump_at_least border n 0 ∷ [] → AllZip (Stands f) (test_places border n) code
+pub near_places : (f : Filter) (border n : ℕ) (code : List sock_filter) → n ≤ 255 → code ≡ jump_at_least border n 0 ∷ []
+    → AllZip (Stands f) (test_places border n) code
 near_places f border n code near is =
     let yes : nat_le n 255 ≡ true = grind (arith, nat_tests) in
     rw (yes, is) ((refl, refl), tt)
 
-pub far_places : (f : Filter) (border n : ℕ) (code : List sock_filter) → 255 < n → code ≡ jump_at_least border 0 1 ∷ jump n ∷ [] → AllZip (Stands f) (test_places border n) code
+pub far_places : (f : Filter) (border n : ℕ) (code : List sock_filter) → 255 < n → code ≡ jump_at_least border 0 1 ∷ jump n ∷ []
+    → AllZip (Stands f) (test_places border n) code
 far_places f border n code far is =
     let no : nat_le n 255 ≡ false = grind (arith, nat_tests) in
     rw (no, is) ((refl, refl), (refl, tt))
 
-pub tree_of_halves : (ranges low high : List Range) (mismatch matched border distance : ℕ) (test front back : List sock_filter) → 2 ≤ length ranges → 255 < block_length ranges
+pub tree_of_halves : (ranges low high : List Range) (mismatch matched border distance : ℕ) (test front back : List sock_filter)
+    → 2 ≤ length ranges → 255 < block_length ranges
     → AreHalves ranges low high → first_start high ≡ border → distance ≡ tree_length low
     → ((f : Filter) → AllZip (Stands f) (test_places border distance) test)
     → HasPlaces (IsTreePlaces low) low mismatch matched front → HasPlaces (IsTreePlaces high) high mismatch matched back
@@ -224,28 +259,34 @@ tree_of_halves ranges low high mismatch matched border distance test front back 
           let first : AllZip (Stands f) (test_places (first_start high) (tree_length low)) test =
           subst (λ (b : ℕ). AllZip (Stands f) (test_places b (tree_length low)) test) (sym at)
           (subst (λ (n : ℕ). AllZip (Stands f) (test_places border n) test) far (stands_test f)) in
-          all_zip_append (Stands f) (test_places (first_start high) (tree_length low)) (below.places ++ above.places) test (front ++ back) first
+          all_zip_append (Stands f) (test_places (first_start high) (tree_length low)) (below.places ++ above.places) test (front ++ back)
+              first
           (all_zip_append (Stands f) below.places above.places front back (below.stand f parts.0 words) (above.stand f parts.1 words));
     }
 
 -- ---- places that are added
 
-pub row_added : (ranges : List Range) (old new : List Place) → row ranges ≤ most → new ≡ old ++ row_places ranges → Adds (IsBlockPlaces ranges) old new
+pub row_added : (ranges : List Range) (old new : List Place) → row ranges ≤ most → new ≡ old ++ row_places ranges
+    → Adds (IsBlockPlaces ranges) old new
 row_added ranges old new short is = record { own = row_places ranges; are = is_row ranges (row_places ranges) short refl; added = is }
 
-pub halves_added : (ranges low high : List Range) (border : ℕ) (old test below above : List Place) → most < row ranges → AreHalves ranges low high → first_start high ≡ border
+pub halves_added : (ranges low high : List Range) (border : ℕ) (old test below above : List Place) → most < row ranges
+    → AreHalves ranges low high → first_start high ≡ border
     → test ≡ old ++ TestLeast border ∷ [] → Adds (IsBlockPlaces low) test below → Adds (IsBlockPlaces high) below above
     → Adds (IsBlockPlaces ranges) old above
 halves_added ranges low high border old test below above long halves at is first second = record {
   own = TestLeast (first_start high) ∷ (first.own ++ second.own);
   are = is_halved ranges low high first.own second.own _ long halves first.are second.are refl;
-  added = second.added ∙ ap (λ l. l ++ second.own) (first.added ∙ ap (λ l. l ++ first.own) (is ∙ ap (λ n. old ++ TestLeast n ∷ []) (sym at))) ∙ simp append_assoc refl;
+  added = second.added ∙ ap (λ l. l ++ second.own) (first.added ∙ ap (λ l. l ++ first.own) (is
+      ∙ ap (λ n. old ++ TestLeast n ∷ []) (sym at))) ∙ simp append_assoc refl;
 }
 
-pub one_added : (ranges : List Range) (x : Range) (old new : List Place) → ranges ≡ x ∷ [] → new ≡ old ++ alone_places x → Adds (IsTreePlaces ranges) old new
+pub one_added : (ranges : List Range) (x : Range) (old new : List Place) → ranges ≡ x ∷ [] → new ≡ old ++ alone_places x
+    → Adds (IsTreePlaces ranges) old new
 one_added ranges x old new one is = record { own = alone_places x; are = is_alone ranges x (alone_places x) one refl; added = is }
 
-pub block_added : (ranges : List Range) (old inner new : List Place) → 2 ≤ length ranges → block_length ranges ≤ 255 → Adds (IsBlockPlaces ranges) old inner
+pub block_added : (ranges : List Range) (old inner new : List Place) → 2 ≤ length ranges → block_length ranges ≤ 255
+    → Adds (IsBlockPlaces ranges) old inner
     → new ≡ inner ++ OthersMatch ∷ OthersDiffer ∷ [] → Adds (IsTreePlaces ranges) old new
 block_added ranges old inner new some short h is = record {
   own = h.own ++ OthersMatch ∷ OthersDiffer ∷ [];
@@ -258,12 +299,16 @@ test_capped : (border n m : ℕ) → m ≡ min n (2 ^ 64 - 1) → test_places bo
 test_capped border n m is =
     ap (λ (b : Bool). if b then TestLeast border ∷ [] else TestLeast border ∷ FarJump ∷ [])
     (⊎_elim
-    (λ near. let one : nat_le m 255 ≡ true = grind (arith, nat_tests) in let other : nat_le n 255 ≡ true = grind (arith, nat_tests) in one ∙ sym other)
-    (λ far. let one : nat_le m 255 ≡ false = grind (arith, nat_tests) in let other : nat_le n 255 ≡ false = grind (arith, nat_tests) in one ∙ sym other)
+    (λ near. let one : nat_le m 255 ≡ true = grind (arith, nat_tests) in let other : nat_le n 255 ≡ true = grind (arith,
+        nat_tests) in one ∙ sym other)
+    (λ far. let one : nat_le m 255 ≡ false = grind (arith, nat_tests) in let other : nat_le n 255 ≡ false = grind (arith,
+        nat_tests) in one ∙ sym other)
     (cases_lt n 256))
 
-pub cut_added : (ranges low high : List Range) (border distance : ℕ) (old test below above : List Place) → 2 ≤ length ranges → 255 < block_length ranges
-    → AreHalves ranges low high → first_start high ≡ border → distance ≡ min (tree_length low) (2 ^ 64 - 1) → test ≡ old ++ test_places border distance
+pub cut_added : (ranges low high : List Range) (border distance : ℕ) (old test below above : List Place) → 2 ≤ length ranges
+    → 255 < block_length ranges
+    → AreHalves ranges low high → first_start high ≡ border → distance ≡ min (tree_length low) (2 ^ 64 - 1)
+        → test ≡ old ++ test_places border distance
     → Adds (IsTreePlaces low) test below → Adds (IsTreePlaces high) below above → Adds (IsTreePlaces ranges) old above
 cut_added ranges low high border distance old test below above some long halves at far is first second =
     let tests : test_places border distance ≡ test_places (first_start high) (tree_length low) =
@@ -271,30 +316,35 @@ cut_added ranges low high border distance old test below above some long halves 
     record {
       own = test_places (first_start high) (tree_length low) ++ (first.own ++ second.own);
       are = is_cut ranges low high first.own second.own _ some long halves first.are second.are refl;
-      added = second.added ∙ ap (λ l. l ++ second.own) (first.added ∙ ap (λ l. l ++ first.own) (is ∙ ap (λ l. old ++ l) tests)) ∙ simp append_assoc refl;
+      added = second.added ∙ ap (λ l. l ++ second.own) (first.added ∙ ap (λ l. l ++ first.own) (is ∙ ap (λ l. old ++ l) tests))
+          ∙ simp append_assoc refl;
     }
 
 -- ---- there are no other places
 
-same_halves : (ranges low high low' high' : List Range) → AreHalves ranges low high → AreHalves ranges low' high' → (low ≡ low') × (high ≡ high')
+same_halves : (ranges low high low' high' : List Range) → AreHalves ranges low high → AreHalves ranges low' high'
+    → (low ≡ low') × (high ≡ high')
 same_halves ranges low high low' high' h h' =
     let one = halves_taken ranges low high h in
     let other = halves_taken ranges low' high' h' in
     (sym one.0 ∙ other.0, sym one.1 ∙ other.1)
 
-only_block : (ranges ranges' : List Range) (places places' : List Place) → ranges ≡ ranges' → IsBlockPlaces ranges places → IsBlockPlaces ranges' places' → places ≡ places'
+only_block : (ranges ranges' : List Range) (places places' : List Place) → ranges ≡ ranges' → IsBlockPlaces ranges places
+    → IsBlockPlaces ranges' places' → places ≡ places'
 only_block ranges ranges' places places' same (is_row _ _ short is) (is_row _ _ short' is') = is ∙ ap row_places same ∙ sym is'
 only_block ranges ranges' places places' same (is_row _ _ short is) (is_halved _ low high below above _ long halves h h' is') =
     let e = ap row same in absurd (omega (arith, e))
 only_block ranges ranges' places places' same (is_halved _ low high below above _ long halves h h' is) (is_row _ _ short is') =
     let e = ap row same in absurd (omega (arith, e))
-only_block ranges ranges' places places' same (is_halved _ low high below above _ long halves h h' is) (is_halved _ low' high' below' above' _ long' halves' k k' is') =
+only_block ranges ranges' places places' same (is_halved _ low high below above _ long halves h h' is) (is_halved _ low' high' below'
+    above' _ long' halves' k k' is') =
     let parts = same_halves ranges low high low' high' halves (subst (λ (l : List Range). AreHalves l low' high') (sym same) halves') in
     let first = only_block low low' below below' parts.0 h k in
     let second = only_block high high' above above' parts.1 h' k' in
     is ∙ cc (ap first_start parts.1, first, second) ∙ sym is'
 
-only_tree : (ranges ranges' : List Range) (places places' : List Place) → ranges ≡ ranges' → IsTreePlaces ranges places → IsTreePlaces ranges' places' → places ≡ places'
+only_tree : (ranges ranges' : List Range) (places places' : List Place) → ranges ≡ ranges' → IsTreePlaces ranges places
+    → IsTreePlaces ranges' places' → places ≡ places'
 only_tree ranges ranges' places places' same (is_alone _ x _ one is) (is_alone _ x' _ one' is') =
     let both : x ∷ [] ≡ x' ∷ [] = sym one ∙ same ∙ one' in
     is ∙ ap alone_places (ap (λ (l : List Range). get_or l 0 x) both) ∙ sym is'
@@ -306,22 +356,27 @@ only_tree ranges ranges' places places' same (is_block _ inner _ some short h is
     let e = ap length (same ∙ one') in absurd (omega (arith, e))
 only_tree ranges ranges' places places' same (is_block _ inner _ some short h is) (is_block _ inner' _ some' short' h' is') =
     is ∙ ap (λ (l : List Place). l ++ OthersMatch ∷ OthersDiffer ∷ []) (only_block ranges ranges' inner inner' same h h') ∙ sym is'
-only_tree ranges ranges' places places' same (is_block _ inner _ some short h is) (is_cut _ low high below above _ some' long halves k k' is') =
+only_tree ranges ranges' places places' same (is_block _ inner _ some short h is) (is_cut _ low high below above _ some' long halves k k'
+    is') =
     let e = ap block_length same in absurd (omega (arith, e))
 only_tree ranges ranges' places places' same (is_cut _ low high below above _ some long halves h h' is) (is_alone _ x' _ one' is') =
     let e = ap length (same ∙ one') in absurd (omega (arith, e))
-only_tree ranges ranges' places places' same (is_cut _ low high below above _ some long halves h h' is) (is_block _ inner _ some' short k is') =
+only_tree ranges ranges' places places' same (is_cut _ low high below above _ some long halves h h' is) (is_block _ inner _ some' short k
+    is') =
     let e = ap block_length same in absurd (omega (arith, e))
-only_tree ranges ranges' places places' same (is_cut _ low high below above _ some long halves h h' is) (is_cut _ low' high' below' above' _ some' long' halves' k k' is') =
+only_tree ranges ranges' places places' same (is_cut _ low high below above _ some long halves h h' is) (is_cut _ low' high' below' above'
+    _ some' long' halves' k k' is') =
     let parts = same_halves ranges low high low' high' halves (subst (λ (l : List Range). AreHalves l low' high') (sym same) halves') in
     let first = only_tree low low' below below' parts.0 h k in
     let second = only_tree high high' above above' parts.1 h' k' in
     is ∙ cc (ap first_start parts.1, ap tree_length parts.0, first, second) ∙ sym is'
 
-pub only_program : (ranges : List Range) (begun places : List Place) → begun ≡ guard_places ++ LoadNumber ∷ [] → Adds (IsTreePlaces ranges) begun places → AreOnlyPlaces ranges places
+pub only_program : (ranges : List Range) (begun places : List Place) → begun ≡ guard_places ++ LoadNumber ∷ []
+    → Adds (IsTreePlaces ranges) begun places → AreOnlyPlaces ranges places
 only_program ranges begun places first h =
     let whole : places ≡ guard_places ++ LoadNumber ∷ h.own = h.added ∙ ap (λ l. l ++ h.own) first in
     record {
       are = record { behind = h.own; tree = h.are; whole = whole };
-      only = λ others is. is.whole ∙ ap (λ l. guard_places ++ LoadNumber ∷ l) (only_tree ranges ranges is.behind h.own refl is.tree h.are) ∙ sym whole;
+      only = λ others is. is.whole ∙ ap (λ l. guard_places ++ LoadNumber ∷ l) (only_tree ranges ranges is.behind h.own refl is.tree h.are)
+          ∙ sym whole;
     }

@@ -56,7 +56,8 @@ fn places() -> Vec<PathBuf> {
 
 /// Links the archive of this name in a folder.
 fn link(folder: &Path, archive: &str) {
-    let name = archive.trim_start_matches("lib").trim_end_matches(".a");
+    let name = archive.strip_prefix("lib").unwrap_or(archive);
+    let name = name.strip_suffix(".a").unwrap_or(name);
     println!("cargo:rustc-link-search=native={}", folder.display());
     println!("cargo:rustc-link-lib=static={name}");
     println!("cargo:rerun-if-changed={}", folder.join(archive).display());

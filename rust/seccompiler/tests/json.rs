@@ -160,7 +160,7 @@ fn what_is_no_json_is_told() {
     }
 }
 
-/// 1000 rules of one condition take 5 instructions each, and 8 are around them; the first such filter by name is told.
+/// 1000 rules of one condition take 5 instructions each, and 7 are around them; the first such filter by name is told.
 #[test]
 fn a_filter_that_is_too_large_is_an_error_of_the_backend() {
     let rule =
@@ -176,7 +176,7 @@ fn a_filter_that_is_too_large_is_an_error_of_the_backend() {
         filter(1)
     );
     match refused(text.as_bytes()) {
-        Error::Backend(error) => assert_eq!(error, BackendError::FilterTooLarge(5008)),
+        Error::Backend(error) => assert_eq!(error, BackendError::FilterTooLarge(5007)),
         error => panic!("{error:?}"),
     }
     // A fault of the front end comes first, wherever it is.

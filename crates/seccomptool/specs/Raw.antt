@@ -1,6 +1,7 @@
 -- What `raw` answers and writes: a program as the machine has it.
-use Rattle.std.specs.Prelude.{◌≡◌, ◌≢◌, ℕ, List, [], ◌∷◌, ◌++◌, map, Option, Result, string_bytes, ⊤}
+use Rattle.std.specs.Prelude.{◌≡◌, ◌≢◌, ℕ, List, [], ◌∷◌, ◌++◌, map, Option, Result, Ok, Err, string_bytes, ⊤}
 use Rattle.std.specs.Int.{w16, w32, to_le_bytes}
+use Rattle.std.specs.Io.KnownBytes.{Appends}
 use Rattle.std.specs.List.{concat}
 use Rattle.serde_json.specs.Data.{Data}
 use Rattle.seccompiler.specs.declared.backend.BackendError.{BackendError}
@@ -16,8 +17,7 @@ use Rattle.seccompiler.specs.JsonFilters.{AreAll}
 use Rattle.seccompiler.specs.JsonShape.{Under, Lacks}
 use Rattle.seccompiler.specs.Policy.{Filter}
 use Rattle.seccomp_command_line.specs.declared.error.ToolError.{ToolError}
-use Rattle.seccomp_command_line.specs.declared.error.ToolError.TheVariants.{Library, NoFilter, OutOfMemory}
-use Rattle.seccomp_command_line.specs.Answers.{Answers}
+use Rattle.seccomp_command_line.specs.declared.error.ToolError.TheVariants.{Library, NoFilter, Write, OutOfMemory}
 use Rattle.seccomp_command_line.specs.Policies.{OfPolicy}
 use Rattle.seccomptool.specs.Policies.{IsTextFault}
 
@@ -48,6 +48,12 @@ IsFaultless arch known P = OfPolicy arch known (λ target d. AreAll (HasSomePoli
 abbrev pub UnderName : List ℕ → (TargetArch → Data → Type 0) → TargetArch → Data → Type 0
 UnderName name P target d = Under d name (P target)
 
+-- What is written grew by the bytes of a program of the value.
+pub record WritesProgram (layout : Layout) (old new : Option (List ℕ)) (target : TargetArch) (value : Data) : Type 0 where
+  pub program : List sock_filter
+  pub compiled : HasProgram layout target value program
+  pub appends : Appends old new (program_bytes program)
+
 -- The value's policy has no program in this layout, for this cause.
 pub record HasNoProgram (layout : Layout) (cause : BackendError) (target : TargetArch) (value : Data) : Type 0 where
   pub policy : Filter
@@ -61,19 +67,13 @@ pub data IsFault (layout : Layout) (arch : List ℕ) (known : Option (List ℕ))
   of_program : (cause : BackendError) → cause ≢ backend.OutOfMemory → e ≡ library.Backend cause
       → IsFaultless arch known (UnderName name (HasNoProgram layout cause)) → IsFault layout arch known name e
 
--- Nothing is at fault, and the bytes are those of a program of the filter of this name.
-abbrev pub IsRaw : List ℕ → Option (List ℕ) → List ℕ → Layout → List ℕ → Type 0
-IsRaw arch known name layout bytes = IsFaultless arch known
-    (UnderName name (λ target value. (program : List sock_filter) × HasProgram layout target value program × (bytes ≡ program_bytes program)))
-
--- Why there are no bytes. The first fault is told: of the architecture's name and of the policy's text; that no filter
--- has the name; of its program. Want of memory may come in place of all.
-abbrev pub IsRefusedRaw : List ℕ → Option (List ℕ) → List ℕ → Layout → ToolError → Type 0
-IsRefusedRaw arch known name layout (Library e) = IsFault layout arch known name e
-IsRefusedRaw arch known name layout (NoFilter text) = (string_bytes text ≡ name) × IsFaultless arch known (λ target d. Lacks d name)
-IsRefusedRaw arch known name layout OutOfMemory = ⊤
-IsRefusedRaw arch known name layout e = ⊥
-
--- The answer of `raw`: it is Ok only where nothing is at fault, and the program's bytes are written.
+-- The answer of `raw`. The first fault is told: of the architecture's name and of the policy's text; that no filter has
+-- the name; of its program; and then that writing fails. It is Ok only where nothing is at fault, and the program's bytes
+-- are written. Want of memory may come in place of all.
 abbrev pub AnswersRaw : List ℕ → Option (List ℕ) → List ℕ → Layout → Result ⊤ ToolError → Option (List ℕ) → Option (List ℕ) → Type 0
-AnswersRaw arch known name layout = Answers (IsRaw arch known name layout) (IsRefusedRaw arch known name layout)
+AnswersRaw arch known name layout (Ok done) old new = IsFaultless arch known (UnderName name (WritesProgram layout old new))
+AnswersRaw arch known name layout (Err (Library e)) old new = IsFault layout arch known name e
+AnswersRaw arch known name layout (Err (NoFilter text)) old new = (string_bytes text ≡ name) × IsFaultless arch known (λ target d. Lacks d name)
+AnswersRaw arch known name layout (Err (Write e)) old new = IsFaultless arch known (UnderName name (HasSomeProgram layout))
+AnswersRaw arch known name layout (Err OutOfMemory) old new = ⊤
+AnswersRaw arch known name layout (Err e) old new = ⊥

@@ -1,6 +1,7 @@
 -- What `steps` answers and writes: how long programs are, and how many steps they take.
-use Rattle.std.specs.Prelude.{◌≡◌, ◌≢◌, ℕ, ◌-◌, ◌^◌, List, [], ◌∷◌, ◌++◌, length, map, All, Contains, Option, None, Result, codes, decimal, ⊤}
+use Rattle.std.specs.Prelude.{◌≡◌, ◌≢◌, ℕ, ◌-◌, ◌^◌, List, [], ◌∷◌, ◌++◌, length, map, All, Contains, Option, None, Result, Ok, Err, codes, decimal, ⊤}
 use Rattle.std.specs.Cmp.Lexicographic.{slice_cmp}
+use Rattle.std.specs.Io.KnownBytes.{Appends}
 use Rattle.std.specs.List.{concat}
 use Rattle.std.specs.List.Sorted.{IsStrictlySortedBy}
 use Rattle.std.specs.Ordering.{nat_cmp}
@@ -18,13 +19,12 @@ use Rattle.seccompiler.specs.JsonFilters.{AreAll, IsLeast}
 use Rattle.seccompiler.specs.JsonShape.{Under, Has}
 use Rattle.seccompiler.specs.Machine.{Ends, IsRecord, word_at}
 use Rattle.seccompiler.specs.Tree.{IsTreeCompiled, IsTreeCompilable, IsTreeTooLarge}
-use Rattle.seccomp_command_line.specs.Answers.{Answers}
 use Rattle.seccomp_command_line.specs.Names.{readable}
 use Rattle.seccomp_command_line.specs.Policies.{OfPolicy, IsPolicyFault}
 use Rattle.seccomptool.specs.Record.{record_bytes}
 use Rattle.seccomptool.specs.Ways.{IsMost}
 use Rattle.seccomp_command_line.specs.declared.error.ToolError.{ToolError}
-use Rattle.seccomp_command_line.specs.declared.error.ToolError.TheVariants.{Library, OutOfMemory}
+use Rattle.seccomp_command_line.specs.declared.error.ToolError.TheVariants.{Library, Write, OutOfMemory}
 use Rattle.seccomptool.specs.declared.steps.measure.Measure.{Measure}
 
 -- The passing record: that of the greatest call number, which no table of calls has, with arguments that are 0.
@@ -77,13 +77,13 @@ pub record HasSteps (target : TargetArch) (s : FilterSteps) (value : Data) : Typ
   pub chains : HasChains target policy s.chains
   pub tree : HasTree target policy s.tree
 
--- The text is the lines of each name of the value, in byte order of names.
-pub record AreSteps (text : List ℕ) (target : TargetArch) (d : Data) : Type 0 where
+-- What is written grew by the lines of each name of the value, in byte order of names.
+pub record WritesSteps (old new : Option (List ℕ)) (target : TargetArch) (d : Data) : Type 0 where
   pub filters : List FilterSteps
   pub ordered : IsStrictlySortedBy (slice_cmp nat_cmp) (map (λ (s : FilterSteps). s.name) filters)
   pub each : All (λ (s : FilterSteps). Under d s.name (HasSteps target s)) filters
   pub complete : (name : List ℕ) (value : Data) → Has d name value → Contains (map (λ (s : FilterSteps). s.name) filters) name
-  pub lines : text ≡ concat (map filter_lines filters)
+  pub appends : Appends old new (concat (map filter_lines filters))
 
 -- The value has a policy, with a program in each layout.
 pub record HasBothPrograms (target : TargetArch) (value : Data) : Type 0 where
@@ -112,16 +112,11 @@ pub data IsFault (arch : List ℕ) (known : Option (List ℕ)) (e : Error) : Typ
   of_policy : IsPolicyFault arch known e → IsFault arch known e
   of_tree : (n : ℕ) → e ≡ Backend (FilterTooLarge n) → OfPolicy arch known (IsLeastTreeTooLarge n) → IsFault arch known e
 
--- Nothing is at fault, and the text is the lines of all filters.
-abbrev pub IsStepsText : List ℕ → Option (List ℕ) → List ℕ → Type 0
-IsStepsText arch known text = IsFaultless arch known (AreSteps text)
-
--- Why there is no text: the first fault. Want of memory may come in place of it.
-abbrev pub IsRefusedSteps : List ℕ → Option (List ℕ) → ToolError → Type 0
-IsRefusedSteps arch known (Library e) = IsFault arch known e
-IsRefusedSteps arch known OutOfMemory = ⊤
-IsRefusedSteps arch known e = ⊥
-
--- The answer of `steps`: it is Ok only where nothing is at fault, and the lines are written.
+-- The answer of `steps`: the first fault, and then that writing fails. It is Ok only where nothing is at fault, and the
+-- lines are written. Want of memory may come in place of all.
 abbrev pub AnswersSteps : List ℕ → Option (List ℕ) → Result ⊤ ToolError → Option (List ℕ) → Option (List ℕ) → Type 0
-AnswersSteps arch known = Answers (IsStepsText arch known) (IsRefusedSteps arch known)
+AnswersSteps arch known (Ok done) old new = IsFaultless arch known (WritesSteps old new)
+AnswersSteps arch known (Err (Library e)) old new = IsFault arch known e
+AnswersSteps arch known (Err (Write e)) old new = IsFaultless arch known (λ target d. ⊤)
+AnswersSteps arch known (Err OutOfMemory) old new = ⊤
+AnswersSteps arch known (Err e) old new = ⊥

@@ -1,5 +1,7 @@
 -- For `raw`: what the filters of a policy mean for its answers.
-use Rattle.std.proofs.Common.{◌≡◌, ℕ, List, Option, Some, None, refl}
+use Rattle.std.proofs.Common.{◌≡◌, ℕ, List, Option, Some, None, IfErr, Result, Ok, Err, refl}
+use Rattle.std.specs.Prelude.{⊤, OnOk}
+use Rattle.std.specs.Io.KnownBytes.{Appends}
 use Rattle.serde_json.specs.Data.{Data}
 use Rattle.seccompiler.specs.declared.backend.TargetArch.{TargetArch}
 use Rattle.seccompiler.specs.declared.backend.BackendError.{BackendError}
@@ -12,33 +14,50 @@ use Rattle.seccompiler.specs.JsonFilters.{AreAll}
 use Rattle.seccompiler.specs.JsonShape.{Lacks}
 use Rattle.seccompiler.specs.Layouts.{IsCompiledIn, IsRefusalIn}
 use Rattle.seccompiler.specs.Policy.{Filter}
-use Rattle.seccomp_command_line.specs.Errors.{from_library}
+use Rattle.seccomp_command_line.specs.Errors.{from_library, IsWriteError}
 use Rattle.seccomp_command_line.specs.Policies.{OfPolicy}
 use Rattle.seccomptool.specs.Policies.{IsRefusedText}
-use Rattle.seccomptool.specs.Raw.{program_bytes, HasProgram, IsFaultless, UnderName, HasNoProgram, of_text, of_program, IsRaw, IsRefusedRaw}
+use Rattle.seccomptool.specs.Raw.{program_bytes, HasProgram, HasSomeProgram, IsFaultless, UnderName, WritesProgram, HasNoProgram, of_text, of_program, AnswersRaw}
 use Rattle.seccomp_command_line.specs.declared.error.ToolError.{ToolError}
 use Rattle.seccomp_command_line.specs.declared.error.ToolError.TheVariants as tool
 use Rattle.seccomp_command_line.proofs.Found.{there, nowhere, all_values}
 use Rattle.seccomp_command_line.proofs.Readings.{policy_shows}
 
 module _ (arch : List ℕ) (known : Option (List ℕ)) (name : List ℕ) (layout : Layout) where
-  -- A policy's text that is refused has no program.
-  pub text_told : (e : ToolError) → IsRefusedText arch known e → IsRefusedRaw arch known name layout e
-  text_told (tool.Library e) refused = of_text refused
-  text_told tool.OutOfMemory refused = tt
-  text_told _ refused = absurd refused
+  -- The answer where the policy's text is refused.
+  pub text_told : (e : ToolError) (old new : Option (List ℕ)) → IsRefusedText arch known e
+      → AnswersRaw arch known name layout (Err e) old new
+  text_told (tool.Library e) old new refused = of_text refused
+  text_told tool.OutOfMemory old new refused = tt
+  text_told _ old new refused = absurd refused
+
+  -- What follows from what stands under the name stands there too.
+  under_name : (P Q : TargetArch → Data → Type 0) → ((target : TargetArch) (value : Data) → P target value → Q target value)
+      → IsFaultless arch known (UnderName name P) → IsFaultless arch known (UnderName name Q)
+  under_name P Q follows h =
+      policy_shows arch known (λ target d. AreAll (HasSomePolicy target) d × UnderName name P target d)
+      (λ target d. AreAll (HasSomePolicy target) d × UnderName name Q target d)
+      (λ target d is. (is.0, (is.1.0, is.1.1, follows target is.1.0 is.1.2))) h
+
+  -- The answer where a program's bytes are sent.
+  pub program_sent : (program : List sock_filter) (bytes sent : List ℕ) (r : Result ⊤ ToolError) (old new : Option (List ℕ))
+      → IsFaultless arch known (UnderName name (λ target value. HasProgram layout target value program)) → bytes ≡ program_bytes program
+      → sent ≡ bytes
+      → OnOk r (Appends old new sent) → IfErr r IsWriteError → AnswersRaw arch known name layout r old new
+  program_sent program bytes sent (Ok done) old new h are is appends cause =
+      under_name (λ target value. HasProgram layout target value program) (WritesProgram layout old new)
+      (λ target value has. record { program = program; compiled = has; appends = rw (is, are) at appends }) h
+  program_sent program bytes sent (Err (tool.Write e)) old new h are is appends cause =
+      under_name (λ target value. HasProgram layout target value program) (HasSomeProgram layout) (λ target value has. (program, has)) h
+  program_sent program bytes sent (Err tool.OutOfMemory) old new h are is appends cause = tt
+  program_sent program bytes sent (Err _) old new h are is appends cause = absurd cause
 
   module _ (find : List ℕ → Option Filter) (h : OfPolicy arch known (λ target. ArePoliciesOf target find)) where
     -- Nothing is at fault where each value has a policy, and P holds too.
     with_policies : (P : TargetArch → Data → Type 0) → ((target : TargetArch) (d : Data) → ArePoliciesOf target find d → P target d)
         → IsFaultless arch known P
-    with_policies P shows =
-        policy_shows arch known (λ target. ArePoliciesOf target find) (λ target d. AreAll (HasSomePolicy target) d × P target d)
-        (λ target d are. (
-          all_values (HasPolicy target) find d are (HasSomePolicy target) (λ value policy is. (policy, is)),
-          shows target d
-              are,
-        )) h
+    with_policies P shows = policy_shows arch known (λ target. ArePoliciesOf target find) (λ target d. AreAll (HasSomePolicy target) d × P target d)
+        (λ target d are. (all_values (HasPolicy target) find d are (HasSomePolicy target) (λ value policy is. (policy, is)), shows target d are)) h
 
     -- Where no policy is found, no filter has the name.
     pub no_policy : find name ≡ None → IsFaultless arch known (λ target d. Lacks d name)
@@ -46,13 +65,11 @@ module _ (arch : List ℕ) (known : Option (List ℕ)) (name : List ℕ) (layout
 
     module _ (policy : Filter) (is : find name ≡ Some policy) where
       -- The program of a policy that is found is that of the filter of the name.
-      pub a_program : (program : List sock_filter) (bytes : List ℕ) → IsCompiledIn layout policy program → bytes ≡ program_bytes program
-          → IsRaw arch known name layout bytes
-      a_program program bytes compiled are = with_policies
-          (UnderName name (λ target value. (p : List sock_filter) × HasProgram layout target value p × (bytes ≡ program_bytes p)))
-          (λ target d are_policies.
-          let value = there (HasPolicy target) find d are_policies name policy is in
-          (value.0, value.1, (program, record { policy = policy; is_policy = value.2; compiled = compiled }, are)))
+      pub a_program : (program : List sock_filter) → IsCompiledIn layout policy program
+          → IsFaultless arch known (UnderName name (λ target value. HasProgram layout target value program))
+      a_program program compiled = with_policies (UnderName name (λ target value. HasProgram layout target value program)) (λ target d are.
+          let value = there (HasPolicy target) find d are name policy is in
+          (value.0, value.1, record { policy = policy; is_policy = value.2; compiled = compiled }))
 
       -- A policy that is found and has no program is that of the filter of the name.
       no_program : (cause : BackendError) → IsRefusalIn layout policy cause
@@ -61,8 +78,8 @@ module _ (arch : List ℕ) (known : Option (List ℕ)) (name : List ℕ) (layout
           let value = there (HasPolicy target) find d are name policy is in
           (value.0, value.1, record { policy = policy; is_policy = value.2; refused = refused }))
 
-      -- It is refused for that.
-      pub program_refused : (cause : BackendError) → IsRefusalIn layout policy cause
-          → IsRefusedRaw arch known name layout (from_library (from_backend cause))
-      program_refused backend.OutOfMemory refused = tt
-      program_refused cause refused = of_program cause (λ same. cc) refl (no_program cause refused)
+      -- The answer where it is not compiled.
+      pub program_refused : (cause : BackendError) (old new : Option (List ℕ)) → IsRefusalIn layout policy cause
+          → AnswersRaw arch known name layout (Err (from_library (from_backend cause))) old new
+      program_refused backend.OutOfMemory old new refused = tt
+      program_refused cause old new refused = of_program cause (λ same. cc) refl (no_program cause refused)

@@ -1,6 +1,8 @@
 -- For `steps`: what the measures of a policy's filters mean for its answers.
-use Rattle.std.proofs.Common.{◌≡◌, ℕ, ℤ, ◌<◌, List, ◌∷◌, ◌++◌, Option, None, All, Contains, String, Global, string_bytes, string_cmp, nat_cmp, map, refl, sym, ap, ◌∙◌, subst, arith}
+use Rattle.std.proofs.Common.{◌≡◌, ℕ, ℤ, ◌<◌, List, ◌∷◌, ◌++◌, Option, None, IfErr, Result, Ok, Err, All, Contains, String, Global, string_bytes, string_cmp, nat_cmp, map, refl, sym, ap, ◌∙◌, subst, arith}
+use Rattle.std.specs.Prelude.{⊤, OnOk}
 use Rattle.std.specs.Cmp.Lexicographic.{slice_cmp}
+use Rattle.std.specs.Io.KnownBytes.{Appends}
 use Rattle.std.specs.List.{AllZip}
 use Rattle.std.specs.List.Sorted.{IsStrictlySortedBy}
 use Rattle.std.specs.Map.{keys_of, lookup}
@@ -25,9 +27,9 @@ use Rattle.seccompiler.specs.Machine.{Ends}
 use Rattle.seccompiler.specs.Reads.{Reads}
 use Rattle.seccompiler.specs.SyscallTable.{IsCallTable}
 use Rattle.seccompiler.specs.Tree.{IsTreeCompilable, IsTreeCompiled, IsTreeRefusal}
-use Rattle.seccomp_command_line.specs.Errors.{from_library}
+use Rattle.seccomp_command_line.specs.Errors.{from_library, IsWriteError}
 use Rattle.seccomp_command_line.specs.Policies.{IsNameOf, IsRefusedPolicy, of_policy as fault_of_policy}
-use Rattle.seccomptool.specs.Steps.{passing_record, HasChains, FilterSteps, HasSteps, HasBothPrograms, AreSteps, IsLeastTreeTooLarge, of_policy, of_tree, IsStepsText, IsRefusedSteps}
+use Rattle.seccomptool.specs.Steps.{passing_record, HasChains, FilterSteps, HasSteps, HasBothPrograms, WritesSteps, IsLeastTreeTooLarge, of_policy, of_tree, AnswersSteps}
 use Rattle.seccomptool.specs.StepsParts.{NamedFilters, IsFirst, IsFirstRefusal, named_filter, AreOfChains, AreMeasured, AreBothOf, AreLinesOf}
 use Rattle.seccomp_command_line.specs.declared.error.ToolError.{ToolError}
 use Rattle.seccomp_command_line.specs.declared.error.ToolError.TheVariants as tool
@@ -42,10 +44,10 @@ use Rattle.seccomptool.proofs.steps.PassingRecord.{is_record, its_number, its_wo
 use Rattle.seccomptool.proofs.steps.TableNumbers.{greatest_passes, none_unfit}
 
 -- What is refused of a policy is told.
-pub policy_told : (arch : List ℕ) (known : Option (List ℕ)) (e : ToolError) → IsRefusedPolicy arch known e → IsRefusedSteps arch known e
-policy_told arch known (tool.Library e) refused = of_policy refused
-policy_told arch known tool.OutOfMemory refused = tt
-policy_told arch known _ refused = absurd refused
+pub policy_told : (arch : List ℕ) (known : Option (List ℕ)) (e : ToolError) (old new : Option (List ℕ)) → IsRefusedPolicy arch known e → AnswersSteps arch known (Err e) old new
+policy_told arch known (tool.Library e) old new refused = of_policy refused
+policy_told arch known tool.OutOfMemory old new refused = tt
+policy_told arch known _ old new refused = absurd refused
 
 -- ---- the numbers of one filter
 
@@ -123,14 +125,14 @@ module _ (arch : List ℕ) (known : Option (List ℕ)) (target : TargetArch) (na
   -- ---- refusals
 
   -- The answer where a program in the layout of chains is refused.
-  pub chains_refused : (e : BackendError) → IsFirstRefusal IsCompilable IsRefusal entries e → IsRefusedSteps arch known (from_library (from_backend e))
-  chains_refused (backend.FilterTooLarge n) first =
+  pub chains_refused : (e : BackendError) (old new : Option (List ℕ)) → IsFirstRefusal IsCompilable IsRefusal entries e → AnswersSteps arch known (Err (from_library (from_backend e))) old new
+  chains_refused (backend.FilterTooLarge n) old new first =
       let all : AreAll (HasSomePolicy target) d = all_values (HasPolicy target) find d are (HasSomePolicy target) (λ value policy is. (policy, is)) in
       of_policy (fault_of_policy target named (λ same. cc) (λ same. cc)
       (of_value known (ArePoliciesOf target find) _ h (all, string_bytes first.one.0, least_refused IsCompilable (λ f. IsRefusal f (backend.FilterTooLarge n)) first)))
-  chains_refused (backend.InvalidSyscallNumber n) first = absurd (none_unfit_there first.front first.one first.back first.whole n first.own)
-  chains_refused backend.OutOfMemory first = tt
-  chains_refused _ first = absurd first.own
+  chains_refused (backend.InvalidSyscallNumber n) old new first = absurd (none_unfit_there first.front first.one first.back first.whole n first.own)
+  chains_refused backend.OutOfMemory old new first = tt
+  chains_refused _ old new first = absurd first.own
 
   module _ (all : List MeasuredChains) (same : map named_filter all ≡ entries) (measured : AreMeasured target all) where
     -- Each filter has a program in the layout of chains.
@@ -140,22 +142,21 @@ module _ (arch : List ℕ) (known : Option (List ℕ)) (target : TargetArch) (na
         (All-weaker (λ (m : MeasuredChains). AreOfChains target m.filter m.measure) (λ (m : MeasuredChains). (program : List sock_filter) × IsCompiled m.filter program) (λ m of. (of.program, of.compiled)) all measured))
 
     -- The same, of the filters as they were found.
-    trees_told : (e : BackendError) → IsFirstRefusal IsTreeCompilable IsTreeRefusal entries e → IsRefusedSteps arch known (from_library (from_backend e))
-    trees_told (backend.FilterTooLarge n) first =
+    trees_told : (e : BackendError) (old new : Option (List ℕ)) → IsFirstRefusal IsTreeCompilable IsTreeRefusal entries e → AnswersSteps arch known (Err (from_library (from_backend e))) old new
+    trees_told (backend.FilterTooLarge n) old new first =
         let least : IsLeastTreeTooLarge n target d = record {
           chains = all_listed (HasPolicy target) find d are entries order listed (λ f. (program : List sock_filter) × IsCompiled f program) _ all_chains (λ value policy is own. (policy, is, own));
           name = string_bytes first.one.0;
           least = least_refused IsTreeCompilable (λ f. IsTreeRefusal f (backend.FilterTooLarge n)) first;
         } in
         of_tree n refl (target, named, of_value known (ArePoliciesOf target find) (IsLeastTreeTooLarge n target) h least)
-    trees_told (backend.InvalidSyscallNumber n) first = absurd (none_unfit_there first.front first.one first.back first.whole n first.own)
-    trees_told backend.OutOfMemory first = tt
-    trees_told _ first = absurd first.own
+    trees_told (backend.InvalidSyscallNumber n) old new first = absurd (none_unfit_there first.front first.one first.back first.whole n first.own)
+    trees_told backend.OutOfMemory old new first = tt
+    trees_told _ old new first = absurd first.own
 
     -- The answer where a tree is refused.
-    pub trees_refused : (e : BackendError) → IsFirstRefusal IsTreeCompilable IsTreeRefusal (map named_filter all) e
-        → IsRefusedSteps arch known (from_library (from_backend e))
-    trees_refused e first = trees_told e (subst (λ es. IsFirstRefusal IsTreeCompilable IsTreeRefusal es e) same first)
+    pub trees_refused : (e : BackendError) (old new : Option (List ℕ)) → IsFirstRefusal IsTreeCompilable IsTreeRefusal (map named_filter all) e → AnswersSteps arch known (Err (from_library (from_backend e))) old new
+    trees_refused e old new first = trees_told e old new (subst (λ es. IsFirstRefusal IsTreeCompilable IsTreeRefusal es e) same first)
 
     -- ---- what is written
 
@@ -184,15 +185,19 @@ module _ (arch : List ℕ) (known : Option (List ℕ)) (target : TargetArch) (na
           let named_so = subst (All (IsThere target table d)) (sym same) (each_there (HasPolicy target) find d are entries order listed) in
           subst (IsThere target table d) (get_or-map named_filter all k m (named_filter m) within) (named_so k (named_filter m) (subst (λ n. k < n) (sym (length-map all named_filter)) within))
 
-      are_steps : AreSteps text target d
-      are_steps = record {
+      written : (sent : List ℕ) (old new : Option (List ℕ)) → sent ≡ text → Appends old new sent → WritesSteps old new target d
+      written sent old new is appends = record {
         filters = of.filters;
         ordered = subst (IsStrictlySortedBy (slice_cmp nat_cmp)) (sym names) (names_ordered entries order);
         each = all_steps target table d all of.filters of.each values measured;
         complete = λ name value has. subst (λ ns. Contains ns name) (sym names) (complete (HasPolicy target) find d are entries order listed name value has);
-        lines = of.lines;
+        appends = subst (Appends old new) (is ∙ of.lines) appends;
       }
 
-      -- The lines are those of the policy.
-      pub steps_text : IsStepsText arch known text
-      steps_text = (target, named, of_value known (ArePoliciesOf target find) (λ d. AreAll (HasBothPrograms target) d × AreSteps text target d) h (faultless, are_steps))
+      -- The answer where the lines are sent.
+      pub lines_sent : (sent : List ℕ) (r : Result ⊤ ToolError) (old new : Option (List ℕ)) → sent ≡ text → OnOk r (Appends old new sent) → IfErr r IsWriteError → AnswersSteps arch known r old new
+      lines_sent sent (Ok done) old new is appends cause =
+          (target, named, of_value known (ArePoliciesOf target find) (λ d. AreAll (HasBothPrograms target) d × WritesSteps old new target d) h (faultless, written sent old new is appends))
+      lines_sent sent (Err (tool.Write e)) old new is appends cause = (target, named, of_value known (ArePoliciesOf target find) (λ d. AreAll (HasBothPrograms target) d × ⊤) h (faultless, tt))
+      lines_sent sent (Err tool.OutOfMemory) old new is appends cause = tt
+      lines_sent sent (Err _) old new is appends cause = absurd cause

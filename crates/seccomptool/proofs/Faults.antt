@@ -1,19 +1,30 @@
 -- What the refusals of the library mean for the answers of the engines.
-use Rattle.std.proofs.Common.{◌≡◌, ℕ, List, Option, sym, subst}
+use Rattle.std.proofs.Common.{◌≡◌, ℕ, ◌⊎◌, List, Option, Ok, Err, refl, ⊎_elim, sym, subst}
 use Rattle.seccompiler.specs.declared.backend.TargetArch.{TargetArch}
+use Rattle.seccompiler.specs.declared.backend.BackendError.{BackendError}
+use Rattle.seccompiler.specs.declared.backend.BackendError.TheVariants as backend
 use Rattle.seccompiler.specs.declared.error.Error.{Error}
 use Rattle.seccompiler.specs.declared.error.Error.TheVariants as library
 use Rattle.seccompiler.specs.declared.json.error.JsonFrontendError.{JsonFrontendError}
 use Rattle.seccompiler.specs.declared.json.error.JsonFrontendError.TheVariants as json
-use Rattle.seccompiler.specs.Errors.{from_frontend, IsNoMemoryInFrontend}
+use Rattle.seccompiler.specs.Errors.{from_backend, from_frontend, IsNoMemoryInside, IsNoMemoryInFrontend}
 use Rattle.seccompiler.specs.JsonAnswers.{TellsFrontendFault}
+use Rattle.seccompiler.specs.JsonPrograms.{TellsFirstFault}
 use Rattle.seccompiler.specs.Reads.{Reads}
-use Rattle.seccomp_command_line.specs.Errors.{from_library}
-use Rattle.seccomp_command_line.specs.Policies.{IsNameOf, IsNoArchitecture, IsRefusedName, IsRefusedPolicy, no_architecture, of_policy}
-use Rattle.seccomptool.specs.Policies.{IsBeforePrograms, IsTextFault, IsPolicyReadError, IsRefusedText}
-use Rattle.seccomp_command_line.specs.declared.error.ToolError.{ToolError}
-use Rattle.seccomp_command_line.specs.declared.error.ToolError.TheVariants as tool
-use Rattle.seccomp_command_line.proofs.Readings.{reads_some}
+use Rattle.seccompiler.specs.Texts.{IsInvalidArch}
+use Rattle.seccomptool.specs.Errors.{from_library}
+use Rattle.seccomptool.specs.Policies.{IsNameOf, IsNoArchitecture, IsBeforePrograms, IsTextFault, IsPolicyReadError, IsRefusedName, IsRefusedPolicy, IsRefusedText, no_architecture, of_policy}
+use Rattle.seccomptool.specs.declared.error.ToolError.{ToolError}
+use Rattle.seccomptool.specs.declared.error.ToolError.TheVariants as tool
+use Rattle.seccomptool.proofs.Readings.{reads_some}
+
+-- A name that is refused is no architecture's.
+pub name_refused : (arch : List ℕ) (e : BackendError) → ((target : TargetArch) → IsNameOf arch target → Err e ≡ Ok target)
+    → IsInvalidArch e arch ⊎ (e ≡ backend.OutOfMemory) → IsRefusedName arch (from_library (from_backend e))
+name_refused arch (backend.InvalidTargetArch text) none cause =
+    ⊎_elim (λ given. record { text = text; unnamed = λ target named. let no = none target named in cc; given = given; told = refl }) (λ no. absurd cc) cause
+name_refused arch backend.OutOfMemory none cause = tt
+name_refused arch _ none cause = ⊎_elim (λ no. absurd no) (λ no. absurd cc) cause
 
 -- A name's refusal is one of the policy's text.
 before : (arch : List ℕ) (known : Option (List ℕ)) (e f : Error) → IsNoArchitecture arch e → e ≡ f → IsBeforePrograms f → IsTextFault arch known e
@@ -27,6 +38,12 @@ name_is_text arch known _ refused = refused
 pub text_is_policy : (arch : List ℕ) (known : Option (List ℕ)) (e : ToolError) → IsRefusedText arch known e → IsRefusedPolicy arch known e
 text_is_policy arch known (tool.Library e) refused = refused.0
 text_is_policy arch known _ refused = refused
+
+-- What the library refuses of a policy is its first fault.
+pub policy_refused : (arch : List ℕ) (known : Option (List ℕ)) (target : TargetArch) (e : Error) → IsNameOf arch target → IsNoMemoryInside e
+    → Reads known (λ text. TellsFirstFault target text e) → IsRefusedPolicy arch known (from_library e)
+policy_refused arch known target library.OutOfMemory named memory first = tt
+policy_refused arch known target e named memory first = of_policy target named (λ same. cc) memory first
 
 -- What the front end refuses of it comes before the programs.
 told : (arch : List ℕ) (known : Option (List ℕ)) (target : TargetArch) (e : JsonFrontendError) → IsNameOf arch target → (e ≡ json.OutOfMemory → ⊥) → IsNoMemoryInFrontend e

@@ -1,11 +1,11 @@
 -- What each command answers and writes.
 use Rattle.std.specs.Prelude.{ℕ, List, Option, Some, None, Result, Ok, Err, codes, ⊤}
 use Rattle.std.specs.Io.KnownBytes.{Appends}
-use Rattle.seccomp_command_line.specs.declared.error.ToolError.{ToolError}
+use Rattle.seccomptool.specs.declared.error.ToolError.{ToolError}
 use Rattle.seccomptool.specs.declared.perform.TheConstants.{HELP}
 use Rattle.seccomptool.specs.declared.words.Command.{Command}
 use Rattle.seccomptool.specs.declared.words.Command.TheVariants.{Help, Version, Raw, Show, Steps, Widened, Lint, Explain, Record}
-use Rattle.seccomp_command_line.specs.Errors.{IsWriteError}
+use Rattle.seccomptool.specs.Errors.{IsWriteError}
 use Rattle.seccomptool.specs.Explain.{AnswersExplain}
 use Rattle.seccomptool.specs.Lint.{AnswersLint}
 use Rattle.seccomptool.specs.Raw.{AnswersRaw}

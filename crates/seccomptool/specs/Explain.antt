@@ -9,11 +9,11 @@ use Rattle.seccompiler.specs.JsonShape.{IsFilter, Lacks}
 use Rattle.seccompiler.specs.JsonTypes.{JsonFilter}
 use Rattle.seccompiler.specs.Policy.{Filter}
 use Rattle.seccompiler.specs.Reads.{Reads}
-use Rattle.seccomp_command_line.specs.declared.error.ToolError.{ToolError}
-use Rattle.seccomp_command_line.specs.declared.error.ToolError.TheVariants.{Library, NoFilter, ShortRecord, Read, Write, OutOfMemory}
-use Rattle.seccomp_command_line.specs.Errors.{IsReadFault}
+use Rattle.seccomptool.specs.declared.error.ToolError.{ToolError}
+use Rattle.seccomptool.specs.declared.error.ToolError.TheVariants.{Library, NoFilter, ShortRecord, Read, Write, OutOfMemory}
+use Rattle.seccomptool.specs.Errors.{IsReadFault}
 use Rattle.seccomptool.specs.ExplainLines.{AreLines}
-use Rattle.seccomp_command_line.specs.Policies.{IsPolicyFault}
+use Rattle.seccomptool.specs.Policies.{IsPolicyFault}
 use Rattle.seccomptool.specs.Raw.{UnderName}
 use Rattle.seccomptool.specs.Show.{AreCompiled}
 

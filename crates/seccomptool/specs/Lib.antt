@@ -1,10 +1,10 @@
 -- The definitions that the contracts cite.
 
--- What is promised, in reading order: which words are which command, what goes wrong in a policy, and what each engine
--- answers and writes, in the order of the commands; what each command does; and what the statuses tell. What else goes
--- wrong, and what both programs read and answer, stands in seccomp_command_line.
+-- What is promised, in reading order: which words are which command, what goes wrong, and what each engine answers and
+-- writes, in the order of the commands; what each command does; and what the statuses tell.
 pub mod Numbers
 pub mod Words
+pub mod Errors
 pub mod Policies
 pub mod Raw
 pub mod ShowText

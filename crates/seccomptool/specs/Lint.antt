@@ -12,14 +12,14 @@ use Rattle.seccompiler.specs.JsonAnswers.{OfValue}
 use Rattle.seccompiler.specs.JsonFilters.{AreAll}
 use Rattle.seccompiler.specs.JsonPrograms.{TellsFirstFault}
 use Rattle.seccompiler.specs.Reads.{Reads}
-use Rattle.seccomp_command_line.specs.declared.error.ToolError.{ToolError}
-use Rattle.seccomp_command_line.specs.declared.error.ToolError.TheVariants.{Library, Fault, OutOfMemory}
+use Rattle.seccomptool.specs.declared.error.ToolError.{ToolError}
+use Rattle.seccomptool.specs.declared.error.ToolError.TheVariants.{Library, Fault, OutOfMemory}
 use Rattle.seccomptool.specs.declared.lint.fault.Cause.{Cause}
 use Rattle.seccomptool.specs.declared.lint.fault.Cause.TheVariants as cause
 use Rattle.seccomptool.specs.declared.lint.fault.Fault.{Fault as Place}
 use Rattle.seccomptool.specs.LintFaults.{IsFaultIn}
 use Rattle.seccomptool.specs.LintTexts.{fault_text}
-use Rattle.seccomp_command_line.specs.Policies.{IsNameOf, OfPolicy, IsPolicyFault}
+use Rattle.seccomptool.specs.Policies.{IsNameOf, OfPolicy, IsPolicyFault}
 use Rattle.seccomptool.specs.Raw.{HasSomeProgram}
 
 -- The kind of fault that the library's refusal of a policy tells, where it has a place in the policy.

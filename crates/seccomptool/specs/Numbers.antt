@@ -1,6 +1,12 @@
 -- Numbers as they are written in words.
-use Rattle.std.specs.Prelude.{◌≡◌, ℕ, List, ◌++◌, codes}
-use Rattle.seccomp_command_line.specs.Numbers.{IsWritten}
+use Rattle.std.specs.Prelude.{◌≡◌, ℕ, ◌^◌, ◌<◌, List, ◌++◌, codes}
+use Rattle.std.specs.Str.Parse.{IsNumeral, digits_value}
+
+-- The text is one digit of this radix or more and nothing else, and they write this number, which 64 bits hold.
+pub record IsWritten (radix : ℕ) (text : List ℕ) (n : ℕ) : Type 0 where
+  pub digits : IsNumeral radix text
+  pub value : n ≡ digits_value radix text
+  pub fits : n < 2 ^ 64
 
 -- The text is this number, in decimal digits, or in hexadecimal ones of either case behind `0x`.
 pub data IsNumber (text : List ℕ) (n : ℕ) : Type 0 where

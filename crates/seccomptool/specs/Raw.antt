@@ -16,10 +16,9 @@ use Rattle.seccompiler.specs.JsonAnswers.{HasPolicy, HasSomePolicy}
 use Rattle.seccompiler.specs.JsonFilters.{AreAll}
 use Rattle.seccompiler.specs.JsonShape.{Under, Lacks}
 use Rattle.seccompiler.specs.Policy.{Filter}
-use Rattle.seccomp_command_line.specs.declared.error.ToolError.{ToolError}
-use Rattle.seccomp_command_line.specs.declared.error.ToolError.TheVariants.{Library, NoFilter, Write, OutOfMemory}
-use Rattle.seccomp_command_line.specs.Policies.{OfPolicy}
-use Rattle.seccomptool.specs.Policies.{IsTextFault}
+use Rattle.seccomptool.specs.declared.error.ToolError.{ToolError}
+use Rattle.seccomptool.specs.declared.error.ToolError.TheVariants.{Library, NoFilter, Write, OutOfMemory}
+use Rattle.seccomptool.specs.Policies.{OfPolicy, IsTextFault}
 
 -- The 8 bytes of an instruction: those of a `struct sock_filter` (linux/filter.h), each number with its low byte first.
 abbrev pub instruction_bytes : sock_filter → List ℕ

@@ -6,10 +6,10 @@ use Rattle.std.specs.List.{concat}
 use Rattle.seccompiler.specs.declared.backend.TargetArch.{TargetArch}
 use Rattle.seccompiler.specs.Architecture.{audit_word, table_of}
 use Rattle.seccompiler.specs.SyscallTable.{number_of}
-use Rattle.seccomp_command_line.specs.declared.error.ToolError.{ToolError}
-use Rattle.seccomp_command_line.specs.declared.error.ToolError.TheVariants.{Library, UnknownCall, Write, OutOfMemory}
+use Rattle.seccomptool.specs.declared.error.ToolError.{ToolError}
+use Rattle.seccomptool.specs.declared.error.ToolError.TheVariants.{Library, UnknownCall, Write, OutOfMemory}
 use Rattle.seccomptool.specs.Numbers.{IsNumber}
-use Rattle.seccomp_command_line.specs.Policies.{IsNameOf, IsNoArchitecture}
+use Rattle.seccomptool.specs.Policies.{IsNameOf, IsNoArchitecture}
 
 -- The text is this call of the architecture: its number, or, where it is no number, its name.
 pub data IsCall (target : TargetArch) (text : List ℕ) (n : ℕ) : Type 0 where

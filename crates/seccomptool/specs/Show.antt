@@ -19,10 +19,9 @@ use Rattle.seccompiler.specs.JsonAnswers.{HasSomePolicy}
 use Rattle.seccompiler.specs.JsonShape.{Has, Under, IsFilter}
 use Rattle.seccompiler.specs.JsonTypes.{JsonFilter, JsonRule}
 use Rattle.seccompiler.specs.Architecture.{arch_text}
-use Rattle.seccomp_command_line.specs.declared.error.ToolError.{ToolError}
-use Rattle.seccomp_command_line.specs.declared.error.ToolError.TheVariants.{Library, Write, OutOfMemory}
-use Rattle.seccomp_command_line.specs.Policies.{OfPolicy}
-use Rattle.seccomptool.specs.Policies.{IsTextFault}
+use Rattle.seccomptool.specs.declared.error.ToolError.{ToolError}
+use Rattle.seccomptool.specs.declared.error.ToolError.TheVariants.{Library, Write, OutOfMemory}
+use Rattle.seccomptool.specs.Policies.{OfPolicy, IsTextFault}
 use Rattle.seccomptool.specs.Raw.{HasProgram, HasSomeProgram, HasNoProgram}
 use Rattle.seccomptool.specs.ShowLabels.{program_labels}
 use Rattle.seccomptool.specs.ShowText.{text_of}

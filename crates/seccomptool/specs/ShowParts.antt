@@ -8,8 +8,8 @@ use Rattle.seccompiler.specs.declared.layout.Layout.{Layout}
 use Rattle.seccompiler.specs.JsonTypes.{JsonFilter}
 use Rattle.seccompiler.specs.Layouts.{IsCompiledIn}
 use Rattle.seccompiler.specs.Policy.{Filter}
-use Rattle.seccomp_command_line.specs.declared.error.ToolError.{ToolError}
-use Rattle.seccomp_command_line.specs.declared.error.ToolError.TheVariants as tool
+use Rattle.seccomptool.specs.declared.error.ToolError.{ToolError}
+use Rattle.seccomptool.specs.declared.error.ToolError.TheVariants as tool
 use Rattle.seccomptool.specs.Show.{LabelledProgram, labelled_text, labels_in, IsFault}
 
 -- A filter with its name.

@@ -2,7 +2,7 @@
 use Rattle.std.specs.Prelude.{⊤}
 use Rattle.seccomptool.specs.declared.words.Command.{Command}
 use Rattle.seccomptool.specs.declared.words.Command.TheVariants.{Help, Version, Raw, Show, Steps, Widened, Lint, Explain, Record}
-use Rattle.seccomp_command_line.specs.Policies.{NamesArchitecture}
+use Rattle.seccomptool.specs.Policies.{NamesArchitecture}
 use Rattle.seccomptool.specs.Record as call
 
 -- The command's own words have no fault: they name an architecture, where they have one's place, and a call of

@@ -20,11 +20,11 @@ use Rattle.seccompiler.specs.JsonShape.{Under, Has}
 use Rattle.seccompiler.specs.Machine.{Ends, IsRecord, word_at}
 use Rattle.seccompiler.specs.Tree.{IsTreeCompiled, IsTreeCompilable, IsTreeTooLarge}
 use Rattle.seccomp_command_line.specs.Names.{readable}
-use Rattle.seccomp_command_line.specs.Policies.{OfPolicy, IsPolicyFault}
+use Rattle.seccomptool.specs.Policies.{OfPolicy, IsPolicyFault}
 use Rattle.seccomptool.specs.Record.{record_bytes}
 use Rattle.seccomptool.specs.Ways.{IsMost}
-use Rattle.seccomp_command_line.specs.declared.error.ToolError.{ToolError}
-use Rattle.seccomp_command_line.specs.declared.error.ToolError.TheVariants.{Library, Write, OutOfMemory}
+use Rattle.seccomptool.specs.declared.error.ToolError.{ToolError}
+use Rattle.seccomptool.specs.declared.error.ToolError.TheVariants.{Library, Write, OutOfMemory}
 use Rattle.seccomptool.specs.declared.steps.measure.Measure.{Measure}
 
 -- The passing record: that of the greatest call number, which no table of calls has, with arguments that are 0.

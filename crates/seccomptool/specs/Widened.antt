@@ -14,10 +14,9 @@ use Rattle.seccompiler.specs.JsonShape.{Under, Has, IsFilter}
 use Rattle.seccompiler.specs.JsonTypes.{JsonRule, JsonFilter}
 use Rattle.seccompiler.specs.JsonWidened.{IsWidened, DecideAlikeOff}
 use Rattle.seccomp_command_line.specs.Names.{readable}
-use Rattle.seccomp_command_line.specs.Policies.{OfPolicy}
-use Rattle.seccomptool.specs.Policies.{IsTextFault}
-use Rattle.seccomp_command_line.specs.declared.error.ToolError.{ToolError}
-use Rattle.seccomp_command_line.specs.declared.error.ToolError.TheVariants.{Library, Write, OutOfMemory}
+use Rattle.seccomptool.specs.Policies.{OfPolicy, IsTextFault}
+use Rattle.seccomptool.specs.declared.error.ToolError.{ToolError}
+use Rattle.seccomptool.specs.declared.error.ToolError.TheVariants.{Library, Write, OutOfMemory}
 
 -- The first of a filter's entries whose call has this number on the architecture.
 pub record IsFirstEntry (target : TargetArch) (entries : List JsonRule) (number : ℤ) (entry : JsonRule) : Type 0 where

@@ -6,9 +6,9 @@ ghost use Rattle.seccomptool.specs.Commands as spec;
 ghost use Rattle.seccomptool.specs.Commands.{IsPerformed};
 ghost use Rattle.seccomptool.specs.Statuses.{IsFaultless};
 
+use crate::error::ToolError;
 use crate::perform::perform;
 use crate::words::Command;
-use seccomp_command_line::error::ToolError;
 use std::io::ErrorKind;
 use std::process::ExitCode;
 use std::rt::Files;

@@ -6,12 +6,12 @@ mod reason;
 mod records;
 
 ghost use Rattle.std.specs.Prelude.{IfErr};
-ghost use Rattle.seccomp_command_line.specs.Errors.{KeepsOutput};
+ghost use Rattle.seccomptool.specs.Errors.{KeepsOutput};
 ghost use Rattle.seccomptool.specs.Explain.{AnswersExplain};
 
+use crate::error::ToolError;
 use crate::explain::filters::usable_filters;
 use crate::explain::records::explain_records;
-use seccomp_command_line::error::ToolError;
 use seccompiler::{JsonCompiler, TargetArch};
 use std::alloc::Global;
 use std::io::{Read, Write};

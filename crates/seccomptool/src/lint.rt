@@ -17,12 +17,11 @@ mod part;
 mod text;
 mod walk;
 
+use crate::error::ToolError;
 use crate::lint::fault::{Cause, Fault, Finding};
 use crate::lint::text::fault_text;
 use crate::lint::walk::in_policy;
 use crate::policy::policy_text;
-use seccomp_command_line::architecture::architecture_of;
-use seccomp_command_line::error::ToolError;
 use seccompiler::json::JsonFrontendError;
 use seccompiler::{BackendError, Error, TargetArch, compile_from_json_in_order};
 use serde_json::Value;
@@ -58,7 +57,7 @@ pub fn lint<R: Read + Drop>(alloc: Global, arch: &str, policy: R) -> Result<(), 
     // When each answer comes, and what it tells.
     ensures answers { AnswersLint arch.now (R.remaining policy) result }
 {
-    let target = architecture_of(alloc, arch)?;
+    let target = TargetArch::from_text(alloc, arch)?;
     let text = policy_text(alloc, policy)?;
     judge(alloc, target, text.as_slice())
 }

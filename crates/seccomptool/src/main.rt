@@ -2,6 +2,7 @@
 #![tactic(auto)]
 
 mod carry_out;
+mod error;
 mod explain;
 mod lint;
 mod numbers;
@@ -9,15 +10,16 @@ mod perform;
 mod policy;
 mod raw;
 mod record;
+mod send;
 mod show;
 mod steps;
 mod widened;
 mod words;
 
 use crate::carry_out::{answered, carry_out};
+use crate::error::ToolError;
 use crate::words::read_words;
 use seccomp_command_line::arguments::behind_the_name;
-use seccomp_command_line::error::ToolError;
 use std::io::ErrorKind;
 use std::process::ExitCode;
 

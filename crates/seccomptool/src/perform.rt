@@ -2,18 +2,18 @@
 
 ghost use Rattle.std.specs.Prelude.{IfErr};
 ghost use Rattle.seccomptool.specs.Commands.{AnswersCommand};
-ghost use Rattle.seccomp_command_line.specs.Errors.{KeepsOutput};
+ghost use Rattle.seccomptool.specs.Errors.{KeepsOutput};
 
+use crate::error::ToolError;
 use crate::explain::explain;
 use crate::lint::lint;
 use crate::raw::raw;
 use crate::record::record;
+use crate::send::send;
 use crate::show::show;
 use crate::steps::steps;
 use crate::widened::widened;
 use crate::words::Command;
-use seccomp_command_line::error::ToolError;
-use seccomp_command_line::streams::send;
 use std::alloc::Global;
 use std::io::{Read, Write};
 

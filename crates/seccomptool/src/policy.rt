@@ -3,13 +3,11 @@
 ghost use Rattle.std.specs.Prelude.{◌≡◌, IfOk, IfErr, IfSome};
 ghost use Rattle.std.specs.BTreeMap.{get_by_text};
 ghost use Rattle.seccompiler.specs.JsonAnswers.{ArePoliciesOf};
-ghost use Rattle.seccomp_command_line.specs.Policies.{OfPolicy};
-ghost use Rattle.seccomptool.specs.Policies.{IsPolicyReadError, IsRefusedText};
+ghost use Rattle.seccomptool.specs.Policies.{OfPolicy, IsPolicyReadError, IsRefusedText};
 
-use seccomp_command_line::architecture::architecture_of;
-use seccomp_command_line::error::ToolError;
+use crate::error::ToolError;
 use seccompiler::json::JsonFrontendError;
-use seccompiler::{Error, JsonCompiler, SeccompFilter};
+use seccompiler::{Error, JsonCompiler, SeccompFilter, TargetArch};
 use std::alloc::Global;
 use std::collections::BTreeMap;
 use std::io::{ErrorKind, Read};
@@ -40,6 +38,6 @@ pub(crate) fn filters<P: Read + Drop>(
     ensures filters { IfOk result (λ filters. OfPolicy arch.now (P.remaining policy) (λ target. ArePoliciesOf target (get_by_text filters))) }
     ensures refused { IfErr result (IsRefusedText arch.now (P.remaining policy)) }
 {
-    let target = architecture_of(alloc, arch)?;
+    let target = TargetArch::from_text(alloc, arch)?;
     Ok(JsonCompiler::new(target).compile_in_order(alloc, policy)?)
 }

@@ -1,12 +1,12 @@
 // A filter's program, as the machine has it.
 
 ghost use Rattle.std.specs.Prelude.{◌≡◌, ◌++◌, IfOk, IfErr, OnOk};
-ghost use Rattle.seccomp_command_line.specs.Errors.{KeepsOutput};
+ghost use Rattle.seccomptool.specs.Errors.{KeepsOutput};
 ghost use Rattle.seccomptool.specs.Raw.{AnswersRaw, instruction_bytes, program_bytes};
 
+use crate::error::ToolError;
 use crate::policy::filters;
-use seccomp_command_line::error::ToolError;
-use seccomp_command_line::streams::send;
+use crate::send::send;
 use seccompiler::{BpfProgramRef, Layout, sock_filter};
 use std::alloc::{AllocError, Global};
 use std::io::{Read, Write};

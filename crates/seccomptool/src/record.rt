@@ -3,13 +3,12 @@
 ghost use Rattle.std.specs.Prelude.{◌≡◌, ◌++◌, ℕ, map, IfOk, IfErr, IfSome, IfNone, OnOk};
 ghost use Rattle.std.specs.Int.{w64, to_le_bytes};
 ghost use Rattle.std.specs.List.{concat};
-ghost use Rattle.seccomp_command_line.specs.Errors.{KeepsOutput};
+ghost use Rattle.seccomptool.specs.Errors.{KeepsOutput};
 ghost use Rattle.seccomptool.specs.Record.{AnswersRecord, IsCall, record_bytes};
 
+use crate::error::ToolError;
 use crate::numbers::read_number;
-use seccomp_command_line::architecture::architecture_of;
-use seccomp_command_line::error::ToolError;
-use seccomp_command_line::streams::send;
+use crate::send::send;
 use seccompiler::{SyscallTable, TargetArch};
 use std::alloc::{AllocError, Global};
 use std::io::Write;
@@ -40,7 +39,7 @@ pub fn record<W: Write>(
     ensures answers { AnswersRecord arch.now call.now arguments result (W.contents out.old) (W.contents out.new) }
     ensures unwritten { IfErr result (λ e. KeepsOutput e out.old out.new) }
 {
-    let target = architecture_of(alloc, arch)?;
+    let target = TargetArch::from_text(alloc, arch)?;
     let Some(number) = call_number(target, call) else {
         return Err(ToolError::UnknownCall(String::from_str(alloc, call)?, target));
     };

@@ -6,14 +6,14 @@ mod listing;
 mod text;
 
 ghost use Rattle.std.specs.Prelude.{IfOk, IfErr};
-ghost use Rattle.seccomp_command_line.specs.Errors.{KeepsOutput};
+ghost use Rattle.seccomptool.specs.Errors.{KeepsOutput};
 ghost use Rattle.seccomptool.specs.Show.{AnswersShow, AreCompiled, IsShown};
 ghost use Rattle.seccomptool.specs.ShowParts.{IsRefused};
 
+use crate::error::ToolError;
 use crate::policy::{filters, policy_text};
+use crate::send::send;
 use crate::show::listing::listing;
-use seccomp_command_line::error::ToolError;
-use seccomp_command_line::streams::send;
 use seccompiler::json::filters_from;
 use seccompiler::{Layout, TargetArch};
 use std::alloc::Global;

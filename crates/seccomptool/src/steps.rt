@@ -6,15 +6,14 @@ mod measure;
 mod ways;
 
 ghost use Rattle.std.specs.Prelude.{IfErr};
-ghost use Rattle.seccomp_command_line.specs.Errors.{KeepsOutput};
+ghost use Rattle.seccomptool.specs.Errors.{KeepsOutput};
 ghost use Rattle.seccomptool.specs.Steps.{AnswersSteps};
 
+use crate::error::ToolError;
+use crate::send::send;
 use crate::steps::chains::measured_chains;
 use crate::steps::lines::steps_lines;
-use seccomp_command_line::architecture::architecture_of;
-use seccomp_command_line::error::ToolError;
-use seccomp_command_line::streams::send;
-use seccompiler::{JsonCompiler, SyscallTable};
+use seccompiler::{JsonCompiler, SyscallTable, TargetArch};
 use std::alloc::Global;
 use std::io::{Read, Write};
 
@@ -59,7 +58,7 @@ pub fn steps<R: Read + Drop, W: Write>(
     ensures answers { AnswersSteps arch.now (R.remaining policy) result (W.contents out.old) (W.contents out.new) }
     ensures unwritten { IfErr result (λ e. KeepsOutput e out.old out.new) }
 {
-    let target = architecture_of(alloc, arch)?;
+    let target = TargetArch::from_text(alloc, arch)?;
     // Its table has no number as great as that of the passing record.
     let _table = SyscallTable::new(target);
     let filters = JsonCompiler::new(target).compile_in_order(alloc, policy)?;

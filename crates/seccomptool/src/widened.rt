@@ -3,12 +3,12 @@
 mod lines;
 
 ghost use Rattle.std.specs.Prelude.{IfErr};
-ghost use Rattle.seccomp_command_line.specs.Errors.{KeepsOutput};
+ghost use Rattle.seccomptool.specs.Errors.{KeepsOutput};
 ghost use Rattle.seccomptool.specs.Widened.{AnswersWidened};
 
+use crate::error::ToolError;
+use crate::send::send;
 use crate::widened::lines::calls_lines;
-use seccomp_command_line::error::ToolError;
-use seccomp_command_line::streams::send;
 use seccompiler::TargetArch;
 use seccompiler::json::filters_from;
 use std::alloc::Global;

@@ -2,7 +2,7 @@
 use Rattle.std.proofs.Common.{◌≡◌, ℕ, List, Option, Result, Ok, Err, arith}
 use Rattle.std.specs.Prelude.{OnErr, ⊤}
 use Rattle.seccomptool.specs.Commands.{AnswersCommand, IsPerformed}
-use Rattle.seccomp_command_line.specs.declared.error.ToolError.{ToolError}
+use Rattle.seccomptool.specs.declared.error.ToolError.{ToolError}
 use Rattle.seccomptool.specs.declared.words.Command.{Command}
 
 -- Where a command ends with 0, it is carried out.

@@ -17,21 +17,19 @@ use Rattle.seccompiler.specs.JsonSteps.{IsPolicyRefusal}
 use Rattle.seccompiler.specs.JsonTypes.{JsonFilter}
 use Rattle.seccompiler.specs.Policy.{Filter}
 use Rattle.seccompiler.specs.Reads.{Reads}
-use Rattle.seccomp_command_line.specs.Errors.{from_library}
+use Rattle.seccomptool.specs.Errors.{from_library}
 use Rattle.seccomptool.specs.Explain.{AreLinesOf, OfFilter, AnswersExplain}
 use Rattle.seccomp_command_line.proofs.Records.{retold}
 use Rattle.seccomp_command_line.specs.Records.{WritesLines}
-use Rattle.seccomp_command_line.specs.Records.{AnswersRecords}
-use Rattle.seccomptool.specs.ExplainLines.{AreLines}
-use Rattle.seccomp_command_line.specs.Errors.{IsRecordsError}
-use Rattle.seccomptool.specs.ExplainSteps.{IsUsable, AreUsable}
-use Rattle.seccomp_command_line.specs.Policies.{IsNameOf, IsRefusedName, no_architecture}
+use Rattle.seccomptool.specs.ExplainLines.{AreLines, AnswersRecords}
+use Rattle.seccomptool.specs.ExplainSteps.{IsRecordsError, IsUsable, AreUsable}
+use Rattle.seccomptool.specs.Policies.{IsNameOf, IsRefusedName, no_architecture}
 use Rattle.seccomptool.specs.Raw.{HasSomeProgram, UnderName}
 use Rattle.seccomptool.specs.Show.{AreCompiled}
-use Rattle.seccomp_command_line.specs.declared.error.ToolError.{ToolError}
-use Rattle.seccomp_command_line.specs.declared.error.ToolError.TheVariants as tool
-use Rattle.seccomp_command_line.proofs.Found.{there, nowhere}
-use Rattle.seccomp_command_line.proofs.Readings.{of_value}
+use Rattle.seccomptool.specs.declared.error.ToolError.{ToolError}
+use Rattle.seccomptool.specs.declared.error.ToolError.TheVariants as tool
+use Rattle.seccomptool.proofs.Found.{there, nowhere}
+use Rattle.seccomptool.proofs.Readings.{of_value}
 
 module _ (arch : List ℕ) (known : Option (List ℕ)) (name : List ℕ) (records : Option (List ℕ)) where
   -- ---- refusals

@@ -13,18 +13,17 @@ use Rattle.seccompiler.specs.Errors.{IsNoMemoryInside}
 use Rattle.seccompiler.specs.JsonAnswers.{IsReadAs, IsValueOf, OfValue}
 use Rattle.seccompiler.specs.JsonPrograms.{AreProgramsOf, TellsFirstFault}
 use Rattle.seccompiler.specs.Reads.{Reads}
-use Rattle.seccomp_command_line.specs.Errors.{from_library}
+use Rattle.seccomptool.specs.Errors.{from_library}
 use Rattle.seccomptool.specs.Lint.{AnswersLint, AreAllCompiled, IsPlaced, IsRefusal, cause_told}
 use Rattle.seccomptool.specs.LintFaults.{IsFaultIn}
 use Rattle.seccomptool.specs.LintTexts.{fault_text}
 use Rattle.seccomptool.specs.Raw.{HasSomeProgram}
-use Rattle.seccomp_command_line.specs.Policies.{IsNameOf, IsRefusedPolicy, of_policy}
-use Rattle.seccomp_command_line.specs.declared.error.ToolError.{ToolError}
-use Rattle.seccomp_command_line.specs.declared.error.ToolError.TheVariants as tool
+use Rattle.seccomptool.specs.Policies.{IsNameOf, IsRefusedPolicy, of_policy}
+use Rattle.seccomptool.specs.declared.error.ToolError.{ToolError}
+use Rattle.seccomptool.specs.declared.error.ToolError.TheVariants as tool
 use Rattle.seccomptool.specs.declared.lint.fault.Cause.{Cause}
 use Rattle.seccomptool.specs.declared.lint.fault.Fault.{Fault}
-use Rattle.seccomp_command_line.proofs.Found.{all_values}
-use Rattle.seccomptool.proofs.Found.{has_program}
+use Rattle.seccomptool.proofs.Found.{has_program, all_values}
 
 -- Values that have programs are all compiled.
 pub all_compiled : (target : TargetArch) (text : List ℕ) (find : List ℕ → Option (Vec sock_filter Global)) → Reads (Some text) (λ t. OfValue t (AreProgramsOf target find)) → OfValue text (AreAllCompiled target)

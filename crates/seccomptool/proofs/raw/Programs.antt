@@ -14,14 +14,13 @@ use Rattle.seccompiler.specs.JsonFilters.{AreAll}
 use Rattle.seccompiler.specs.JsonShape.{Lacks}
 use Rattle.seccompiler.specs.Layouts.{IsCompiledIn, IsRefusalIn}
 use Rattle.seccompiler.specs.Policy.{Filter}
-use Rattle.seccomp_command_line.specs.Errors.{from_library, IsWriteError}
-use Rattle.seccomp_command_line.specs.Policies.{OfPolicy}
-use Rattle.seccomptool.specs.Policies.{IsRefusedText}
+use Rattle.seccomptool.specs.Errors.{from_library, IsWriteError}
+use Rattle.seccomptool.specs.Policies.{OfPolicy, IsRefusedText}
 use Rattle.seccomptool.specs.Raw.{program_bytes, HasProgram, HasSomeProgram, IsFaultless, UnderName, WritesProgram, HasNoProgram, of_text, of_program, AnswersRaw}
-use Rattle.seccomp_command_line.specs.declared.error.ToolError.{ToolError}
-use Rattle.seccomp_command_line.specs.declared.error.ToolError.TheVariants as tool
-use Rattle.seccomp_command_line.proofs.Found.{there, nowhere, all_values}
-use Rattle.seccomp_command_line.proofs.Readings.{policy_shows}
+use Rattle.seccomptool.specs.declared.error.ToolError.{ToolError}
+use Rattle.seccomptool.specs.declared.error.ToolError.TheVariants as tool
+use Rattle.seccomptool.proofs.Found.{there, nowhere, all_values}
+use Rattle.seccomptool.proofs.Readings.{policy_shows}
 
 module _ (arch : List ℕ) (known : Option (List ℕ)) (name : List ℕ) (layout : Layout) where
   -- The answer where the policy's text is refused.

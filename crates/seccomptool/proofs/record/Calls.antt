@@ -7,12 +7,12 @@ use Rattle.std.specs.Str.Parse.{IsNumeral, digits_value}
 use Rattle.seccompiler.specs.declared.backend.TargetArch.{TargetArch}
 use Rattle.seccompiler.specs.Architecture.{table_of}
 use Rattle.seccompiler.specs.SyscallTable.{number_of}
-use Rattle.seccomp_command_line.specs.Errors.{IsWriteError}
+use Rattle.seccomptool.specs.Errors.{IsWriteError}
 use Rattle.seccomptool.specs.Numbers.{IsNumber, decimal, hexadecimal}
-use Rattle.seccomp_command_line.specs.Policies.{IsNameOf, IsRefusedName}
+use Rattle.seccomptool.specs.Policies.{IsNameOf, IsRefusedName}
 use Rattle.seccomptool.specs.Record.{IsCall, numbered, named, record_bytes, AnswersRecord}
-use Rattle.seccomp_command_line.specs.declared.error.ToolError.{ToolError}
-use Rattle.seccomp_command_line.specs.declared.error.ToolError.TheVariants as tool
+use Rattle.seccomptool.specs.declared.error.ToolError.{ToolError}
+use Rattle.seccomptool.specs.declared.error.ToolError.TheVariants as tool
 
 -- ---- numbers
 

@@ -18,20 +18,18 @@ use Rattle.seccompiler.specs.JsonShape.{Under, IsFilter}
 use Rattle.seccompiler.specs.JsonTypes.{JsonFilter}
 use Rattle.seccompiler.specs.Layouts.{IsRefusalIn}
 use Rattle.seccompiler.specs.Policy.{Filter}
-use Rattle.seccomp_command_line.specs.Errors.{from_library, IsWriteError}
-use Rattle.seccomp_command_line.specs.Policies.{OfPolicy, IsNameOf, no_architecture, of_policy}
-use Rattle.seccomptool.specs.Policies.{IsRefusedText}
+use Rattle.seccomptool.specs.Errors.{from_library, IsWriteError}
+use Rattle.seccomptool.specs.Policies.{OfPolicy, IsNameOf, IsRefusedText, no_architecture, of_policy}
 use Rattle.seccomptool.specs.Raw.{HasProgram, HasSomeProgram, HasNoProgram}
 use Rattle.seccomptool.specs.Show.{LabelledProgram, IsLabelledFor, IsShown, WritesPrograms, AreCompiled, IsLeastRefused, of_text, of_program, AnswersShow}
 use Rattle.seccomptool.specs.ShowParts.{NamedFilter, IsLabelled, AreLabelled, HasProgramIn, IsRefused}
 use Rattle.seccomptool.specs.StepsParts.{IsFirst, IsFirstRefusal}
-use Rattle.seccomp_command_line.specs.declared.error.ToolError.{ToolError}
-use Rattle.seccomp_command_line.specs.declared.error.ToolError.TheVariants as tool
+use Rattle.seccomptool.specs.declared.error.ToolError.{ToolError}
+use Rattle.seccomptool.specs.declared.error.ToolError.TheVariants as tool
 use Rattle.seccomp_command_line.proofs.ByName.{names_ordered}
-use Rattle.seccomp_command_line.proofs.Found.{there, all_values, each_there, complete, all_listed}
-use Rattle.seccomptool.proofs.Found.{least_found}
+use Rattle.seccomptool.proofs.Found.{there, all_values, each_there, complete, all_listed, least_found}
 use Rattle.seccomptool.proofs.Pairs.{all_second, same_under}
-use Rattle.seccomp_command_line.proofs.Readings.{reads_on, of_value, policy_shows}
+use Rattle.seccomptool.proofs.Readings.{reads_on, of_value, policy_shows}
 use Rattle.seccomptool.proofs.show.listing.Programs.{have_programs}
 
 -- ---- programs

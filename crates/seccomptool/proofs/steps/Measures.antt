@@ -27,19 +27,18 @@ use Rattle.seccompiler.specs.Machine.{Ends}
 use Rattle.seccompiler.specs.Reads.{Reads}
 use Rattle.seccompiler.specs.SyscallTable.{IsCallTable}
 use Rattle.seccompiler.specs.Tree.{IsTreeCompilable, IsTreeCompiled, IsTreeRefusal}
-use Rattle.seccomp_command_line.specs.Errors.{from_library, IsWriteError}
-use Rattle.seccomp_command_line.specs.Policies.{IsNameOf, IsRefusedPolicy, of_policy as fault_of_policy}
+use Rattle.seccomptool.specs.Errors.{from_library, IsWriteError}
+use Rattle.seccomptool.specs.Policies.{IsNameOf, IsRefusedPolicy, of_policy as fault_of_policy}
 use Rattle.seccomptool.specs.Steps.{passing_record, HasChains, FilterSteps, HasSteps, HasBothPrograms, WritesSteps, IsLeastTreeTooLarge, of_policy, of_tree, AnswersSteps}
 use Rattle.seccomptool.specs.StepsParts.{NamedFilters, IsFirst, IsFirstRefusal, named_filter, AreOfChains, AreMeasured, AreBothOf, AreLinesOf}
-use Rattle.seccomp_command_line.specs.declared.error.ToolError.{ToolError}
-use Rattle.seccomp_command_line.specs.declared.error.ToolError.TheVariants as tool
+use Rattle.seccomptool.specs.declared.error.ToolError.{ToolError}
+use Rattle.seccomptool.specs.declared.error.ToolError.TheVariants as tool
 use Rattle.seccomptool.specs.declared.steps.chains.MeasuredChains.{MeasuredChains}
 use Rattle.seccomptool.specs.declared.steps.measure.Measure.{Measure}
 use Rattle.seccomp_command_line.proofs.ByName.{names_ordered}
-use Rattle.seccomp_command_line.proofs.Found.{all_values, each_there, complete, all_listed}
-use Rattle.seccomptool.proofs.Found.{least_found}
+use Rattle.seccomptool.proofs.Found.{all_values, each_there, complete, all_listed, least_found}
 use Rattle.seccomptool.proofs.Pairs.{all_first, all_second, same_under}
-use Rattle.seccomp_command_line.proofs.Readings.{of_value}
+use Rattle.seccomptool.proofs.Readings.{of_value}
 use Rattle.seccomptool.proofs.steps.PassingRecord.{is_record, its_number, its_word}
 use Rattle.seccomptool.proofs.steps.TableNumbers.{greatest_passes, none_unfit}
 

@@ -20,19 +20,17 @@ use Rattle.seccompiler.specs.JsonSteps.{IsPolicyRefusal}
 use Rattle.seccompiler.specs.JsonTypes.{JsonFilter}
 use Rattle.seccompiler.specs.Reads.{Reads}
 use Rattle.seccomp_command_line.proofs.ByName.{names_ordered}
-use Rattle.seccomp_command_line.specs.Errors.{from_library, IsWriteError}
-use Rattle.seccomp_command_line.specs.Policies.{IsNameOf}
-use Rattle.seccomptool.specs.Policies.{IsRefusedText}
+use Rattle.seccomptool.specs.Errors.{from_library, IsWriteError}
+use Rattle.seccomptool.specs.Policies.{IsNameOf, IsRefusedText}
 use Rattle.seccomptool.specs.StepsParts.{IsFirst}
 use Rattle.seccomptool.specs.Widened.{FilterCalls, HasCalls, WritesCalls, AnswersWidened}
 use Rattle.seccomptool.specs.WidenedParts.{NamedJson, IsTaken, AreCallsOf, AreCallsOfAll, IsFirstJsonRefusal}
-use Rattle.seccomp_command_line.specs.declared.error.ToolError.{ToolError}
-use Rattle.seccomp_command_line.specs.declared.error.ToolError.TheVariants as tool
+use Rattle.seccomptool.specs.declared.error.ToolError.{ToolError}
+use Rattle.seccomptool.specs.declared.error.ToolError.TheVariants as tool
 use Rattle.seccomptool.proofs.Faults.{text_refused}
-use Rattle.seccomp_command_line.proofs.Found.{all_values, each_there, complete, all_listed}
-use Rattle.seccomptool.proofs.Found.{least_found}
+use Rattle.seccomptool.proofs.Found.{all_values, each_there, complete, all_listed, least_found}
 use Rattle.seccomptool.proofs.Pairs.{all_second, same_under}
-use Rattle.seccomp_command_line.proofs.Readings.{of_value}
+use Rattle.seccomptool.proofs.Readings.{of_value}
 use Rattle.seccomptool.proofs.widened.lines.CallLines.{all_taken}
 
 -- What is refused of a text is told.

@@ -4,10 +4,10 @@ ghost use Rattle.std.specs.Prelude.{ℕ, List, IfOk, IfErr};
 ghost use Rattle.seccompiler.specs.JsonAnswers.{OfValue};
 ghost use Rattle.seccompiler.specs.Reads.{Reads};
 ghost use Rattle.seccomptool.specs.ExplainSteps.{AreUsable};
-ghost use Rattle.seccomp_command_line.specs.Policies.{IsNameOf, IsRefusedPolicy};
+ghost use Rattle.seccomptool.specs.Policies.{IsNameOf, IsRefusedPolicy};
 
+use crate::error::ToolError;
 use crate::policy::policy_text;
-use seccomp_command_line::error::ToolError;
 use seccompiler::json::filters_from;
 use seccompiler::{JsonFilterMap, TargetArch, compile_from_json_in_order};
 use std::alloc::Global;

@@ -1,19 +1,18 @@
 // Records in, their lines out.
 
-ghost use Rattle.std.specs.Prelude.{IfErr};
+ghost use Rattle.std.specs.Prelude.{◌≡◌, IfOk, IfErr, IfSome};
 ghost use Rattle.seccompiler.specs.JsonPolicyOf.{IsPolicyOf};
 ghost use Rattle.seccompiler.specs.Reads.{Reads};
-ghost use Rattle.seccomp_command_line.specs.Errors.{KeepsOutput};
-ghost use Rattle.seccomp_command_line.specs.Records.{AnswersRecords};
-ghost use Rattle.seccomptool.specs.ExplainLines.{AreLines};
-ghost use Rattle.seccomp_command_line.specs.Errors.{IsRecordsError};
+ghost use Rattle.seccomptool.specs.Errors.{KeepsOutput};
+ghost use Rattle.seccomptool.specs.ExplainLines.{AreLines, AnswersRecords};
+ghost use Rattle.seccomptool.specs.ExplainSteps.{IsReadError, IsRecordsError};
 
+use crate::error::ToolError;
 use crate::explain::lines::lines;
-use seccomp_command_line::error::ToolError;
-use seccomp_command_line::streams::{read_whole, send};
+use crate::send::send;
 use seccompiler::{JsonFilter, SeccompFilter, TargetArch};
 use std::alloc::Global;
-use std::io::{Read, Write};
+use std::io::{ErrorKind, Read, Write};
 
 // Writes the line of each whole record that the reader gives.
 //
@@ -38,5 +37,18 @@ pub(crate) fn explain_records<R: Read + Drop, W: Write>(
     match rest.len() {
         0 => Ok(()),
         rest => Err(ToolError::ShortRecord(rest)),
+    }
+}
+
+// All bytes that a reader gives.
+fn read_whole<R: Read + Drop>(alloc: Global, mut reader: R) -> Result<Vec<u8>, ToolError>
+    ensures bytes { IfOk result (λ bytes. IfSome (R.remaining reader) (λ known. bytes.items ≡ known)) }
+    ensures cause { IfErr result IsReadError }
+{
+    let mut bytes = Vec::new(alloc);
+    match reader.read_to_end(&mut bytes) {
+        Ok(_) => Ok(bytes),
+        Err(error) if error.kind() == ErrorKind::OutOfMemory => Err(ToolError::OutOfMemory),
+        Err(error) => Err(ToolError::Read(error)),
     }
 }

@@ -1,6 +1,6 @@
 use Rattle.std.proofs.Common.{sym}
 use Rattle.std.proofs.lemmas.Result.{err_from_is_err_and}
-use Rattle.seccomp_command_line.proofs.Faults.{name_refused}
+use Rattle.seccomptool.proofs.Faults.{name_refused}
 use Rattle.seccomptool.proofs.explain.Explanations.{name_untold, no_refusal, no_filter, some_policy, told}
 use Rattle.seccomptool.proofs.explain.explain.Goals as goal
 

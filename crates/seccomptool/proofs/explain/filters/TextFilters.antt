@@ -15,10 +15,8 @@ use Rattle.seccompiler.specs.JsonTypes.{JsonFilter}
 use Rattle.seccompiler.specs.Reads.{Reads}
 use Rattle.seccomptool.specs.ExplainSteps.{AreUsable}
 use Rattle.seccomptool.specs.Raw.{HasSomeProgram}
-use Rattle.seccomp_command_line.proofs.Found.{all_values}
-use Rattle.seccomptool.proofs.Found.{has_program}
-use Rattle.seccomp_command_line.proofs.Readings.{reads_on}
-use Rattle.seccomptool.proofs.Readings.{filters_of_value}
+use Rattle.seccomptool.proofs.Found.{has_program, all_values}
+use Rattle.seccomptool.proofs.Readings.{reads_on, filters_of_value}
 
 module _ (target : TargetArch) (find : List ℕ → Option (Vec sock_filter Global)) (d : Data) (programs : AreProgramsOf target find d) where
   -- The filters of such values can be used.

@@ -2,13 +2,13 @@ use Rattle.std.proofs.Common.{subst}
 use Rattle.std.proofs.lemmas.Result.{err_from_is_err_and}
 use Rattle.seccompiler.specs.JsonAnswers.{TellsFrontendFault}
 use Rattle.seccompiler.specs.Reads.{Reads}
-use Rattle.seccomptool.proofs.Faults.{name_is_text, text_refused}
+use Rattle.seccomptool.proofs.Faults.{name_refused, name_is_text, text_refused}
 use Rattle.seccomptool.proofs.policy.filters.Goals as goal
 
 pub returns-in_err-target-clause-refused : goal.returns-in_err-target-clause-refused
 returns-in_err-target-clause-refused g c =
     let error = err_from_is_err_and c.from_residual.result c.from_residual.ensures.1 in
-    rw (error.1, error.2) (name_is_text c.args.arch.now (g.P.Read.remaining c.args.policy) _ c.in_err-target.ensures.refused)
+    rw (error.1, error.2) (name_is_text c.args.arch.now (g.P.Read.remaining c.args.policy) _ (name_refused c.args.arch.now c.in_err-target.field-0.0 c.in_err-target.ensures.named c.in_err-target.ensures.refused))
 
 pub returns-in_err-compile_in_order-clause-refused : goal.returns-in_err-compile_in_order-clause-refused
 returns-in_err-compile_in_order-clause-refused g c =
@@ -17,4 +17,4 @@ returns-in_err-compile_in_order-clause-refused g c =
     let refusal = c.in_err-compile_in_order.field-0.0 in
     let fault = c.in_err-compile_in_order.ensures in
     let told = subst (λ target. Reads known (λ text. TellsFrontendFault target text refusal)) c.new.ensures fault.fault in
-    rw (error.1, error.2) (text_refused c.args.arch.now known c.in_ok-target.target refusal c.in_ok-target.ensures.named fault.memory told)
+    rw (error.1, error.2) (text_refused c.args.arch.now known c.in_ok-target.target refusal c.in_ok-target.ensures.read fault.memory told)

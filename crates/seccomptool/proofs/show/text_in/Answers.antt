@@ -5,9 +5,8 @@ use Rattle.seccompiler.specs.declared.backend.TargetArch.{TargetArch}
 use Rattle.seccompiler.specs.JsonAnswers.{OfValue}
 use Rattle.seccompiler.specs.JsonSteps.{AreFilters}
 use Rattle.seccompiler.specs.Reads.{Reads}
-use Rattle.seccomp_command_line.specs.Policies.{IsNameOf}
-use Rattle.seccomp_command_line.proofs.Faults.{name_refused}
-use Rattle.seccomptool.proofs.Faults.{name_is_text, text_unread, text_refused}
+use Rattle.seccomptool.specs.Policies.{IsNameOf}
+use Rattle.seccomptool.proofs.Faults.{name_refused, name_is_text, text_unread, text_refused}
 use Rattle.seccomptool.proofs.Readings.{filters_of_value}
 use Rattle.seccomptool.proofs.show.Texts.{text_is_refused, given_refused, programs_shown, program_refused}
 use Rattle.seccomp_command_line.proofs.ByName.{by_text}

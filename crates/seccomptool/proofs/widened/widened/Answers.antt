@@ -1,7 +1,6 @@
 use Rattle.std.proofs.lemmas.Result.{err_from_is_err_and}
 use Rattle.std.specs.BTreeMap.{get_by_text}
-use Rattle.seccomp_command_line.proofs.Faults.{name_refused}
-use Rattle.seccomptool.proofs.Faults.{name_is_text, text_refused}
+use Rattle.seccomptool.proofs.Faults.{name_refused, name_is_text, text_refused}
 use Rattle.seccomp_command_line.proofs.ByName.{by_text}
 use Rattle.seccomptool.proofs.widened.Calls.{widened_told, calls_refused, calls_sent}
 use Rattle.seccomptool.proofs.widened.widened.Goals as goal

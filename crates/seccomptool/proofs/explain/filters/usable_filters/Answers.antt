@@ -6,9 +6,8 @@ use Rattle.seccompiler.specs.JsonPrograms.{AreProgramsOf, TellsFirstFault}
 use Rattle.seccompiler.specs.JsonSteps.{AreFilters}
 use Rattle.seccompiler.specs.Reads.{Reads}
 use Rattle.seccompiler.specs.declared.backend.TargetArch.{TargetArch}
-use Rattle.seccomp_command_line.proofs.Faults.{policy_refused}
-use Rattle.seccomptool.proofs.Faults.{policy_unread, text_refused, text_is_policy}
-use Rattle.seccomp_command_line.proofs.Readings.{reads_on}
+use Rattle.seccomptool.proofs.Faults.{policy_refused, policy_unread, text_refused, text_is_policy}
+use Rattle.seccomptool.proofs.Readings.{reads_on}
 use Rattle.seccomptool.proofs.explain.filters.TextFilters.{filters_read}
 use Rattle.seccomptool.proofs.explain.filters.usable_filters.Goals as goal
 

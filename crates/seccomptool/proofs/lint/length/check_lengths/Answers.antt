@@ -4,7 +4,7 @@ use Rattle.seccompiler.specs.JsonShape.{IsFilter, Has}
 use Rattle.seccomptool.specs.declared.lint.fault.Cause.TheVariants as cause
 use Rattle.seccomptool.specs.declared.lint.part.Kind.TheVariants as kind
 use Rattle.seccomptool.specs.declared.lint.part.Part.TheVariants as parts
-use Rattle.seccomp_command_line.proofs.Found.{there}
+use Rattle.seccomptool.proofs.Found.{there}
 use Rattle.seccomptool.proofs.lint.length.check_lengths.Goals as goal
 
 pub returns-in_err-under_key : goal.returns-in_err-under_key

@@ -1,0 +1,42 @@
+-- The errors of the program's engines: how a refusal becomes one, their texts, and what they leave as it was.
+use Rattle.std.specs.Prelude.{◌≡◌, ◌≢◌, ℕ, List, ◌++◌, Option, Some, codes, decimal, string_bytes, ⊤}
+use Rattle.std.specs.IoError.{error_kind}
+use Rattle.std.specs.declared.io.Error.{Error}
+use Rattle.std.specs.declared.io.ErrorKind.TheVariants as kind
+use Rattle.seccompiler.specs.declared.error.Error.{Error as LibraryError}
+use Rattle.seccompiler.specs.declared.error.Error.TheVariants as library
+use Rattle.seccompiler.specs.Errors.{error_text}
+use Rattle.seccompiler.specs.Architecture.{arch_text}
+use Rattle.seccomptool.specs.declared.error.ToolError.{ToolError}
+use Rattle.seccomptool.specs.declared.error.ToolError.TheVariants.{Library, NoFilter, UnknownCall, ShortRecord, Read, Fault, Write, OutOfMemory}
+
+-- A refusal of the library; want of memory stays want of memory.
+abbrev pub from_library : LibraryError → ToolError
+from_library library.OutOfMemory = OutOfMemory
+from_library refusal = Library refusal
+
+-- The text of an error, where it is known.
+abbrev pub tool_text : ToolError → Option (List ℕ)
+tool_text (Library e) = error_text e
+tool_text (NoFilter name) = Some (codes "No filter has this name: " ++ string_bytes name ++ codes ".")
+tool_text (UnknownCall call target) = Some (codes "No call of " ++ arch_text target ++ codes " has this name or number: " ++ string_bytes call ++ codes ".")
+tool_text (ShortRecord rest) = Some (codes "The input ends inside a record, after " ++ decimal rest ++ codes " bytes of it.")
+tool_text (Read e) = Some (codes "Error reading input.")
+tool_text (Fault told) = Some (string_bytes told)
+tool_text (Write e) = Some (codes "Error writing output.")
+tool_text OutOfMemory = Some (codes "Out of memory.")
+
+-- A reader's fault of another kind than want of memory.
+abbrev pub IsReadFault : Error → Type 0
+IsReadFault e = error_kind e ≢ kind.OutOfMemory
+
+-- An error of writing.
+abbrev pub IsWriteError : ToolError → Type 0
+IsWriteError (Write e) = ⊤
+IsWriteError e = ⊥
+
+-- What is written is as it was, where the error comes before the writing.
+abbrev pub KeepsOutput : {W : Type 0} → ToolError → W → W → Type 0
+KeepsOutput (ShortRecord rest) old new = ⊤
+KeepsOutput (Write e) old new = ⊤
+KeepsOutput e old new = new ≡ old

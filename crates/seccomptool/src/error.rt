@@ -1,0 +1,110 @@
+// Why an engine of the program fails.
+
+use seccompiler::json::JsonFrontendError;
+use seccompiler::{BackendError, TargetArch};
+use std::alloc::{AllocError, AllocFailed};
+use std::{fmt, io};
+
+/// Why an engine of the program fails.
+///
+/// Want of memory stands here alone, and never inside another variant.
+#[derive(Debug, Drop)]
+pub enum ToolError {
+    /// The library refuses.
+    Library(seccompiler::Error),
+    /// No filter of the policy has this name.
+    NoFilter(String),
+    /// The architecture has no call of this name or number.
+    UnknownCall(String, TargetArch),
+    /// The records end inside a record, after so many bytes of it, from 1 to 63.
+    ShortRecord(usize),
+    /// The records can't be read.
+    Read(io::Error),
+    /// The policy has a fault that has a place; the text tells the place, what stands there and what may.
+    Fault(String),
+    /// The output can't be written; how much of it went out is not known.
+    Write(io::Error),
+    /// A growth of memory was refused, or reading failed for want of memory.
+    OutOfMemory,
+}
+
+/// The error's text.
+impl fmt::Display for ToolError {
+    ghost use Rattle.seccomptool.specs.Errors.{tool_text};
+
+    ghost output = { tool_text };
+
+    fn fmt<W: fmt::Write>(&self, f: &mut fmt::Formatter<W>) -> fmt::Result {
+        match self {
+            ToolError::Library(error) => write!(f, "{error}"),
+            ToolError::NoFilter(name) => write!(f, "No filter has this name: {name}."),
+            ToolError::UnknownCall(call, arch) => {
+                write!(f, "No call of {arch} has this name or number: {call}.")
+            }
+            ToolError::ShortRecord(rest) => {
+                write!(
+                    f,
+                    "The input ends inside a record, after {rest} bytes of it."
+                )
+            }
+            ToolError::Read(_) => f.write_str("Error reading input."),
+            ToolError::Fault(told) => f.write_str(told.as_str()),
+            ToolError::Write(_) => f.write_str("Error writing output."),
+            ToolError::OutOfMemory => f.write_str("Out of memory."),
+        }
+    }
+}
+
+impl std::error::Error for ToolError {}
+
+/// The library's want of memory is the program's.
+impl From<seccompiler::Error> for ToolError {
+    ghost use Rattle.std.specs.Prelude.{◌≡◌};
+    ghost use Rattle.seccomptool.specs.Errors.{from_library};
+
+    ghost from_gives = { λ refusal error. error ≡ from_library refusal };
+
+    fn from(refusal: seccompiler::Error) -> ToolError {
+        match refusal {
+            seccompiler::Error::OutOfMemory => ToolError::OutOfMemory,
+            refusal => ToolError::Library(refusal),
+        }
+    }
+}
+
+/// As the library's root answers it.
+impl From<BackendError> for ToolError {
+    ghost use Rattle.std.specs.Prelude.{◌≡◌};
+    ghost use Rattle.seccompiler.specs.Errors.{from_backend};
+    ghost use Rattle.seccomptool.specs.Errors.{from_library};
+
+    ghost from_gives = { λ refusal error. error ≡ from_library (from_backend refusal) };
+
+    fn from(refusal: BackendError) -> ToolError {
+        seccompiler::Error::from(refusal).into()
+    }
+}
+
+/// As the library's root answers it.
+impl From<JsonFrontendError> for ToolError {
+    ghost use Rattle.std.specs.Prelude.{◌≡◌};
+    ghost use Rattle.seccompiler.specs.Errors.{from_frontend};
+    ghost use Rattle.seccomptool.specs.Errors.{from_library};
+
+    ghost from_gives = { λ refusal error. error ≡ from_library (from_frontend refusal) };
+
+    fn from(refusal: JsonFrontendError) -> ToolError {
+        seccompiler::Error::from(refusal).into()
+    }
+}
+
+impl From<AllocError> for ToolError {
+    ghost use Rattle.std.specs.Prelude.{◌≡◌};
+    ghost use Rattle.seccomptool.specs.declared.error.ToolError.TheVariants.{OutOfMemory};
+
+    ghost from_gives = { λ _ error. error ≡ OutOfMemory };
+
+    fn from(_refused: AllocError) -> ToolError {
+        ToolError::OutOfMemory
+    }
+}

@@ -18,17 +18,19 @@ pub record EndsAtDecision (f : Filter) (p : List sock_filter) (r : List ℕ) : T
   pub few : steps ≤ length p
   pub decision : IsDecision f r word
 
--- The program is compiled for the filter: it has the counted length, may be run, and decides every call record.
-pub record IsCompiled (f : Filter) (p : List sock_filter) : Type 0 where
-  pub long : length p ≡ counted_length f
-  pub checked : IsChecked p
-  pub decides : (r : List ℕ) → IsRecord r → EndsAtDecision f p r
-
 -- Where the filter has chains, a record of its architecture whose call number has none is passed in exactly the passing
 -- steps, at the mismatch word.
 pub record Passes (f : Filter) (p : List sock_filter) : Type 0 where
   pub passes : f.chains ≢ [] → (r : List ℕ) → IsRecord r → word_at r 4 ≡ audit_word f.target_arch
       → chain_under f.chains (word_at r 0) ≡ None → Ends p r (passing_steps f) (word_of f.mismatch_action)
+
+-- The program is compiled for the filter: it has the counted length, may be run, decides every call record, and passes
+-- each call without a chain.
+pub record IsCompiled (f : Filter) (p : List sock_filter) : Type 0 where
+  pub long : length p ≡ counted_length f
+  pub checked : IsChecked p
+  pub decides : (r : List ℕ) → IsRecord r → EndsAtDecision f p r
+  pub passes : Passes f p
 
 -- ---- why a filter is not compiled
 

@@ -2,7 +2,7 @@
 use Rattle.std.specs.Prelude.{ℕ, List, Option, Vec, ⊤}
 use Rattle.std.specs.declared.alloc.Global.{Global}
 use Rattle.serde_json.specs.Data.{Data}
-use Rattle.seccompiler.specs.Compiled.{IsCompiled, Passes, IsCompilable, IsRefusal, IsTooLarge}
+use Rattle.seccompiler.specs.Compiled.{IsCompiled, IsCompilable, IsRefusal, IsTooLarge}
 use Rattle.seccompiler.specs.JsonAnswers.{HasPolicy, HasSomePolicy, OfValue, TellsFrontendFault}
 use Rattle.seccompiler.specs.JsonFilters.{AreFound, AreAll, IsLeast}
 use Rattle.seccompiler.specs.Policy.{Filter}
@@ -18,7 +18,6 @@ use Rattle.seccompiler.specs.declared.error.Error.TheVariants as whole
 pub record Compiles (policy : Filter) (program : Vec sock_filter Global) : Type 0 where
   pub compilable : IsCompilable policy
   pub compiled : IsCompiled policy program.items
-  pub passes : Passes policy program.items
 
 -- What is found under each name of the policies, and under no other, is a program for its policy.
 abbrev pub AreProgramsFor : (List ℕ → Option Filter) → (List ℕ → Option (Vec sock_filter Global)) → Type 0
@@ -35,7 +34,6 @@ pub record IsProgramOf (arch : TargetArch) (value : Data) (program : List sock_f
   pub policy : Filter
   pub is_policy : HasPolicy arch value policy
   pub compiled : IsCompiled policy program
-  pub passes : Passes policy program
 
 -- The value is an object, and what is found under a name is a program for the policy of the name's value; under no
 -- other name there is anything.

@@ -130,26 +130,41 @@ const _: () = prove!(BPF_JGE == 0x30);
 
 const _: () = prove!(BPF_K == 0x00);
 
-/// Loads the word at byte `k` of the record.
-pub(crate) const LOAD: u16 = BPF_LD | BPF_W | BPF_ABS;
+/// The code that loads the word at byte `k` of the record into the accumulator.
+pub const LOAD: u16 = BPF_LD | BPF_W | BPF_ABS;
 
-/// Keeps the bits of the accumulator that are set in `k`.
-pub(crate) const MASK: u16 = BPF_ALU | BPF_AND | BPF_K;
+/// The code that keeps the bits of the accumulator that are set in `k`.
+pub const MASK: u16 = BPF_ALU | BPF_AND | BPF_K;
 
-/// Jumps over `k` instructions.
-pub(crate) const JUMP: u16 = BPF_JMP | BPF_JA;
+/// The code that jumps over `k` instructions.
+pub const JUMP: u16 = BPF_JMP | BPF_JA;
 
-/// Jumps over `jt` instructions where the accumulator equals `k`, else over `jf`.
-pub(crate) const JUMP_EQUAL: u16 = BPF_JMP | BPF_JEQ | BPF_K;
+/// The code that jumps over `jt` instructions where the accumulator equals `k`, else over `jf`.
+pub const JUMP_EQUAL: u16 = BPF_JMP | BPF_JEQ | BPF_K;
 
-/// Jumps over `jt` instructions where the accumulator is greater than `k`, else over `jf`.
-pub(crate) const JUMP_GREATER: u16 = BPF_JMP | BPF_JGT | BPF_K;
+/// The code that jumps over `jt` instructions where the accumulator is greater than `k`, unsigned, else over `jf`.
+pub const JUMP_GREATER: u16 = BPF_JMP | BPF_JGT | BPF_K;
 
-/// Jumps over `jt` instructions where the accumulator is at least `k`, else over `jf`.
-pub(crate) const JUMP_AT_LEAST: u16 = BPF_JMP | BPF_JGE | BPF_K;
+/// The code that jumps over `jt` instructions where the accumulator is at least `k`, unsigned, else over `jf`.
+pub const JUMP_AT_LEAST: u16 = BPF_JMP | BPF_JGE | BPF_K;
 
-/// Ends the program, and returns the word `k`.
-pub(crate) const RETURN: u16 = BPF_RET | BPF_K;
+/// The code that ends the program, and returns the word `k`.
+pub const RETURN: u16 = BPF_RET | BPF_K;
+
+// The seven codes that a checked program may have, as numbers.
+const _: () = prove!(LOAD == 0x20);
+
+const _: () = prove!(MASK == 0x54);
+
+const _: () = prove!(JUMP == 0x05);
+
+const _: () = prove!(JUMP_EQUAL == 0x15);
+
+const _: () = prove!(JUMP_GREATER == 0x25);
+
+const _: () = prove!(JUMP_AT_LEAST == 0x35);
+
+const _: () = prove!(RETURN == 0x06);
 
 /// The architecture word of x86_64 in `struct seccomp_data`, as `linux/audit.h` has it.
 pub const AUDIT_ARCH_X86_64: u32 = 0xc000_003e;

@@ -51,7 +51,7 @@ impl SeccompFilter {
     ghost use Rattle.seccompiler.specs.Policy.{Filter, chains_of, Matches, IsDecision};
     ghost use Rattle.seccompiler.specs.Reorder.{IsReordered, IsSameCall};
     ghost use Rattle.seccompiler.specs.Layout.{counted_length};
-    ghost use Rattle.seccompiler.specs.Compiled.{IsCompiled, Passes, numbers_of, AreCallNumbers, IsLeastUnfit, IsCompilable, IsRefusal};
+    ghost use Rattle.seccompiler.specs.Compiled.{IsCompiled, numbers_of, AreCallNumbers, IsLeastUnfit, IsCompilable, IsRefusal};
     ghost use Rattle.seccompiler.specs.Places.{ArePlaces};
     ghost use Rattle.seccompiler.specs.PlaceLists.{linear_places};
 
@@ -114,7 +114,6 @@ impl SeccompFilter {
     /// ```
     pub fn to_bpf(&self, alloc: Global) -> Result<BpfProgram, BackendError>
         ensures compiled { IfOk result (λ program. IsCompiled self.now program.items) }
-        ensures passes { IfOk result (λ program. Passes self.now program.items) }
         ensures compilable { OnOk result (IsCompilable self.now) }
         ensures refused { IfErr result (IsRefusal self.now) }
     {
@@ -252,7 +251,6 @@ impl SeccompFilter {
         requires compilable { IsCompilable self.now }
         requires room { length program.old ≡ counted_length self.now }
         ensures compiled { IsCompiled self.now program.new }
-        ensures passes { Passes self.now program.new }
         ensures places { ArePlaces self.now (linear_places self.now.chains) program.new }
     {
         let mismatch = u32::from(self.mismatch_action);

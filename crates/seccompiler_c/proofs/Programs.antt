@@ -1,15 +1,44 @@
 -- Why a request is refused, from why its parts are.
-use Rattle.std.proofs.Common.{◌≡◌, ◌<◌, ◌≤◌, ◌^◌, ◌++◌, ℕ, pos, List, drop, length, w64, to_z, refl, sym, ap, ◌∙◌, subst}
-use Rattle.std.proofs.lemmas.Int.{to_z_pos}
-use Rattle.seccompiler.specs.Policy.{Filter}
+use Rattle.std.proofs.Common.{◌≡◌, ◌<◌, ◌≤◌, ◌^◌, ◌++◌, ℕ, ℤ, pos, negsuc, List, drop, length, w64, to_z, refl, sym, ap, ◌∙◌, subst, All, arith}
+use Rattle.std.proofs.lemmas.Int.{ints, to_z_pos}
+use Rattle.std.proofs.lemmas.List.Elements.{All-contains}
+use Rattle.seccompiler.specs.Layouts.{IsRefusalIn}
+use Rattle.seccompiler.specs.Policy.{Filter, IsCallNumber}
+use Rattle.seccompiler.specs.Compiled.{IsLeastUnfit, numbers_of}
+use Rattle.seccompiler.specs.SyscallTable.{IsTableNumber}
+use Rattle.seccompiler.specs.declared.backend.BackendError.{BackendError}
+use Rattle.seccompiler.specs.declared.backend.BackendError.TheVariants as backend
 use Rattle.seccompiler.specs.declared.backend.TargetArch.{TargetArch}
 use Rattle.seccompiler.specs.declared.layout.Layout.{Layout}
+use Rattle.seccompiler.specs.declared.layout.Layout.TheVariants.{Linear, Tree}
 use Rattle.seccompiler.specs.declared.bpf.sock_filter.{sock_filter}
 use Rattle.seccompiler_c.specs.Arguments.{IsArchitecture, IsLayout}
-use Rattle.seccompiler_c.specs.Policies.{NamesPolicy}
+use Rattle.seccompiler_c.specs.Policies.{NamesPolicy, from_backend}
 use Rattle.seccompiler_c.specs.Programs.{Request, OfProgram, Holds, IsRefusal, IsUncompiledIn}
 use Rattle.seccompiler_c.specs.declared.fault.Fault.{Fault}
 use Rattle.seccompiler_c.specs.declared.fault.Fault.TheVariants as fault
+
+-- A number that is told as unfit is the least one in both layouts.
+pub unfit_in : (layout : Layout) (f : Filter) (n : ℤ) → IsRefusalIn layout f (backend.InvalidSyscallNumber n) → IsLeastUnfit (numbers_of f.chains) n
+unfit_in Linear f n why = why
+unfit_in Tree f n why = why
+
+-- A number of a table is a call number.
+table_number_fits : (z : ℤ) → IsTableNumber z → IsCallNumber z
+table_number_fits (pos n) h = (n, refl, grind (arith, ints, h.1))
+table_number_fits (negsuc n) h = absurd (grind (arith, ints, h.0))
+
+-- A filter whose numbers are those of a table is refused for its length, or for want of memory.
+pub uncompiled : (layout : Layout) (f : Filter) → All IsTableNumber (numbers_of f.chains) → (e : BackendError) → IsRefusalIn layout f e
+    → IsUncompiledIn layout f (from_backend e)
+uncompiled layout f numbers backend.OutOfMemory why = tt
+uncompiled layout f numbers (backend.FilterTooLarge n) why = why
+uncompiled layout f numbers (backend.InvalidSyscallNumber n) why = absurd (fits (unfit_in layout f n why))
+  where
+    fits : IsLeastUnfit (numbers_of f.chains) n → ⊥
+    fits least = least.unfit (table_number_fits n (All-contains IsTableNumber (numbers_of f.chains) n numbers least.among))
+uncompiled Linear f numbers _ why = absurd why
+uncompiled Tree f numbers _ why = absurd why
 
 -- What holds of the policy that is found holds of the policy of the name.
 pub named_so : (target : TargetArch) (text name : List ℕ) (policy : Filter) (P : Filter → Type 0) → NamesPolicy target text name (λ p. p ≡ policy) → P policy → NamesPolicy target text name P

@@ -1,6 +1,5 @@
 -- The program that a caller asks for, and why it is not given.
 use Rattle.std.specs.Prelude.{◌≡◌, ℕ, ℤ, pos, ◌<◌, ◌≤◌, List, [], ◌++◌, drop, length, ⊤}
-use Rattle.seccompiler.specs.Compiled.{Passes}
 use Rattle.seccompiler.specs.Layouts.{IsCompiledIn, IsRefusalIn}
 use Rattle.seccompiler.specs.Policy.{Filter}
 use Rattle.seccompiler.specs.declared.backend.BackendError.{BackendError}
@@ -8,7 +7,6 @@ use Rattle.seccompiler.specs.declared.backend.BackendError.TheVariants.{FilterTo
 use Rattle.seccompiler.specs.declared.backend.TargetArch.{TargetArch}
 use Rattle.seccompiler.specs.declared.bpf.sock_filter.{sock_filter}
 use Rattle.seccompiler.specs.declared.layout.Layout.{Layout}
-use Rattle.seccompiler.specs.declared.layout.Layout.TheVariants.{Linear}
 use Rattle.seccompiler_c.specs.Arguments.{IsNoArchitecture, OfArchitecture, IsNoLayout, OfLayout}
 use Rattle.seccompiler_c.specs.Codes.{code_of}
 use Rattle.seccompiler_c.specs.Messages.{HoldsMessage, TellsFault}
@@ -24,12 +22,6 @@ pub record Request : Type 0 where
   pub name : List ℕ
   pub layout : ℕ
   pub capacity : ℕ
-
--- The program is compiled for the policy in this layout. In the linear one it passes every call that the policy has no
--- chain for; in the other one its compilation says how many steps such a call takes.
-pub record IsProgramIn (layout : Layout) (policy : Filter) (program : List sock_filter) : Type 0 where
-  pub compiled : IsCompiledIn layout policy program
-  pub passes : layout ≡ Linear → Passes policy program
 
 -- The error tells that the policy's program would be too long in this layout.
 abbrev pub IsTooLargeIn : Layout → Filter → BackendError → Type 0
@@ -52,7 +44,7 @@ OfPolicy r P = OfWords r (λ target layout. NamesPolicy target r.text r.name (P 
 
 -- The filter of the name has a program in the layout, of which P holds.
 abbrev pub OfProgram : Request → (List sock_filter → Type 0) → Type 0
-OfProgram r P = OfPolicy r (λ layout policy. (program : List sock_filter) × IsProgramIn layout policy program × P program)
+OfProgram r P = OfPolicy r (λ layout policy. (program : List sock_filter) × IsCompiledIn layout policy program × P program)
 
 -- Why a request is refused: for the first of these that is so. Want of memory may come in place of all but the first
 -- two.

@@ -1,9 +1,10 @@
 // The program that a caller asks for.
 
 ghost use Rattle.std.specs.Prelude.{◌≡◌, ◌≤◌, All, length, IfOk, IfErr};
+ghost use Rattle.seccompiler.specs.Layouts.{IsCompiledIn};
 ghost use Rattle.seccompiler.specs.Compiled.{numbers_of};
 ghost use Rattle.seccompiler.specs.SyscallTable.{IsTableNumber};
-ghost use Rattle.seccompiler_c.specs.Programs.{IsProgramIn, IsUncompiledIn, OfProgram, IsRefusal};
+ghost use Rattle.seccompiler_c.specs.Programs.{IsUncompiledIn, OfProgram, IsRefusal};
 
 use crate::arguments::{architecture_of, layout_of};
 use crate::fault::Fault;
@@ -42,11 +43,8 @@ pub(crate) fn program_of(
 // A policy's program in a layout.
 fn program_in(alloc: Global, layout: Layout, policy: &SeccompFilter) -> Result<BpfProgram, Fault>
     requires numbers { All IsTableNumber (numbers_of policy.now.chains) }
-    ensures program { IfOk result (λ found. IsProgramIn layout policy.now found.items) }
+    ensures program { IfOk result (λ found. IsCompiledIn layout policy.now found.items) }
     ensures refused { IfErr result (IsUncompiledIn layout policy.now) }
 {
-    match layout {
-        Layout::Linear => Ok(policy.to_bpf(alloc)?),
-        Layout::Tree => Ok(policy.to_tree_bpf(alloc)?),
-    }
+    Ok(policy.to_bpf_in(alloc, layout)?)
 }

@@ -6,7 +6,7 @@ use Rattle.seccompiler.specs.declared.backend.BackendError.{BackendError}
 use Rattle.seccompiler.specs.declared.backend.BackendError.TheVariants.{OutOfMemory}
 use Rattle.seccompiler.specs.declared.backend.TargetArch.{TargetArch}
 use Rattle.seccompiler.specs.declared.bpf.sock_filter.{sock_filter}
-use Rattle.seccompiler.specs.Compiled.{IsCompiled, Passes, IsCompilable}
+use Rattle.seccompiler.specs.Compiled.{IsCompiled, IsCompilable}
 use Rattle.seccompiler.specs.Policy.{Filter}
 use Rattle.seccompiler.specs.Tree.{IsTreeCompilable}
 use Rattle.seccomptool.specs.Steps.{IsMeasureOf, HasTree, FilterSteps, filter_lines}
@@ -36,7 +36,6 @@ pub record AreOfChains (target : TargetArch) (f : Filter) (m : Measure) : Type 0
   pub compilable : IsCompilable f
   pub program : List sock_filter
   pub compiled : IsCompiled f program
-  pub passes : Passes f program
   pub measure : IsMeasureOf target program m
 
 -- A measured filter as it came.

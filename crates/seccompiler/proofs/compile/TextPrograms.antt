@@ -48,7 +48,7 @@ module _ (arch : TargetArch) (d : Data) (find : List ℕ → Option Filter) (are
   -- The programs for the value's policies are the value's.
   pub are_programs : (found : List ℕ → Option (Vec sock_filter Global)) → AreProgramsFor find found → AreProgramsOf arch found d
   are_programs = all_found (HasPolicy arch) find d are Compiles _
-      (λ value policy program has made. record { policy = policy; is_policy = has; compiled = made.compiled; passes = made.passes })
+      (λ value policy program has made. record { policy = policy; is_policy = has; compiled = made.compiled })
 
   -- The least name's policy that is too large is that of the value.
   least_too_large : (n : ℕ) → (name : List ℕ) × IsLeastGiven (λ policy. IsTooLarge policy n) IsCompilable find name

@@ -111,6 +111,9 @@ module _ (f : Filter) (fits_mismatch : word_of f.mismatch_action < 2 ^ 32) (fits
   pub decided : (r : List ℕ) → (word_at r 4 ≡ arch_word) ⊎ (word_at r 4 ≢ arch_word)
   decided r = cases_eq (word_at r 4) arch_word
 
+  empty_passes : (p : List sock_filter) → f.chains ≡ [] → Passes f p
+  empty_passes p none = record { passes = λ some r rec same there. absurd (some none) }
+
   -- the program of a filter without chains
   pub empty_program : f.chains ≡ [] → IsCompiled f (guard ++ give mismatch_word ∷ [])
   empty_program none =
@@ -124,6 +127,7 @@ module _ (f : Filter) (fits_mismatch : word_of f.mismatch_action < 2 ^ 32) (fits
             (policy_differs same (λ m. let there = sym m.there ∙ ap (λ chains. chain_under chains (word_at r 0)) none in absurd (cc)) refl))
             (λ differs. ends_at f p r 0x80000000 (other_returns (give mismatch_word ∷ []) r rec differs) (other_architecture differs refl))
             (decided r);
+        passes = empty_passes p none;
       }
 
   -- the program of a filter with chains: the guard, a load of the call number, the chains, and a return
@@ -172,20 +176,6 @@ module _ (f : Filter) (fits_mismatch : word_of f.mismatch_action < 2 ^ 32) (fits
       (block_join front one (length front) 0 (length front) (block_join head chains 4 (length chains) (length front) head_block h.block (omega arith) (omega arith)) (block_give mismatch_word 0) (omega arith) (omega arith))
       (omega arith)
 
-  full_program : (chains : List sock_filter) → 0 < length f.chains → counted_length f ≤ greatest_length → IsChainsCode f.chains mismatch_word match_word chains → IsCompiled f (whole chains)
-  full_program chains some short h =
-      let counted = counted_some f.chains some in
-      let len : length (whole chains) ≡ 4 + (length chains + 1) = omega (arith, length-append chains (give mismatch_word ∷ [])) in
-      record {
-        long = omega (arith, h.long);
-        checked = whole_checked chains h (omega (arith, h.long));
-        decides = λ r rec.
-            ⊎_elim
-            (λ same. dispatched chains r rec same (h.dispatches r rec (word_at r 0) (word_fits r 0 rec)))
-            (λ differs. ends_at f (whole chains) r 0x80000000 (other_returns (load 0 ∷ (chains ++ give mismatch_word ∷ [])) r rec differs) (other_architecture differs refl))
-            (decided r);
-      }
-
   -- a record of this architecture whose number has no chain
   passed : (chains : List sock_filter) (r : List ℕ) → IsRecord r → word_at r 4 ≡ arch_word → chain_under f.chains (word_at r 0) ≡ None → Dispatches f.chains mismatch_word match_word chains r (word_at r 0) → Ends (whole chains) r (passing_steps f) mismatch_word
   passed chains r rec same none (in_chain chain there returns) = let found = sym there ∙ none in absurd (cc)
@@ -210,8 +200,20 @@ module _ (f : Filter) (fits_mismatch : word_of f.mismatch_action < 2 ^ 32) (fits
   full_passes : (chains : List sock_filter) → IsChainsCode f.chains mismatch_word match_word chains → Passes f (whole chains)
   full_passes chains h = record { passes = λ some r rec same none. passed chains r rec same none (h.dispatches r rec (word_at r 0) (word_fits r 0 rec)) }
 
-  empty_passes : (p : List sock_filter) → f.chains ≡ [] → Passes f p
-  empty_passes p none = record { passes = λ some r rec same there. absurd (some none) }
+  full_program : (chains : List sock_filter) → 0 < length f.chains → counted_length f ≤ greatest_length → IsChainsCode f.chains mismatch_word match_word chains → IsCompiled f (whole chains)
+  full_program chains some short h =
+      let counted = counted_some f.chains some in
+      let len : length (whole chains) ≡ 4 + (length chains + 1) = omega (arith, length-append chains (give mismatch_word ∷ [])) in
+      record {
+        long = omega (arith, h.long);
+        checked = whole_checked chains h (omega (arith, h.long));
+        decides = λ r rec.
+            ⊎_elim
+            (λ same. dispatched chains r rec same (h.dispatches r rec (word_at r 0) (word_fits r 0 rec)))
+            (λ differs. ends_at f (whole chains) r 0x80000000 (other_returns (load 0 ∷ (chains ++ give mismatch_word ∷ [])) r rec differs) (other_architecture differs refl))
+            (decided r);
+        passes = full_passes chains h;
+      }
 
 -- the word of an action has 32 bits
 pub action_word_fits : (a : SeccompAction) → word_of a < 2 ^ 32
@@ -258,7 +260,7 @@ counted_empty (x ∷ entries) chains e none = absurd (omega arith)
 
 -- the program of a filter with chains, as it was written
 pub written_full : (f : Filter) (entries : List (ℤ × Vec Rule Global)) (mismatch matched : ℕ) (chains p : List sock_filter) → Written f entries mismatch matched → 0 < length entries → counted_length f ≤ greatest_length → IsChainsCode (chains_of entries) mismatch matched chains
-    → p ≡ load 4 ∷ jump_equal (audit_word f.target_arch) 1 0 ∷ give 0x80000000 ∷ load 0 ∷ (chains ++ give mismatch ∷ []) → IsCompiled f p × Passes f p
+    → p ≡ load 4 ∷ jump_equal (audit_word f.target_arch) 1 0 ∷ give 0x80000000 ∷ load 0 ∷ (chains ++ give mismatch ∷ []) → IsCompiled f p
 written_full f entries mismatch matched chains p w some short code e =
     let fits_mismatch = action_word_fits f.mismatch_action in
     let fits_matched = action_word_fits f.match_action in
@@ -267,19 +269,15 @@ written_full f entries mismatch matched chains p w some short code e =
     (subst (λ n. IsChainsCode (chains_of entries) n (word_of f.match_action) chains) w.mismatch_is (subst (λ n. IsChainsCode (chains_of entries) mismatch n chains) w.matched_is code)) in
     let same = ap (λ (n : ℕ). load 4 ∷ jump_equal (audit_word f.target_arch) 1 0 ∷ give 0x80000000 ∷ load 0 ∷ (chains ++ give n ∷ [])) w.mismatch_is in
     let some_chains = some_mapped entries f.chains w.chains some in
-    subst (λ q. IsCompiled f q × Passes f q) (sym (e ∙ same))
-    (full_program f fits_mismatch fits_matched fits_arch chains some_chains short own, full_passes f fits_mismatch fits_matched fits_arch chains own)
+    subst (λ q. IsCompiled f q) (sym (e ∙ same)) (full_program f fits_mismatch fits_matched fits_arch chains some_chains short own)
 
 -- the program of a filter without chains, as it was written
 pub written_empty : (f : Filter) (entries : List (ℤ × Vec Rule Global)) (mismatch matched : ℕ) (p : List sock_filter) → Written f entries mismatch matched → length entries ≡ 0
-    → p ≡ load 4 ∷ jump_equal (audit_word f.target_arch) 1 0 ∷ give 0x80000000 ∷ give mismatch ∷ [] → IsCompiled f p × Passes f p
+    → p ≡ load 4 ∷ jump_equal (audit_word f.target_arch) 1 0 ∷ give 0x80000000 ∷ give mismatch ∷ [] → IsCompiled f p
 written_empty f [] mismatch matched p w none e =
     let fits_mismatch = action_word_fits f.mismatch_action in
     let fits_matched = action_word_fits f.match_action in
     let fits_arch = audit_word_fits f.target_arch in
     let same = ap (λ (n : ℕ). load 4 ∷ jump_equal (audit_word f.target_arch) 1 0 ∷ give 0x80000000 ∷ give n ∷ []) w.mismatch_is in
-    subst (λ q. IsCompiled f q × Passes f q) (sym (e ∙ same)) (empty_program f fits_mismatch fits_matched fits_arch (sym w.chains), empty_passes f fits_mismatch fits_matched fits_arch p' (sym w.chains))
-  where
-    p' : List sock_filter
-    p' = load 4 ∷ jump_equal (audit_word f.target_arch) 1 0 ∷ give 0x80000000 ∷ give (word_of f.mismatch_action) ∷ []
+    subst (λ q. IsCompiled f q) (sym (e ∙ same)) (empty_program f fits_mismatch fits_matched fits_arch (sym w.chains))
 written_empty f (x ∷ entries) mismatch matched p w none e = absurd (omega arith)

@@ -62,8 +62,10 @@ module _ (target : TargetArch) (table : IsCallTable (table_of target)) where
         compiled = of.compiled;
         measure = of.measure;
         passing = λ some r record_is own lacks.
-            let steps = (of.measure.only (passing_steps f) (word_of f.mismatch_action) (of.passes.passes some (passing_record target) (is_record target) (its_word target ∙ arch) none)).0 in
-            subst (λ n. Ends of.program r n (word_of f.mismatch_action)) steps (of.passes.passes some r record_is (own ∙ arch) lacks);
+            let steps = (of.measure.only (passing_steps f) (word_of f.mismatch_action)
+            (of.compiled.passes.passes some (passing_record target) (is_record target) (its_word target ∙ arch) none)).0 in
+            subst (λ n. Ends of.program r n (word_of f.mismatch_action)) steps
+            (of.compiled.passes.passes some r record_is (own ∙ arch) lacks);
       }
 
   -- The lines of a measured filter are those of the value of its name.

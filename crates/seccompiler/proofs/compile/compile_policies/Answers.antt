@@ -24,7 +24,7 @@ loop-name-preserved c =
     let of = c.in_ok-to_bpf.ensures in
     let added : c.push.new.self.items ≡ l.found.items ++ entry ∷ [] = c.in_ok-push.ensures.items in
     let made = made_more Compiles l.yielded l.found.items e entry l.invariant.made refl
-    (record { compilable = of.compilable; compiled = of.compiled; passes = of.passes }) in
+    (record { compilable = of.compilable; compiled = of.compiled }) in
     record {
       all = l.invariant.all ∙ ap (λ es. l.yielded ++ es) c.in-Some.ensures.steps ∙ sym (append_assoc l.yielded (e ∷ []) c.next.new.self);
       made = subst (AreMade Compiles (l.yielded ++ e ∷ [])) (sym added) made;

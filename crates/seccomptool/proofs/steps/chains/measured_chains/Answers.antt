@@ -27,7 +27,6 @@ loop-name-preserved c =
       compilable = of.compilable;
       program = c.in_ok-program.program.items;
       compiled = of.compiled;
-      passes = of.passes;
       measure = rw c.deref.ensures.value at c.in_ok-measure.ensures;
     } in
     record {

@@ -18,6 +18,20 @@ POLICY = r'''{"a": {"mismatch_action": {"errno": 1}, "match_action": "allow", "f
     {"syscall": "fcntl", "args": [{"index": 1, "type": "dword", "op": "eq", "val": 2}]}
 ]}}'''
 
+# Entries of one call, of which the second and the third come furthest, and a name that is written with its numbers.
+NEAR = r'''{"n\u0007": {"mismatch_action": "trap", "match_action": {"trace": 65538}, "filter": [
+    {"syscall": "fcntl", "args": [{"index": 1, "type": "dword", "op": "eq", "val": 1}]},
+    {"syscall": "fcntl", "args": [
+        {"index": 1, "type": "dword", "op": "eq", "val": 2},
+        {"index": 2, "type": "dword", "op": "eq", "val": 1}
+    ]},
+    {"syscall": "fcntl", "args": [
+        {"index": 1, "type": "dword", "op": "eq", "val": 2},
+        {"index": 2, "type": "dword", "op": "eq", "val": 3}
+    ]},
+    {"syscall": "close", "args": [{"index": 0, "type": "qword", "op": "gt", "val": 2}]}
+]}}'''
+
 # No call of aarch64 has this name.
 OPENS = '{"a":{"mismatch_action":"log","match_action":"allow","filter":[{"syscall":"open"}]}}'
 
@@ -31,27 +45,39 @@ MANY_CONDITIONS = (
 FILES = {
     "explained.json": POLICY,
     "explained-logs.json": LOGS,
+    "near.json": NEAR,
     "opens.json": OPENS,
     "many-conditions.json": MANY_CONDITIONS,
 }
 
 # Calls of x86_64 by their numbers and first three arguments, and the lines of the policy on them.
 LINES = [
-    (288, (0, 0, 0), "7fff0000 entry 0, rule 0 of call 288\n"),
-    (72, (9, 2, 1), "7fff0000 entry 1, rule 0 of call 72\n"),
-    (72, (9, 1, 1), "7fff0000 entry 2, rule 1 of call 72\n"),
-    (72, (9, 2, 0), "7fff0000 entry 5, rule 2 of call 72\n"),
-    (72, (9, 3, 1), "00050001 no match among 3 entries of call 72\n"),
-    (3, (3, 0, 0), "7fff0000 entry 3, rule 0 of call 3\n"),
-    (3, (2, 0, 0), "7fff0000 entry 4, rule 1 of call 3\n"),
-    (0, (0, 0, 0), "00050001 no entry of call 0\n"),
-    (4294967295, (0, 0, 0), "00050001 no entry of call 4294967295\n"),
+    (288, (0, 0, 0), "allow: a.filter[0] (accept4)\n"),
+    (72, (9, 2, 1), "allow: a.filter[1] (fcntl)\n"),
+    (72, (9, 1, 1), "allow: a.filter[2] (fcntl)\n"),
+    (72, (9, 2, 0), "allow: a.filter[5] (fcntl)\n"),
+    (72, (9, 3, 1),
+     "errno 1: no match: a.filter[1].args[0] (fcntl) does not hold, the nearest of 3 entries\n"),
+    (3, (3, 0, 0), "allow: a.filter[3] (close)\n"),
+    (3, (2, 0, 0), "allow: a.filter[4] (close)\n"),
+    (0, (0, 0, 0), "errno 1: no entry of call 0\n"),
+    (4294967295, (0, 0, 0), "errno 1: no entry of call 4294967295\n"),
 ]
 
-ANOTHER = "80000000 another architecture\n"
+# The same of the other policy: the nearest miss is that of the condition furthest behind, and the first of these.
+NEAR_LINES = [
+    (72, (9, 1, 0), r"trace 2: n\x07.filter[0] (fcntl)" "\n"),
+    (72, (9, 2, 0),
+     r"trap: no match: n\x07.filter[1].args[1] (fcntl) does not hold, the nearest of 3 entries" "\n"),
+    (72, (9, 4, 0),
+     r"trap: no match: n\x07.filter[0].args[0] (fcntl) does not hold, the nearest of 3 entries" "\n"),
+    (3, (2, 0, 0), r"trap: no match: n\x07.filter[3].args[0] (close) does not hold" "\n"),
+]
+
+ANOTHER = "kill_process: another architecture\n"
 TWO_RECORDS = record_of(1, X86_64) + record_of(72, 0)
-TWO_LINES = "7ffc0000 no entry of call 1\n" + ANOTHER
-EXAMPLE_LINES = "7ffc0000 no entry of call 72\n" * 3 + "7ffc0000 no entry of call 5\n" + ANOTHER
+TWO_LINES = "log: no entry of call 1\n" + ANOTHER
+EXAMPLE_LINES = "log: no entry of call 72\n" * 3 + "log: no entry of call 5\n" + ANOTHER
 
 SHORT = "The input ends inside a record, after 1 bytes of it.\n"
 NO_FILTER = "No filter has this name: b.\n"
@@ -64,6 +90,8 @@ CASES = [
     # `explain` tells the decision and the reason.
     *[writes("explain X86_64 explained.json a", record_of(number, X86_64, *arguments), line)
       for number, arguments, line in LINES],
+    *[writes("explain x86_64 near.json n\a", record_of(number, X86_64, *arguments), line)
+      for number, arguments, line in NEAR_LINES],
     ("explain x86_64 logs.json a < examples/records.bin", 0, EXAMPLE_LINES, ""),
     # `explain` tells another architecture.
     *[writes(f"explain {arch} explained.json a", record_of(72, word, 9, 2, 1), ANOTHER)

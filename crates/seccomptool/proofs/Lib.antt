@@ -4,3 +4,4 @@ pub mod Pairs
 pub mod Readings
 pub mod Faults
 pub mod Found
+pub mod JsonRefusals

@@ -1,3 +1,4 @@
 -- Lemmas for the functions of `explain`.
+pub mod Ascending
 pub mod EntrySearches
 pub mod Explanations

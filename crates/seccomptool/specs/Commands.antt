@@ -2,6 +2,7 @@
 use Rattle.std.specs.Prelude.{ℕ, List, Option, Some, None, Result, Ok, Err, codes, ⊤}
 use Rattle.std.specs.Io.KnownBytes.{Appends}
 use Rattle.seccomptool.specs.declared.error.ToolError.{ToolError}
+use Rattle.seccomptool.specs.declared.explain.format.LineFormat.TheVariants.{Path}
 use Rattle.seccomptool.specs.declared.perform.TheConstants.{HELP}
 use Rattle.seccomptool.specs.declared.words.Command.{Command}
 use Rattle.seccomptool.specs.declared.words.Command.TheVariants.{Help, Version, Raw, Show, Steps, Widened, Lint, Explain, Record}
@@ -20,7 +21,7 @@ AnswersText text (Ok done) old new = Appends old new text
 AnswersText text (Err e) old new = IsWriteError e
 
 -- The answer of a command, where FILE has these bytes and standard input those. That of `explain` is of the policy in
--- FILE and of the records of the input, and that of each other one that reads of the policy of the input.
+-- FILE and of the records of the input, in lines with paths, and that of each other one that reads of the policy of the input.
 abbrev pub AnswersCommand : Command → (file input : Option (List ℕ)) → Result ⊤ ToolError → (old new : Option (List ℕ)) → Type 0
 AnswersCommand Help file input answer old new = AnswersText HELP.now answer old new
 AnswersCommand Version file input answer old new = AnswersText (codes "seccomptool 0.5.0\n") answer old new
@@ -29,7 +30,7 @@ AnswersCommand (Show arch layout) file input answer old new = AnswersShow arch.n
 AnswersCommand (Steps arch) file input answer old new = AnswersSteps arch.now input answer old new
 AnswersCommand (Widened arch) file input answer old new = AnswersWidened arch.now input answer old new
 AnswersCommand (Lint arch) file input answer old new = AnswersLint arch.now input answer
-AnswersCommand (Explain arch named name) file input answer old new = AnswersExplain arch.now file name.now input answer old new
+AnswersCommand (Explain arch named name) file input answer old new = AnswersExplain Path arch.now file name.now input answer old new
 AnswersCommand (Record arch call arguments) file input answer old new = AnswersRecord arch.now call.now arguments answer old new
 
 -- The path of the file that a command reads.

@@ -11,9 +11,11 @@ use Rattle.seccompiler.specs.declared.error.Error.{Error}
 use Rattle.seccompiler.specs.declared.error.Error.TheVariants as library
 use Rattle.seccompiler.specs.declared.json.error.JsonFrontendError.TheVariants as json
 use Rattle.seccompiler.specs.Errors.{IsNoMemoryInside}
-use Rattle.seccompiler.specs.JsonAnswers.{OfValue}
+use Rattle.seccompiler.specs.JsonAnswers.{HasPolicy, OfValue}
 use Rattle.seccompiler.specs.JsonPrograms.{TellsFirstFault}
+use Rattle.seccompiler.specs.Policy.{Filter}
 use Rattle.seccompiler.specs.Reads.{Reads}
+use Rattle.seccompiler.specs.Compiled.{IsCompilable}
 use Rattle.seccompiler.specs.Architecture.{arch_text}
 use Rattle.seccomptool.specs.declared.error.ToolError.{ToolError}
 use Rattle.seccomptool.specs.declared.error.ToolError.TheVariants.{Library, OutOfMemory}
@@ -29,6 +31,10 @@ NamesArchitecture text = (target : TargetArch) × IsNameOf text target
 -- The text names an architecture, and the policy's text is of a value; P holds of both.
 abbrev pub OfPolicy : List ℕ → Option (List ℕ) → (TargetArch → Data → Type 0) → Type 0
 OfPolicy arch known P = (target : TargetArch) × IsNameOf arch target × Reads known (λ text. OfValue text (P target))
+
+-- The value has a policy on this architecture that can be compiled.
+abbrev pub HasCompilable : TargetArch → Data → Type 0
+HasCompilable target value = (policy : Filter) × HasPolicy target value policy × IsCompilable policy
 
 -- The text names no architecture, and the error tells it as it was given.
 pub record IsNoArchitecture (arch : List ℕ) (e : Error) : Type 0 where

@@ -1,66 +1,92 @@
--- Why a filter decides a record as it does: the reasons, and their texts.
-use Rattle.std.specs.Prelude.{◌≡◌, ◌≢◌, ℕ, pos, ◌≤◌, List, ◌++◌, take, slice_get, Some, All, IfSome, count_by, codes, decimal}
+-- Why a filter decides a record as it does: the reasons, and their texts in numbers.
+use Rattle.std.specs.Prelude.{◌≡◌, ◌≢◌, ℕ, pos, ◌+◌, ◌<◌, List, [], ◌∷◌, ◌++◌, length, take, slice_get, Some, All, IfSome, codes, decimal}
+use Rattle.seccompiler.specs.declared.backend.SeccompAction.{SeccompAction}
+use Rattle.seccompiler.specs.declared.backend.SeccompAction.TheVariants.{KillProcess}
 use Rattle.seccompiler.specs.declared.backend.TargetArch.{TargetArch}
+use Rattle.seccompiler.specs.declared.json.types.JsonCondition.{JsonCondition}
 use Rattle.seccompiler.specs.Architecture.{audit_word}
-use Rattle.seccompiler.specs.Policy.{word_of, Holds}
-use Rattle.seccompiler.specs.JsonPolicyOf.{condition_of, is_for, IsFor}
+use Rattle.seccompiler.specs.Policy.{Holds}
+use Rattle.seccompiler.specs.JsonOrigins.{AreIndicesFor}
+use Rattle.seccompiler.specs.JsonPolicyOf.{condition_of}
 use Rattle.seccompiler.specs.JsonTypes.{JsonRule, JsonFilter}
 use Rattle.seccompiler.specs.Machine.{word_at}
+use Rattle.seccomptool.specs.declared.explain.reason.Miss.{Miss}
 use Rattle.seccomptool.specs.declared.explain.reason.Reason.{Reason}
 use Rattle.seccomptool.specs.declared.explain.reason.Reason.TheVariants.{AnotherArchitecture, NoEntry, NoMatch, Entry}
 
+-- The condition holds on the record.
+abbrev pub ConditionHolds : List ℕ → JsonCondition → Type 0
+ConditionHolds r condition = Holds (condition_of condition) r
+
 -- The entry has no conditions, or each of them holds on the record.
 abbrev pub EntryHolds : JsonRule → List ℕ → Type 0
-EntryHolds entry r = IfSome entry.conditions (λ conditions. All (λ c. Holds (condition_of c) r) conditions)
+EntryHolds entry r = IfSome entry.conditions (λ conditions. All (ConditionHolds r) conditions)
 
--- The entry is for the record's call, and matches by itself.
-abbrev pub MatchesAlone : TargetArch → List ℕ → JsonRule → Type 0
-MatchesAlone target r entry = IsFor target (pos (word_at r 0)) entry × EntryHolds entry r
+-- Of these conditions the first that doesn't hold on the record stands at this place, from 0.
+pub record FirstFails (conditions : List JsonCondition) (r : List ℕ) (place : ℕ) : Type 0 where
+  pub condition : JsonCondition
+  pub there : slice_get conditions place ≡ Some condition
+  pub fails : ConditionHolds r condition → ⊥
+  pub before : All (ConditionHolds r) (take place conditions)
 
--- How many of these entries are for the record's call.
-abbrev pub entries_for : TargetArch → List ℕ → List JsonRule → ℕ
-entries_for target r entries = count_by (is_for target (pos (word_at r 0))) entries
+-- Of the entry's conditions the first that doesn't hold stands at this place.
+abbrev pub EntryFails : JsonRule → List ℕ → ℕ → Type 0
+EntryFails entry r place = (conditions : List JsonCondition) × (entry.conditions ≡ Some conditions) × FirstFails conditions r place
 
--- No entry is for the record's call, which has this number.
-pub record IsNoEntry (target : TargetArch) (entries : List JsonRule) (r : List ℕ) (number : ℕ) : Type 0 where
-  pub call : number ≡ word_at r 0
-  pub none : entries_for target r entries ≡ 0
+-- There is an entry with this index, from 0, and P holds of it.
+abbrev pub OfEntry : (JsonRule → Type 0) → List JsonRule → ℕ → Type 0
+OfEntry P entries index = (entry : JsonRule) × (slice_get entries index ≡ Some entry) × P entry
 
--- So many entries, one or more, are for the record's call, which has this number, and none of them matches.
-pub record IsNoMatch (target : TargetArch) (entries : List JsonRule) (r : List ℕ) (count number : ℕ) : Type 0 where
-  pub call : number ≡ word_at r 0
-  pub counted : count ≡ entries_for target r entries
-  pub some : 1 ≤ count
-  pub none : All (λ entry. MatchesAlone target r entry → ⊥) entries
+-- The first condition of the entry with this index that doesn't hold stands at a place below the bound.
+abbrev pub FailsBelow : List JsonRule → List ℕ → ℕ → ℕ → Type 0
+FailsBelow entries r bound index = OfEntry (λ entry. (place : ℕ) × EntryFails entry r place × (place < bound)) entries index
 
--- The entry at this place is the first that is for the record's call, which has this number, and matches by itself; so
--- many in front of it are for the call.
-pub record IsFirstMatch (target : TargetArch) (entries : List JsonRule) (r : List ℕ) (place rule number : ℕ) : Type 0 where
-  pub call : number ≡ word_at r 0
-  pub entry : JsonRule
-  pub there : slice_get entries place ≡ Some entry
-  pub matches : MatchesAlone target r entry
-  pub first : All (λ before. MatchesAlone target r before → ⊥) (take place entries)
-  pub among : rule ≡ entries_for target r (take place entries)
+-- None of the entries with these indices matches, and this is the nearest miss: of its entry the first condition that
+-- doesn't hold stands at its place; those of the entries in front stand lower, and those of the entries behind no higher.
+pub record IsNearest (entries : List JsonRule) (r : List ℕ) (indices : List ℕ) (miss : Miss) : Type 0 where
+  pub front : List ℕ
+  pub back : List ℕ
+  pub whole : indices ≡ front ++ miss.entry ∷ back
+  pub fails : OfEntry (λ entry. EntryFails entry r miss.condition) entries miss.entry
+  pub before : All (FailsBelow entries r miss.condition) front
+  pub behind : All (FailsBelow entries r (miss.condition + 1)) back
+
+-- Of the entries with these indices, the first that matches has the index at `place`, and so many stand in front of it.
+pub record IsFirstMatch (entries : List JsonRule) (r : List ℕ) (indices : List ℕ) (place rule : ℕ) : Type 0 where
+  pub there : slice_get indices rule ≡ Some place
+  pub matches : OfEntry (λ entry. EntryHolds entry r) entries place
+  pub before : All (OfEntry (λ entry. EntryHolds entry r → ⊥) entries) (take rule indices)
+
+-- This is why a filter of these entries decides a record of its own architecture as it does, where those of the record's
+-- call are the entries with these indices.
+abbrev pub IsReasonAmong : List JsonRule → List ℕ → List ℕ → Reason → Type 0
+IsReasonAmong entries r indices AnotherArchitecture = ⊥
+IsReasonAmong entries r indices (NoEntry number) = (number ≡ word_at r 0) × (indices ≡ [])
+IsReasonAmong entries r indices (NoMatch count number nearest) =
+    (number ≡ word_at r 0) × (count ≡ length indices) × IsNearest entries r indices nearest
+IsReasonAmong entries r indices (Entry place rule number) = (number ≡ word_at r 0) × IsFirstMatch entries r indices place rule
+
+-- The same, and the indices are those of the entries of the record's call.
+abbrev pub IsReasonOfCall : TargetArch → List JsonRule → List ℕ → Reason → Type 0
+IsReasonOfCall target entries r reason =
+    (indices : List ℕ) × AreIndicesFor target entries (pos (word_at r 0)) indices × IsReasonAmong entries r indices reason
 
 -- This is why a filter of these entries decides the record as it does.
-abbrev pub IsReason : TargetArch → List JsonRule → List ℕ → Reason → Type 0
-IsReason target entries r AnotherArchitecture = word_at r 4 ≢ audit_word target
-IsReason target entries r (NoEntry number) = (word_at r 4 ≡ audit_word target) × IsNoEntry target entries r number
-IsReason target entries r (NoMatch count number) = (word_at r 4 ≡ audit_word target) × IsNoMatch target entries r count number
-IsReason target entries r (Entry place rule number) = (word_at r 4 ≡ audit_word target) × IsFirstMatch target entries r place rule number
+pub data IsReason (target : TargetArch) (entries : List JsonRule) (r : List ℕ) (reason : Reason) : Type 0 where
+  of_another : word_at r 4 ≢ audit_word target → reason ≡ AnotherArchitecture → IsReason target entries r reason
+  of_call : word_at r 4 ≡ audit_word target → IsReasonOfCall target entries r reason → IsReason target entries r reason
 
--- The word of a filter's decision for this reason: that of killing the process on another architecture, of the match
--- action for an entry that matches, else of the mismatch action.
-abbrev pub reason_word : JsonFilter → Reason → ℕ
-reason_word j AnotherArchitecture = 0x80000000
-reason_word j (NoEntry number) = word_of j.mismatch_action
-reason_word j (NoMatch count number) = word_of j.mismatch_action
-reason_word j (Entry place rule number) = word_of j.match_action
+-- The action of a filter for this reason: that of killing the process on another architecture, the match action for an
+-- entry that matches, else the mismatch action.
+abbrev pub reason_action : JsonFilter → Reason → SeccompAction
+reason_action j AnotherArchitecture = KillProcess
+reason_action j (NoEntry number) = j.mismatch_action
+reason_action j (NoMatch count number nearest) = j.mismatch_action
+reason_action j (Entry place rule number) = j.match_action
 
--- The reason in words.
+-- The reason in numbers.
 abbrev pub reason_text : Reason → List ℕ
 reason_text AnotherArchitecture = codes "another architecture"
 reason_text (NoEntry number) = codes "no entry of call " ++ decimal number
-reason_text (NoMatch count number) = codes "no match among " ++ decimal count ++ codes " entries of call " ++ decimal number
+reason_text (NoMatch count number nearest) = codes "no match among " ++ decimal count ++ codes " entries of call " ++ decimal number
 reason_text (Entry place rule number) = codes "entry " ++ decimal place ++ codes ", rule " ++ decimal rule ++ codes " of call " ++ decimal number

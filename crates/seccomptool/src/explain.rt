@@ -1,9 +1,11 @@
 // What a filter of a policy decides on records, and why.
 
 mod filters;
+pub mod format;
 mod lines;
 mod reason;
 mod records;
+mod search;
 
 ghost use Rattle.std.specs.Prelude.{IfErr};
 ghost use Rattle.seccomptool.specs.Errors.{KeepsOutput};
@@ -11,6 +13,7 @@ ghost use Rattle.seccomptool.specs.Explain.{AnswersExplain};
 
 use crate::error::ToolError;
 use crate::explain::filters::usable_filters;
+use crate::explain::format::LineFormat;
 use crate::explain::records::explain_records;
 use seccompiler::{JsonCompiler, TargetArch};
 use std::alloc::Global;
@@ -19,20 +22,36 @@ use std::io::{Read, Write};
 /// Explains what a policy's filter decides on records: for each whole record of 64 bytes a line with
 /// the decision and the reason.
 ///
-/// A line is the word that the policy names for the record, in 8 lower-case hexadecimal digits, a
-/// space, the reason, and a line feed. The reason is the first of these that is so, N being the
-/// record's call number and all numbers decimal:
+/// The reason is the first of these that is so:
 ///
-/// - `another architecture`, where the record is not of the architecture;
-/// - `no entry of call N`, where no entry of the filter is for the call;
-/// - `no match among K entries of call N`, where K entries are for it and none of them matches;
-/// - `entry I, rule J of call N`: entry I of the filter's list is the first that is for the call and
-///   matches by itself, and J entries in front of it are for the call. An entry matches by itself where
-///   it has no conditions, or where each of them holds.
+/// - the record is of another architecture;
+/// - no entry of the filter is for the record's call;
+/// - entries are for it, and an entry matches by itself: the first of these is the reason. An entry
+///   matches by itself where it has no conditions, or where each of them holds;
+/// - entries are for it, and none of them matches. In each of them a condition is the first that does not
+///   hold; of these the nearest miss is the one that stands furthest behind in its entry, and of several
+///   the first.
 ///
-/// The policy is read to its end and its filters are compiled, and the filter under `name` looked up,
-/// before the records are read; all records are read before the first line is written, and all lines
-/// are written at once.
+/// A line of `LineFormat::Path` is for people: the action by its name in a policy, with the low 16 bits of
+/// its number, if it has one, a colon, a space, the reason, and a line feed. Paths are those of the
+/// policy, with places from 0. In NAME, the filter's, the control characters, those from U+0080 to U+009F
+/// too, and the backslash are written as `\x` and two lower-case hexadecimal digits for each of their
+/// bytes, all others as they are. CALL is the name of the entry's call. In this order the reasons are
+///
+/// - `another architecture`;
+/// - `no entry of call N`, N being the record's call number;
+/// - `NAME.filter[I] (CALL)`, entry I being the reason;
+/// - `no match: NAME.filter[I].args[C] (CALL) does not hold`, condition C of entry I being the nearest
+///   miss, and behind it `, the nearest of K entries` where K entries are for the call, and K is above 1.
+///
+/// A line of `LineFormat::Word` is for scripts: the return value in 8 lower-case hexadecimal digits, a
+/// space, the reason in numbers, and a line feed. In this order the reasons are `another architecture`;
+/// `no entry of call N`; `entry I, rule J of call N`, where J entries in front of entry I are for the call;
+/// and `no match among K entries of call N`. All numbers are decimal.
+///
+/// The policy is read once, to its end, and all of its filters are looked at: each must be one that
+/// `compile_from_json` compiles. Then the filter under `name` is looked up, before the records are read.
+/// All records are read before the first line is written, and all lines are written at once.
 ///
 /// The policy's text and the records are what their readers give; of a reader whose type doesn't tell
 /// its bytes, as a file's, the contract says that there are such bytes.
@@ -48,6 +67,7 @@ use std::io::{Read, Write};
 /// want of memory. On any error but `Write` and `ShortRecord` nothing is written.
 pub fn explain<P: Read + Drop, R: Read + Drop, W: Write>(
     alloc: Global,
+    format: LineFormat,
     arch: &str,
     policy: P,
     name: &str,
@@ -55,7 +75,7 @@ pub fn explain<P: Read + Drop, R: Read + Drop, W: Write>(
     out: &mut W,
 ) -> Result<(), ToolError>
     // When each answer comes, and what is written.
-    ensures answers { AnswersExplain arch.now (P.remaining policy) name.now (R.remaining records) result (W.contents out.old) (W.contents out.new) }
+    ensures answers { AnswersExplain format arch.now (P.remaining policy) name.now (R.remaining records) result (W.contents out.old) (W.contents out.new) }
     ensures unwritten { IfErr result (λ e. KeepsOutput e out.old out.new) }
 {
     let target = TargetArch::from_text(alloc, arch)?;
@@ -63,6 +83,6 @@ pub fn explain<P: Read + Drop, R: Read + Drop, W: Write>(
     let Some(filter) = filters.0.get(name) else {
         return Err(ToolError::NoFilter(String::from_str(alloc, name)?));
     };
-    let policy = JsonCompiler::new(target).make_seccomp_filter(alloc, filter)?;
-    explain_records(alloc, target, filter, &policy, records, out)
+    let made = JsonCompiler::new(target).make_with_origins(alloc, filter)?;
+    explain_records(alloc, format, target, name, filter, &made, records, out)
 }

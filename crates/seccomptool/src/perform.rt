@@ -6,6 +6,7 @@ ghost use Rattle.seccomptool.specs.Errors.{KeepsOutput};
 
 use crate::error::ToolError;
 use crate::explain::explain;
+use crate::explain::format::LineFormat;
 use crate::lint::lint;
 use crate::raw::raw;
 use crate::record::record;
@@ -72,7 +73,7 @@ pub fn perform<F: Read + Drop, I: Read + Drop, W: Write>(
             arch,
             file: _,
             name,
-        } => explain(alloc, arch, file, name, input, out),
+        } => explain(alloc, LineFormat::Path, arch, file, name, input, out),
         Command::Record {
             arch,
             call,

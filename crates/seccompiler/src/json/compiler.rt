@@ -122,6 +122,12 @@ impl JsonCompiler {
         ensures chains { IfOk result (λ made. AreOfChains made.filter made.origins) }
         ensures numbers { IfOk result (λ made. All IsTableNumber (numbers_of made.filter.chains)) }
         ensures refusal { IfErr result (IsPolicyRefusal self.now filter.now) }
+
+        // Each JSON filter has a policy or a first fault, and never both.
+        ensures not_both { (f : Filter) (fault : Fault) → IsPolicyOf self.now filter.now f → IsFirstFault self.now filter.now fault → ⊥ }
+
+        // Off the numbers that have both kinds of entries, the Rust crate's policy decides alike.
+        ensures alike { (numbers : List ℤ) → ((number : ℤ) → Contains numbers number ↔ IsWidened self.now filter.now number) → DecideAlikeOff numbers self.now filter.now }
     {
         let made = self.make_seccomp_filter(alloc, filter)?;
         let origins = origins_of(alloc, self.arch, filter.rules.as_slice())?;

@@ -1,22 +1,31 @@
--- For `all_hold`, `reason_on_target`, `reason_of` and `lines`: what a search for the first entry that matches has shown,
--- and that there is one reason.
-use Rattle.std.proofs.Common.{◌≡◌, ℕ, ℤ, pos, ◌+◌, ◌<◌, ◌≤◌, List, length, take, get_or, cond, Option, Some, None, Bool, true, false, refl, sym, subst, ap, ◌∙◌, inl, inr, length-take-le, arith}
-use Rattle.std.specs.Prelude.{All, slice_get, count_by}
-use Rattle.std.proofs.lemmas.Bool.{true≢false, cases_lt}
-use Rattle.std.proofs.lemmas.Bool.Decides.{Decides-int_eq}
+-- For `first_failing`, `reason_among`, `reason_on_target` and `reason_of`: what a search among the entries of a call has
+-- shown, and that there is one reason.
+use Rattle.std.proofs.Common.{◌≡◌, ◌↔◌, ℕ, zero, suc, ℤ, pos, ◌+◌, ◌<◌, ◌≤◌, List, [], ◌∷◌, ◌++◌, length, take, get_or, Option, Some, None, Bool, true, false, nat_le, refl, sym, subst, ap, ◌∙◌, inl, inr, append_assoc, length-append, length-take-le, arith}
+use Rattle.std.specs.Prelude.{All, Any, Contains, IfSome, Vec, slice_get}
+use Rattle.std.specs.BTreeMap.{BTreeMap}
+use Rattle.std.specs.List.{list_any}
+use Rattle.std.specs.declared.alloc.Global.{Global}
+use Rattle.std.proofs.Math.Seq.{take-append_seam}
+use Rattle.std.proofs.lemmas.Bool.{true≢false, cases_Bool, cases_lt}
+use Rattle.std.proofs.lemmas.Bool.Decides.{Decides-int_eq, nat_tests}
 use Rattle.std.proofs.lemmas.List.{take_all, get_or-take}
-use Rattle.std.proofs.lemmas.List.Elements.{All-more, All-same}
-use Rattle.std.proofs.lemmas.List.Sums.{count_by_more_no, count_by_more_yes, get_or-le-sum_by}
-use Rattle.std.proofs.lemmas.Option.{get_or_from_slice_get, slice_get_within}
+use Rattle.std.proofs.lemmas.List.Elements.{All-append, All-cons, All-contains_itself, All-head, All-nil, All-push, All-same, All-tail, All-weaker, Contains-append_right}
+use Rattle.std.proofs.lemmas.List.Folds.{Any-from_list_any, list_any-from_Any}
+use Rattle.std.proofs.lemmas.Option.{get_or_from_slice_get, slice_get_within, slice_get-get_or}
 use Rattle.seccompiler.specs.declared.backend.TargetArch.{TargetArch}
+use Rattle.seccompiler.specs.declared.json.types.JsonCondition.{JsonCondition}
+use Rattle.seccompiler.specs.JsonOrigins.{AreIndicesFor, AreOrigins, IsIndexFor, indices_at}
 use Rattle.seccompiler.specs.JsonPolicyOf.{is_for, is_number, IsFor}
 use Rattle.seccompiler.specs.JsonTypes.{JsonRule}
 use Rattle.seccompiler.specs.Machine.{word_at}
 use Rattle.seccompiler.specs.Architecture.{table_of}
 use Rattle.seccompiler.specs.SyscallTable.{number_of}
+use Rattle.seccomptool.specs.declared.explain.reason.Miss.{Miss}
 use Rattle.seccomptool.specs.declared.explain.reason.Reason.{Reason}
 use Rattle.seccomptool.specs.declared.explain.reason.Reason.TheVariants.{AnotherArchitecture, NoEntry, NoMatch, Entry}
-use Rattle.seccomptool.specs.Reasons.{EntryHolds, MatchesAlone, entries_for, IsFirstMatch, IsReason}
+use Rattle.seccomptool.specs.ExplainSteps.{HasPlaces, nearer}
+use Rattle.seccomptool.specs.Reasons.{ConditionHolds, EntryHolds, EntryFails, FirstFails, OfEntry, FailsBelow, IsNearest, IsFirstMatch, IsReasonAmong, IsReason, of_another, of_call}
+use Rattle.seccomptool.proofs.explain.Ascending.{nothing_ascends, same_indices}
 
 -- ---- lists
 
@@ -26,7 +35,7 @@ module _ {X : Type 0} (P : X → Type 0) (xs : List X) where
   whole i long so_far = All-same P xs (take i xs) (sym (take_all i xs long)) so_far
 
   -- What holds of each item holds of the one at a place.
-  at_place : (i : ℕ) (x : X) → slice_get xs i ≡ Some x → All P xs → P x
+  pub at_place : (i : ℕ) (x : X) → slice_get xs i ≡ Some x → All P xs → P x
   at_place i x there all = subst P (get_or_from_slice_get xs i x x there) (all i x (slice_get_within xs i x there))
 
   -- What holds of the first items holds of the one at a place among them.
@@ -36,12 +45,18 @@ module _ {X : Type 0} (P : X → Type 0) (xs : List X) where
     | inr room ↦ subst P (get_or-take n xs i x less ∙ get_or_from_slice_get xs i x x there) (all i x (omega (arith, less, length-take-le n xs room)))
   ]
 
--- An item that counts is counted.
-pub counted_one : {X : Type 0} (p : X → Bool) (xs : List X) (i : ℕ) (x : X) → slice_get xs i ≡ Some x → p x ≡ true → 1 ≤ count_by p xs
-counted_one p xs i x there passes =
-    let least = get_or-le-sum_by (λ y. cond (p y) 1 0) xs i x (slice_get_within xs i x there) in
-    let one : ◌≡◌ {A = ℕ} (cond (p (get_or xs i x)) 1 0) 1 = ap (λ b. cond b 1 0) (ap p (get_or_from_slice_get xs i x x there) ∙ passes) in
-    omega (arith, least, one)
+-- An item stands behind its front.
+seam : {X : Type 0} (front : List X) (x : X) (back : List X) → slice_get (front ++ x ∷ back) (length front) ≡ Some x
+seam [] x back = refl
+seam (y ∷ front) x back = seam front x back
+
+-- The item at a place is one of the list.
+pub contained : {X : Type 0} (xs : List X) (i : ℕ) (x : X) → slice_get xs i ≡ Some x → Contains xs x
+contained xs i x there = (i, slice_get_within xs i x there, get_or_from_slice_get xs i x x there)
+
+-- The miss of these two.
+abbrev miss : ℕ → ℕ → Miss
+miss entry condition = record { entry = entry; condition = condition }
 
 -- ---- entries
 
@@ -58,78 +73,273 @@ module _ (target : TargetArch) (number : ℤ) (entry : JsonRule) where
       by None h = absurd (true≢false (sym h))
       by (Some other) h = ap Some (sym ((Decides-int_eq number other).0 h))
 
-module _ (target : TargetArch) (entries : List JsonRule) (r : List ℕ) where
-  -- No entry in front of this place matches, and so many are for the record's call.
-  pub record AreBehind (place rules : ℕ) : Type 0 where
-    pub none : All (λ entry. MatchesAlone target r entry → ⊥) (take place entries)
-    pub counted : rules ≡ entries_for target r (take place entries)
-    pub few : rules ≤ place
+-- Some entry is for a number, or none is.
+module _ (target : TargetArch) (number : ℤ) (entries : List JsonRule) (origins : BTreeMap ℤ (Vec ℕ Global))
+    (are : AreOrigins target entries origins) where
+  -- What is found under a number are the indices of its entries.
+  pub found_indices : (indices : List ℕ) → indices_at origins number ≡ Some indices → AreIndicesFor target entries number indices
+  found_indices indices found = elim (cases_Bool (list_any (is_for target number) entries)) [
+    | inl some ↦ given (Any-from_list_any (is_for target number) entries some)
+    | inr none ↦ absurd (let nothing : Some indices ≡ None = sym found ∙ are.no_other number (λ any. unlisted any none) in cc)
+  ]
+    where
+      given : Any (λ entry. is_for target number entry ≡ true) entries → AreIndicesFor target entries number indices
+      given (k, entry, within, is, passes) =
+          let listed = are.each number (k, entry, within, is, yes_for target number entry passes) in
+          let both : Some listed.0 ≡ Some indices = sym listed.1 ∙ found in
+          let same : listed.0 ≡ indices = cc in
+          subst (AreIndicesFor target entries number) same listed.2
 
-  module _ (place rules : ℕ) (entry d : JsonRule) (within : place < length entries) (is : entry ≡ get_or entries place d) (so_far : AreBehind place rules) where
-    -- An entry that doesn't match is one more without a match.
-    none_more : (MatchesAlone target r entry → ⊥) → All (λ entry. MatchesAlone target r entry → ⊥) (take (place + 1) entries)
-    none_more fails = All-more (λ entry. MatchesAlone target r entry → ⊥) entries place d within so_far.none (subst (λ entry. MatchesAlone target r entry → ⊥) is fails)
+      unlisted : Any (IsFor target number) entries → list_any (is_for target number) entries ≡ false → ⊥
+      unlisted (k, entry, within, is, for) none = true≢false
+          (sym (list_any-from_Any (is_for target number) entries (k, entry, within, is, for_yes target number entry for)) ∙ none)
 
-    -- Behind an entry of the call whose conditions don't all hold.
-    pub behind_rule : is_for target (pos (word_at r 0)) entry ≡ true → (EntryHolds entry r → ⊥) → AreBehind (place + 1) (rules + 1)
-    behind_rule passes fails = record {
-      none = none_more (λ matches. fails matches.1);
-      counted = ap (λ n. n + 1) so_far.counted
-          ∙ sym (count_by_more_yes (is_for target (pos (word_at r 0))) entries place d within (subst (λ e. is_for target (pos (word_at r 0)) e ≡ true) is passes));
-      few = omega (arith, so_far.few);
-    }
+  -- Where nothing is found under it, there is no entry.
+  pub none_found : indices_at origins number ≡ None → AreIndicesFor target entries number []
+  none_found none = record {
+    exactly = λ index. (
+      λ among. absurd (let within : among.0 < 0 = among.1 in omega (arith, within)),
+      λ (entry, there, for). absurd (
+          let listed = are.each number (
+            index,
+            entry,
+            slice_get_within entries index entry there,
+            get_or_from_slice_get entries index entry
+                entry there,
+            for,
+          ) in
+          let both : Some listed.0 ≡ None = sym listed.1 ∙ none in cc),
+    );
+    ascending = nothing_ascends;
+  }
 
-    -- Behind an entry of another call.
-    pub behind_other : is_for target (pos (word_at r 0)) entry ≡ false → AreBehind (place + 1) rules
-    behind_other fails = record {
-      none = none_more (λ matches. true≢false (sym (for_yes target (pos (word_at r 0)) entry matches.0) ∙ fails));
-      counted = so_far.counted
-          ∙ sym (count_by_more_no (is_for target (pos (word_at r 0))) entries place d within (subst (λ e. is_for target (pos (word_at r 0)) e ≡ false) is fails));
-      few = omega (arith, so_far.few);
-    }
+-- The indices of a number are those of entries.
+pub all_within : (target : TargetArch) (number : ℤ) (entries : List JsonRule) (indices : List ℕ)
+    → AreIndicesFor target entries number indices → All (λ index. index < length entries) indices
+all_within target number entries indices are =
+    All-weaker (Contains indices) (λ index. index < length entries)
+    (λ index among. let at = (are.exactly index).0 among in slice_get_within entries index at.0 at.1) indices (All-contains_itself indices)
+
+module _ (entries : List JsonRule) (r : List ℕ) where
+  -- An entry with an index is the only one.
+  one_entry : (index : ℕ) (a b : JsonRule) → slice_get entries index ≡ Some a → slice_get entries index ≡ Some b → a ≡ b
+  one_entry index a b first second = let both : Some a ≡ Some b = sym first ∙ second in cc
+
+  -- An entry of which a condition fails doesn't match.
+  fails_not_holds : (entry : JsonRule) (k : ℕ) → EntryFails entry r k → EntryHolds entry r → ⊥
+  fails_not_holds entry k (conditions, some, first) holds =
+      let all : All (ConditionHolds r) conditions = subst (λ o. IfSome o (λ cs. All (ConditionHolds r) cs)) some holds in
+      first.fails (at_place (ConditionHolds r) conditions k first.condition first.there all)
+
+  -- Of two first conditions that fail neither stands in front of the other.
+  not_before : (conditions : List JsonCondition) (k l : ℕ) → FirstFails conditions r k → FirstFails conditions r l → k < l → ⊥
+  not_before conditions k l a b less = a.fails (in_front (ConditionHolds r) conditions k l a.condition less a.there b.before)
+
+  -- There is one first condition that fails.
+  one_failure : (entry : JsonRule) (k l : ℕ) → EntryFails entry r k → EntryFails entry r l → k ≡ l
+  one_failure entry k l (cs, some, a) (ds, other, b) =
+      let both : Some cs ≡ Some ds = sym some ∙ other in
+      let same : cs ≡ ds = cc in
+      let a' = subst (λ es. FirstFails es r k) same a in
+      elim (cases_lt k l) [
+        | inl less ↦ absurd (not_before ds k l a' b less)
+        | inr above ↦ elim (cases_lt l k) [
+          | inl more ↦ absurd (not_before ds l k b a' more)
+          | inr below ↦ omega (arith, above, below)
+        ]
+      ]
+
+  -- ---- the nearest miss
+
+  -- What fails below a bound fails below a greater one.
+  below_more : (a b : ℕ) → a ≤ b → (index : ℕ) → FailsBelow entries r a index → FailsBelow entries r b index
+  below_more a b le index (entry, there, (k, fails, less)) = (entry, there, (k, fails, omega (arith, less, le)))
+
+  -- Where the entry with an index fails at a place, that place is below each bound of it.
+  bounded : (index k bound : ℕ) → OfEntry (λ entry. EntryFails entry r k) entries index → FailsBelow entries r bound index → k < bound
+  bounded index k bound (entry, there, fails) (other, also, (l, fails', less)) =
+      let same = one_entry index other entry also there in
+      let place = one_failure entry k l fails (subst (λ e. EntryFails e r l) same fails') in
+      omega (arith, place, less)
+
+  -- None of the entries fails behind the nearest miss.
+  all_below : (indices : List ℕ) (miss : Miss) → IsNearest entries r indices miss → All (FailsBelow entries r (miss.condition + 1)) indices
+  all_below indices miss is =
+      let P = FailsBelow entries r (miss.condition + 1) in
+      let own : P miss.entry = (is.fails.0, is.fails.1, (miss.condition, is.fails.2, omega arith)) in
+      let front = All-weaker (FailsBelow entries r miss.condition) P (below_more miss.condition (miss.condition + 1) (omega arith))
+      is.front is.before in
+      All-same P indices (is.front ++ miss.entry ∷ is.back) is.whole
+      (All-append P is.front (miss.entry ∷ is.back) front (All-cons P miss.entry is.back own is.behind))
+
+  -- This is the nearest miss of the entries with these indices, if there are any, none of which matches.
+  abbrev pub IsNearestOf : List ℕ → Option Miss → Type 0
+  IsNearestOf done None = done ≡ []
+  IsNearestOf done (Some miss) = IsNearest entries r done miss
+
+  -- None of them matches.
+  pub none_matches : (done : List ℕ) (so_far : Option Miss) → IsNearestOf done so_far
+      → All (OfEntry (λ entry. EntryHolds entry r → ⊥) entries) done
+  none_matches done None none = All-same (OfEntry (λ entry. EntryHolds entry r → ⊥) entries) done [] none
+      (All-nil (OfEntry (λ entry. EntryHolds entry r → ⊥) entries))
+  none_matches done (Some miss) is =
+      All-weaker (FailsBelow entries r (miss.condition + 1)) (OfEntry (λ entry. EntryHolds entry r → ⊥) entries)
+      (λ index (entry, there, (k, fails, less)). (entry, there, fails_not_holds entry k fails)) done (all_below done miss is)
+
+  -- Behind them, an entry of which a condition fails.
+  pub one_nearer : (done : List ℕ) (so_far : Option Miss) (miss : Miss) → IsNearestOf done so_far
+      → OfEntry (λ entry. EntryFails entry r miss.condition) entries miss.entry
+      → IsNearest entries r (done ++ miss.entry ∷ []) (nearer so_far miss)
+  one_nearer done None miss none fails = record {
+    front = [];
+    back = [];
+    whole = ap (λ d. d ++ miss.entry ∷ []) none;
+    fails = fails;
+    before = All-nil (FailsBelow entries r miss.condition);
+    behind = All-nil (FailsBelow entries r (miss.condition + 1));
+  }
+  one_nearer done (Some nearest) miss is fails = elim (cases_Bool (nat_le miss.condition nearest.condition)) [
+    | inl low ↦ rw low (record {
+      front = is.front;
+      back = is.back ++ miss.entry ∷ [];
+      whole = ap (λ d. d ++ miss.entry ∷ []) is.whole ∙ append_assoc is.front (nearest.entry ∷ is.back) (miss.entry ∷ []);
+      fails = is.fails;
+      before = is.before;
+      behind = All-push (FailsBelow entries r (nearest.condition + 1)) is.back miss.entry is.behind (
+        fails.0,
+        fails.1,
+        (
+          miss.condition,
+          fails.2,
+          (let le : miss.condition ≤ nearest.condition = grind (arith, nat_tests, low) in omega (arith, le)),
+        ),
+      );
+    })
+    | inr high ↦ rw high (record {
+      front = done;
+      back = [];
+      whole = refl;
+      fails = fails;
+      before = All-weaker (FailsBelow entries r (nearest.condition + 1)) (FailsBelow entries r miss.condition)
+          (below_more (nearest.condition + 1) miss.condition
+          (let more : nearest.condition < miss.condition = grind (arith, nat_tests, high) in omega (arith, more))) done
+          (all_below done nearest is);
+      behind = All-nil (FailsBelow entries r (miss.condition + 1));
+    })
+  ]
 
   -- ---- one reason
 
-  -- Where an entry matches, some entry is for the call.
-  some_for : (place rule number : ℕ) → IsFirstMatch target entries r place rule number → 1 ≤ entries_for target r entries
-  some_for place rule number m = counted_one (is_for target (pos (word_at r 0))) entries place m.entry m.there (for_yes target (pos (word_at r 0)) m.entry m.matches.0)
+  -- The index of the nearest miss stands at a place, and the entries in front of that fail below it.
+  stands : (indices : List ℕ) (miss : Miss) (is : IsNearest entries r indices miss) → slice_get indices (length is.front) ≡ Some miss.entry
+  stands indices miss is = subst (λ xs. slice_get xs (length is.front) ≡ Some miss.entry) (sym is.whole) (seam is.front miss.entry is.back)
 
-  -- Of two first entries neither stands in front of the other.
-  not_in_front : (p q s t n m : ℕ) → IsFirstMatch target entries r p s n → IsFirstMatch target entries r q t m → p < q → ⊥
-  not_in_front p q s t n m a b less = in_front (λ entry. MatchesAlone target r entry → ⊥) entries p q a.entry less a.there b.first a.matches
+  lower : (indices : List ℕ) (miss : Miss) (is : IsNearest entries r indices miss)
+      → All (FailsBelow entries r miss.condition) (take (length is.front) indices)
+  lower indices miss is =
+      let same : take (length is.front) indices ≡ is.front = ap (take (length is.front)) is.whole
+      ∙ take-append_seam is.front (miss.entry ∷ is.back) in
+      All-same (FailsBelow entries r miss.condition) (take (length is.front) indices) is.front same is.before
 
-  -- Two first entries are one.
-  one_match : (p q s t n m : ℕ) → IsFirstMatch target entries r p s n → IsFirstMatch target entries r q t m → Entry p s n ≡ Entry q t m
-  one_match p q s t n m a b =
-      let place : p ≡ q = elim (cases_lt p q) [
-        | inl less ↦ absurd (not_in_front p q s t n m a b less)
-        | inr above ↦ elim (cases_lt q p) [
-          | inl more ↦ absurd (not_in_front q p t s m n b a more)
+  -- No nearest miss stands in front of another.
+  miss_not_before : (indices : List ℕ) (m n : Miss) (a : IsNearest entries r indices m) (b : IsNearest entries r indices n)
+      → m.condition ≡ n.condition → length a.front < length b.front → ⊥
+  miss_not_before indices m n a b same less =
+      let low = in_front (FailsBelow entries r n.condition) indices (length a.front) (length b.front) m.entry less (stands indices m a)
+      (lower indices n b) in
+      omega (arith, same, bounded m.entry m.condition n.condition a.fails low)
+
+  -- There is one nearest miss.
+  one_miss : (indices : List ℕ) (m n : Miss) → IsNearest entries r indices m → IsNearest entries r indices n → m ≡ n
+  one_miss indices m n a b =
+      let le = bounded n.entry n.condition (m.condition + 1) b.fails
+      (at_place (FailsBelow entries r (m.condition + 1)) indices (length b.front) n.entry (stands indices n b)
+      (all_below indices m a)) in
+      let ge = bounded m.entry m.condition (n.condition + 1) a.fails
+      (at_place (FailsBelow entries r (n.condition + 1)) indices (length a.front) m.entry (stands indices m a)
+      (all_below indices n b)) in
+      let condition : m.condition ≡ n.condition = omega (arith, le, ge) in
+      let at : length a.front ≡ length b.front = elim (cases_lt (length a.front) (length b.front)) [
+        | inl less ↦ absurd (miss_not_before indices m n a b condition less)
+        | inr above ↦ elim (cases_lt (length b.front) (length a.front)) [
+          | inl more ↦ absurd (miss_not_before indices n m b a (sym condition) more)
           | inr below ↦ omega (arith, above, below)
         ]
       ] in
-      let rule : s ≡ t = a.among ∙ ap (λ k. entries_for target r (take k entries)) place ∙ sym b.among in
-      let number : n ≡ m = a.call ∙ sym b.call in
+      let both : Some m.entry ≡ Some n.entry = sym (stands indices m a) ∙ ap (slice_get indices) at ∙ stands indices n b in
+      let entry : m.entry ≡ n.entry = cc in
+      ap (λ k. miss k m.condition) entry ∙ ap (λ k. miss n.entry k) condition
+
+  -- Of two first matches neither stands in front of the other.
+  match_not_before : (indices : List ℕ) (p q s t : ℕ) → IsFirstMatch entries r indices p s → IsFirstMatch entries r indices q t → s < t → ⊥
+  match_not_before indices p q s t a b less =
+      let fails = in_front (OfEntry (λ entry. EntryHolds entry r → ⊥) entries) indices s t p less a.there b.before in
+      fails.2 (subst (λ e. EntryHolds e r) (one_entry p a.matches.0 fails.0 a.matches.1 fails.1) a.matches.2)
+
+  -- Where none matches there is no first match.
+  no_first : (indices : List ℕ) (p s : ℕ) → IsFirstMatch entries r indices p s
+      → All (OfEntry (λ entry. EntryHolds entry r → ⊥) entries) indices → ⊥
+  no_first indices p s a none =
+      let fails = at_place (OfEntry (λ entry. EntryHolds entry r → ⊥) entries) indices s p a.there none in
+      fails.2 (subst (λ e. EntryHolds e r) (one_entry p a.matches.0 fails.0 a.matches.1 fails.1) a.matches.2)
+
+  -- Where there are no entries there is no first match, and no nearest miss.
+  none_first : (indices : List ℕ) (p s : ℕ) → indices ≡ [] → IsFirstMatch entries r indices p s → ⊥
+  none_first indices p s none a = let nothing : None ≡ Some p = subst (λ xs. slice_get xs s ≡ Some p) none a.there in cc
+
+  none_nearest : (indices : List ℕ) (miss : Miss) → indices ≡ [] → IsNearest entries r indices miss → ⊥
+  none_nearest indices miss none is = let long = ap length is.whole
+      ∙ length-append is.front (miss.entry ∷ is.back) in let empty = ap length none in omega (arith, long, empty)
+
+  -- There is one reason among these entries.
+  one_among : (indices : List ℕ) (a b : Reason) → IsReasonAmong entries r indices a → IsReasonAmong entries r indices b → a ≡ b
+  one_among indices AnotherArchitecture b is too = absurd is
+  one_among indices a AnotherArchitecture is too = absurd too
+  one_among indices (NoEntry n) (NoEntry m) is too = ap NoEntry (is.0 ∙ sym too.0)
+  one_among indices (NoEntry n) (NoMatch k m miss) is too = absurd (none_nearest indices miss is.1 too.2)
+  one_among indices (NoEntry n) (Entry p s m) is too = absurd (none_first indices p s is.1 too.1)
+  one_among indices (NoMatch k n miss) (NoEntry m) is too = absurd (none_nearest indices miss too.1 is.2)
+  one_among indices (NoMatch k n miss) (NoMatch l m other) is too =
+      let number : n ≡ m = is.0 ∙ sym too.0 in
+      let count : k ≡ l = is.1 ∙ sym too.1 in
+      let same = one_miss indices miss other is.2 too.2 in
+      cc
+  one_among indices (NoMatch k n miss) (Entry p s m) is too = absurd (no_first indices p s too.1 (none_matches indices (Some miss) is.2))
+  one_among indices (Entry p s n) (NoEntry m) is too = absurd (none_first indices p s too.1 is.1)
+  one_among indices (Entry p s n) (NoMatch l m miss) is too = absurd (no_first indices p s is.1 (none_matches indices (Some miss) too.2))
+  one_among indices (Entry p s n) (Entry q t m) is too =
+      let rule : s ≡ t = elim (cases_lt s t) [
+        | inl less ↦ absurd (match_not_before indices p q s t is.1 too.1 less)
+        | inr above ↦ elim (cases_lt t s) [
+          | inl more ↦ absurd (match_not_before indices q p t s too.1 is.1 more)
+          | inr below ↦ omega (arith, above, below)
+        ]
+      ] in
+      let both : Some p ≡ Some q = sym is.1.there ∙ ap (slice_get indices) rule ∙ too.1.there in
+      let place : p ≡ q = cc in
+      let number : n ≡ m = is.0 ∙ sym too.0 in
       cc
 
+  -- ---- places
+
+  -- The entries that a reason tells are there.
+  has_places : (indices : List ℕ) (reason : Reason) → IsReasonAmong entries r indices reason → HasPlaces entries reason
+  has_places indices AnotherArchitecture is = tt
+  has_places indices (NoEntry n) is = tt
+  has_places indices (NoMatch k n miss) is = slice_get_within entries miss.entry is.2.fails.0 is.2.fails.1
+  has_places indices (Entry p s n) is = slice_get_within entries p is.1.matches.0 is.1.matches.1
+
+module _ (target : TargetArch) (entries : List JsonRule) (r : List ℕ) where
   -- There is one reason.
   pub one_reason : (a b : Reason) → IsReason target entries r a → IsReason target entries r b → a ≡ b
-  one_reason AnotherArchitecture AnotherArchitecture is too = refl
-  one_reason AnotherArchitecture (NoEntry n) is too = absurd (is too.0)
-  one_reason AnotherArchitecture (NoMatch k n) is too = absurd (is too.0)
-  one_reason AnotherArchitecture (Entry p s n) is too = absurd (is too.0)
-  one_reason (NoEntry n) AnotherArchitecture is too = absurd (too is.0)
-  one_reason (NoEntry n) (NoEntry m) is too = ap NoEntry (is.1.call ∙ sym too.1.call)
-  one_reason (NoEntry n) (NoMatch k m) is too = absurd (omega (arith, is.1.none, too.1.counted, too.1.some))
-  one_reason (NoEntry n) (Entry p s m) is too = absurd (omega (arith, is.1.none, some_for p s m too.1))
-  one_reason (NoMatch k n) AnotherArchitecture is too = absurd (too is.0)
-  one_reason (NoMatch k n) (NoEntry m) is too = absurd (omega (arith, too.1.none, is.1.counted, is.1.some))
-  one_reason (NoMatch k n) (NoMatch l m) is too =
-      let count : k ≡ l = is.1.counted ∙ sym too.1.counted in
-      let number : n ≡ m = is.1.call ∙ sym too.1.call in
-      cc
-  one_reason (NoMatch k n) (Entry p s m) is too = absurd (at_place (λ entry. MatchesAlone target r entry → ⊥) entries p too.1.entry too.1.there is.1.none too.1.matches)
-  one_reason (Entry p s n) AnotherArchitecture is too = absurd (too is.0)
-  one_reason (Entry p s n) (NoEntry m) is too = absurd (omega (arith, too.1.none, some_for p s n is.1))
-  one_reason (Entry p s n) (NoMatch l m) is too = absurd (at_place (λ entry. MatchesAlone target r entry → ⊥) entries p is.1.entry is.1.there too.1.none is.1.matches)
-  one_reason (Entry p s n) (Entry q t m) is too = one_match p q s t n m is.1 too.1
+  one_reason a b (of_another differs is) (of_another also too) = is ∙ sym too
+  one_reason a b (of_another differs is) (of_call same too) = absurd (differs same)
+  one_reason a b (of_call same is) (of_another differs too) = absurd (differs same)
+  one_reason a b (of_call same (xs, are, is)) (of_call also (ys, too, is')) =
+      let one = same_indices target entries (pos (word_at r 0)) xs ys are too in
+      one_among entries r ys a b (subst (λ zs. IsReasonAmong entries r zs a) one is) is'
+
+  -- The entries that a reason tells are there.
+  pub reason_places : (reason : Reason) → IsReason target entries r reason → HasPlaces entries reason
+  reason_places reason (of_another differs is) = subst (HasPlaces entries) (sym is) tt
+  reason_places reason (of_call same (indices, are, is)) = has_places entries r indices reason is

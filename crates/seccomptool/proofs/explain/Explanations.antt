@@ -7,7 +7,6 @@ use Rattle.seccompiler.specs.declared.backend.TargetArch.{TargetArch}
 use Rattle.seccompiler.specs.declared.json.error.JsonFrontendError.{JsonFrontendError}
 use Rattle.seccompiler.specs.declared.json.error.JsonFrontendError.TheVariants as json
 use Rattle.seccompiler.specs.declared.json.types.JsonFilterMap.{JsonFilterMap}
-use Rattle.seccompiler.specs.declared.layout.Layout.TheVariants.{Linear}
 use Rattle.seccompiler.specs.Errors.{from_frontend}
 use Rattle.seccompiler.specs.JsonAnswers.{OfValue}
 use Rattle.seccompiler.specs.JsonFilters.{AreAll}
@@ -18,24 +17,25 @@ use Rattle.seccompiler.specs.JsonTypes.{JsonFilter}
 use Rattle.seccompiler.specs.Policy.{Filter}
 use Rattle.seccompiler.specs.Reads.{Reads}
 use Rattle.seccomptool.specs.Errors.{from_library}
-use Rattle.seccomptool.specs.Explain.{AreLinesOf, OfFilter, AnswersExplain}
+use Rattle.seccomptool.specs.Explain.{AreLinesOf, AreCompilable, OfFilter, AnswersExplain}
 use Rattle.seccomp_command_line.proofs.Records.{retold}
 use Rattle.seccomp_command_line.specs.Records.{WritesLines}
 use Rattle.seccomptool.specs.ExplainLines.{AreLines, AnswersRecords}
 use Rattle.seccomptool.specs.ExplainSteps.{IsRecordsError, IsUsable, AreUsable}
-use Rattle.seccomptool.specs.Policies.{IsNameOf, IsRefusedName, no_architecture}
-use Rattle.seccomptool.specs.Raw.{HasSomeProgram, UnderName}
-use Rattle.seccomptool.specs.Show.{AreCompiled}
+use Rattle.seccomptool.specs.Policies.{HasCompilable, IsNameOf, IsRefusedName, no_architecture}
+use Rattle.seccomptool.specs.Raw.{UnderName}
+use Rattle.seccomptool.specs.declared.explain.format.LineFormat.{LineFormat}
 use Rattle.seccomptool.specs.declared.error.ToolError.{ToolError}
 use Rattle.seccomptool.specs.declared.error.ToolError.TheVariants as tool
 use Rattle.seccomptool.proofs.Found.{there, nowhere}
 use Rattle.seccomptool.proofs.Readings.{of_value}
 
-module _ (arch : List ℕ) (known : Option (List ℕ)) (name : List ℕ) (records : Option (List ℕ)) where
+module _ (format : LineFormat) (arch : List ℕ) (known : Option (List ℕ)) (name : List ℕ) (records : Option (List ℕ)) where
   -- ---- refusals
 
   -- A name that is no architecture's.
-  pub name_untold : (e : ToolError) (old new : Option (List ℕ)) → IsRefusedName arch e → AnswersExplain arch known name records (Err e) old new
+  pub name_untold : (e : ToolError) (old new : Option (List ℕ)) → IsRefusedName arch e
+      → AnswersExplain format arch known name records (Err e) old new
   name_untold (tool.Library e) old new refused = no_architecture refused
   name_untold tool.OutOfMemory old new refused = tt
   name_untold _ old new refused = absurd refused
@@ -43,7 +43,7 @@ module _ (arch : List ℕ) (known : Option (List ℕ)) (name : List ℕ) (record
   -- A filter that has a policy is refused for want of memory alone.
   pub no_refusal : (target : TargetArch) (filter : JsonFilter) (policy : Filter) (e : JsonFrontendError) (old new : Option (List ℕ)) → IsPolicyOf target filter policy
       → ((f : Filter) (fault : Fault) → IsPolicyOf target filter f → IsFirstFault target filter fault → ⊥) → IsPolicyRefusal target filter e
-      → AnswersExplain arch known name records (Err (from_library (from_frontend e))) old new
+      → AnswersExplain format arch known name records (Err (from_library (from_frontend e))) old new
   no_refusal target filter policy (json.Backend cause) old new is not_both refused = absurd (not_both policy _ is refused.0)
   no_refusal target filter policy (json.SyscallName call other) old new is not_both refused = absurd (not_both policy _ is refused)
   no_refusal target filter policy json.OutOfMemory old new is not_both refused = tt
@@ -53,11 +53,16 @@ module _ (arch : List ℕ) (known : Option (List ℕ)) (name : List ℕ) (record
 
   module _ (target : TargetArch) (filters : JsonFilterMap) (named : IsNameOf arch target) (read : Reads known (λ text. OfValue text (AreUsable target filters))) where
     -- Nothing is at fault where filters can be used, and P holds of each value of them.
-    shown : (P : TargetArch → Data → Type 0) → ((d : Data) → AreUsable target filters d → P target d) → AreCompiled Linear arch known P
-    shown P shows = (target, named, of_value known (AreUsable target filters) (λ d. AreAll (HasSomeProgram Linear target) d × P target d) read (read.2.2.programs, shows read.2.0 read.2.2))
+    shown : (P : TargetArch → Data → Type 0) → ((d : Data) → AreUsable target filters d → P target d) → AreCompilable arch known P
+    shown P shows = (
+      target,
+      named,
+      of_value known (AreUsable target filters) (λ d. AreAll (HasCompilable target) d × P target d) read
+          (read.2.2.compilable, shows read.2.0 read.2.2),
+    )
 
     -- Where nothing is found under the name, no filter has it.
-    pub no_filter : get_by_text filters.0 name ≡ None → AreCompiled Linear arch known (λ target d. Lacks d name)
+    pub no_filter : get_by_text filters.0 name ≡ None → AreCompilable arch known (λ target d. Lacks d name)
     no_filter none = shown (λ target d. Lacks d name) (λ d are. nowhere (IsUsable target) (get_by_text filters.0) d are.found name none)
 
     module _ (filter : JsonFilter) (found : get_by_text filters.0 name ≡ Some filter) where
@@ -76,18 +81,25 @@ module _ (arch : List ℕ) (known : Option (List ℕ)) (name : List ℕ) (record
       module _ (policy : Filter) (is_policy : IsPolicyOf target filter policy) where
         -- The lines of the filter are those of its value.
         lines_of : (value : Data) (bytes : List ℕ) (rest : ℕ) (old new : Option (List ℕ)) → IsUsable target value filter
-            → WritesLines (AreLines target filter policy) bytes rest old new → WritesLines (AreLinesOf target value) bytes rest old new
+            → WritesLines (AreLines format target name filter policy) bytes rest old new
+            → WritesLines (AreLinesOf format target name value) bytes rest old new
         lines_of value bytes rest old new usable w =
-            retold (AreLines target filter policy) (AreLinesOf target value)
+            retold (AreLines format target name filter policy) (AreLinesOf format target name value)
             (λ records text lines. record { filter = filter; is_filter = usable.is_filter; policy = policy; is_policy = is_policy; lines = lines }) bytes rest old new w
 
         -- The answer of telling of records.
-        pub told : (r : Result ⊤ ToolError) (old new : Option (List ℕ)) → Reads records (λ bytes. AnswersRecords (AreLines target filter policy) bytes r old new)
-            → IfErr r IsRecordsError → AnswersExplain arch known name records r old new
+        pub told : (r : Result ⊤ ToolError) (old new : Option (List ℕ))
+            → Reads records (λ bytes. AnswersRecords (AreLines format target name filter policy) bytes r old new)
+            → IfErr r IsRecordsError → AnswersExplain format arch known name records r old new
         told (Ok done) old new lines cause =
-            under (λ target value. Reads records (λ bytes. WritesLines (AreLinesOf target value) bytes 0 old new)) (λ value usable. (lines.0, lines.1, lines_of value lines.0 0 old new usable lines.2))
-        told (Err (tool.ShortRecord rest)) old new lines cause =
-            (lines.2.0, under (λ target value. Reads records (λ bytes. WritesLines (AreLinesOf target value) bytes rest old new)) (λ value usable. (lines.0, lines.1, lines_of value lines.0 rest old new usable lines.2.1)))
+            under (λ target value. Reads records (λ bytes. WritesLines (AreLinesOf format target name value) bytes 0 old new))
+            (λ value usable. (lines.0, lines.1, lines_of value lines.0 0 old new usable lines.2))
+        told (Err (tool.ShortRecord rest)) old new lines cause = (
+          lines.2.0,
+          under (λ target value. Reads records
+              (λ bytes. WritesLines (AreLinesOf format target name value) bytes rest old new))
+              (λ value usable. (lines.0, lines.1, lines_of value lines.0 rest old new usable lines.2.1)),
+        )
         told (Err (tool.Read e)) old new lines cause = (cause, under (λ target value. ⊤) (λ value usable. tt))
         told (Err (tool.Write e)) old new lines cause = under (λ target value. ⊤) (λ value usable. tt)
         told (Err tool.OutOfMemory) old new lines cause = tt

@@ -26,7 +26,7 @@ number_in (pair ∷ pairs) name n all is = elim (cases_Bool (bytes_eq pair.0 nam
 ]
 
 -- A number of a table is a call number, and not the greatest.
-table_number_fits : (z : ℤ) → IsTableNumber z → IsCallNumber z
+pub table_number_fits : (z : ℤ) → IsTableNumber z → IsCallNumber z
 table_number_fits (pos n) h = (n, refl, grind (arith, ints, h.1))
 table_number_fits (negsuc n) h = absurd (grind (arith, ints, h.0))
 

@@ -9,26 +9,21 @@ use Rattle.std.proofs.lemmas.Map.Text.{is_text}
 use Rattle.serde_json.specs.Data.{Data}
 use Rattle.seccompiler.specs.declared.backend.TargetArch.{TargetArch}
 use Rattle.seccompiler.specs.declared.json.error.JsonFrontendError.{JsonFrontendError}
-use Rattle.seccompiler.specs.declared.json.error.JsonFrontendError.TheVariants as json
-use Rattle.seccompiler.specs.declared.error.Error.TheVariants as library
 use Rattle.seccompiler.specs.Errors.{from_frontend}
-use Rattle.seccompiler.specs.JsonAnswers.{OfValue, HasSomePolicy, IsLeastRefused}
-use Rattle.seccompiler.specs.JsonFilters.{AreFound, AreAll, IsSomeFilter}
-use Rattle.seccompiler.specs.JsonPolicyOf.{Fault, refused, unknown_call, IsFirstFault}
+use Rattle.seccompiler.specs.JsonAnswers.{OfValue, HasSomePolicy}
+use Rattle.seccompiler.specs.JsonFilters.{AreFound, AreAll}
 use Rattle.seccompiler.specs.JsonShape.{Has, Under, IsFilter}
-use Rattle.seccompiler.specs.JsonSteps.{IsPolicyRefusal}
 use Rattle.seccompiler.specs.JsonTypes.{JsonFilter}
 use Rattle.seccompiler.specs.Reads.{Reads}
 use Rattle.seccomp_command_line.proofs.ByName.{names_ordered}
 use Rattle.seccomptool.specs.Errors.{from_library, IsWriteError}
 use Rattle.seccomptool.specs.Policies.{IsNameOf, IsRefusedText}
-use Rattle.seccomptool.specs.StepsParts.{IsFirst}
 use Rattle.seccomptool.specs.Widened.{FilterCalls, HasCalls, WritesCalls, AnswersWidened}
 use Rattle.seccomptool.specs.WidenedParts.{NamedJson, IsTaken, AreCallsOf, AreCallsOfAll, IsFirstJsonRefusal}
 use Rattle.seccomptool.specs.declared.error.ToolError.{ToolError}
 use Rattle.seccomptool.specs.declared.error.ToolError.TheVariants as tool
-use Rattle.seccomptool.proofs.Faults.{text_refused}
-use Rattle.seccomptool.proofs.Found.{all_values, each_there, complete, all_listed, least_found}
+use Rattle.seccomptool.proofs.Found.{each_there, complete, all_listed}
+use Rattle.seccomptool.proofs.JsonRefusals.{json_refused}
 use Rattle.seccomptool.proofs.Pairs.{all_second, same_under}
 use Rattle.seccomptool.proofs.Readings.{of_value}
 use Rattle.seccomptool.proofs.widened.lines.CallLines.{all_taken}
@@ -53,27 +48,10 @@ module _ (arch : List ℕ) (known : Option (List ℕ)) (target : TargetArch) (na
   abbrev are : AreFound IsFilter find d
   are = h.2.2
 
-  -- The first filter that is refused is that of the least name.
-  least : (fault : Fault) (R : JsonFilter → Type 0) → ((j : JsonFilter) → R j → IsFirstFault target j fault)
-      → IsFirst (λ (f : String Global × JsonFilter). IsTaken target f.1) (λ (f : String Global × JsonFilter). R f.1) entries → IsLeastRefused target fault d
-  least fault R tells first = (
-    all_values IsFilter find d are IsSomeFilter (λ value j is. (j, is)),
-    string_bytes first.one.0,
-    least_found IsFilter find d are entries order listed (IsTaken target) R (λ value. (j : JsonFilter) × IsFilter value j × IsFirstFault target j fault) (HasSomePolicy target)
-        (λ value j is own. (j, is, tells j own)) (λ value j is taken. (taken.0, (j, is, taken.1))) first,
-  )
-
   -- The answer where a filter is refused.
   pub calls_refused : (e : JsonFrontendError) (old new : Option (List ℕ)) → IsFirstJsonRefusal target entries e → AnswersWidened arch known (Err (from_library (from_frontend e))) old new
-  calls_refused (json.Backend cause) old new first =
-      widened_told arch known (tool.Library (library.JsonFrontend (json.Backend cause))) old new (text_refused arch known target (json.Backend cause) named first.own.1
-      (of_value known (AreFound IsFilter find) (IsLeastRefused target (refused cause)) h (least (refused cause) (λ j. IsPolicyRefusal target j (json.Backend cause)) (λ j own. own.0) first)))
-  calls_refused (json.SyscallName name other) old new first =
-      widened_told arch known (tool.Library (library.JsonFrontend (json.SyscallName name other))) old new (text_refused arch known target (json.SyscallName name other) named tt
-      (of_value known (AreFound IsFilter find) (IsLeastRefused target (unknown_call (string_bytes name) other)) h
-      (least (unknown_call (string_bytes name) other) (λ j. IsPolicyRefusal target j (json.SyscallName name other)) (λ j own. own) first)))
-  calls_refused json.OutOfMemory old new first = tt
-  calls_refused _ old new first = absurd first.own
+  calls_refused e old new first = widened_told arch known _ old new
+      (json_refused arch known target named find h entries order listed e first)
 
   module _ (text : List ℕ) (of : AreCallsOfAll target entries text) where
     -- Each filter has a policy.

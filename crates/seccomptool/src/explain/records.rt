@@ -1,6 +1,7 @@
 // Records in, their lines out.
 
 ghost use Rattle.std.specs.Prelude.{◌≡◌, IfOk, IfErr, IfSome};
+ghost use Rattle.seccompiler.specs.JsonOrigins.{AreOrigins};
 ghost use Rattle.seccompiler.specs.JsonPolicyOf.{IsPolicyOf};
 ghost use Rattle.seccompiler.specs.Reads.{Reads};
 ghost use Rattle.seccomptool.specs.Errors.{KeepsOutput};
@@ -8,9 +9,10 @@ ghost use Rattle.seccomptool.specs.ExplainLines.{AreLines, AnswersRecords};
 ghost use Rattle.seccomptool.specs.ExplainSteps.{IsReadError, IsRecordsError};
 
 use crate::error::ToolError;
+use crate::explain::format::LineFormat;
 use crate::explain::lines::lines;
 use crate::send::send;
-use seccompiler::{JsonFilter, SeccompFilter, TargetArch};
+use seccompiler::{JsonFilter, JsonPolicy, TargetArch};
 use std::alloc::Global;
 use std::io::{ErrorKind, Read, Write};
 
@@ -19,20 +21,23 @@ use std::io::{ErrorKind, Read, Write};
 // All records are read before the first line is written, and all lines are written at once.
 pub(crate) fn explain_records<R: Read + Drop, W: Write>(
     alloc: Global,
+    format: LineFormat,
     target: TargetArch,
+    name: &str,
     filter: &JsonFilter,
-    policy: &SeccompFilter,
+    made: &JsonPolicy,
     records: R,
     out: &mut W,
 ) -> Result<(), ToolError>
-    requires { IsPolicyOf target filter.now policy.now }
-    ensures lines { Reads (R.remaining records) (λ bytes. AnswersRecords (AreLines target filter.now policy.now) bytes result (W.contents out.old) (W.contents out.new)) }
+    requires policy { IsPolicyOf target filter.now made.now.filter }
+    requires origins { AreOrigins target filter.now.rules made.now.origins }
+    ensures lines { Reads (R.remaining records) (λ bytes. AnswersRecords (AreLines format target name.now filter.now made.now.filter) bytes result (W.contents out.old) (W.contents out.new)) }
     ensures cause { IfErr result IsRecordsError }
     ensures unwritten { IfErr result (λ e. KeepsOutput e out.old out.new) }
 {
     let bytes = read_whole(alloc, records)?;
     let (records, rest) = bytes.as_slice().as_chunks::<64>();
-    let text = lines(alloc, target, filter, policy, records)?;
+    let text = lines(alloc, format, target, name, filter, made, records)?;
     send(out, text.as_slice())?;
     match rest.len() {
         0 => Ok(()),

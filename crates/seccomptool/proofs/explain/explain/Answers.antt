@@ -8,18 +8,23 @@ pub returns-in_err-target-clause-answers : goal.returns-in_err-target-clause-ans
 returns-in_err-target-clause-answers g c =
     let error = err_from_is_err_and c.from_residual.result c.from_residual.ensures.1 in
     let out = g.W.Write.contents c.args.out.now in
-    rw (error.1, error.2) (name_untold c.args.arch.now (g.P.Read.remaining c.args.policy) c.args.name.now (g.R.Read.remaining c.args.records) _ out out
+    rw (error.1, error.2) (name_untold c.args.format c.args.arch.now (g.P.Read.remaining c.args.policy) c.args.name.now
+    (g.R.Read.remaining c.args.records) _ out out
     (name_refused c.args.arch.now c.in_err-target.field-0.0 c.in_err-target.ensures.named c.in_err-target.ensures.refused))
 
 pub returns-in_default-clause-answers : goal.returns-in_default-clause-answers
 returns-in_default-clause-answers g c =
     let target = c.in_ok-target.target in
-    let filters = c.in_ok-filters.filters in
-    (c.in_ok-from_str.ensures.ok, no_filter c.args.arch.now (g.P.Read.remaining c.args.policy) c.args.name.now (g.R.Read.remaining c.args.records) target filters c.in_ok-target.ensures.read c.in_ok-filters.ensures.filters (sym c.in_default.ensures.value))
+    let filters = c.in_ok-filters.filters in (
+      c.in_ok-from_str.ensures.ok,
+      no_filter c.args.format c.args.arch.now (g.P.Read.remaining c.args.policy) c.args.name.now
+          (g.R.Read.remaining c.args.records) target filters c.in_ok-target.ensures.read c.in_ok-filters.ensures.filters
+          (sym c.in_default.ensures.value),
+    )
 
-pub returns-in_err-policy-clause-answers : goal.returns-in_err-policy-clause-answers
-returns-in_err-policy-clause-answers g c =
-    let error = err_from_is_err_and c.from_residual-in_err-policy.result c.from_residual-in_err-policy.ensures.1 in
+pub returns-in_err-made-clause-answers : goal.returns-in_err-made-clause-answers
+returns-in_err-made-clause-answers g c =
+    let error = err_from_is_err_and c.from_residual-in_err-made.result c.from_residual-in_err-made.ensures.1 in
     let arch = c.args.arch.now in
     let known = g.P.Read.remaining c.args.policy in
     let name = c.args.name.now in
@@ -27,12 +32,16 @@ returns-in_err-policy-clause-answers g c =
     let target = c.in_ok-target.target in
     let filter = c.in-Some.filter.now in
     let out = g.W.Write.contents c.args.out.now in
-    let policy = some_policy arch known name records target c.in_ok-filters.filters c.in_ok-target.ensures.read c.in_ok-filters.ensures.filters filter (sym c.in-Some.ensures.value) in
-    rw (error.1, error.2) (no_refusal arch known name records target filter policy.0 c.in_err-policy.field-0.0 out out policy.1 (rw c.new.ensures at c.in_err-policy.ensures.not_both) (rw c.new.ensures at c.in_err-policy.ensures.refusal))
+    let policy = some_policy c.args.format arch known name records target c.in_ok-filters.filters c.in_ok-target.ensures.read
+    c.in_ok-filters.ensures.filters filter (sym c.in-Some.ensures.value) in
+    rw (error.1, error.2) (no_refusal c.args.format arch known name records target filter policy.0 c.in_err-made.field-0.0 out out
+    policy.1 (rw c.new.ensures at c.in_err-made.ensures.not_both) (rw c.new.ensures at c.in_err-made.ensures.refusal))
 
 pub returns-clause-answers : goal.returns-clause-answers
 returns-clause-answers g c =
     let contents = g.W.Write.contents in
-    told c.args.arch.now (g.P.Read.remaining c.args.policy) c.args.name.now (g.R.Read.remaining c.args.records) c.in_ok-target.target c.in_ok-filters.filters c.in_ok-target.ensures.read c.in_ok-filters.ensures.filters
-    c.in-Some.filter.now (sym c.in-Some.ensures.value) c.in_ok-policy.policy (rw c.new.ensures at c.in_ok-policy.ensures.policy)
+    told c.args.format c.args.arch.now (g.P.Read.remaining c.args.policy) c.args.name.now
+    (g.R.Read.remaining c.args.records) c.in_ok-target.target c.in_ok-filters.filters c.in_ok-target.ensures.read
+    c.in_ok-filters.ensures.filters
+    c.in-Some.filter.now (sym c.in-Some.ensures.value) c.in_ok-made.made.filter (rw c.new.ensures at c.in_ok-made.ensures.policy)
     c.explain_records.result (contents c.args.out.now) (contents c.explain_records.new.out) c.explain_records.ensures.lines c.explain_records.ensures.cause

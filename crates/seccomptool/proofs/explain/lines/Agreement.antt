@@ -4,20 +4,22 @@ use Rattle.std.specs.Prelude.{⊤, All, Any, slice_get, IfSome}
 use Rattle.std.specs.List.{flat_map, list_any}
 use Rattle.std.specs.Option.{is_none}
 use Rattle.std.proofs.lemmas.Bool.{true≢false, cases_Bool}
-use Rattle.std.proofs.lemmas.List.Elements.{All-map, All-nil, All-cons, All-head, All-tail, Contains-append_left, Contains-append_right, Contains-append_cases}
+use Rattle.std.proofs.lemmas.List.Elements.{All-contains, All-map, All-nil, All-same, All-cons, All-head, All-tail, Contains-append_left, Contains-append_right, Contains-append_cases}
 use Rattle.std.proofs.lemmas.List.Folds.{Any-from_list_any, list_any-from_Any}
 use Rattle.std.proofs.lemmas.Option.{get_or_from_slice_get, slice_get_within, slice_get-get_or}
 use Rattle.seccompiler.specs.declared.backend.TargetArch.{TargetArch}
 use Rattle.seccompiler.specs.declared.json.types.JsonCondition.{JsonCondition}
 use Rattle.seccompiler.specs.Architecture.{audit_word}
 use Rattle.seccompiler.specs.Policy.{word_of, Condition, Holds, Rule, Filter, RuleHolds, ChainMatches, Matches, IsDecision, other_architecture, policy_matches, policy_differs}
+use Rattle.seccompiler.specs.JsonOrigins.{AreIndicesFor}
 use Rattle.seccompiler.specs.JsonPolicyOf.{condition_of, rules_of, rules_for, is_for, is_always, IsFor, chain_for, all_rules, IsPolicyOf}
 use Rattle.seccompiler.specs.JsonTypes.{JsonRule, JsonFilter}
 use Rattle.seccompiler.specs.Machine.{word_at}
 use Rattle.seccomptool.specs.declared.explain.reason.Reason.{Reason}
 use Rattle.seccomptool.specs.declared.explain.reason.Reason.TheVariants.{AnotherArchitecture, NoEntry, NoMatch, Entry}
-use Rattle.seccomptool.specs.Reasons.{MatchesAlone, IsNoEntry, IsNoMatch, IsFirstMatch, IsReason, reason_word}
-use Rattle.seccomptool.proofs.explain.EntrySearches.{counted_one, for_yes, yes_for}
+use Rattle.seccomptool.specs.Reasons.{ConditionHolds, EntryHolds, OfEntry, IsFirstMatch, IsReasonAmong, IsReason, of_another, of_call, reason_action}
+use Rattle.seccomptool.proofs.explain.EntrySearches as search
+use Rattle.seccomptool.proofs.explain.EntrySearches.{contained, for_yes, yes_for}
 
 -- ---- lists
 
@@ -80,6 +82,10 @@ any_at : {X : Type 0} (P : X → Type 0) (xs : List X) (i : ℕ) (x : X) → sli
 any_at P xs i x there has = (i, x, slice_get_within xs i x there, get_or_from_slice_get xs i x x there, has)
 
 -- ---- entries
+
+-- The entry is for the record's call, and matches by itself.
+abbrev MatchesAlone : TargetArch → List ℕ → JsonRule → Type 0
+MatchesAlone target r entry = IsFor target (pos (word_at r 0)) entry × EntryHolds entry r
 
 -- The rule that conditions stand for holds where they do.
 rule_holds : (r : List ℕ) (conditions : List JsonCondition) → All (λ c. Holds (condition_of c) r) conditions → RuleHolds (map condition_of conditions) r
@@ -189,37 +195,49 @@ module _ (target : TargetArch) (r : List ℕ) where
         nowhere : (Any (IsFor target number) j.rules → ⊥) → ⊥
         nowhere none = let e : Some m.chain ≡ None = sym m.there ∙ policy.no_other number none in cc
 
-    -- Where no entry is for the call, the policy doesn't match.
-    no_entry : (n : ℕ) → IsNoEntry target j.rules r n → Matches f r → ⊥
-    no_entry n is m = none_of (entry_of_policy m)
+    -- Where none of the call's entries matches, the policy doesn't.
+    none_matches : (indices : List ℕ) → AreIndicesFor target j.rules number indices
+        → All (OfEntry (λ entry. EntryHolds entry r → ⊥) j.rules) indices → Matches f r → ⊥
+    none_matches indices are none m = by (entry_of_policy m)
       where
-        none_of : Any (MatchesAlone target r) j.rules → ⊥
-        none_of (k, entry, within, own, matches) =
-            let one = counted_one (is_for target number) j.rules k entry (slice_get-get_or j.rules k entry within ∙ ap Some own) (for_yes target number entry matches.0) in
-            omega (arith, one, is.none)
+        by : Any (MatchesAlone target r) j.rules → ⊥
+        by (k, entry, within, is, matches) =
+            let there = slice_get-get_or j.rules k entry within ∙ ap Some is in
+            let among = (are.exactly k).1 (entry, there, matches.0) in
+            let fails : OfEntry (λ entry. EntryHolds entry r → ⊥) j.rules k = All-contains
+            (OfEntry (λ entry. EntryHolds entry r → ⊥) j.rules) indices k none among in
+            let both : Some entry ≡ Some fails.0 = sym there ∙ fails.1 in
+            let same : entry ≡ fails.0 = cc in
+            fails.2 (subst (λ e. EntryHolds e r) same matches.1)
 
-    -- Where no entry matches, the policy doesn't.
-    no_match : (count n : ℕ) → IsNoMatch target j.rules r count n → Matches f r → ⊥
-    no_match count n is m = none_of (entry_of_policy m)
-      where
-        none_of : Any (MatchesAlone target r) j.rules → ⊥
-        none_of (k, entry, within, own, matches) = is.none k entry within (subst (MatchesAlone target r) (sym own) matches)
+    -- Where one of the call's entries matches, the policy does.
+    one_matches : (indices : List ℕ) → AreIndicesFor target j.rules number indices → (place rule : ℕ)
+        → IsFirstMatch j.rules r indices place rule → Matches f r
+    one_matches indices are place rule is =
+        let entry = (are.exactly place).0 (contained indices rule place is.there) in
+        let both : Some is.matches.0 ≡ Some entry.0 = sym is.matches.1 ∙ entry.1 in
+        let same : is.matches.0 ≡ entry.0 = cc in
+        policy_of_entry (any_at (MatchesAlone target r) j.rules place entry.0 entry.1
+        (entry.2, subst (λ e. EntryHolds e r) same is.matches.2))
 
-    -- Where an entry is the first to match, the policy matches.
-    first_match : (place rule n : ℕ) → IsFirstMatch target j.rules r place rule n → Matches f r
-    first_match place rule n is = policy_of_entry (any_at (MatchesAlone target r) j.rules place is.entry is.there is.matches)
+    -- On a record of the policy's architecture, it decides the word of the reason's action.
+    decided_among : (indices : List ℕ) → AreIndicesFor target j.rules number indices → word_at r 4 ≡ audit_word f.target_arch
+        → (reason : Reason)
+        → IsReasonAmong j.rules r indices reason → IsDecision f r (word_of (reason_action j reason))
+    decided_among indices are same AnotherArchitecture why = absurd why
+    decided_among indices are same (NoEntry n) why =
+        policy_differs same (none_matches indices are (All-same (OfEntry (λ entry. EntryHolds entry r → ⊥) j.rules) indices [] why.1
+        (All-nil (OfEntry (λ entry. EntryHolds entry r → ⊥) j.rules))))
+        (ap word_of (sym policy.mismatch_action))
+    decided_among indices are same (NoMatch count n miss) why =
+        policy_differs same (none_matches indices are (search.none_matches j.rules r indices (Some miss) why.2))
+        (ap word_of (sym policy.mismatch_action))
+    decided_among indices are same (Entry place rule n) why =
+        policy_matches same (one_matches indices are place rule why.1) (ap word_of (sym policy.match_action))
 
-    -- The policy's decision is the reason's word.
-    pub reason_decides : (reason : Reason) (w : ℕ) → IsReason target j.rules r reason → IsDecision f r w → w ≡ reason_word j reason
-    reason_decides AnotherArchitecture w why (other_architecture other is) = is
-    reason_decides AnotherArchitecture w why (policy_matches same m is) = absurd (why (same ∙ ap audit_word policy.target_arch))
-    reason_decides AnotherArchitecture w why (policy_differs same none is) = absurd (why (same ∙ ap audit_word policy.target_arch))
-    reason_decides (NoEntry n) w why (other_architecture other is) = absurd (other (why.0 ∙ sym (ap audit_word policy.target_arch)))
-    reason_decides (NoEntry n) w why (policy_matches same m is) = absurd (no_entry n why.1 m)
-    reason_decides (NoEntry n) w why (policy_differs same none is) = is ∙ ap word_of policy.mismatch_action
-    reason_decides (NoMatch count n) w why (other_architecture other is) = absurd (other (why.0 ∙ sym (ap audit_word policy.target_arch)))
-    reason_decides (NoMatch count n) w why (policy_matches same m is) = absurd (no_match count n why.1 m)
-    reason_decides (NoMatch count n) w why (policy_differs same none is) = is ∙ ap word_of policy.mismatch_action
-    reason_decides (Entry place rule n) w why (other_architecture other is) = absurd (other (why.0 ∙ sym (ap audit_word policy.target_arch)))
-    reason_decides (Entry place rule n) w why (policy_matches same m is) = is ∙ ap word_of policy.match_action
-    reason_decides (Entry place rule n) w why (policy_differs same none is) = absurd (none (first_match place rule n why.1))
+    -- It decides the word of the reason's action.
+    pub reason_decides : (reason : Reason) → IsReason target j.rules r reason → IsDecision f r (word_of (reason_action j reason))
+    reason_decides reason (of_another differs is) =
+        other_architecture (λ same. differs (same ∙ ap audit_word policy.target_arch)) (ap (λ q. word_of (reason_action j q)) is)
+    reason_decides reason (of_call same (indices, are, why)) = decided_among indices are (same ∙ sym (ap audit_word policy.target_arch))
+        reason why

@@ -7,11 +7,8 @@ use Rattle.seccompiler.specs.declared.backend.TargetArch.{TargetArch}
 use Rattle.seccompiler.specs.JsonPolicyOf.{IsFor}
 use Rattle.seccompiler.specs.JsonTypes.{JsonRule, JsonFilter}
 use Rattle.std.proofs.lemmas.Slice.Zip.{all_zipped_more}
-use Rattle.seccompiler.specs.JsonSteps.{IsPolicyRefusal}
-use Rattle.seccompiler.specs.declared.json.error.JsonFrontendError.{JsonFrontendError}
-use Rattle.seccompiler.specs.declared.json.error.JsonFrontendError.TheVariants as json
 use Rattle.seccomptool.specs.Widened.{IsFirstEntry, IsCallLine, FilterCalls, AreCallLines}
-use Rattle.seccomptool.specs.WidenedParts.{NamedJson, IsTaken, AreCallsOf, AreCallsOfAll, IsFirstJsonRefusal}
+use Rattle.seccomptool.specs.WidenedParts.{NamedJson, IsTaken, AreCallsOf, AreCallsOfAll}
 use Rattle.seccomp_command_line.proofs.Joined.{joined_push, concat_push}
 use Rattle.seccomptool.proofs.Pairs.{all_first}
 
@@ -71,9 +68,3 @@ calls_more target done named name own old new is taken lines added so_far =
 -- Each filter whose lines are written has a policy.
 pub all_taken : (target : TargetArch) (filters : NamedJson) (all : List FilterCalls) → AllZip (AreCallsOf target) filters all → All (λ (f : String Global × JsonFilter). IsTaken target f.1) filters
 all_taken target filters all h = all_first (AreCallsOf target) (λ (f : String Global × JsonFilter). IsTaken target f.1) (λ f c own. own.taken) filters all h
-
--- Behind filters that have policies, the refusal of one is that of the first.
-pub first_json_refusal : (target : TargetArch) (filters front : NamedJson) (one : String Global × JsonFilter) (back : NamedJson) (e : JsonFrontendError) → filters ≡ front ++ one ∷ back
-    → All (λ (f : String Global × JsonFilter). IsTaken target f.1) front → IsPolicyRefusal target one.1 e → IsFirstJsonRefusal target filters e
-first_json_refusal target filters front one back json.OutOfMemory whole before own = tt
-first_json_refusal target filters front one back e whole before own = record { front = front; one = one; back = back; whole = whole; before = before; own = own }

@@ -2,7 +2,8 @@ use Rattle.std.proofs.Common.{◌≡◌, [], ◌∷◌, ◌++◌, String, Global
 use Rattle.std.proofs.lemmas.Result.{err_from_is_err_and}
 use Rattle.seccompiler.specs.JsonTypes.{JsonFilter}
 use Rattle.seccomptool.specs.WidenedParts.{NamedJson}
-use Rattle.seccomptool.proofs.widened.lines.CallLines.{calls_more, all_taken, first_json_refusal}
+use Rattle.seccomptool.proofs.JsonRefusals.{first_json_refusal}
+use Rattle.seccomptool.proofs.widened.lines.CallLines.{calls_more, all_taken}
 use Rattle.seccomptool.proofs.widened.lines.calls_lines.Goals as goal
 
 pub returns-in_err-filter_lines-clause-refused : goal.returns-in_err-filter_lines-clause-refused

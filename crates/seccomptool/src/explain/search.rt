@@ -1,0 +1,149 @@
+// The search for the reason of a decision.
+
+ghost use Rattle.std.specs.Prelude.{◌≡◌, ◌≤◌, ◌<◌, ◌↔◌, length, All, IfSome, IfNone, IsTrue};
+ghost use Rattle.seccompiler.specs.Architecture.{audit_word};
+ghost use Rattle.seccompiler.specs.JsonOrigins.{AreOrigins};
+ghost use Rattle.seccompiler.specs.JsonPolicyOf.{IsFineEntry, AreFineArgs};
+ghost use Rattle.seccompiler.specs.Machine.{word_at};
+ghost use Rattle.seccomptool.specs.declared.explain.reason.Reason.{Reason};
+ghost use Rattle.seccomptool.specs.ExplainSteps.{nearer};
+ghost use Rattle.seccomptool.specs.Reasons.{ConditionHolds, EntryHolds, EntryFails, FirstFails, IsReason, IsReasonAmong, IsReasonOfCall};
+
+use crate::explain::reason::{Miss, Reason};
+use seccompiler::{JsonCondition, JsonRule, SeccompCondition, TargetArch};
+use std::collections::BTreeMap;
+
+// Why a filter of these entries decides a record as it does. The origins are the indices of the entries
+// of each call number.
+pub(crate) fn reason_of(
+    target: TargetArch,
+    entries: &[JsonRule],
+    origins: &BTreeMap<i64, Vec<usize>>,
+    call: &[u8; 64],
+) -> Reason
+    requires fine { All (IsFineEntry target) entries.now }
+    requires origins { AreOrigins target entries.now origins.now }
+    ensures reason { IsReason target entries.now call.now result }
+    ensures only { (other : Reason) → IsReason target entries.now call.now other → other ≡ result }
+{
+    if word_at(call, 4) != target.get_audit_value() {
+        return Reason::AnotherArchitecture;
+    }
+    reason_on_target(target, entries, origins, call)
+}
+
+// Why it does so on a record of its architecture.
+fn reason_on_target(
+    target: TargetArch,
+    entries: &[JsonRule],
+    origins: &BTreeMap<i64, Vec<usize>>,
+    call: &[u8; 64],
+) -> Reason
+    requires fine { All (IsFineEntry target) entries.now }
+    requires origins { AreOrigins target entries.now origins.now }
+    ensures { IsReasonOfCall target entries.now call.now result }
+{
+    let number = word_at(call, 0);
+    match origins.get(&i64::from(number)) {
+        Some(indices) => reason_among(entries, indices.as_slice(), call),
+        None => Reason::NoEntry { number },
+    }
+}
+
+// Why it does so, where the entries of the record's call are those with these indices.
+fn reason_among(entries: &[JsonRule], indices: &[usize], call: &[u8; 64]) -> Reason
+    requires fine { All (λ entry. IfSome entry.conditions AreFineArgs) entries.now }
+    requires within { All (λ index. index < length entries.now) indices.now }
+    ensures { IsReasonAmong entries.now call.now indices.now result }
+{
+    let number = word_at(call, 0);
+    let mut nearest = None;
+    for (rule, place) in indices.iter().enumerate() {
+        let place = *place;
+        match failing(&entries[place], call) {
+            Some(condition) => {
+                let miss = Miss {
+                    entry: place,
+                    condition,
+                };
+                nearest = Some(nearer(nearest, miss));
+            }
+            None => {
+                return Reason::Entry {
+                    place,
+                    rule,
+                    number,
+                };
+            }
+        }
+    }
+    match nearest {
+        Some(nearest) => Reason::NoMatch {
+            entries: indices.len(),
+            number,
+            nearest,
+        },
+        None => Reason::NoEntry { number },
+    }
+}
+
+// The nearest miss of those so far and one more.
+fn nearer(so_far: Option<Miss>, miss: Miss) -> Miss
+    ensures { result ≡ nearer so_far miss }
+{
+    match so_far {
+        Some(nearest) if miss.condition <= nearest.condition => nearest,
+        _ => miss,
+    }
+}
+
+// Where the first condition of an entry that doesn't hold stands; none where the entry matches by itself.
+fn failing(entry: &JsonRule, call: &[u8; 64]) -> Option<usize>
+    requires { IfSome entry.now.conditions AreFineArgs }
+    ensures fails { IfSome result (EntryFails entry.now call.now) }
+    ensures holds { IfNone result (EntryHolds entry.now call.now) }
+{
+    match &entry.conditions {
+        Some(conditions) => first_failing(conditions.as_slice(), call),
+        None => None,
+    }
+}
+
+// Where the first of these conditions that doesn't hold stands.
+fn first_failing(conditions: &[JsonCondition], call: &[u8; 64]) -> Option<usize>
+    requires { All (λ c. c.arg_index ≤ 5) conditions.now }
+    ensures fails { IfSome result (FirstFails conditions.now call.now) }
+    ensures holds { IfNone result (All (ConditionHolds call.now) conditions.now) }
+{
+    for (place, condition) in conditions.iter().enumerate() {
+        if !condition_holds(condition, call) {
+            return Some(place);
+        }
+    }
+    None
+}
+
+// Whether a condition holds.
+fn condition_holds(condition: &JsonCondition, call: &[u8; 64]) -> bool
+    requires { condition.now.arg_index ≤ 5 }
+    ensures { IsTrue result ↔ ConditionHolds call.now condition.now }
+{
+    let JsonCondition {
+        arg_index,
+        arg_len,
+        operator,
+        value,
+    } = *condition;
+    match SeccompCondition::new(arg_index, arg_len, operator, value) {
+        Ok(condition) => condition.holds(call),
+        Err(_) => unreachable!(),
+    }
+}
+
+// The 32-bit word of bytes `k` to `k + 3`.
+fn word_at(call: &[u8; 64], k: usize) -> u32
+    requires { k ≤ 60 }
+    ensures { result ≡ word_at call.now k }
+{
+    u32::from_le_bytes([call[k], call[k + 1], call[k + 2], call[k + 3]])
+}

@@ -21,6 +21,8 @@ pub mod Reasons
 pub mod ExplainLines
 pub mod Explain
 pub mod Record
+pub mod Findings
+pub mod Diff
 pub mod Commands
 pub mod Statuses
 -- Between layers: what the private steps of the engines promise each other.
@@ -28,3 +30,5 @@ pub mod ShowParts
 pub mod StepsParts
 pub mod WidenedParts
 pub mod ExplainSteps
+pub mod FindingsParts
+pub mod DiffParts

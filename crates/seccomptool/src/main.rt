@@ -2,8 +2,10 @@
 #![tactic(auto)]
 
 mod carry_out;
+mod diff;
 mod error;
 mod explain;
+mod findings;
 mod lint;
 mod numbers;
 mod perform;

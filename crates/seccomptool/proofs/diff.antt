@@ -1,0 +1,4 @@
+-- Lemmas for the functions of `diff` and of the modules below it.
+pub mod Decisions
+pub mod Reports
+pub mod Told

@@ -1,0 +1,71 @@
+// What a new policy decides otherwise than an old one.
+
+mod filters;
+mod report;
+
+ghost use Rattle.std.specs.Prelude.{IfErr, option_map};
+ghost use Rattle.seccomptool.specs.Diff.{AnswersDiff};
+ghost use Rattle.seccomptool.specs.Errors.{KeepsOutput};
+
+use crate::diff::report::report_of;
+use crate::error::ToolError;
+use crate::findings::{Terms, Verdict};
+use crate::send::send;
+use seccompiler::{JsonCompiler, Relation, TargetArch};
+use std::alloc::Global;
+use std::io::{Read, Write};
+
+/// Tells on which calls a new policy decides otherwise than an old one, or permits more.
+///
+/// For each filter of the old policy, in byte order of names, and then for each that the new one alone
+/// has, comes a line `filter NAME: ` and what is found; where `filter` is given, for that one alone.
+/// Where both policies have the filter, each call of the architecture's table on which the relation of
+/// the new decision to the old one doesn't hold has a line, in ascending order of numbers, and so has
+/// each range of numbers that have no name: the call's name, both actions, whether the new one permits
+/// `more`, `less` or `otherwise`, and a call on which this is so. A call for which `most` sets of
+/// records were looked at without an answer is told as `undecided`. Other architectures have no line:
+/// both policies are for one, and kill the process on each other. All lines are written at once.
+///
+/// The verdict is `Different` where some line tells a difference or a filter that one policy lacks;
+/// else `Undecided` where some call is undecided; and `Same` only where the relation holds for every
+/// call.
+///
+/// The policies' texts are what their readers give; of a reader whose type doesn't tell its bytes, as
+/// that of standard input, the contract says that there is such a text.
+///
+/// # Errors
+///
+/// The first of these: `Library` with `InvalidTargetArch` and the text as it was given where `arch` is
+/// no architecture's name, ASCII case aside; `Library` with what `JsonCompiler::compile` refuses of the
+/// old policy, and then of the new one, `JsonFrontend(Read)` among it where the reader fails;
+/// `NoFilter` with the name where neither policy has the filter; `Library` with `FilterTooLarge` of a
+/// filter that both have and that is too large in both layouts; `Write` where the writer fails.
+/// `OutOfMemory` comes in place of any of these where memory is refused, and where a reader fails for
+/// want of memory. On any error but `Write` nothing is written.
+pub fn diff<O: Read + Drop, N: Read + Drop, W: Write>(
+    alloc: Global,
+    arch: &str,
+    filter: Option<&str>,
+    relation: Relation,
+    most: usize,
+    old: O,
+    new: N,
+    out: &mut W,
+) -> Result<Verdict, ToolError>
+    // When each answer comes, and what is written.
+    ensures answers { AnswersDiff arch.now (option_map (λ name. name.now) filter.entry) relation (O.remaining old) (N.remaining new) result (W.contents out.old) (W.contents out.new) }
+    ensures unwritten { IfErr result (λ e. KeepsOutput e out.old out.new) }
+{
+    let target = TargetArch::from_text(alloc, arch)?;
+    let compiler = JsonCompiler::new(target);
+    let old = compiler.compile_in_order(alloc, old)?;
+    let new = compiler.compile_in_order(alloc, new)?;
+    let terms = Terms {
+        target,
+        relation,
+        most,
+    };
+    let report = report_of(alloc, terms, filter, &old, &new)?;
+    send(out, &report.text)?;
+    Ok(report.verdict)
+}

@@ -1,0 +1,132 @@
+// What is told of the filters that two policies have under a name.
+
+ghost use Rattle.std.specs.Prelude.{◌≡◌, ◌++◌, IfOk, IfErr, OnOk, Some, option_map};
+ghost use Rattle.seccompiler.specs.CompareFilters.{IsCompilableInSome};
+ghost use Rattle.seccomptool.specs.Findings.{AreFindings, IsFound};
+ghost use Rattle.seccomptool.specs.Diff.{AreDecisions, heading, report_text, verdict_text};
+ghost use Rattle.seccomptool.specs.DiffParts.{AddsReport, IsPairRefusal, IsRefusalOf, lone};
+ghost use Rattle.seccomptool.specs.declared.findings.Verdict.TheVariants as spec;
+
+use crate::findings::lines::push_lines;
+use crate::findings::parts::parts;
+use crate::findings::{Answer, Finding, Part, Terms, Verdict, calls_of, verdict_of};
+use seccomp_command_line::names::push_readable;
+use seccompiler::{BackendError, Comparison, Relation, SeccompFilter};
+use std::alloc::{AllocError, Global};
+
+// Adds what is to be told of a filter of the old policy, where the new one has this under its name.
+pub(crate) fn push_old(
+    alloc: Global,
+    terms: Terms,
+    name: &str,
+    old: &SeccompFilter,
+    new: Option<&SeccompFilter>,
+    text: &mut Vec<u8>,
+) -> Result<Verdict, BackendError>
+    ensures added { IfOk result (λ verdict. AddsReport terms.target terms.relation (Some old.now) (option_map (λ filter. filter.now) new.entry) name.now text.old.items text.new.items verdict) }
+    ensures refused { IfErr result (IsRefusalOf (option_map (λ filter. filter.now) new.entry) old.now) }
+{
+    match new {
+        Some(new) => push_both(alloc, terms, name, old, new, text),
+        None => {
+            push_heading(text, name, "only in OLD\n")?;
+            Ok(Verdict::Different)
+        }
+    }
+}
+
+// Adds what is to be told of a filter that the new policy alone has.
+pub(crate) fn push_new(terms: Terms, name: &str, text: &mut Vec<u8>) -> Result<Verdict, AllocError>
+    ensures { IfOk result (λ verdict. (text.new.items ≡ text.old.items ++ report_text terms.target terms.relation (lone name.now)) × (verdict ≡ spec.Different)) }
+{
+    push_heading(text, name, "only in NEW\n")?;
+    Ok(Verdict::Different)
+}
+
+// Adds what is found on two filters of a name.
+fn push_both(
+    alloc: Global,
+    terms: Terms,
+    name: &str,
+    old: &SeccompFilter,
+    new: &SeccompFilter,
+    text: &mut Vec<u8>,
+) -> Result<Verdict, BackendError>
+    ensures added { IfOk result (λ verdict. AddsReport terms.target terms.relation (Some old.now) (Some new.now) name.now text.old.items text.new.items verdict) }
+    ensures refused { IfErr result (IsPairRefusal new.now old.now) }
+{
+    let findings = findings_of(alloc, terms, old, new)?;
+    let verdict = verdict_of(&findings);
+    push_heading(text, name, verdict_text(terms.relation, verdict))?;
+    push_lines(alloc, text, terms.target, &findings)?;
+    Ok(verdict)
+}
+
+// Adds the heading of a name, and what follows it.
+fn push_heading(text: &mut Vec<u8>, name: &str, told: &str) -> Result<(), AllocError>
+    ensures { OnOk result (text.new.items ≡ text.old.items ++ heading name.now ++ told.now) }
+{
+    text.extend_from_slice(b"filter ")?;
+    push_readable(text, name)?;
+    text.extend_from_slice(b": ")?;
+    text.extend_from_slice(told.as_bytes())?;
+    Ok(())
+}
+
+// A verdict in words.
+fn verdict_text(relation: Relation, verdict: Verdict) -> &'static str
+    ensures { result.now ≡ verdict_text relation verdict }
+{
+    match (relation, verdict) {
+        (Relation::Alike, Verdict::Same) => "same\n",
+        (Relation::Alike, Verdict::Different) => "different\n",
+        (Relation::AtMostAsPermissive, Verdict::Same) => "nowhere more permissive\n",
+        (Relation::AtMostAsPermissive, Verdict::Different) => "more permissive\n",
+        (_, Verdict::Undecided) => "undecided\n",
+    }
+}
+
+// What is found on each part of the calls.
+fn findings_of(
+    alloc: Global,
+    terms: Terms,
+    old: &SeccompFilter,
+    new: &SeccompFilter,
+) -> Result<Vec<Finding>, BackendError>
+    ensures found { IfOk result (λ findings. AreFindings terms.target terms.relation (AreDecisions new.now old.now) findings.items) }
+    ensures compilable { OnOk result (IsCompilableInSome new.now × IsCompilableInSome old.now) }
+    ensures refused { IfErr result (IsPairRefusal new.now old.now) }
+{
+    let parts = parts(alloc, terms.target)?;
+    let mut findings = Vec::new(alloc);
+    for part in &parts {
+        findings.push(finding_on(alloc, terms, old, new, *part)?)?;
+    }
+    Ok(findings)
+}
+
+// What is found on a part.
+fn finding_on(
+    alloc: Global,
+    terms: Terms,
+    old: &SeccompFilter,
+    new: &SeccompFilter,
+    part: Part,
+) -> Result<Finding, BackendError>
+    ensures part { IfOk result (λ finding. finding.part ≡ part) }
+    ensures found { IfOk result (λ finding. IsFound terms.target terms.relation (AreDecisions new.now old.now) part finding.answer) }
+    ensures compilable { OnOk result (IsCompilableInSome new.now × IsCompilableInSome old.now) }
+    ensures refused { IfErr result (IsPairRefusal new.now old.now) }
+{
+    let calls = calls_of(terms.target, part);
+    let answer = match new.compare(alloc, old, &calls, terms.relation, terms.most)? {
+        Comparison::Holds => Answer::Holds,
+        Comparison::Fails(call) => Answer::Fails {
+            call,
+            old: old.decide(&call),
+            new: new.decide(&call),
+        },
+        Comparison::Undecided => Answer::Undecided,
+    };
+    Ok(Finding { part, answer })
+}

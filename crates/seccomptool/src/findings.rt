@@ -1,0 +1,130 @@
+// Sets of calls, and what a comparison finds on each of them.
+
+pub(crate) mod lines;
+pub(crate) mod parts;
+
+ghost use Rattle.std.specs.Prelude.{◌≡◌, ℕ, List, ◌↔◌};
+ghost use Rattle.seccompiler.specs.Compare.{IsCallOf};
+ghost use Rattle.seccomptool.specs.Findings as spec;
+ghost use Rattle.seccomptool.specs.Findings.{IsInPart, worse, verdict_of};
+
+use seccompiler::{Calls, Relation, TargetArch};
+
+/// On which terms two sides are compared.
+#[derive(Clone, Copy)]
+pub(crate) struct Terms {
+    /// The architecture.
+    pub target: TargetArch,
+    /// What is asked of the two words for a call, the new one first.
+    pub relation: Relation,
+    /// How many sets of records are looked at, at most, for each part.
+    pub most: usize,
+}
+
+/// A set of calls that is compared by itself.
+#[derive(Clone, Copy)]
+pub enum Part {
+    /// The calls of a number of the architecture that has a name.
+    Named {
+        /// The number.
+        number: u32,
+    },
+    /// The calls of numbers of the architecture that have no name.
+    Unnamed {
+        /// The least of these numbers.
+        least: u32,
+        /// The greatest of these numbers.
+        greatest: u32,
+    },
+    /// The calls of other architectures.
+    Elsewhere {
+        /// The least of their architecture words.
+        least: u32,
+        /// The greatest of their architecture words.
+        greatest: u32,
+    },
+}
+
+/// What a comparison finds on a part.
+#[derive(Clone, Copy)]
+pub enum Answer {
+    /// The relation holds for every call of the part.
+    Holds,
+    /// It doesn't for this one.
+    Fails {
+        /// The record of the call.
+        call: [u8; 64],
+        /// The old word for it.
+        old: u32,
+        /// The new word for it.
+        new: u32,
+    },
+    /// As many sets of records were looked at as was allowed, and neither was found.
+    Undecided,
+}
+
+/// A part, and what a comparison finds on it.
+#[derive(Clone, Copy)]
+pub struct Finding {
+    /// The part.
+    pub part: Part,
+    /// What is found.
+    pub answer: Answer,
+}
+
+/// What a comparison comes to.
+#[derive(Clone, Copy)]
+pub enum Verdict {
+    /// The relation holds for every call.
+    Same,
+    /// There is a call for which it doesn't.
+    Different,
+    /// None was found, and some part is undecided.
+    Undecided,
+}
+
+impl Verdict {
+    // The verdict of two together.
+    pub(crate) fn worse(self, other: Verdict) -> Verdict
+        ensures { result ≡ worse self other }
+    {
+        match (self, other) {
+            (Verdict::Different, _) | (_, Verdict::Different) => Verdict::Different,
+            (Verdict::Undecided, _) | (_, Verdict::Undecided) => Verdict::Undecided,
+            (Verdict::Same, Verdict::Same) => Verdict::Same,
+        }
+    }
+}
+
+// The verdict of what is found on a part.
+fn verdict_on(answer: Answer) -> Verdict
+    ensures { result ≡ spec.verdict_on answer }
+{
+    match answer {
+        Answer::Holds => Verdict::Same,
+        Answer::Fails { .. } => Verdict::Different,
+        Answer::Undecided => Verdict::Undecided,
+    }
+}
+
+// The verdict of what is found on all parts.
+pub(crate) fn verdict_of(findings: &[Finding]) -> Verdict
+    ensures { result ≡ verdict_of findings.now }
+{
+    let mut verdict = Verdict::Same;
+    for finding in findings {
+        verdict = verdict.worse(verdict_on(finding.answer));
+    }
+    verdict
+}
+
+// The calls of a part.
+pub(crate) fn calls_of(target: TargetArch, part: Part) -> Calls
+    ensures { (r : List ℕ) → (IsCallOf result r ↔ IsInPart target part r) }
+{
+    match part {
+        Part::Named { number } => Calls::of_number(target, number),
+        Part::Unnamed { least, greatest } => Calls::of_numbers(target, least, greatest),
+        Part::Elsewhere { least, greatest } => Calls::of_arch_words(least, greatest),
+    }
+}

@@ -1,0 +1,76 @@
+// The parts of an architecture's calls: one for each number that has a name, and one for each range of numbers
+// between these.
+
+ghost use Rattle.std.specs.Prelude.{◌≡◌, ℕ, ◌++◌, ◌^◌, ◌<◌, ◌≤◌, IfSome, IfNone, IfOk, OnOk, option_map};
+ghost use Rattle.seccompiler.specs.Architecture.{table_of};
+ghost use Rattle.seccomptool.specs.Findings as spec;
+ghost use Rattle.seccomptool.specs.Findings.{ArePartsBelow, HasName, LacksName};
+ghost use Rattle.seccomptool.specs.FindingsParts.{between};
+
+use crate::findings::Part;
+use seccompiler::{SyscallTable, TargetArch};
+use std::alloc::{AllocError, Global};
+
+// More than the greatest number that has a name.
+const END: u32 = 463;
+
+// The parts, in ascending order of their numbers.
+pub(crate) fn parts(alloc: Global, target: TargetArch) -> Result<Vec<Part>, AllocError>
+    ensures { IfOk result (λ parts. ArePartsBelow (table_of target) parts.items (2 ^ 32)) }
+{
+    let mut parts = Vec::new(alloc);
+    let mut least = 0;
+    while let Some(number) = next_named(target, least) {
+        push_unnamed(&mut parts, least, number)?;
+        parts.push(Part::Named { number })?;
+        least = number + 1;
+    }
+    parts.push(Part::Unnamed {
+        least,
+        greatest: u32::MAX,
+    })?;
+    Ok(parts)
+}
+
+// Adds the part of the numbers in front of one, if there are any.
+fn push_unnamed(parts: &mut Vec<Part>, least: u32, next: u32) -> Result<(), AllocError>
+    requires { least ≤ next }
+    ensures { OnOk result (parts.new.items ≡ parts.old.items ++ between least next) }
+{
+    if least == next {
+        return Ok(());
+    }
+    parts.push(Part::Unnamed {
+        least,
+        greatest: next - 1,
+    })?;
+    Ok(())
+}
+
+// The first number from this one on that has a name.
+fn next_named(target: TargetArch, least: u32) -> Option<u32>
+    ensures named { IfSome result (λ number. (least ≤ number) × (number < 463) × HasName (table_of target) number) }
+    ensures unnamed { IfSome result (λ number. (n : ℕ) → least ≤ n → n < number → LacksName (table_of target) n) }
+    ensures none { IfNone result ((n : ℕ) → least ≤ n → LacksName (table_of target) n) }
+{
+    // Its table has no number from the end on.
+    let _table = SyscallTable::new(target);
+    for number in least..END {
+        if name_of(target, number).is_some() {
+            return Some(number);
+        }
+    }
+    None
+}
+
+// The first name of a number, in byte order.
+pub(crate) fn name_of(target: TargetArch, number: u32) -> Option<&'static str>
+    ensures { option_map (λ name. name.now) result ≡ spec.name_of (table_of target) number }
+{
+    for pair in SyscallTable::new(target).pairs() {
+        if pair.1 == i64::from(number) {
+            return Some(pair.0);
+        }
+    }
+    None
+}

@@ -3,3 +3,4 @@ pub mod Verdicts
 pub mod Names
 pub mod Pieces
 pub mod Found
+pub mod Covered

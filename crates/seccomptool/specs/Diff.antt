@@ -16,7 +16,7 @@ use Rattle.seccompiler.specs.JsonAnswers.{OfValue, ArePoliciesOf}
 use Rattle.seccompiler.specs.Policy.{Filter, IsDecision}
 use Rattle.seccompiler.specs.Reads.{Reads}
 use Rattle.seccomp_command_line.specs.Names.{readable}
-use Rattle.seccomptool.specs.Findings.{AreFindings, verdict_of, worse, lines_of}
+use Rattle.seccomptool.specs.Findings.{AreFindings, HoldsThroughout, verdict_of, worse, lines_of}
 use Rattle.seccomptool.specs.Policies.{IsNameOf, IsTextFault}
 use Rattle.seccomptool.specs.declared.error.ToolError.{ToolError}
 use Rattle.seccomptool.specs.declared.error.ToolError.TheVariants.{Library, NoFilter, Write, OutOfMemory}
@@ -36,12 +36,14 @@ pub data Told : Type 0 where
   only_new : Told
   compared : List Finding → Told
 
--- This is what is to be told of the filters that the old and the new policy have under a name.
+-- This is what is to be told of the filters that the old and the new policy have under a name. Where nothing is found on
+-- any part, the relation holds of the two decisions for every call of the architecture.
 abbrev pub IsToldOf : TargetArch → Relation → (old new : Option Filter) → Told → Type 0
 IsToldOf target relation (Some old) None only_old = ⊤
 IsToldOf target relation None (Some new) only_new = ⊤
 IsToldOf target relation (Some old) (Some new) (compared findings) = AreFindings target relation (AreDecisions new old) findings
     × IsCompilableInSome new × IsCompilableInSome old
+    × (verdict_of findings ≡ Same → HoldsThroughout target relation (AreDecisions new old))
 IsToldOf target relation old new told = ⊥
 
 -- A filter that one policy lacks is a difference, whatever the relation.

@@ -71,6 +71,11 @@ pub record AreFindings (target : TargetArch) (relation : Relation) (Words : List
   pub parts : ArePartsBelow (table_of target) (map (λ (f : Finding). f.part) findings) (2 ^ 32)
   pub each : All (λ (f : Finding). IsFound target relation Words f.part f.answer) findings
 
+-- The relation holds of the two words for every call of the architecture.
+abbrev pub HoldsThroughout : TargetArch → Relation → (List ℕ → ℕ → ℕ → Type 0) → Type 0
+HoldsThroughout target relation Words = (r : List ℕ) → IsRecord r → word_at r 4 ≡ audit_word target
+    → (new : ℕ) × (old : ℕ) × Words r new old × Related relation new old
+
 -- ---- the verdict
 
 -- Of two verdicts together: a difference counts most, and what is undecided counts more than what is the same.

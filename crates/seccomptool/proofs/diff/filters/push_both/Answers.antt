@@ -1,6 +1,7 @@
 use Rattle.std.proofs.Common.{◌≡◌, ◌++◌, ap, ◌∙◌}
-use Rattle.seccomptool.specs.Diff.{compared, heading, verdict_text}
+use Rattle.seccomptool.specs.Diff.{AreDecisions, compared, heading, verdict_text}
 use Rattle.seccomptool.specs.Findings.{verdict_of, lines_of}
+use Rattle.seccomptool.proofs.findings.Covered.{covered}
 use Rattle.seccomptool.proofs.findings.Pieces.{report_added}
 use Rattle.seccomptool.proofs.diff.filters.push_both.Goals as goal
 
@@ -16,7 +17,12 @@ returns-clause-added c =
     let lines = c.in_ok-push_lines.ensures ∙ ap (λ fs. c.push_heading.new.text.items ++ lines_of target fs) c.deref-2.ensures.value in
     record {
       told = compared findings;
-      is = (c.in_ok-findings.ensures.found, c.in_ok-findings.ensures.compilable.0, c.in_ok-findings.ensures.compilable.1);
+      is = (
+        c.in_ok-findings.ensures.found,
+        c.in_ok-findings.ensures.compilable.0,
+        c.in_ok-findings.ensures.compilable.1,
+        covered target relation (AreDecisions c.args.new.now c.args.old.now) findings c.in_ok-findings.ensures.found,
+      );
       text = report_added old c.push_heading.new.text.items c.push_lines.new.text.items (heading c.args.name.now) (verdict_text relation
           (verdict_of findings)) (lines_of target findings) begun lines;
       verdict_is = verdict;

@@ -1,7 +1,7 @@
 /*
  * Times a system call under filters: call-cost ROUNDS CALL FILE..
  *
- * Each FILE has a filter's program as bytes, as `seccomptool raw` writes it; an empty file stands for no filter.
+ * Each FILE has a filter's program as bytes, as `seccomptool compile` writes it; an empty file stands for no filter.
  * CALL is the number of the call that is made, with the arguments 1, 0 and 0. In each round each FILE has its turn,
  * in a process of its own, which installs the program and makes the call in batches. Writes for each FILE the least
  * time of a call over all batches and rounds, in picoseconds, a line each.

@@ -162,8 +162,8 @@ PASSED = [
 
 # Words of seccomptool that read standard input, whose reading is refused for want of memory.
 READING = [
-    "raw x86_64 a", "raw x86_64 a --tree", "show x86_64", "show x86_64 --tree", "steps x86_64",
-    "widened x86_64", "lint x86_64", "explain x86_64 actions.json log",
+    "compile -f a", "compile", "compile --layout linear", "show", "show --layout linear", "stats", "compat", "check",
+    "explain -f log actions.json",
 ]
 
 # Commands that can't be run: the filter, the command, the status, and the error number.

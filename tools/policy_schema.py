@@ -24,13 +24,19 @@ from seccomptool_cases.forms import Case
 TOP = pathlib.Path(__file__).resolve().parent.parent
 SCHEMA = TOP / "docs/policy.schema.json"
 
-# The commands that read a policy from standard input, and those that are given its file.
-READING = ("list", "raw", "show", "steps", "widened", "lint")
-GIVEN_A_FILE = ("run", "explain")
+# The command of seccompc that reads a policy from standard input, and the one that is given its file; and those of
+# seccomptool that read a policy, and their options that have a value behind them, and that ask for help.
+READING, GIVEN_A_FILE = "list", "run"
+OF_TOOL = ("compile", "show", "check", "explain", "stats", "compat")
+WITH_VALUES = ("-a", "--arch", "-f", "--filter", "-o", "--output", "--layout", "--records")
+HELP = ("-h", "--help")
 
-# What is told of a policy of wrong shape; by `lint` with its place in front, but for the faults of LATER.
+# What stands in front of what seccomptool tells: its name, and the policy's.
+IN_FRONT = re.compile(r"seccomptool: [^:]*: ")
+
+# What is told of a policy of wrong shape; by `check` with its place in front, but for the faults of LATER.
 WRONG = tuple(FRONTEND + it for it in ("Json filter has a wrong shape: ", NO_OBJECT, INDEX, NO_CONDITIONS))
-OF_LINT = re.compile(r"(.*: .* stands? here, and .* may|.*: `.*` is missing)\.\n", re.DOTALL)
+OF_CHECK = re.compile(r"(.*: .* stands? here, and .* may|.*: `.*` is missing)\.\n", re.DOTALL)
 LATER = ("the name of a call of x86_64 may.\n", "two that differ may.\n", "one of at most 4096 may.\n")
 
 # So much of a policy is shown of which the schema says something else.
@@ -55,22 +61,41 @@ def content_of(name, files):
     return content if isinstance(content, (str, bytes)) else json.dumps(content)
 
 
+def policy_named(words):
+    """Returns the word that names the policy of a command of seccomptool; `-` where none does."""
+    words = iter(words)
+    for word in words:
+        if word in WITH_VALUES:
+            next(words, None)
+        elif word[0] in "<>;&|":
+            break
+        elif word == "-" or word[0] != "-":
+            return word
+    return "-"
+
+
 def policy_of(case, files):
     """Returns the text of the policy that a case's command reads; None where it reads none, or reading fails."""
-    words = shlex.split(case.words)
-    if words[:1] and words[0] in GIVEN_A_FILE and len(words) > 2:
-        return content_of(words[2], files)
-    if not words or words[0] not in READING:
-        return None
-    if "<" in words:
-        return content_of(words[words.index("<") + 1], files)
-    return case.given if isinstance(case.given, (str, bytes)) else None
+    words = [it or '""' for it in shlex.split(case.words)]
+    name = None
+    if words[:1] == [GIVEN_A_FILE] and len(words) > 2:
+        name = words[2]
+    elif words[:1] == [READING]:
+        name = "-"
+    elif words and words[0] in OF_TOOL and not any(it in HELP for it in words):
+        name = policy_named(words[1:])
+    if name == "-" and "<" in words:
+        name = words[words.index("<") + 1]
+    if name == "-":
+        return case.given if isinstance(case.given, (str, bytes)) else None
+    return content_of(name.removeprefix("./"), files) if name is not None else None
 
 
 def is_wrong(case):
     """Returns whether a case tells that its policy has a wrong shape."""
-    of_lint = case.words.startswith("lint") and OF_LINT.fullmatch(case.errors)
-    return case.errors.startswith(WRONG) or (of_lint and not case.errors.endswith(LATER))
+    told = IN_FRONT.sub("", case.errors, count=1)
+    of_check = case.words.startswith("check") and OF_CHECK.fullmatch(told)
+    return told.startswith(WRONG) or (of_check and not told.endswith(LATER))
 
 
 def has_loose_numbers(text):

@@ -5,9 +5,9 @@ Expected values come from the definitions in crates/seccomptool/specs, arithmeti
 from the program's output.
 """
 
-from . import explain, lint, raw, record, show, steps, widened, words
+from . import check, compat, compile, explain, record, show, stats, words
 
-FILES = explain.FILES
+FILES = {**explain.FILES, **compile.FILES}
 CASES = [
-    case for it in (raw, show, steps, widened, lint, explain, record, words) for case in it.CASES
+    case for it in (compile, show, check, explain, stats, record, compat, words) for case in it.CASES
 ]

@@ -1,8 +1,10 @@
 """What `explain` has to do: what is decided on records, and why, and the faults in their order."""
 
-from program_cases import FRONTEND, LARGE, UNOPENED, UNREAD, UNWRITTEN
+from program_cases import FRONTEND, LARGE
 
-from .forms import LOGS, NO_ARCHITECTURE, NO_OBJECT, Case, Failing, refuses, writes
+from .forms import (
+    CLOSED, FOLDER, FULL, INPUT, LOGS, MISSING, NO_OBJECT, OUTPUT, RESET, TOOL, Case, Failing, rejects, writes
+)
 from .records import AARCH64, X86_64, record_of
 
 # Entries of three calls, of which `close` has one without conditions.
@@ -81,42 +83,50 @@ EXAMPLE_LINES = "log: no entry of call 72\n" * 3 + "log: no entry of call 5\n" +
 
 SHORT = "The input ends inside a record, after 1 bytes of it.\n"
 NO_FILTER = "No filter has this name: b.\n"
-UNREAD_RECORDS = "Error reading input.\n"
-
 # A whole record, behind which reading fails.
 FAILING_RECORDS = Failing(bytes(64))
 
 CASES = [
     # `explain` tells the decision and the reason.
-    *[writes("explain X86_64 explained.json a", record_of(number, X86_64, *arguments), line)
+    *[writes("explain explained.json -f a", record_of(number, X86_64, *arguments), line)
       for number, arguments, line in LINES],
-    *[writes("explain x86_64 near.json n\a", record_of(number, X86_64, *arguments), line)
+    *[writes("explain near.json", record_of(number, X86_64, *arguments), line)
       for number, arguments, line in NEAR_LINES],
-    ("explain x86_64 logs.json a < examples/records.bin", 0, EXAMPLE_LINES, ""),
+    *[writes(f"explain explained.json {number} {' '.join(map(str, arguments))}", "", line)
+      for number, arguments, line in LINES],
+    writes("explain explained.json fcntl 9 2 1", "", LINES[1][2]),
+    writes("explain explained.json close -a x86_64 -f a -- -1", "", LINES[5][2]),
+    writes("explain - close 2", POLICY, LINES[6][2]),
+    ("explain -f a logs.json < examples/records.bin", 0, EXAMPLE_LINES, ""),
+    ("explain --records examples/records.bin logs.json", 0, EXAMPLE_LINES, ""),
+    ("explain --records=examples/records.bin - < logs.json", 0, EXAMPLE_LINES, ""),
+    ("explain --records - logs.json < examples/records.bin", 0, EXAMPLE_LINES, ""),
     # `explain` tells another architecture.
-    *[writes(f"explain {arch} explained.json a", record_of(72, word, 9, 2, 1), ANOTHER)
+    *[writes(f"explain -a {arch} explained.json", record_of(72, word, 9, 2, 1), ANOTHER)
       for arch, word in (("x86_64", AARCH64), ("aarch64", X86_64), ("riscv64", 0))],
     # `explain` tells of each record, and then of a rest.
-    writes("explain x86_64 explained-logs.json a", TWO_RECORDS, TWO_LINES),
-    Case("explain x86_64 explained-logs.json a", 1, TWO_LINES, SHORT, TWO_RECORDS + bytes(1)),
-    ("explain x86_64 logs.json a < 65-bytes", 1, ANOTHER, SHORT),
+    writes("explain explained-logs.json", TWO_RECORDS, TWO_LINES),
+    Case("explain explained-logs.json", 1, TWO_LINES, INPUT + SHORT, TWO_RECORDS + bytes(1)),
+    ("explain logs.json --records 65-bytes", 1, ANOTHER, TOOL + "65-bytes: " + SHORT),
     # `explain` tells the first fault; the records' are the last.
-    refuses("explain x8664 empty b", FAILING_RECORDS, NO_ARCHITECTURE),
-    refuses("explain x86_64 list.json b", FAILING_RECORDS, NO_OBJECT),
-    refuses("explain aarch64 opens.json b", FAILING_RECORDS,
-            FRONTEND + "Invalid syscall name: open for given arch: aarch64.\n"),
-    refuses("explain x86_64 explained-logs.json b", FAILING_RECORDS, NO_FILTER),
-    refuses("explain x86_64 explained-logs.json a", FAILING_RECORDS, UNREAD_RECORDS),
-    ("explain x86_64 logs.json b < 63-bytes", 1, "", NO_FILTER),
-    ("explain x8664 missing.json a < empty", 1, "", UNOPENED),
-    # `explain` refuses a filter that is too large.
-    refuses("explain x86_64 many-conditions.json b", "",
-            "Backend error: The seccomp filter contains too many BPF instructions: .."),
-    ("explain x86_64 too-large.json b < 63-bytes", 1, "", LARGE),
+    rejects("explain -f b list.json", FAILING_RECORDS, NO_OBJECT, TOOL + "list.json: "),
+    rejects("explain -f b -a aarch64 opens.json", FAILING_RECORDS,
+            FRONTEND + "Invalid syscall name: open for given arch: aarch64.\n", TOOL + "opens.json: "),
+    rejects("explain -f b explained-logs.json", FAILING_RECORDS, NO_FILTER, TOOL + "explained-logs.json: "),
+    rejects("explain explained-logs.json", FAILING_RECORDS, RESET),
+    rejects("explain -f b logs.json --records 63-bytes", "", NO_FILTER, TOOL + "logs.json: "),
+    rejects("explain missing.json", "", MISSING, TOOL + "missing.json: "),
+    rejects("explain logs.json --records missing", "", MISSING, TOOL + "missing: "),
+    rejects("explain list.json nocall", "", "No call of x86_64 has this name or number: nocall.\n", TOOL),
+    # `explain` rejects a filter that is too large.
+    rejects("explain -f b many-conditions.json", "",
+            "Backend error: The seccomp filter contains too many BPF instructions: ..",
+            TOOL + "many-conditions.json: "),
+    rejects("explain -f b too-large.json --records 63-bytes", "", LARGE, TOOL + "too-large.json: "),
     # `explain` answers failing readers and writers.
-    refuses("explain x86_64 examples a", "", UNREAD),
-    ("explain x86_64 logs.json a < examples", 1, "", UNREAD_RECORDS),
-    refuses("explain x86_64 explained-logs.json a > /dev/full", bytes(65), UNWRITTEN),
-    refuses("explain x86_64 explained-logs.json a >&-", bytes(65), UNWRITTEN),
-    ("explain x86_64 logs.json a < examples/records.bin > /dev/full", 1, "", UNWRITTEN),
+    rejects("explain examples", "", FOLDER, TOOL + "examples: "),
+    ("explain logs.json < examples", 1, "", INPUT + FOLDER),
+    rejects("explain explained-logs.json > /dev/full", bytes(65), FULL, OUTPUT),
+    rejects("explain explained-logs.json >&-", bytes(65), CLOSED, OUTPUT),
+    ("explain logs.json < examples/records.bin > /dev/full", 1, "", OUTPUT + FULL),
 ]

@@ -2,7 +2,19 @@
 
 from typing import NamedTuple, Union
 
-from program_cases import FRONTEND, UNREAD, UNWRITTEN
+from program_cases import FRONTEND
+
+# What stands in front of each message: the program, and the place that it is about.
+TOOL = "seccomptool: "
+INPUT = TOOL + "standard input: "
+OUTPUT = TOOL + "standard output: "
+
+# Errors of the system, as Linux names them.
+MISSING = "No such file or directory (os error 2)\n"
+CLOSED = "Bad file descriptor (os error 9)\n"
+FOLDER = "Is a directory (os error 21)\n"
+FULL = "No space left on device (os error 28)\n"
+RESET = "Connection reset by peer (os error 104)\n"
 
 NO_ARCHITECTURE = "Backend error: Invalid target arch: x8664.\n"
 NO_OBJECT = FRONTEND + "Json is not an object of filters.\n"
@@ -13,8 +25,8 @@ LOGS = '{"a":{"mismatch_action":"log","match_action":"allow","filter":[]}}'
 # The same under a name with U+009B, which some terminals take as the beginning of a command.
 STEERS = LOGS.replace('"a"', r'"a\u009b"')
 
-# What stands behind the other words, where the programs are chains and where they are trees.
-LAYOUTS = ("", " --tree")
+# The words that choose each layout.
+LAYOUTS = (" --layout linear", " --layout=tree")
 
 
 class Failing(NamedTuple):
@@ -40,19 +52,24 @@ def writes(words, given, output):
 
 
 def refuses(words, given, told):
-    """Returns the case of words that write no output, tell this line, and end with 1."""
+    """Returns the case of words of seccompc that write no output, tell this line, and end with 1."""
     return Case(words, 1, "", told, given)
 
 
-def refuses_in_both(words, given, told):
+def rejects(words, given, told, place=INPUT):
+    """Returns the case of words that write no output, tell this line of a place, and end with 1."""
+    return Case(words, 1, "", place + told, given)
+
+
+def rejects_in_both(words, given, told):
     """Returns the same cases of both layouts."""
-    return [refuses(words + layout, given, told) for layout in LAYOUTS]
+    return [rejects(words + layout, given, told) for layout in LAYOUTS]
 
 
 def fails_to_read_and_write(words, read=LOGS, written=LOGS):
     """Returns the cases of a policy behind which reading fails, and of one whose output can't be written."""
     return [
-        refuses(words, Failing(read), UNREAD),
-        refuses(words + " > /dev/full", written, UNWRITTEN),
-        refuses(words + " >&-", written, UNWRITTEN),
+        rejects(words, Failing(read), RESET),
+        rejects(words + " > /dev/full", written, FULL, OUTPUT),
+        rejects(words + " >&-", written, CLOSED, OUTPUT),
     ]

@@ -1,9 +1,9 @@
 """What `show` has to do: programs for people, and the faults."""
 
-from program_cases import FRONTEND, LARGE, UNWRITTEN
+from program_cases import FRONTEND, LARGE
 
 from .forms import (
-    LAYOUTS, NO_ARCHITECTURE, NO_OBJECT, STEERS, fails_to_read_and_write, refuses_in_both, writes
+    FULL, INPUT, LAYOUTS, NO_OBJECT, OUTPUT, STEERS, fails_to_read_and_write, rejects_in_both, writes
 )
 
 # Two filters without entries; the second one's name has a byte that steers a terminal.
@@ -86,20 +86,20 @@ LOGS_SHOWN = """filter 4 a
 BOTH_FAULTY = '{"b":{"mismatch_action":"log","match_action":"log","filter":[]},"a":{}}'
 
 CASES = [
-    ("show x86_64 < logs.json", 0, LOGS_SHOWN, ""),
+    ("show --layout linear < logs.json", 0, LOGS_SHOWN, ""),
+    writes("show logs.json --layout linear", "", LOGS_SHOWN),
     # `show` writes the programs of both layouts.
-    writes("show Aarch64", LOGS, LOGS_AS_CHAINS),
-    writes("show Aarch64 --tree", LOGS, LOGS_AS_TREE),
+    writes("show -a aarch64 --layout linear", LOGS, LOGS_AS_CHAINS),
+    writes("show -a arm64", LOGS, LOGS_AS_TREE),
     # `show` writes no character that steers a terminal.
-    writes("show x86_64", STEERS, LOGS_SHOWN.replace("filter 4 a", r"filter 4 a\xc2\x9b")),
+    writes("show --layout linear", STEERS, LOGS_SHOWN.replace("filter 4 a", r"filter 4 a\xc2\x9b")),
     # `show` tells what each instruction is for.
-    writes("show aarch64", CALLS, CALLS_SHOWN),
+    writes("show -a aarch64 --layout linear", CALLS, CALLS_SHOWN),
     # `show` tells the first fault.
-    *refuses_in_both("show x8664", "", NO_ARCHITECTURE),
-    *refuses_in_both("show x86_64", "[]", NO_OBJECT),
-    *refuses_in_both("show x86_64", BOTH_FAULTY, FRONTEND + "Json filter has a wrong shape: a.\n"),
-    ("show x86_64 < too-large.json", 1, "", LARGE),
+    *rejects_in_both("show", "[]", NO_OBJECT),
+    *rejects_in_both("show", BOTH_FAULTY, FRONTEND + "Json filter has a wrong shape: a.\n"),
+    ("show --layout linear < too-large.json", 1, "", INPUT + LARGE),
     # `show` answers faults of its reader and its writer.
-    *[case for it in LAYOUTS for case in fails_to_read_and_write("show x86_64" + it, LOGS, LOGS)],
-    ("show x86_64 < logs.json > /dev/full", 1, "", UNWRITTEN),
+    *[case for it in LAYOUTS for case in fails_to_read_and_write("show" + it, LOGS, LOGS)],
+    ("show < logs.json > /dev/full", 1, "", OUTPUT + FULL),
 ]

@@ -1,60 +1,76 @@
-"""Which words are a command, and which are none."""
+"""Which words are a command, what is told of others, and help and the version."""
 
-from program_cases import UNWRITTEN
-
-from .forms import refuses, writes
-from .raw import CHAINS, TREE
+from .compile import LINEAR, TREE
+from .forms import FULL, OUTPUT, Case, rejects, writes
 from .records import X86_64, record_of
 
-USAGE = (
-    "usage: seccomptool raw ARCH NAME [--tree] | show ARCH [--tree] | steps ARCH | widened ARCH | "
-    "lint ARCH | explain ARCH FILE NAME | record ARCH CALL [ARG..] | --help | --version\n"
-)
 GREATEST = 2**64 - 1
 
-# A policy of a filter whose name is that of the layout, and one without entries beside it.
-NAMED_TREE = (
+# A policy of a filter whose name looks like an option, and of one without a name.
+NAMED = (
     '{"--tree":{"mismatch_action":"log","match_action":"allow","filter":[]},'
-    '"a":{"mismatch_action":"log","match_action":"allow","filter":[]}}'
+    '"":{"mismatch_action":"log","match_action":"allow","filter":[]}}'
+)
+
+COMMANDS = ("compile", "show", "check", "explain", "stats", "record", "compat")
+
+NO_NUMBER = (
+    "error: an ARG is no number from -9223372036854775808 to 18446744073709551615, "
+    "decimal or hexadecimal behind 0x\n.."
 )
 
 
-def misused(words):
+def misused(words, told="error: .."):
     """Returns the case of words that are no command."""
-    return (words, 2, "", USAGE)
+    return Case(words, 2, "", told)
 
 
 CASES = [
+    # Help and the version.
+    writes("--help", "", "Compiles, checks and explains seccomp policies\n\nUsage: seccomptool <COMMAND>\n.."),
+    writes("-h", "", "Compiles, checks and explains seccomp policies\n\nUsage: seccomptool <COMMAND>\n.."),
+    writes("help", "", "Compiles, checks and explains seccomp policies\n\nUsage: seccomptool <COMMAND>\n.."),
+    *[writes(words, "", "seccomptool 0.5.0\n") for words in ("--version", "-V")],
+    *[case for it in COMMANDS for case in (
+        writes(f"help {it}", "", ".."), writes(f"{it} --help", "", ".."), writes(f"{it} no.json -h", "", ".."))],
     # The words are read as the command that they are.
-    writes("--help", "", "usage: seccomptool COMMAND\n\ncommands:\n  raw ARCH NAME [--tree]  .."),
-    writes("--version", "", "seccomptool 0.5.0\n"),
-    writes("raw x86_64 --tree", NAMED_TREE, CHAINS),
-    writes("raw x86_64 --tree --tree", NAMED_TREE, TREE),
-    writes("raw x86_64 a --tree", NAMED_TREE, TREE),
-    refuses("raw '' a --tree", NAMED_TREE, "Backend error: Invalid target arch: .\n"),
-    writes("record x86_64 read", "", record_of(0, X86_64)),
-    writes("record x86_64 0 1 0x2 0xaBc 007 18446744073709551615 0xffffffffffffffff", "",
+    writes("compile --filter=--tree", NAMED, TREE),
+    writes("compile --filter= --layout linear", NAMED, LINEAR),
+    writes("compile -f '' --layout linear", NAMED, LINEAR),
+    writes("record read", "", record_of(0, X86_64)),
+    writes("record 0 1 0x2 0xaBc 007 18446744073709551615 0xffffffffffffffff", "",
            record_of(0, X86_64, 1, 2, 0xABC, 7, GREATEST, GREATEST)),
+    writes("record 0 1 -- -1 -0x10 -9223372036854775808", "",
+           record_of(0, X86_64, 1, GREATEST, 2**64 - 16, 2**63)),
     # Other words are refused.
-    misused(""),
-    misused("help"),
-    misused("--help raw"),
-    misused("--version ''"),
-    misused("raw x86_64"),
-    misused("raw x86_64 a --Tree"),
-    misused("raw x86_64 a tree < logs.json"),
-    misused("raw x86_64 a --tree --tree"),
-    misused("raw x86_64 \"$(printf 'a\\377')\" < logs.json"),
-    misused("show x86_64 tree < logs.json"),
-    misused("steps x86_64 a < logs.json"),
-    misused("widened < logs.json"),
-    misused("lint x86_64 --tree < logs.json"),
-    misused("explain x86_64 logs.json < empty"),
-    misused("record x86_64"),
-    misused("record x86_64 read 1 2 3 4 5 6 7"),
-    *[misused(f"record x86_64 read {arguments}") for arguments in (
-        "0 0 0 0 0 0 0", "''", "0x", "0X1", "+1", "0x+1", "-1", "1a", "0xg", "18446744073709551616",
-        "0x10000000000000000")],
+    Case("", 2, "", "Compiles, checks and explains seccomp policies\n\nUsage: .."),
+    misused("raw", "error: unrecognized subcommand 'raw'\n.."),
+    misused("chek", "error: unrecognized subcommand 'chek'\n\n  tip: a similar subcommand exists: 'check'\n.."),
+    misused("help nothing"),
+    misused("compile -a x8664 logs.json",
+            "error: invalid value 'x8664' for '--arch <ARCH>'\n"
+            "  [possible values: x86_64, aarch64, riscv64, amd64, arm64]\n.."),
+    misused("compile -a X86_64 logs.json"),
+    misused("compile --layout chains logs.json", "error: invalid value 'chains' for '--layout <LAYOUT>'\n.."),
+    misused("compile --tree logs.json", "error: unexpected argument '--tree' found\n.."),
+    misused("compile logs.json logs.json"),
+    misused("compile -f a -f b logs.json"),
+    misused("compile -o"),
+    misused("compile \"$(printf 'a\\377')\" < logs.json", "seccomptool: the words of the command aren't UTF-8\n"),
+    misused("show -f a logs.json"),
+    misused("explain < empty"),
+    misused("explain logs.json read --records 63-bytes", "error: either CALL or --records is given, not both\n.."),
+    misused("explain -",
+            "error: policy and records can't both be read from standard input: give CALL or --records\n.."),
+    misused("explain - --records -"),
+    misused("record"),
+    misused("record read 1 2 3 4 5 6 7"),
+    misused("record read -1", "error: unexpected argument '-1' found\n.."),
+    misused("explain logs.json read 1a", NO_NUMBER),
+    *[misused(f"record read {arguments}", NO_NUMBER) for arguments in (
+        "''", "0x", "0X1", "+1", "0x+1", "1a", "0xg", "18446744073709551616", "0x10000000000000000",
+        "-- -0", "-- -9223372036854775809", "-- --1", "-- -", "-- +1")],
     # An output that takes nothing.
-    ("--help > /dev/full", 1, "", UNWRITTEN),
+    rejects("--help > /dev/full", "", FULL, OUTPUT),
+    rejects("--version > /dev/full", "", FULL, OUTPUT),
 ]

@@ -1,2 +1,2 @@
 -- Lemmas for the functions of `words`.
-pub mod GivenArguments
+pub mod Meanings

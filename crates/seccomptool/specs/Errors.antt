@@ -8,7 +8,7 @@ use Rattle.seccompiler.specs.declared.error.Error.TheVariants as library
 use Rattle.seccompiler.specs.Errors.{error_text}
 use Rattle.seccompiler.specs.Architecture.{arch_text}
 use Rattle.seccomptool.specs.declared.error.ToolError.{ToolError}
-use Rattle.seccomptool.specs.declared.error.ToolError.TheVariants.{Library, NoFilter, UnknownCall, ShortRecord, Read, Fault, Write, OutOfMemory}
+use Rattle.seccomptool.specs.declared.error.ToolError.TheVariants.{Library, NoFilter, Unchosen, UnknownCall, ShortRecord, Read, Fault, Write, OutOfMemory}
 
 -- A refusal of the library; want of memory stays want of memory.
 abbrev pub from_library : LibraryError → ToolError
@@ -19,6 +19,7 @@ from_library refusal = Library refusal
 abbrev pub tool_text : ToolError → Option (List ℕ)
 tool_text (Library e) = error_text e
 tool_text (NoFilter name) = Some (codes "No filter has this name: " ++ string_bytes name ++ codes ".")
+tool_text (Unchosen names) = Some (codes "Name one of its filters by --filter: " ++ string_bytes names ++ codes ".")
 tool_text (UnknownCall call target) = Some (codes "No call of " ++ arch_text target ++ codes " has this name or number: " ++ string_bytes call ++ codes ".")
 tool_text (ShortRecord rest) = Some (codes "The input ends inside a record, after " ++ decimal rest ++ codes " bytes of it.")
 tool_text (Read e) = Some (codes "Error reading input.")

@@ -1,11 +1,13 @@
 -- The definitions that the contracts cite.
 
 -- What is promised, in reading order: which words are which command, what goes wrong, and what each engine answers and
--- writes, in the order of the commands; what each command does; and what the statuses tell.
+-- writes, in the order of the commands; and what each command does.
 pub mod Numbers
+pub mod CommandLine
 pub mod Words
 pub mod Errors
 pub mod Policies
+pub mod Chosen
 pub mod Raw
 pub mod ShowText
 pub mod ShowLabels
@@ -24,7 +26,7 @@ pub mod Record
 pub mod Findings
 pub mod Diff
 pub mod Commands
-pub mod Statuses
+pub mod Answers
 -- Between layers: what the private steps of the engines promise each other.
 pub mod ShowParts
 pub mod StepsParts

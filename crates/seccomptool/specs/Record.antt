@@ -21,6 +21,16 @@ pub data IsCall (target : TargetArch) (text : List ℕ) (n : ℕ) : Type 0 where
 abbrev pub record_bytes : TargetArch → ℕ → List ℕ → List ℕ
 record_bytes target n arguments = to_le_bytes w32 n ++ to_le_bytes w32 (audit_word target) ++ to_le_bytes w64 0 ++ concat (map (to_le_bytes w64) arguments)
 
+-- The bytes are those of the record of the text's call.
+abbrev pub IsRecordOf : TargetArch → List ℕ → List ℕ → List ℕ → Type 0
+IsRecordOf target call arguments bytes = (n : ℕ) × IsCall target call n × (bytes ≡ record_bytes target n arguments)
+
+-- The error tells that the text is no call of the architecture, or is want of memory.
+abbrev pub IsUncalled : TargetArch → List ℕ → ToolError → Type 0
+IsUncalled target call (UnknownCall text of) = (of ≡ target) × (string_bytes text ≡ call) × ((n : ℕ) → IsCall target call n → ⊥)
+IsUncalled target call OutOfMemory = ⊤
+IsUncalled target call e = ⊥
+
 -- Nothing is at fault: the texts name an architecture, and a call of it. P holds of both.
 abbrev pub IsFaultless : List ℕ → List ℕ → (TargetArch → ℕ → Type 0) → Type 0
 IsFaultless arch call P = (target : TargetArch) × IsNameOf arch target × ((n : ℕ) × IsCall target call n × P target n)

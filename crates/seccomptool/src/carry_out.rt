@@ -1,92 +1,148 @@
 // A command, carried out, and the status that the program ends with.
 
-ghost use Rattle.std.specs.Prelude.{◌≡◌, ◌≤◌, IfSome, IfNone, OnOk, OnErr, option_map};
+ghost use Rattle.std.specs.Prelude.{◌≡◌, ◌≤◌, OnOk, OnErr, true};
 ghost use Rattle.std.specs.Process.{exit_status};
 ghost use Rattle.seccomptool.specs.Commands as spec;
 ghost use Rattle.seccomptool.specs.Commands.{IsPerformed};
-ghost use Rattle.seccomptool.specs.Statuses.{IsFaultless};
+ghost use Rattle.seccomptool.specs.Words.{text_of};
 
 use crate::error::ToolError;
+use crate::failure::{Failure, tell};
 use crate::perform::perform;
-use crate::words::Command;
-use std::io::ErrorKind;
+use crate::source::{Source, open};
+use crate::words::{Command, Records};
+use std::io::Read;
 use std::process::ExitCode;
 use std::rt::Files;
 use std::{fs, io};
 
-// Carries out a command, from standard input to standard output; where there is none, says how the
-// program is called.
+// Carries out a command, on the files and standard input that it names. Where standard output is a terminal,
+// no bytes of programs or records are written there.
 pub(crate) fn carry_out(
     rt: &(impl Files + Input + Print + Eprint + AllocGlobal),
-    command: Option<Command<'_>>,
+    command: Command<'_>,
+    to_terminal: bool,
 ) -> ExitCode
-    ensures no_command { IfNone command.entry (exit_status result ≡ 2) }
-    ensures carried_out { IfSome command.entry (λ asked. exit_status result ≤ 1) }
+    ensures ended { exit_status result ≤ 1 }
+    ensures kept { to_terminal ≡ true → spec.writes_bytes command.entry ≡ true → exit_status result ≡ 1 }
 
-    // Status 0 comes only where the command is carried out, which is only where its own words have no
-    // fault.
-    ensures performed { IfSome command.entry (λ asked. exit_status result ≡ 0 → IsPerformed asked) }
-    ensures faultless { IfSome command.entry (λ asked. exit_status result ≡ 0 → IsFaultless asked) }
+    // Status 0 comes only where the command is carried out.
+    ensures performed { exit_status result ≡ 0 → IsPerformed command.entry }
 {
-    let alloc = rt.alloc();
-    let mut out = io::writer(rt);
-    let Some(command) = command else {
-        return misused(rt);
+    if to_terminal && writes_bytes(command) {
+        return failed(rt, command, Failure::Terminal);
+    }
+    let policy = match open(rt, policy_of(command)) {
+        Ok(policy) => policy,
+        Err(error) => return failed(rt, command, Failure::Policy(error)),
     };
-    let Some(path) = path_of(command) else {
-        return answered(
-            rt,
-            perform(alloc, command, io::empty(), rt.reader(), &mut out),
-        );
+    let records = match open(rt, records_of(command)) {
+        Ok(records) => records,
+        Err(error) => return failed(rt, command, Failure::Records(error)),
     };
-    match fs::open(rt, path) {
-        Ok(file) => answered(rt, perform(alloc, command, file, rt.reader(), &mut out)),
-        Err(error) if error.kind() == ErrorKind::OutOfMemory => {
-            answered(rt, Err(ToolError::OutOfMemory))
+    match output_of(command) {
+        None => {
+            let mut out = io::writer(rt);
+            let answer = perform(rt.alloc(), command, policy, records, &mut out);
+            answered(rt, command, answer)
         }
-        Err(_) => unopened(rt),
+        Some(path) => in_file(rt, command, policy, records, path),
     }
 }
 
-// The path of the file that a command reads.
-fn path_of(command: Command<'_>) -> Option<&str>
-    ensures { option_map (λ path. path.now) result ≡ spec.path_of command.entry }
+// Carries out a command whose output goes to a file, which is made where there is no fault.
+fn in_file<P: Read + Drop, R: Read + Drop>(
+    rt: &(impl Files + Eprint + AllocGlobal),
+    command: Command<'_>,
+    policy: P,
+    records: R,
+    path: &str,
+) -> ExitCode
+    ensures ended { exit_status result ≤ 1 }
+    ensures performed { exit_status result ≡ 0 → IsPerformed command.entry }
+{
+    let alloc = rt.alloc();
+    let mut bytes = Vec::new(alloc);
+    let answer = perform(alloc, command, policy, records, &mut bytes);
+    if answer.is_ok() {
+        if let Err(error) = fs::write(rt, path, bytes.as_slice()) {
+            return failed(rt, command, Failure::Output(error));
+        }
+    }
+    answered(rt, command, answer)
+}
+
+// Whether a command writes bytes that are no text to standard output.
+fn writes_bytes(command: Command<'_>) -> bool
+    ensures { result ≡ spec.writes_bytes command.entry }
 {
     match command {
-        Command::Explain { file, .. } => Some(file),
+        Command::Compile { output: None, .. } => true,
+        Command::Record { .. } => true,
+        _ => false,
+    }
+}
+
+// The path of the policy that a command reads.
+fn policy_of<'a>(command: Command<'a>) -> Option<&'a str>
+    ensures { text_of result ≡ spec.policy_of command.entry }
+{
+    match command {
+        Command::Compile { policy, .. } => Some(policy),
+        Command::Show { policy, .. } => Some(policy),
+        Command::Check { policy, .. } => Some(policy),
+        Command::Explain { policy, .. } => Some(policy),
+        Command::Stats { policy, .. } => Some(policy),
+        Command::Record { .. } => None,
+        Command::Compat { policy, .. } => Some(policy),
+    }
+}
+
+// The path of the records that a command reads.
+fn records_of<'a>(command: Command<'a>) -> Option<&'a str>
+    ensures { text_of result ≡ spec.records_of command.entry }
+{
+    match command {
+        Command::Explain {
+            records: Records::In(path),
+            ..
+        } => Some(path),
+        _ => None,
+    }
+}
+
+// The path of the file that a command writes.
+fn output_of<'a>(command: Command<'a>) -> Option<&'a str>
+    ensures { text_of result ≡ spec.output_of command.entry }
+{
+    match command {
+        Command::Compile { output, .. } => output,
         _ => None,
     }
 }
 
 // Status 0, or status 1 where a command failed, with the error's text on standard error.
-pub(crate) fn answered(rt: &impl Eprint, answer: Result<(), ToolError>) -> ExitCode
+fn answered(
+    rt: &(impl Eprint + AllocGlobal),
+    command: Command<'_>,
+    answer: Result<(), ToolError>,
+) -> ExitCode
     ensures done { OnOk answer (exit_status result ≡ 0) }
     ensures failed { OnErr answer (exit_status result ≡ 1) }
 {
     match answer {
         Ok(()) => ExitCode::SUCCESS,
-        Err(error) => {
-            let _ = rt.eprintln(&error);
-            ExitCode::FAILURE
-        }
+        Err(error) => failed(rt, command, Failure::Engine(error)),
     }
 }
 
-// Status 1, where the policy's file can't be opened.
-fn unopened(rt: &impl Eprint) -> ExitCode
+// Status 1, with what failed on standard error.
+fn failed(rt: &(impl Eprint + AllocGlobal), command: Command<'_>, failure: Failure) -> ExitCode
     ensures { exit_status result ≡ 1 }
 {
-    let _ = rt.eprintln("Error opening the policy file.");
+    let policy = policy_of(command).unwrap_or("-");
+    let records = records_of(command).unwrap_or("-");
+    let output = output_of(command).unwrap_or("-");
+    tell(rt, &failure, policy, records, output);
     ExitCode::FAILURE
-}
-
-const USAGE: &str = "usage: seccomptool raw ARCH NAME [--tree] | show ARCH [--tree] | steps ARCH | \
-    widened ARCH | lint ARCH | explain ARCH FILE NAME | record ARCH CALL [ARG..] | --help | --version";
-
-// Status 2, with how the program is called on standard error.
-pub(crate) fn misused(rt: &impl Eprint) -> ExitCode
-    ensures { exit_status result ≡ 2 }
-{
-    let _ = rt.eprintln(USAGE);
-    ExitCode::from(2)
 }

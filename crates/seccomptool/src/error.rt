@@ -14,6 +14,8 @@ pub enum ToolError {
     Library(seccompiler::Error),
     /// No filter of the policy has this name.
     NoFilter(String),
+    /// No filter is asked for, and the policy hasn't one but these, by their names.
+    Unchosen(String),
     /// The architecture has no call of this name or number.
     UnknownCall(String, TargetArch),
     /// The records end inside a record, after so many bytes of it, from 1 to 63.
@@ -38,6 +40,9 @@ impl fmt::Display for ToolError {
         match self {
             ToolError::Library(error) => write!(f, "{error}"),
             ToolError::NoFilter(name) => write!(f, "No filter has this name: {name}."),
+            ToolError::Unchosen(names) => {
+                write!(f, "Name one of its filters by --filter: {names}.")
+            }
             ToolError::UnknownCall(call, arch) => {
                 write!(f, "No call of {arch} has this name or number: {call}.")
             }

@@ -1,83 +1,141 @@
 // A command, carried out on what is opened for it.
 
-ghost use Rattle.std.specs.Prelude.{IfErr};
-ghost use Rattle.seccomptool.specs.Commands.{AnswersCommand};
+ghost use Rattle.std.specs.Prelude.{IfErr, Some};
+ghost use Rattle.seccompiler.specs.Architecture.{arch_text};
+ghost use Rattle.seccomptool.specs.Chosen.{AnswersChosen};
+ghost use Rattle.seccomptool.specs.Commands.{AnswersCommand, AnswersExplained, AnswersExplainedOn};
 ghost use Rattle.seccomptool.specs.Errors.{KeepsOutput};
+ghost use Rattle.seccomptool.specs.Raw.{AnswersRaw};
+ghost use Rattle.seccomptool.specs.Words.{text_of};
 
+use crate::chosen::chosen_name;
 use crate::error::ToolError;
 use crate::explain::explain;
 use crate::explain::format::LineFormat;
 use crate::lint::lint;
+use crate::policy::policy_text;
 use crate::raw::raw;
-use crate::record::record;
-use crate::send::send;
+use crate::record::{called_record, record};
 use crate::show::show;
 use crate::steps::steps;
 use crate::widened::widened;
-use crate::words::Command;
+use crate::words::{Command, Records};
+use seccompiler::{Layout, TargetArch};
 use std::alloc::Global;
 use std::io::{Read, Write};
 
-const HELP: &str = "\
-usage: seccomptool COMMAND
-
-commands:
-  raw ARCH NAME [--tree]     write the program of the filter NAME as bytes
-  show ARCH [--tree]         show the programs, and what their instructions are for
-  steps ARCH                 tell how long the programs are, and how many steps they take
-  widened ARCH               name the calls that the Rust crate would decide otherwise
-  lint ARCH                  tell the place at which the policy is refused
-  explain ARCH FILE NAME     tell what the filter NAME decides on records, and why
-  record ARCH CALL [ARG..]   write the record of a call, of 64 bytes
-  --help                     write this text
-  --version                  write the program's name and version
-
-ARCH is x86_64, aarch64 or riscv64. The policy is read from standard input, or
-by explain, which reads records there, from FILE. With --tree the programs are
-trees of tests. CALL is a call's name or number, and ARG are its arguments, up to
-six. Numbers are decimal, or hexadecimal behind 0x.
-";
-
-const VERSION: &str = "seccomptool 0.5.0\n";
-
-/// Carries out a command: `explain` on the policy of the file and on the records of the input, each
-/// other one that reads on the policy of the input.
-///
-/// The file is read by no command but `explain`, and the input by none of `--help`, `--version` and
-/// `record`.
+/// Carries out a command on its policy, and `explain` on its records, those of a call aside.
 ///
 /// # Errors
 ///
-/// Those of [`raw`], [`show`], [`steps`], [`widened`], [`lint`], [`explain`] and [`record`]; for
-/// `--help` and `--version` `Write` where the writer fails.
-pub fn perform<F: Read + Drop, I: Read + Drop, W: Write>(
+/// Those of the engine: [`raw`] for `compile`, [`show`], [`lint`] for `check`, [`explain`], [`steps`]
+/// for `stats`, [`record`] and [`widened`] for `compat`. In front of them, for `compile` and `explain`,
+/// where no filter is asked for: the policy's fault that keeps its names from being read, and `Unchosen`
+/// with the names where it hasn't one. In front of all, for `explain` on a call, `UnknownCall` where the
+/// architecture hasn't it.
+pub fn perform<P: Read + Drop, R: Read + Drop, W: Write>(
     alloc: Global,
     command: Command<'_>,
-    file: F,
-    input: I,
+    policy: P,
+    records: R,
     out: &mut W,
 ) -> Result<(), ToolError>
     // When each answer comes, and what is written.
-    ensures answers { AnswersCommand command.entry (F.remaining file) (I.remaining input) result (W.contents out.old) (W.contents out.new) }
+    ensures answers { AnswersCommand command.entry (P.remaining policy) (R.remaining records) result (W.contents out.old) (W.contents out.new) }
     ensures unwritten { IfErr result (λ e. KeepsOutput e out.old out.new) }
 {
     match command {
-        Command::Help => send(out, HELP.as_bytes()),
-        Command::Version => send(out, VERSION.as_bytes()),
-        Command::Raw { arch, name, layout } => raw(alloc, arch, name, layout, input, out),
-        Command::Show { arch, layout } => show(alloc, arch, layout, input, out),
-        Command::Steps { arch } => steps(alloc, arch, input, out),
-        Command::Widened { arch } => widened(alloc, arch, input, out),
-        Command::Lint { arch } => lint(alloc, arch, input),
+        Command::Compile {
+            arch,
+            filter,
+            layout,
+            ..
+        } => compile(alloc, arch, filter, layout, policy, out),
+        Command::Show { arch, layout, .. } => show(alloc, arch.name(), layout, policy, out),
+        Command::Check { arch, .. } => lint(alloc, arch.name(), policy),
         Command::Explain {
             arch,
-            file: _,
-            name,
-        } => explain(alloc, LineFormat::Path, arch, file, name, input, out),
+            filter,
+            records: asked,
+            ..
+        } => explain_asked(alloc, arch, filter, asked, policy, records, out),
+        Command::Stats { arch, .. } => steps(alloc, arch.name(), policy, out),
         Command::Record {
             arch,
             call,
             arguments,
-        } => record(alloc, arch, call, arguments, out),
+        } => record(alloc, arch.name(), call, arguments, out),
+        Command::Compat { arch, .. } => widened(alloc, arch.name(), policy, out),
     }
+}
+
+// Writes the program of the filter that is asked for.
+fn compile<P: Read + Drop, W: Write>(
+    alloc: Global,
+    arch: TargetArch,
+    filter: Option<&str>,
+    layout: Layout,
+    policy: P,
+    out: &mut W,
+) -> Result<(), ToolError>
+    ensures answers { AnswersChosen (P.remaining policy) (text_of filter.entry) (λ text name. AnswersRaw (arch_text arch) (Some text) name layout result (W.contents out.old) (W.contents out.new)) result }
+    ensures unwritten { IfErr result (λ e. KeepsOutput e out.old out.new) }
+{
+    let text = policy_text(alloc, policy)?;
+    let name = chosen_name(alloc, text.as_slice(), filter)?;
+    raw(
+        alloc,
+        arch.name(),
+        name.as_str(),
+        layout,
+        text.as_slice(),
+        out,
+    )
+}
+
+// Explains what the filter that is asked for decides on the records that are asked about.
+fn explain_asked<P: Read + Drop, R: Read + Drop, W: Write>(
+    alloc: Global,
+    arch: TargetArch,
+    filter: Option<&str>,
+    asked: Records<'_>,
+    policy: P,
+    records: R,
+    out: &mut W,
+) -> Result<(), ToolError>
+    ensures answers { AnswersExplainedOn asked.entry arch (text_of filter.entry) (P.remaining policy) (R.remaining records) result (W.contents out.old) (W.contents out.new) }
+    ensures unwritten { IfErr result (λ e. KeepsOutput e out.old out.new) }
+{
+    match asked {
+        Records::In(_) => explain_records(alloc, arch, filter, policy, records, out),
+        Records::Call { call, arguments } => {
+            let record = called_record(alloc, arch, call, &arguments)?;
+            explain_records(alloc, arch, filter, policy, record.as_slice(), out)
+        }
+    }
+}
+
+// Explains what the filter that is asked for decides on records.
+fn explain_records<P: Read + Drop, R: Read + Drop, W: Write>(
+    alloc: Global,
+    arch: TargetArch,
+    filter: Option<&str>,
+    policy: P,
+    records: R,
+    out: &mut W,
+) -> Result<(), ToolError>
+    ensures answers { AnswersExplained arch (text_of filter.entry) (P.remaining policy) (R.remaining records) result (W.contents out.old) (W.contents out.new) }
+    ensures unwritten { IfErr result (λ e. KeepsOutput e out.old out.new) }
+{
+    let text = policy_text(alloc, policy)?;
+    let name = chosen_name(alloc, text.as_slice(), filter)?;
+    explain(
+        alloc,
+        LineFormat::Path,
+        arch.name(),
+        text.as_slice(),
+        name.as_str(),
+        records,
+        out,
+    )
 }

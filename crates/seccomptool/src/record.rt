@@ -4,7 +4,7 @@ ghost use Rattle.std.specs.Prelude.{◌≡◌, ◌++◌, ℕ, map, IfOk, IfErr, 
 ghost use Rattle.std.specs.Int.{w64, to_le_bytes};
 ghost use Rattle.std.specs.List.{concat};
 ghost use Rattle.seccomptool.specs.Errors.{KeepsOutput};
-ghost use Rattle.seccomptool.specs.Record.{AnswersRecord, IsCall, record_bytes};
+ghost use Rattle.seccomptool.specs.Record.{AnswersRecord, IsCall, IsRecordOf, IsUncalled, record_bytes};
 
 use crate::error::ToolError;
 use crate::numbers::read_number;
@@ -44,6 +44,22 @@ pub fn record<W: Write>(
         return Err(ToolError::UnknownCall(String::from_str(alloc, call)?, target));
     };
     send(out, &record_of(alloc, target, number, &arguments)?)
+}
+
+// The bytes of the record of the call of this name or number.
+pub(crate) fn called_record(
+    alloc: Global,
+    target: TargetArch,
+    call: &str,
+    arguments: &[u64],
+) -> Result<Vec<u8>, ToolError>
+    ensures recorded { IfOk result (λ bytes. IsRecordOf target call.now arguments.now bytes.items) }
+    ensures refused { IfErr result (IsUncalled target call.now) }
+{
+    let Some(number) = call_number(target, call) else {
+        return Err(ToolError::UnknownCall(String::from_str(alloc, call)?, target));
+    };
+    Ok(record_of(alloc, target, number, arguments)?)
 }
 
 // The number of the call of this name or number.

@@ -1,217 +1,138 @@
 // The words that the program is called with.
 
-ghost use Rattle.std.specs.Prelude.{◌≡◌, ℕ, List, [], ◌∷◌, IfSome, IfNone, map, codes, string_bytes};
-ghost use Rattle.seccomptool.specs.declared.words.Command.{Command};
-ghost use Rattle.seccompiler.specs.declared.layout.Layout.{Layout};
-ghost use Rattle.seccomptool.specs.Words.{IsCommand, AreArguments, layout_words};
+ghost use Rattle.std.specs.Prelude.{◌≡◌, IfOk, IfErr, map, string_bytes};
+ghost use Rattle.seccomptool.specs.Words.{Choices, Means, IsFault, IsOwn};
 
-use crate::numbers::read_number;
-use seccompiler::Layout;
+mod arguments;
+mod matches;
 
-/// A command of the program.
+use crate::program::program;
+use crate::words::matches::{command_in, misuse_in};
+use clap::error::ErrorKind;
+use seccompiler::{Layout, TargetArch};
+use std::alloc::Global;
+
+static ARCHITECTURES: [&str; 5] = ["x86_64", "aarch64", "riscv64", "amd64", "arm64"];
+
+static LAYOUTS: [&str; 2] = ["linear", "tree"];
+
+/// A command of the program. A policy and records are paths, or `-` for standard input.
 #[derive(Clone, Copy)]
 pub enum Command<'a> {
-    /// Say how the program is called.
-    Help,
-    /// Say which program this is.
-    Version,
-    /// Write the program of a filter of the policy on standard input as bytes.
-    Raw {
-        /// The architecture's name.
-        arch: &'a str,
-        /// The filter's name.
-        name: &'a str,
+    /// Write the program of a filter as bytes.
+    Compile {
+        /// The architecture.
+        arch: TargetArch,
+        /// The filter's name; the policy's only filter where there is none.
+        filter: Option<&'a str>,
         /// The program's layout.
         layout: Layout,
+        /// The path of the file that is written, in place of standard output.
+        output: Option<&'a str>,
+        /// The policy.
+        policy: &'a str,
     },
-    /// Show the programs of the policy on standard input for people.
+    /// Show the programs of a policy for people.
     Show {
-        /// The architecture's name.
-        arch: &'a str,
+        /// The architecture.
+        arch: TargetArch,
         /// The programs' layout.
         layout: Layout,
+        /// The policy.
+        policy: &'a str,
     },
-    /// Tell how long the programs of the policy on standard input are, and how many steps they take.
-    Steps {
-        /// The architecture's name.
-        arch: &'a str,
+    /// Tell the first fault of a policy, with its place.
+    Check {
+        /// The architecture.
+        arch: TargetArch,
+        /// The policy.
+        policy: &'a str,
     },
-    /// Name the calls that the Rust crate would decide otherwise.
-    Widened {
-        /// The architecture's name.
-        arch: &'a str,
-    },
-    /// Tell the place at which the policy on standard input is refused.
-    Lint {
-        /// The architecture's name.
-        arch: &'a str,
-    },
-    /// Explain what a filter of a policy decides on the records on standard input.
+    /// Tell what a filter decides on calls, and why.
     Explain {
-        /// The architecture's name.
-        arch: &'a str,
-        /// The path of the policy's file.
-        file: &'a str,
-        /// The filter's name.
-        name: &'a str,
+        /// The architecture.
+        arch: TargetArch,
+        /// The filter's name; the policy's only filter where there is none.
+        filter: Option<&'a str>,
+        /// The records of the calls.
+        records: Records<'a>,
+        /// The policy.
+        policy: &'a str,
+    },
+    /// Tell how long the programs of a policy are, and how many steps they take.
+    Stats {
+        /// The architecture.
+        arch: TargetArch,
+        /// The policy.
+        policy: &'a str,
     },
     /// Write the record of a call.
     Record {
-        /// The architecture's name.
-        arch: &'a str,
+        /// The architecture.
+        arch: TargetArch,
         /// The call's name or number.
         call: &'a str,
         /// The call's arguments, 0 where none is given.
         arguments: [u64; 6],
     },
+    /// Name the calls that the Rust crate would decide otherwise.
+    Compat {
+        /// The architecture.
+        arch: TargetArch,
+        /// The policy.
+        policy: &'a str,
+    },
 }
 
-/// Reads the words that follow the program's name: exactly the command that they are, or `None`
-/// where they are none. Takes no memory.
+/// The records of calls that a command is asked about.
+#[derive(Clone, Copy)]
+pub enum Records<'a> {
+    /// The record of one call.
+    Call {
+        /// The call's name or number.
+        call: &'a str,
+        /// The call's arguments, 0 where none is given.
+        arguments: [u64; 6],
+    },
+    /// Those of this file, or of standard input where it is `-`.
+    In(&'a str),
+}
+
+/// Reads the words that follow the program's name: the command that they mean.
 ///
-/// The commands are `--help`, `--version`, `raw ARCH NAME [--tree]`, `show ARCH [--tree]`, `steps ARCH`,
-/// `widened ARCH`, `lint ARCH`, `explain ARCH FILE NAME` and `record ARCH CALL [ARG..]`. ARCH, FILE, NAME
-/// and CALL are any texts. There are at most six ARG; each is one or more ASCII digits, or `0x` and one
-/// or more hexadecimal digits of either case, and fits `u64`.
-pub fn read_words(words: &[String]) -> Option<Command<'_>>
-    ensures read { IfSome result (IsCommand (map string_bytes words.now)) }
-    ensures unread { IfNone result ((command : Command) → IsCommand (map string_bytes words.now) command → ⊥) }
+/// # Errors
+///
+/// `clap`'s: help and the version where they are asked for, and its own error of words that are no
+/// command. `ValueValidation` where an ARG is no number, where `explain` is given both CALL and
+/// `--records`, and where it would read policy and records from standard input. `OutOfMemory` may come
+/// in place of any.
+pub(crate) fn read<'a>(alloc: Global, words: &'a [String]) -> Result<Command<'a>, clap::Error>
+    // With the names of architectures and layouts that the options take.
+    ensures { (choices : Choices) × IfOk result (Means choices (map string_bytes words.now))
+        × IfErr result (IsFault choices (map string_bytes words.now)) }
 {
-    let (command, words) = words.split_first()?;
-    match command.as_str() {
-        "--help" => read_help(words),
-        "--version" => read_version(words),
-        "raw" => read_raw(words),
-        "show" => read_show(words),
-        "steps" => Some(Command::Steps {
-            arch: only_word(words)?,
-        }),
-        "widened" => Some(Command::Widened {
-            arch: only_word(words)?,
-        }),
-        "lint" => Some(Command::Lint {
-            arch: only_word(words)?,
-        }),
-        "explain" => read_explain(words),
-        "record" => read_record(words),
-        _ => None,
-    }
-}
-
-// The help that the words behind `--help` ask for.
-fn read_help(words: &[String]) -> Option<Command<'_>>
-    ensures read { IfSome result (IsCommand (codes "--help" ∷ map string_bytes words.now)) }
-    ensures unread { IfNone result ((command : Command) → IsCommand (codes "--help" ∷ map string_bytes words.now) command → ⊥) }
-{
-    match words {
-        [] => Some(Command::Help),
-        _ => None,
-    }
-}
-
-// The version that the words behind `--version` ask for.
-fn read_version(words: &[String]) -> Option<Command<'_>>
-    ensures read { IfSome result (IsCommand (codes "--version" ∷ map string_bytes words.now)) }
-    ensures unread { IfNone result ((command : Command) → IsCommand (codes "--version" ∷ map string_bytes words.now) command → ⊥) }
-{
-    match words {
-        [] => Some(Command::Version),
-        _ => None,
-    }
-}
-
-// The program's bytes that the words behind `raw` ask for.
-fn read_raw(words: &[String]) -> Option<Command<'_>>
-    ensures read { IfSome result (IsCommand (codes "raw" ∷ map string_bytes words.now)) }
-    ensures unread { IfNone result ((command : Command) → IsCommand (codes "raw" ∷ map string_bytes words.now) command → ⊥) }
-{
-    let (arch, words) = words.split_first()?;
-    let (name, words) = words.split_first()?;
-    Some(Command::Raw {
-        arch: arch.as_str(),
-        name: name.as_str(),
-        layout: read_layout(words)?,
-    })
-}
-
-// The programs that the words behind `show` ask for.
-fn read_show(words: &[String]) -> Option<Command<'_>>
-    ensures read { IfSome result (IsCommand (codes "show" ∷ map string_bytes words.now)) }
-    ensures unread { IfNone result ((command : Command) → IsCommand (codes "show" ∷ map string_bytes words.now) command → ⊥) }
-{
-    let (arch, words) = words.split_first()?;
-    Some(Command::Show {
-        arch: arch.as_str(),
-        layout: read_layout(words)?,
-    })
-}
-
-// The decisions that the words behind `explain` ask for.
-fn read_explain(words: &[String]) -> Option<Command<'_>>
-    ensures read { IfSome result (IsCommand (codes "explain" ∷ map string_bytes words.now)) }
-    ensures unread { IfNone result ((command : Command) → IsCommand (codes "explain" ∷ map string_bytes words.now) command → ⊥) }
-{
-    match words {
-        [arch, file, name] => Some(Command::Explain {
-            arch: arch.as_str(),
-            file: file.as_str(),
-            name: name.as_str(),
-        }),
-        _ => None,
-    }
-}
-
-// The layout that these words choose.
-fn read_layout(words: &[String]) -> Option<Layout>
-    ensures read { IfSome result (λ layout. map string_bytes words.now ≡ layout_words layout) }
-    ensures unread { IfNone result ((layout : Layout) → map string_bytes words.now ≡ layout_words layout → ⊥) }
-{
-    match words {
-        [] => Some(Layout::Linear),
-        [flag] => match flag.as_str() {
-            "--tree" => Some(Layout::Tree),
-            _ => None,
+    let archs = ARCHITECTURES.as_slice();
+    let layouts = LAYOUTS.as_slice();
+    let mut program = program(alloc, archs, layouts)?;
+    let matches = match program.try_get_matches_from_mut(words) {
+        Ok(matches) => matches,
+        Err(error) => return Err(error),
+    };
+    match matches.subcommand() {
+        None => Err(misused(&mut program, "no command is given")),
+        Some((name, found)) => match command_in(name, found) {
+            Some(command) => Ok(command),
+            None => Err(misused(&mut program, misuse_in(found))),
         },
-        _ => None,
     }
 }
 
-// The word, where there is one alone.
-fn only_word(words: &[String]) -> Option<&str>
-    ensures read { IfSome result (λ word. map string_bytes words.now ≡ word.now ∷ []) }
-    ensures unread { IfNone result ((word : List ℕ) → map string_bytes words.now ≡ word ∷ [] → ⊥) }
+// The error of words that clap takes and that are no command.
+fn misused(program: &mut clap::Command<'_>, message: &str) -> clap::Error
+    ensures { IsOwn result }
 {
-    match words {
-        [word] => Some(word.as_str()),
-        _ => None,
+    match program.error(ErrorKind::ValueValidation, message) {
+        Ok(error) => error,
+        Err(error) => clap::Error::from(error),
     }
-}
-
-// The record that the words behind `record` ask for.
-fn read_record(words: &[String]) -> Option<Command<'_>>
-    ensures read { IfSome result (IsCommand (codes "record" ∷ map string_bytes words.now)) }
-    ensures unread { IfNone result ((command : Command) → IsCommand (codes "record" ∷ map string_bytes words.now) command → ⊥) }
-{
-    let (arch, words) = words.split_first()?;
-    let (call, words) = words.split_first()?;
-    Some(Command::Record {
-        arch: arch.as_str(),
-        call: call.as_str(),
-        arguments: read_arguments(words)?,
-    })
-}
-
-// The arguments that these words write, with zeros behind them.
-fn read_arguments(words: &[String]) -> Option<[u64; 6]>
-    ensures read { IfSome result (AreArguments (map string_bytes words.now)) }
-    ensures unread { IfNone result ((arguments : List ℕ) → AreArguments (map string_bytes words.now) arguments → ⊥) }
-{
-    if words.len() > 6 {
-        return None;
-    }
-    let mut arguments = [0; 6];
-    for (place, word) in words.iter().enumerate() {
-        arguments[place] = read_number(word.as_str())?;
-    }
-    Some(arguments)
 }

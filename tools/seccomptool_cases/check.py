@@ -1,8 +1,8 @@
-"""What `lint` has to do: the faults of policies with their places, and policies without one."""
+"""What `check` has to do: the faults of policies with their places, and policies without one."""
 
-from program_cases import FRONTEND, UNREAD
+from program_cases import FRONTEND
 
-from .forms import NO_ARCHITECTURE, Failing, refuses, writes
+from .forms import FOLDER, RESET, TOOL, Failing, rejects, writes
 
 FINE = (
     '{"b":{"mismatch_action":{"errno":1},"match_action":"allow","filter":['
@@ -23,7 +23,7 @@ UNPARSED = FRONTEND + "Error parsing Json: .."
 
 def told(policy, where, what):
     """Returns the case of a policy of which this is told at this place on x86_64."""
-    return refuses("lint x86_64", policy, f"{where}{what}.\n")
+    return rejects("check", policy, f"{where}{what}.\n")
 
 
 def stands(policy, where, what, may):
@@ -144,42 +144,44 @@ FIRST_FAULTS = [
 
 # The same of the files that the cases of both programs share, and files that can't be read.
 OF_FILES = [
-    ("lint x86_64 < logs.json", 0, "", ""),
-    ("lint x86_64 < list.json", 1, "",
-     "the policy: an empty array stands here, and an object of filters may.\n"),
-    ("lint x86_64 < no-filter.json", 1, "", "a: `mismatch_action` or `default_action` is missing.\n"),
-    ("lint x86_64 < unknown-call.json", 1, "",
-     "a.filter[0].syscall: \"nosyscall\" stands here, and the name of a call of x86_64 may.\n"),
-    ("lint x86_64 < no-conditions.json", 1, "",
-     "a.filter[0].args: an empty array stands here, and null or at least one condition may.\n"),
-    ("lint x86_64 < index.json", 1, "",
-     "a.filter[0].args[0].index: 6 stands here, and a number from 0 to 5 may.\n"),
-    ("lint x86_64 < equal-actions.json", 1, "",
-     "a: two equal actions stand here, and two that differ may.\n"),
-    ("lint x86_64 < too-large.json", 1, "",
-     "a: a filter of 10130 instructions stands here, and one of at most 4096 may.\n"),
-    ("lint x86_64 < no-json.json", 1, "", UNPARSED),
-    ("lint x86_64 < repeated.json", 1, "", REPEATED),
-    ("lint x8664 < repeated.json", 1, "", NO_ARCHITECTURE),
-    ("lint x86_64 < examples", 1, "", UNREAD),
+    writes("check logs.json", "", ""),
+    ("check < logs.json", 0, "", ""),
+    rejects("check list.json", "",
+            "the policy: an empty array stands here, and an object of filters may.\n", TOOL + "list.json: "),
+    rejects("check no-filter.json", "",
+            "a: `mismatch_action` or `default_action` is missing.\n", TOOL + "no-filter.json: "),
+    rejects("check unknown-call.json", "",
+            "a.filter[0].syscall: \"nosyscall\" stands here, and the name of a call of x86_64 may.\n",
+            TOOL + "unknown-call.json: "),
+    rejects("check no-conditions.json", "",
+            "a.filter[0].args: an empty array stands here, and null or at least one condition may.\n",
+            TOOL + "no-conditions.json: "),
+    rejects("check index.json", "",
+            "a.filter[0].args[0].index: 6 stands here, and a number from 0 to 5 may.\n", TOOL + "index.json: "),
+    rejects("check equal-actions.json", "",
+            "a: two equal actions stand here, and two that differ may.\n", TOOL + "equal-actions.json: "),
+    rejects("check too-large.json", "",
+            "a: a filter of 10130 instructions stands here, and one of at most 4096 may.\n", TOOL + "too-large.json: "),
+    rejects("check no-json.json", "", UNPARSED, TOOL + "no-json.json: "),
+    rejects("check repeated.json", "", REPEATED, TOOL + "repeated.json: "),
+    rejects("check examples", "", FOLDER, TOOL + "examples: "),
 ]
 
 CASES = [
-    # `lint` says nothing of a policy without faults.
-    writes("lint X86_64", FINE, ""),
-    writes("lint X86_64", "{}", ""),
-    # `lint` tells faults without a place as the library.
-    refuses("lint x86_64", '{"a":{"filter":1,"filter":2}}', REPEATED),
-    refuses("lint x8664", "[]", NO_ARCHITECTURE),
-    refuses("lint x86_64", "{1}", UNPARSED),
-    # `lint` tells the place in the filters, in an entry and in a condition, and the first fault.
+    # `check` says nothing of a policy without faults.
+    writes("check", FINE, ""),
+    writes("check", "{}", ""),
+    # `check` tells faults without a place as the library.
+    rejects("check", '{"a":{"filter":1,"filter":2}}', REPEATED),
+    rejects("check", "{1}", UNPARSED),
+    # `check` tells the place in the filters, in an entry and in a condition, and the first fault.
     *IN_FILTERS,
     *IN_AN_ENTRY,
     *IN_A_CONDITION,
     *FIRST_FAULTS,
-    # `lint` tells the filter that is too long.
+    # `check` tells the filter that is too long.
     stands(entries(TOO_LONG), "a", "a filter of 10130 instructions", "one of at most 4096"),
-    # `lint` answers faults of its reader.
-    refuses("lint x86_64", Failing(FINE), UNREAD),
+    # `check` answers faults of its reader.
+    rejects("check", Failing(FINE), RESET),
     *OF_FILES,
 ]

@@ -1,8 +1,8 @@
-"""What `steps` has to do: lengths and steps of programs, and the faults."""
+"""What `stats` has to do: lengths and steps of programs, and the faults."""
 
-from program_cases import FRONTEND, LARGE, UNWRITTEN
+from program_cases import FRONTEND, LARGE
 
-from .forms import LOGS, NO_ARCHITECTURE, NO_OBJECT, STEERS, fails_to_read_and_write, refuses, writes
+from .forms import FULL, INPUT, LOGS, NO_OBJECT, OUTPUT, STEERS, fails_to_read_and_write, rejects, writes
 from .long_filters import of_rules
 
 # The programs of a filter without entries load the architecture's word and compare it, the tree loads the
@@ -35,20 +35,20 @@ LARGE_CHAINS = of_rules("c", 816)
 TOO_MANY = "Backend error: The seccomp filter contains too many BPF instructions: {}. Max length is 4096.\n"
 
 CASES = [
-    # `steps` tells the lengths and steps.
-    writes("steps X86_64", LOGS, LOGS_STEPS),
-    writes("steps X86_64", TWO_CALLS, TWO_CALLS_STEPS),
-    writes("steps X86_64", STEERS, LOGS_STEPS.replace("filter a", r"filter a\xc2\x9b")),
-    writes("steps X86_64", "{}", ""),
-    ("steps x86_64 < logs.json", 0, LOGS_STEPS, ""),
-    # `steps` tells the first fault; the chains of all filters come before the trees.
-    refuses("steps x8664", "", NO_ARCHITECTURE),
-    refuses("steps x86_64", "[]", NO_OBJECT),
-    refuses("steps x86_64", '{"a":{},' + LARGE_TREE + "}", FRONTEND + "Json filter has a wrong shape: a.\n"),
-    refuses("steps x86_64", "{" + LARGE_TREE + "," + LARGE_CHAINS + "}", TOO_MANY.format(4101)),
-    refuses("steps x86_64", "{" + LARGE_TREE + "}", TOO_MANY.format(4098)),
-    ("steps x86_64 < too-large.json", 1, "", LARGE),
-    # `steps` answers faults of its reader and its writer.
-    *fails_to_read_and_write("steps x86_64"),
-    ("steps x86_64 < logs.json > /dev/full", 1, "", UNWRITTEN),
+    # `stats` tells the lengths and steps.
+    writes("stats", LOGS, LOGS_STEPS),
+    writes("stats", TWO_CALLS, TWO_CALLS_STEPS),
+    writes("stats", STEERS, LOGS_STEPS.replace("filter a", r"filter a\xc2\x9b")),
+    writes("stats", "{}", ""),
+    ("stats < logs.json", 0, LOGS_STEPS, ""),
+    writes("stats -a amd64 logs.json", "", LOGS_STEPS),
+    # `stats` tells the first fault; the chains of all filters come before the trees.
+    rejects("stats", "[]", NO_OBJECT),
+    rejects("stats", '{"a":{},' + LARGE_TREE + "}", FRONTEND + "Json filter has a wrong shape: a.\n"),
+    rejects("stats", "{" + LARGE_TREE + "," + LARGE_CHAINS + "}", TOO_MANY.format(4101)),
+    rejects("stats", "{" + LARGE_TREE + "}", TOO_MANY.format(4098)),
+    ("stats < too-large.json", 1, "", INPUT + LARGE),
+    # `stats` answers faults of its reader and its writer.
+    *fails_to_read_and_write("stats"),
+    ("stats < logs.json > /dev/full", 1, "", OUTPUT + FULL),
 ]

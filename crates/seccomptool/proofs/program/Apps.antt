@@ -1,0 +1,49 @@
+-- For the functions of `program`: what `clap` keeps of a command, argument by argument.
+use Rattle.std.proofs.Common.{◌≡◌, ◌∙◌, ◌||◌, ap, ap₂, codes, false, refl, true}
+use Rattle.clap.specs.Words.{AddsArg, AddsSubcommand, App, Rule, app_of, is_simple, is_simple_and_free, rule_of, with_rule, with_subcommand}
+use Rattle.clap.specs.declared.builder.arg.Arg.{Arg}
+use Rattle.clap.specs.declared.builder.command.Command.{Command}
+use Rattle.clap.specs.declared.builder.command.Command.TheViews.{out-Command}
+use Rattle.seccomptool.specs.CommandLine.{NameList, compile_app, explain_app, policy_app, program_app, record_app, show_app, top_app}
+
+-- A command with one argument more.
+pub rule_added : (old : Command) (a : Arg) (new : Command) (app : App) (rule : Rule) → app_of old ≡ app → rule_of a ≡ rule → a.global ≡ false
+    → AddsArg old a new → app_of new ≡ with_rule app rule
+rule_added old a new app rule is_app is_rule local h = h.shape local ∙ ap₂ with_rule is_app is_rule
+
+-- The argument isn't global, so no argument is, where none was.
+pub local_added : (old : Command) (a : Arg) (new : Command) → (out-Command old).has_globals ≡ false → a.global ≡ false → AddsArg old a new
+    → (out-Command new).has_globals ≡ false
+local_added old a new is_local local h = h.globals ∙ ap₂ (λ x y. x || y) is_local local
+
+-- A command with one subcommand more.
+pub subcommand_added : (old sub new : Command) (app inner : App) → app_of old ≡ app → app_of sub ≡ inner → (out-Command sub).has_globals ≡ false
+    → AddsSubcommand old sub new → app_of new ≡ with_subcommand app inner.top
+subcommand_added old sub new app inner is_app is_inner local h = h.shape local ∙ ap₂ with_subcommand is_app (ap (λ (a : App). a.top) is_inner)
+
+-- The contracts of `clap` are exact for this command line.
+pub program_free : (archs layouts : NameList) → is_simple_and_free (program_app archs layouts) ≡ true
+program_free archs layouts = refl
+
+pub program_simple : (archs layouts : NameList) → is_simple (program_app archs layouts) ≡ true
+program_simple archs layouts = refl
+
+-- The command line, subcommand by subcommand.
+module _ (archs layouts : NameList) (c0 c1 c2 c3 c4 c5 c6 c7 compile show check explain stats record_of compat : Command) where
+  pub all_added : app_of c0 ≡ top_app
+      → (app_of compile ≡ compile_app archs layouts) × ((out-Command compile).has_globals ≡ false) × AddsSubcommand c0 compile c1
+      → (app_of show ≡ show_app archs layouts) × ((out-Command show).has_globals ≡ false) × AddsSubcommand c1 show c2
+      → (app_of check ≡ policy_app (codes "check") archs) × ((out-Command check).has_globals ≡ false) × AddsSubcommand c2 check c3
+      → (app_of explain ≡ explain_app archs) × ((out-Command explain).has_globals ≡ false) × AddsSubcommand c3 explain c4
+      → (app_of stats ≡ policy_app (codes "stats") archs) × ((out-Command stats).has_globals ≡ false) × AddsSubcommand c4 stats c5
+      → (app_of record_of ≡ record_app archs) × ((out-Command record_of).has_globals ≡ false) × AddsSubcommand c5 record_of c6
+      → (app_of compat ≡ policy_app (codes "compat") archs) × ((out-Command compat).has_globals ≡ false) × AddsSubcommand c6 compat c7
+      → app_of c7 ≡ program_app archs layouts
+  all_added e0 h1 h2 h3 h4 h5 h6 h7 =
+      let e1 = subcommand_added c0 compile c1 _ _ e0 h1.0 h1.1 h1.2 in
+      let e2 = subcommand_added c1 show c2 _ _ e1 h2.0 h2.1 h2.2 in
+      let e3 = subcommand_added c2 check c3 _ _ e2 h3.0 h3.1 h3.2 in
+      let e4 = subcommand_added c3 explain c4 _ _ e3 h4.0 h4.1 h4.2 in
+      let e5 = subcommand_added c4 stats c5 _ _ e4 h5.0 h5.1 h5.2 in
+      let e6 = subcommand_added c5 record_of c6 _ _ e5 h6.0 h6.1 h6.2 in
+      subcommand_added c6 compat c7 _ _ e6 h7.0 h7.1 h7.2

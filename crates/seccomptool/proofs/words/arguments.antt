@@ -1,0 +1,3 @@
+-- Lemmas for the functions of `words::arguments`.
+pub mod GivenArguments
+pub mod Signs

@@ -1,0 +1,31 @@
+-- What the program's status 0 says of the words that it is called with.
+use Rattle.std.specs.Prelude.{◌≡◌, ◌⊎◌, List}
+use Rattle.clap.specs.Words.{Text, IsAmong, fault_of}
+use Rattle.clap.specs.declared.error.kind.ErrorKind.{ErrorKind}
+use Rattle.clap.specs.declared.error.kind.ErrorKind.TheVariants.{DisplayHelp, DisplayVersion}
+use Rattle.seccomptool.specs.CommandLine.{program_app}
+use Rattle.seccomptool.specs.Commands.{IsPerformed}
+use Rattle.seccomptool.specs.Words.{Choices, Means}
+use Rattle.seccomptool.specs.declared.words.Command.{Command}
+
+-- The words mean a command, and it is carried out.
+pub record IsCarriedOut (words : List Text) : Type 0 where
+  pub choices : Choices
+  pub command : Command
+  pub means : Means choices words command
+  pub performed : IsPerformed command
+
+-- The kind is that of help or of the version.
+abbrev pub IsShown : ErrorKind → Type 0
+IsShown kind = (kind ≡ DisplayHelp) ⊎ (kind ≡ DisplayVersion)
+
+-- The words ask for help or the version.
+pub record AsksForHelp (words : List Text) : Type 0 where
+  pub choices : Choices
+  pub kind : ErrorKind
+  pub is_shown : IsShown kind
+  pub asked : IsAmong kind (fault_of (program_app choices.archs choices.layouts) words)
+
+-- The words' command is carried out, or they ask for help or the version.
+abbrev pub IsAnswered : List Text → Type 0
+IsAnswered words = IsCarriedOut words ⊎ AsksForHelp words

@@ -1,0 +1,99 @@
+-- The command line as `clap` reads it: the subcommands, each with its options and then its positional arguments in order.
+use Rattle.std.specs.Prelude.{List, [], ◌∷◌, Some, codes, true}
+use Rattle.std.specs.Borrow.{Bor}
+use Rattle.clap.specs.Words.{App, Rule, Text, new_app, new_rule, with_rule, with_subcommand}
+use Rattle.clap.specs.Simple.{on_top}
+use Rattle.clap.specs.declared.builder.value_parser.ValueParser.TheVariants.{Names}
+
+-- The words of which an option's value is one.
+abbrev pub NameList : Type 0
+NameList = Bor (List (Bor Text))
+
+-- `-a ARCH`, `--arch ARCH`: x86_64 where it isn't given.
+abbrev pub arch_rule : NameList → Rule
+arch_rule archs = record (new_rule (codes "arch")) {
+  value_names = 1;
+  short = Some 97;
+  long = Some (codes "arch");
+  parser = Some (Names archs);
+  defaults = codes "x86_64" ∷ [];
+}
+
+-- `-f FILTER`, `--filter FILTER`.
+abbrev pub filter_rule : Rule
+filter_rule = record (new_rule (codes "filter")) { value_names = 1; short = Some 102; long = Some (codes "filter") }
+
+-- `--layout LAYOUT`: tree where it isn't given.
+abbrev pub layout_rule : NameList → Rule
+layout_rule layouts = record (new_rule (codes "layout")) {
+  value_names = 1;
+  long = Some (codes "layout");
+  parser = Some (Names layouts);
+  defaults = codes "tree" ∷ [];
+}
+
+-- `-o FILE`, `--output FILE`.
+abbrev pub output_rule : Rule
+output_rule = record (new_rule (codes "output")) { value_names = 1; short = Some 111; long = Some (codes "output") }
+
+-- `--records FILE`.
+abbrev pub records_rule : Rule
+records_rule = record (new_rule (codes "records")) { value_names = 1; long = Some (codes "records") }
+
+-- POLICY: `-` where it isn't given.
+abbrev pub policy_rule : Rule
+policy_rule = record (new_rule (codes "policy")) { value_names = 1; defaults = codes "-" ∷ [] }
+
+-- POLICY, which has to be given.
+abbrev pub given_policy_rule : Rule
+given_policy_rule = record (new_rule (codes "policy")) { value_names = 1; required = true }
+
+-- CALL.
+abbrev pub call_rule : Rule
+call_rule = record (new_rule (codes "call")) { value_names = 1 }
+
+-- CALL, which has to be given.
+abbrev pub given_call_rule : Rule
+given_call_rule = record (new_rule (codes "call")) { value_names = 1; required = true }
+
+-- ARG, at most six times.
+abbrev pub arguments_rule : Rule
+arguments_rule = record (new_rule (codes "arguments")) { value_names = 1; range = Some (record { start_inclusive = 0; end_inclusive = 6 }) }
+
+abbrev pub compile_app : NameList → NameList → App
+compile_app archs layouts =
+    with_rule (with_rule (with_rule (with_rule (with_rule (new_app (codes "compile")) (arch_rule archs)) filter_rule) (layout_rule layouts)) output_rule) policy_rule
+
+abbrev pub show_app : NameList → NameList → App
+show_app archs layouts = with_rule (with_rule (with_rule (new_app (codes "show")) (arch_rule archs)) (layout_rule layouts)) policy_rule
+
+-- A subcommand of this name with an architecture and a policy.
+abbrev pub policy_app : Text → NameList → App
+policy_app name archs = with_rule (with_rule (new_app name) (arch_rule archs)) policy_rule
+
+abbrev pub explain_app : NameList → App
+explain_app archs =
+    with_rule (with_rule (with_rule (with_rule (with_rule (with_rule (new_app (codes "explain")) (arch_rule archs)) filter_rule) records_rule) given_policy_rule) call_rule) arguments_rule
+
+abbrev pub record_app : NameList → App
+record_app archs = with_rule (with_rule (with_rule (new_app (codes "record")) (arch_rule archs)) given_call_rule) arguments_rule
+
+-- The program itself, which has to be given a subcommand. Its own name is none of the words.
+abbrev pub top_app : App
+top_app = on_top (λ s. record s {
+  no_binary_name = true;
+  has_version = true;
+  subcommand_required = true;
+  arg_required_else_help = true;
+}) (new_app (codes "seccomptool"))
+
+abbrev pub program_app : NameList → NameList → App
+program_app archs layouts =
+    with_subcommand (with_subcommand (with_subcommand (with_subcommand (with_subcommand (with_subcommand (with_subcommand top_app
+    (compile_app archs layouts).top)
+    (show_app archs layouts).top)
+    (policy_app (codes "check") archs).top)
+    (explain_app archs).top)
+    (policy_app (codes "stats") archs).top)
+    (record_app archs).top)
+    (policy_app (codes "compat") archs).top

@@ -1,0 +1,78 @@
+// What the program answers to the words that it is called with.
+
+ghost use Rattle.std.specs.Prelude.{◌≡◌, ◌≢◌, ◌≤◌, map, string_bytes};
+ghost use Rattle.std.specs.Process.{exit_status};
+ghost use Rattle.clap.specs.Words.{kind_of};
+ghost use Rattle.seccomptool.specs.Answers.{IsAnswered, IsShown};
+
+use crate::carry_out::carry_out;
+use crate::words::read;
+use clap::error::ErrorKind;
+use std::io;
+use std::process::ExitCode;
+use std::rt::Files;
+
+/// Carries out the command that the words behind the program's name mean, or tells what is wrong with
+/// them, or writes the help or the version that they ask for. `to_terminal` says whether standard output
+/// is a terminal.
+pub(crate) fn answer(
+    rt: &(impl Files + Input + Print + Eprint + AllocGlobal),
+    words: &[String],
+    to_terminal: bool,
+) -> ExitCode
+    ensures ended { exit_status result ≤ 2 }
+
+    // Status 0 comes only where the words mean a command and it is carried out, or where they ask for help
+    // or the version.
+    ensures answered { exit_status result ≡ 0 → IsAnswered (map string_bytes words.now) }
+{
+    match read(rt.alloc(), words) {
+        Ok(command) => carry_out(rt, command, to_terminal),
+        Err(error) => misused(rt, &error),
+    }
+}
+
+// Tells what `clap` has to say: status 0 where that is help or the version, and it is written; 2 where the
+// words are no command; and else 1.
+fn misused(rt: &(impl Print + Eprint), error: &clap::Error) -> ExitCode
+    ensures ended { exit_status result ≤ 2 }
+    ensures shown { exit_status result ≡ 0 → IsShown (kind_of error.now) }
+{
+    match error.kind() {
+        ErrorKind::OutOfMemory => {
+            let _ = eprintln!(rt; "seccomptool: Out of memory.");
+            ExitCode::FAILURE
+        }
+        ErrorKind::DisplayHelp => printed(rt, error),
+        ErrorKind::DisplayVersion => printed(rt, error),
+        _ => {
+            let _ = error.print(rt);
+            ExitCode::from(2)
+        }
+    }
+}
+
+// Writes help or the version: status 0, or 1 where that fails.
+fn printed(rt: &(impl Print + Eprint), error: &clap::Error) -> ExitCode
+    ensures { exit_status result ≤ 1 }
+{
+    match error.print(rt) {
+        Ok(()) => ExitCode::SUCCESS,
+        Err(error) => {
+            let _ = eprintln!(rt; "seccomptool: standard output: {error}");
+            ExitCode::FAILURE
+        }
+    }
+}
+
+// Tells that the words can't be read: for want of memory, or as one of them is no text.
+pub(crate) fn unread(rt: &impl Eprint, error: &io::Error) -> ExitCode
+    ensures { exit_status result ≢ 0 }
+{
+    if error.kind() == io::ErrorKind::OutOfMemory {
+        let _ = eprintln!(rt; "seccomptool: Out of memory.");
+        return ExitCode::FAILURE;
+    }
+    let _ = eprintln!(rt; "seccomptool: the words of the command aren't UTF-8");
+    ExitCode::from(2)
+}

@@ -1,0 +1,60 @@
+// The filter that a command is asked for.
+
+ghost use Rattle.std.specs.Prelude.{◌≡◌, ◌≢◌, [], ◌∷◌, length, IfOk, IfErr, IfSome, map, string_bytes, string_cmp};
+ghost use Rattle.std.specs.BTreeMap as tree;
+ghost use Rattle.seccomptool.specs.Chosen.{HoldsOnly, IsChosen, IsNoChoice, IsUnchosen};
+ghost use Rattle.seccomptool.specs.Words.{text_of};
+
+use crate::error::ToolError;
+use seccomp_command_line::names::push_readable;
+use seccompiler::json::filters_of;
+use seccompiler::{JsonFilter, JsonFilterMap};
+use std::alloc::{AllocError, Global};
+use std::collections::BTreeMap;
+
+// The name that is asked for, or that of the policy's only filter.
+pub(crate) fn chosen_name(
+    alloc: Global,
+    text: &[u8],
+    asked: Option<&str>,
+) -> Result<String, ToolError>
+    ensures chosen { IfOk result (λ name. IsChosen text.now (text_of asked.entry) (string_bytes name)) }
+    ensures refused { IfErr result (IsUnchosen text.now (text_of asked.entry)) }
+{
+    match asked {
+        Some(name) => Ok(String::from_str(alloc, name)?),
+        None => {
+            let filters = filters_of(alloc, text)?;
+            only_name(alloc, &filters)
+        }
+    }
+}
+
+// The name of the only filter of these.
+fn only_name(alloc: Global, filters: &JsonFilterMap) -> Result<String, ToolError>
+    ensures only { IfOk result (HoldsOnly filters.now.0.entries) }
+    ensures refused { IfErr result (IsNoChoice filters.now.0.entries) }
+    ensures ordered { tree.IsOrdered string_cmp filters.now.0 }
+{
+    if filters.0.len() == 1 {
+        if let Some((name, _)) = filters.0.first_key_value() {
+            return Ok(String::from_str(alloc, name.as_str())?);
+        }
+    }
+    Err(ToolError::Unchosen(names_of(alloc, filters)?))
+}
+
+// The names of filters, in byte order.
+fn names_of(alloc: Global, filters: &JsonFilterMap) -> Result<String, AllocError> {
+    let mut text = Vec::new(alloc);
+    for (name, _) in &filters.0 {
+        if !text.is_empty() {
+            text.extend_from_slice(b", ")?;
+        }
+        push_readable(&mut text, name.as_str())?;
+    }
+    match String::from_utf8(text) {
+        Ok(names) => Ok(names),
+        Err(_) => Ok(String::new(alloc)),
+    }
+}

@@ -73,7 +73,7 @@ CASES = [
     rejects("compile too-large.json", "", "Backend error: The seccomp filter ..", TOOL + "too-large.json: "),
     # `compile` answers faults of files, of its reader and its writer.
     rejects("compile missing.json", "", MISSING, TOOL + "missing.json: "),
-    rejects("compile \"$(printf 'missing\\n')\"", "", MISSING, TOOL + "missing\\x0a: "),
+    rejects("compile \"$(printf 'missing\\nfile')\"", "", MISSING, TOOL + "missing\\x0afile: "),
     *[case for it in LAYOUTS for case in fails_to_read_and_write("compile" + it)],
     rejects("compile examples", "", FOLDER, TOOL + "examples: "),
     ("compile < examples", 1, "", INPUT + FOLDER),

@@ -1,5 +1,5 @@
 -- For `diff`: what is read, what is told and what is written mean for its answers.
-use Rattle.std.proofs.Common.{◌≡◌, ℕ, List, Option, Some, None, IfErr, Result, Ok, Err, map, sym, ◌∙◌, subst}
+use Rattle.std.proofs.Common.{◌≡◌, ℕ, List, Option, Some, None, Ok, Err, ◌∙◌, subst}
 use Rattle.std.specs.Io.KnownBytes.{Appends}
 use Rattle.seccompiler.specs.declared.backend.TargetArch.{TargetArch}
 use Rattle.seccompiler.specs.declared.compare.Relation.{Relation}
@@ -12,7 +12,6 @@ use Rattle.seccomptool.specs.Policies.{IsNameOf, IsRefusedText}
 use Rattle.seccomptool.specs.declared.diff.report.Report.{Report}
 use Rattle.seccomptool.specs.declared.error.ToolError.{ToolError}
 use Rattle.seccomptool.specs.declared.error.ToolError.TheVariants as tool
-use Rattle.seccomptool.specs.declared.findings.Verdict.{Verdict}
 
 module _ (arch : List ℕ) (asked : Option (List ℕ)) (relation : Relation) (known_old known_new before after : Option (List ℕ)) where
   -- What is refused of the name or of the old policy's text is told.

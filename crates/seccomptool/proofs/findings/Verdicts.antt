@@ -1,5 +1,5 @@
 -- For `verdict_of`: verdicts together.
-use Rattle.std.proofs.Common.{◌≡◌, List, [], ◌∷◌, refl}
+use Rattle.std.proofs.Common.{◌≡◌, refl}
 use Rattle.seccomptool.specs.declared.findings.Verdict.{Verdict}
 use Rattle.seccomptool.specs.declared.findings.Verdict.TheVariants.{Same, Different, Undecided}
 use Rattle.seccomptool.specs.Findings.{worse}

@@ -1,4 +1,4 @@
-use Rattle.std.proofs.Common.{get_or, ◌<◌, length, length-append, sym, subst, arith}
+use Rattle.std.proofs.Common.{get_or, ◌<◌, length, sym, subst, arith}
 use Rattle.std.proofs.lemmas.List.{get_or_default}
 use Rattle.seccompiler.specs.Architecture.{table_of}
 use Rattle.seccomptool.specs.Diff.{AreDecisions}

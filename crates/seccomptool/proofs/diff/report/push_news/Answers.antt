@@ -1,4 +1,4 @@
-use Rattle.std.proofs.Common.{◌≡◌, [], ◌∷◌, ◌++◌, List, String, Global, sym, ap, ◌∙◌, append_assoc}
+use Rattle.std.proofs.Common.{[], ◌∷◌, ◌++◌, List, String, Global, sym, ap, ◌∙◌, append_assoc}
 use Rattle.std.specs.BTreeMap.{get_by_text}
 use Rattle.seccompiler.specs.Policy.{Filter}
 use Rattle.seccomptool.proofs.diff.Reports.{news_text, news_verdict}

@@ -1,4 +1,4 @@
-use Rattle.std.proofs.Common.{◌≡◌, ◌++◌, List, All, map, String, Global}
+use Rattle.std.proofs.Common.{◌≡◌, ◌++◌, List, String, Global}
 use Rattle.std.specs.BTreeMap.{get_by_text}
 use Rattle.seccompiler.specs.Policy.{Filter}
 use Rattle.seccomptool.specs.Diff.{AreReportsOn, NameReport, verdict_all}

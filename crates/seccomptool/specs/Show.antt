@@ -13,27 +13,19 @@ use Rattle.seccompiler.specs.declared.bpf.sock_filter.{sock_filter}
 use Rattle.seccompiler.specs.declared.error.Error.{Error}
 use Rattle.seccompiler.specs.declared.error.Error.TheVariants as library
 use Rattle.seccompiler.specs.declared.layout.Layout.{Layout}
-use Rattle.seccompiler.specs.declared.layout.Layout.TheVariants.{Linear, Tree}
+use Rattle.seccompiler.specs.declared.layout.places.Place.{Place}
 use Rattle.seccompiler.specs.JsonFilters.{AreAll, IsLeast}
 use Rattle.seccompiler.specs.JsonAnswers.{HasSomePolicy}
 use Rattle.seccompiler.specs.JsonShape.{Has, Under, IsFilter}
-use Rattle.seccompiler.specs.JsonTypes.{JsonFilter, JsonRule}
-use Rattle.seccompiler.specs.Architecture.{arch_text}
+use Rattle.seccompiler.specs.JsonTypes.{JsonFilter}
+use Rattle.seccompiler.specs.Layouts.{AreInOrder}
+use Rattle.seccompiler.specs.Places.{ArePlaces}
 use Rattle.seccomptool.specs.declared.error.ToolError.{ToolError}
 use Rattle.seccomptool.specs.declared.error.ToolError.TheVariants.{Library, Write, OutOfMemory}
 use Rattle.seccomptool.specs.Policies.{OfPolicy, IsTextFault}
 use Rattle.seccomptool.specs.Raw.{HasProgram, HasSomeProgram, HasNoProgram}
-use Rattle.seccomptool.specs.ShowLabels.{program_labels}
+use Rattle.seccomptool.specs.ShowLabels.{place_label}
 use Rattle.seccomptool.specs.ShowText.{text_of}
-
--- The labels of the guard in front of each program: its second instruction tests the architecture.
-abbrev pub guard_labels : TargetArch → List (List ℕ)
-guard_labels target = [] ∷ arch_text target ∷ []
-
--- The labels of the program of entries in a layout: in a tree the guard alone has labels.
-abbrev pub labels_in : Layout → TargetArch → List JsonRule → List (List ℕ)
-labels_in Linear target rules = program_labels target rules
-labels_in Tree target rules = guard_labels target
 
 -- A program with its name and the labels of its places.
 abbrev pub LabelledProgram : Type 0
@@ -43,15 +35,18 @@ LabelledProgram = List ℕ × List (List ℕ) × List sock_filter
 abbrev pub labelled_text : LabelledProgram → List ℕ
 labelled_text p = text_of p.1 p.0 p.2
 
--- The program is compiled for the value's policy in this layout, and the labels are those of the value's entries.
+-- The program is compiled for the value's policy in this layout, and the labels are those of its places.
 pub record IsLabelledFor (layout : Layout) (target : TargetArch) (value : Data) (labels : List (List ℕ)) (program : List sock_filter) : Type 0 where
   pub compiled : HasProgram layout target value program
   pub json : JsonFilter
   pub is_filter : IsFilter value json
-  pub labelled : labels ≡ labels_in layout target json.rules
+  pub places : List Place
+  pub are_places : ArePlaces compiled.policy places program
+  pub ordered : AreInOrder layout compiled.policy places
+  pub labelled : labels ≡ map (place_label target json.rules) places
 
 -- The text is, for each name of the value in byte order, that of a program that is compiled for the name's policy in this
--- layout, whose places have the labels of the filter's entries.
+-- layout, whose places have their labels.
 pub record IsShown (layout : Layout) (target : TargetArch) (d : Data) (text : List ℕ) : Type 0 where
   pub programs : List LabelledProgram
   pub ordered : IsStrictlySortedBy (slice_cmp nat_cmp) (map (λ p. p.0) programs)

@@ -27,10 +27,11 @@ use std::io::{Read, Write};
 /// place in decimal, filled with spaces in front up to 4 bytes; two spaces; and the instruction in the
 /// words of `bpf_asm`, in which jumps tell the places that they lead to. Where a note stands beside
 /// them, the words are filled with spaces up to 28 bytes, and `; ` stands in front of the note. It says
-/// which architecture the second instruction tests, what a load gets of the record, and which action a
-/// returned word stands for. In the linear layout it says first which call, rule and condition the
-/// instruction belongs to, by the lengths that these have: rules and conditions are numbered from 0, in
-/// the policy's order, and a call has the name of its first entry. All is written at once.
+/// first which call, rule and condition the instruction belongs to, or which calls it tells apart: rules
+/// and conditions are numbered from 0, in the policy's order, and a call has the name of its first
+/// entry, or its number where it has none. The second instruction's note is the architecture that it
+/// tests. Then the note says what a load gets of the record, and which action a returned word stands
+/// for. All is written at once.
 ///
 /// The policy's text is what its reader gives; of a reader whose type doesn't tell its bytes, as that
 /// of standard input, the contract says that there is such a text.

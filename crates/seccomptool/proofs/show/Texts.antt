@@ -60,11 +60,19 @@ module _ (layout : Layout) (target : TargetArch) (find : List ℕ → Option Fil
     of_label f p is value =
         let other = there _ filters d are (string_bytes f.0) is.json is.found in
         let same : value.0 ≡ other.0 = let s : Some value.0 ≡ Some other.0 = sym value.1 ∙ other.1 in cc in
-        let compiled : HasProgram layout target value.0 p.2 = record { policy = f.1; is_policy = value.2; compiled = is.compiled } in
+        let policy = subst (λ v. HasPolicy target v f.1) same value.2 in
         let here : Under d (string_bytes f.0) (λ value. IsLabelledFor layout target value p.1 p.2) = (
           other.0,
           other.1,
-          record { compiled = subst (λ v. HasProgram layout target v p.2) same compiled; json = is.json; is_filter = other.2; labelled = is.labelled },
+          record {
+            compiled = record { policy = f.1; is_policy = policy; compiled = is.compiled };
+            json = is.json;
+            is_filter = other.2;
+            places = is.places;
+            are_places = is.are_places;
+            ordered = is.ordered;
+            labelled = is.labelled;
+          },
         ) in
         subst (λ name. Under d name (λ value. IsLabelledFor layout target value p.1 p.2)) (sym is.name) here
 

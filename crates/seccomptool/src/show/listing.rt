@@ -3,18 +3,17 @@
 ghost use Rattle.std.specs.Prelude.{◌≡◌, ◌++◌, map, IfOk, IfErr, OnOk, string_bytes, string_cmp};
 ghost use Rattle.std.specs.BTreeMap as tree;
 ghost use Rattle.seccompiler.specs.Layouts.{IsRefusalIn};
-ghost use Rattle.seccomptool.specs.Show.{guard_labels};
 ghost use Rattle.seccomptool.specs.ShowText.{label_in, text_of};
 ghost use Rattle.seccomptool.specs.ShowParts.{AreLabelled, HasProgramIn};
 ghost use Rattle.seccomptool.specs.StepsParts.{IsFirstRefusal};
 
-use crate::show::labels::labels_in;
+use crate::show::labels::labels;
 use crate::show::text::{push_header, push_line};
 use seccompiler::{BackendError, BpfProgramRef, JsonFilterMap, Layout, SeccompFilter, TargetArch};
 use std::alloc::{AllocError, Global};
 use std::collections::BTreeMap;
 
-// The texts of the programs of filters in a layout, whose places have the labels of their entries.
+// The texts of the programs of filters in a layout, whose places have labels by their entries.
 pub(crate) fn listing(
     alloc: Global,
     target: TargetArch,
@@ -32,8 +31,8 @@ pub(crate) fn listing(
         let Some(json) = entries.0.get(name.as_str()) else {
             return Err(BackendError::OutOfMemory);
         };
-        let labels = labels_in(alloc, target, layout, json.rules.as_slice())?;
-        let program = filter.to_bpf_in(alloc, layout)?;
+        let (program, places) = filter.to_bpf_with_places_in(alloc, layout)?;
+        let labels = labels(alloc, target, json.rules.as_slice(), &places)?;
         push_program(alloc, &mut text, &labels, name.as_str(), &program)?;
     }
     Ok(text)
@@ -64,14 +63,4 @@ fn label_at(labels: &[String], place: usize) -> &str
         Some(label) => label.as_str(),
         None => "",
     }
-}
-
-// The labels of the guard in front of each program.
-pub(crate) fn guard_labels(alloc: Global, target: TargetArch) -> Result<Vec<String>, AllocError>
-    ensures { IfOk result (λ labels. map string_bytes labels.items ≡ guard_labels target) }
-{
-    let mut labels = Vec::new(alloc);
-    labels.push(String::new(alloc))?;
-    labels.push(target.to_string(alloc)?)?;
-    Ok(labels)
 }

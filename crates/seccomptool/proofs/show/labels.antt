@@ -1,2 +1,0 @@
--- Lemmas for the functions of `show::labels`.
-pub mod Searches

@@ -29,7 +29,6 @@ impl SeccompFilter {
     /// ```
     /// let (program, places) = filter.to_bpf_with_places(alloc)?;
     /// assert!(rt; places.len() == program.len());
-    /// assert!(rt; matches!(places[3], Place::LoadNumber));
     /// ```
     pub fn to_bpf_with_places(
         &self,

@@ -29,7 +29,7 @@ rules_push n j [] q = let here : j ≡ j + 0 = omega arith in append-nil (number
 rules_push n j (r ∷ rules) q =
     let further : j + suc (length rules) ≡ j + 1 + length rules = omega arith in
     ap (λ l. numbered_places n j r ++ l) (rules_push n (j + 1) rules q)
-        ∙ sym (append_assoc (numbered_places n j r) (rules_places n (j + 1) rules) _)
+    ∙ sym (append_assoc (numbered_places n j r) (rules_places n (j + 1) rules) _)
     ∙ ap (λ m. rules_places n j (r ∷ rules) ++ numbered_places n m q) (sym further)
 
 -- the places of one rule more of a front
@@ -44,7 +44,7 @@ rules_taken n i chain q within is =
 -- a step of the loop that adds them
 pub rules_added : (n i : ℕ) (chain : Chain) (q : Rule) (begun old new : List Place) → i < length chain → q ≡ get_or chain i q
     → old ≡ begun ++ rules_places n 0 (take i chain) → new ≡ old ++ numbered_places n i q
-        → new ≡ begun ++ rules_places n 0 (take (i + 1) chain)
+    → new ≡ begun ++ rules_places n 0 (take (i + 1) chain)
 rules_added n i chain q begun old new within is so_far more =
     more ∙ ap (λ l. l ++ numbered_places n i q) so_far ∙ append_assoc begun (rules_places n 0 (take i chain)) (numbered_places n i q)
     ∙ ap (λ l. begun ++ l) (sym (rules_taken n i chain q within is))
@@ -70,19 +70,50 @@ pub stand_without : (f : Filter) (n mismatch matched : ℕ) (chain : Chain) (cod
     → HasChain f n chain → AreWords f mismatch matched
     → code ≡ jump_equal n 0 1 ∷ jump 1 ∷ jump 2 ∷ give matched ∷ give mismatch ∷ [] → AllZip (Stands f) (chain_places n chain) code
 stand_without f n mismatch matched [] code none has words is =
-    rw is ((refl, refl), ((has, (refl, refl)), ((has, (refl, refl)), ((has, (refl, words.matched_is)), (([], has, (refl,
-        words.mismatch_is)), tt)))))
+    rw is (
+      (refl, refl),
+      (
+        (has, (refl, refl)),
+        (
+          (has, (refl, refl)),
+          (
+            (has, (refl, words.matched_is)),
+            (
+              (
+                [],
+                has,
+                (
+                  refl,
+                  words.mismatch_is,
+                ),
+              ),
+              tt,
+            ),
+          ),
+        ),
+      ),
+    )
 stand_without f n mismatch matched (q ∷ chain) code none has words is = absurd (omega arith)
 
 -- and of one with rules
 pub stand_with : (f : Filter) (n mismatch matched : ℕ) (chain : Chain) (rules code : List sock_filter) → 0 < length chain
     → HasChain f n chain → AreWords f mismatch matched
     → AllZip (Stands f) (rules_places n 0 chain) rules → code ≡ jump_equal n 0 1 ∷ (rules ++ give mismatch ∷ [])
-        → AllZip (Stands f) (chain_places n chain) code
+    → AllZip (Stands f) (chain_places n chain) code
 stand_with f n mismatch matched [] rules code some has words stand is = absurd (omega arith)
 stand_with f n mismatch matched (q ∷ chain) rules code some has words stand is =
-    rw is ((refl, refl), all_zip_append (Stands f) (rules_places n 0 (q ∷ chain)) (CallDiffers n ∷ []) rules (give mismatch ∷ []) stand ((q
-        ∷ chain, has, (refl, words.mismatch_is)), tt))
+    rw is (
+      (refl, refl),
+      all_zip_append (Stands f) (rules_places n 0 (q ∷ chain)) (CallDiffers n ∷ []) rules (give mismatch ∷ []) stand (
+        (
+          q
+              ∷ chain,
+          has,
+          (refl, words.mismatch_is),
+        ),
+        tt,
+      ),
+    )
 
 -- the places of one chain more
 chains_push : (chains : List (ℤ × Chain)) (e : ℤ × Chain) → chains_places (chains ++ e ∷ []) ≡ chains_places chains ++ chain_places
@@ -90,7 +121,7 @@ chains_push : (chains : List (ℤ × Chain)) (e : ℤ × Chain) → chains_place
 chains_push [] e = append-nil (chain_places (nat_abs e.0) e.1)
 chains_push (x ∷ chains) e =
     ap (λ l. chain_places (nat_abs x.0) x.1 ++ l) (chains_push chains e)
-        ∙ sym (append_assoc (chain_places (nat_abs x.0) x.1) (chains_places chains) (chain_places (nat_abs e.0) e.1))
+    ∙ sym (append_assoc (chain_places (nat_abs x.0) x.1) (chains_places chains) (chain_places (nat_abs e.0) e.1))
 
 -- the chains of entries with one more behind
 entries_push : (done : List MapEntry) (k : ℤ) (chain : Vec Rule Global) (n : ℕ) (items : Chain) → k ≡ pos n → items ≡ chain.items
@@ -102,7 +133,7 @@ entries_push done k chain n items ek ei =
 pub chains_added : (done : List MapEntry) (k : ℤ) (chain : Vec Rule Global) (n : ℕ) (items : Chain) (begun old new : List Place)
     → k ≡ pos n → items ≡ chain.items
     → old ≡ begun ++ chains_places (chains_of done) → new ≡ old ++ chain_places n items
-        → new ≡ begun ++ chains_places (chains_of (done ++ (k, chain) ∷ []))
+    → new ≡ begun ++ chains_places (chains_of (done ++ (k, chain) ∷ []))
 chains_added done k chain n items begun old new ek ei so_far more =
     more ∙ ap (λ l. l ++ chain_places n items) so_far ∙ append_assoc begun (chains_places (chains_of done)) (chain_places n items)
     ∙ ap (λ l. begun ++ l) (sym (ap chains_places (entries_push done k chain n items ek ei) ∙ chains_push (chains_of done) (pos n, items)))
@@ -114,18 +145,22 @@ has_next : (f : Filter) (entries done rest t : List MapEntry) (k : ℤ) (chain :
 has_next f entries done rest t k chain n items is er ee ek ei =
     let whole : f.chains ≡ chains_of done ++ (pos n, items) ∷ chains_of t =
     is ∙ ap chains_of (sym ee ∙ ap (λ l. done ++ l) er) ∙ map-append (λ (e : MapEntry). (e.0, e.1.items)) done ((k, chain) ∷ t)
-        ∙ cc (ek, ei) in
+    ∙ cc (ek, ei) in
     let here : Contains ((pos n, items) ∷ chains_of t) (pos n, items) = (0, omega arith, refl) in
-    subst (λ l. Contains l (pos n, items)) (sym whole) (Contains-append_right (chains_of done) ((pos n, items) ∷ chains_of t) (pos n,
-        items) here)
+    subst (λ l. Contains l (pos n, items)) (sym whole) (Contains-append_right (chains_of done) ((pos n, items) ∷ chains_of t) (
+      pos n,
+      items,
+    ) here)
 
 -- a step of the loop over the entries
 pub chains_stand : (f : Filter) (entries done rest t : List MapEntry) (k : ℤ) (chain : Vec Rule Global) (n : ℕ) (items : Chain) (code own
     code' : List sock_filter)
     → f.chains ≡ chains_of entries → rest ≡ (k, chain) ∷ t → done ++ rest ≡ entries → k ≡ pos n → items ≡ chain.items
     → (HasChain f n items → AllZip (Stands f) (chain_places n items) own) → code' ≡ code ++ own
-    → AllZip (Stands f) (chains_places (chains_of done)) code → AllZip (Stands f) (chains_places (chains_of (done ++ (k,
-        chain) ∷ []))) code'
+    → AllZip (Stands f) (chains_places (chains_of done)) code → AllZip (Stands f) (chains_places (chains_of (done ++ (
+      k,
+      chain,
+    ) ∷ []))) code'
 chains_stand f entries done rest t k chain n items code own code' is er ee ek ei stands ec h =
     let one = stands (has_next f entries done rest t k chain n items is er ee ek ei) in
     let places : chains_places (chains_of (done ++ (k, chain) ∷ [])) ≡ chains_places (chains_of done) ++ chain_places n items =

@@ -33,14 +33,25 @@ pub places_full : (f : Filter) (entries : List MapEntry) (mismatch matched : ℕ
     → Written f entries mismatch matched → 0 < length entries
     → AllZip (Stands f) (chains_places (chains_of entries)) chains
     → p ≡ load 4 ∷ jump_equal (audit_word f.target_arch) 1 0 ∷ give 0x80000000 ∷ load 0 ∷ (chains ++ give mismatch ∷ [])
-        → ArePlaces f (linear_places f.chains) p
+    → ArePlaces f (linear_places f.chains) p
 places_full f [] mismatch matched chains p words some stand is = absurd (omega arith)
 places_full f (x ∷ entries) mismatch matched chains p words some stand is =
     let behind = all_zip_append (Stands f) (chains_places (chains_of (x ∷ entries))) (OthersDiffer ∷ []) chains (give mismatch ∷ []) stand
-        ((refl, words.mismatch_is), tt) in
+    ((refl, words.mismatch_is), tt) in
     subst (λ chains. ArePlaces f (linear_places chains) p) words.chains
-    (subst (ArePlaces f (linear_places (chains_of (x ∷ entries)))) (sym is) ((refl, refl), ((refl, refl), ((refl, refl), ((refl, refl),
-        behind)))))
+    (subst (ArePlaces f (linear_places (chains_of (x ∷ entries)))) (sym is) (
+      (refl, refl),
+      (
+        (refl, refl),
+        (
+          (refl, refl),
+          (
+            (refl, refl),
+            behind,
+          ),
+        ),
+      ),
+    ))
 
 -- of a filter in the tree layout
 pub places_of_ranges : (f : Filter) (entries : List MapEntry) (mismatch matched : ℕ) (ranges : List Range) (tree p : List sock_filter)
@@ -52,6 +63,20 @@ places_of_ranges f entries mismatch matched ranges tree p words are h is =
     record {
       places = guard_places ++ LoadNumber ∷ h.places;
       are = record { behind = h.places; tree = h.are; whole = refl };
-      stand = subst (ArePlaces f (guard_places ++ LoadNumber ∷ h.places)) (sym is) ((refl, refl), ((refl, refl), ((refl, refl), ((refl,
-          refl), stand))));
+      stand = subst (ArePlaces f (guard_places ++ LoadNumber ∷ h.places)) (sym is) (
+        (refl, refl),
+        (
+          (refl, refl),
+          (
+            (refl, refl),
+            (
+              (
+                refl,
+                refl,
+              ),
+              stand,
+            ),
+          ),
+        ),
+      );
     }

@@ -20,8 +20,13 @@ use Rattle.seccompiler.proofs.Zipped.{all_zip_append, all_zip_map}
 
 -- what stands at the places of a condition
 comparison_stands : (a : ℕ) (len : SeccompCmpArgLen) (op : SeccompCmpOp) (v d : ℕ)
-    → AllZip (StandsInCondition (record { arg_index = a; arg_len = len; operator = op; value =
-        v })) (comparison_places len op) (comparison_code len op (16 + 8 * a) v d)
+    → AllZip (StandsInCondition (record {
+      arg_index = a;
+      arg_len = len;
+      operator = op;
+      value =
+          v;
+    })) (comparison_places len op) (comparison_code len op (16 + 8 * a) v d)
 comparison_stands a Dword Eq v d = ((refl, refl), ((refl, refl), tt))
 comparison_stands a Dword Ne v d = ((refl, refl), ((refl, refl), tt))
 comparison_stands a Dword Ge v d = ((refl, refl), ((refl, refl), tt))
@@ -65,7 +70,7 @@ offset_push o (d ∷ q) c = offset_push (offset_behind o + size_of d) q c
 -- the places of one condition more
 places_push : (k o : ℕ) (q : List Condition) (c : Condition)
     → conditions_places k o (q ++ c ∷ []) ≡ condition_places (k + length q) c ++ (relay_places (offset_after o q) ++ conditions_places k o
-        q)
+    q)
 places_push k o [] c =
     let here : k ≡ k + 0 = omega arith in
     ap (λ l. condition_places k c ++ l) (sym (append-nil (relay_places o))) ∙ ap (λ n. condition_places n c ++ (relay_places o ++ [])) here
@@ -74,7 +79,7 @@ places_push k o (d ∷ q) c =
     let further : k + suc (length q) ≡ k + 1 + length q = omega arith in
     ap (λ l. l ++ condition_places k d ++ relay_places o) (places_push (k + 1) o' q c)
     ∙ simp append_assoc refl ∙ ap (λ n. condition_places n c ++ (relay_places (offset_after o' q) ++ (conditions_places (k + 1) o' q ++
-        condition_places k d ++ relay_places o))) (sym further)
+    condition_places k d ++ relay_places o))) (sym further)
 
 -- What the writing loop has made, as far as it has come: what stands at the places of its conditions, and the offset.
 pub record StandSoFar (items : Rule) (i : ℕ) (code : List sock_filter) (o : ℕ) : Type 0 where
@@ -97,15 +102,15 @@ more_stand items i c code own code' o near o' within is en eown ecode eo h =
     eo ∙ ap (λ n. offset_behind n + size_of c) h.offset ∙ sym (offset_push 1 done c) ∙ ap (offset_after 1) (sym q) in
     let places : conditions_places 0 1 (take (i + 1) items) ≡ condition_places i c ++ (relay_places o ++ conditions_places 0 1 done) =
     ap (conditions_places 0 1) q ∙ places_push 0 1 done c ∙ ap (λ n. condition_places n c ++ (relay_places (offset_after 1 done) ++
-        conditions_places 0 1 done)) at
+    conditions_places 0 1 done)) at
     ∙ ap (λ n. condition_places i c ++ (relay_places n ++ conditions_places 0 1 done)) (sym h.offset) in
     let stand : AllZip (StandsInRule items) (condition_places i c ++ (relay_places o ++ conditions_places 0 1 done)) (condition_code c near
-        ++ (relay_front o ++ code)) =
+    ++ (relay_front o ++ code)) =
     all_zip_append (StandsInRule items) (condition_places i c) (relay_places o ++ conditions_places 0 1 done) (condition_code c near)
-        (relay_front o ++ code)
+    (relay_front o ++ code)
     (condition_stands items i c near (slice_get_read items (length items) i c refl within is))
     (all_zip_append (StandsInRule items) (relay_places o) (conditions_places 0 1 done) (relay_front o) code (relay_stands items o) h.stand)
-        in
+    in
     record {
       offset = offset;
       stand = subst (λ l. AllZip (StandsInRule items) l code') (sym places)

@@ -33,17 +33,23 @@ owned_stand : (f : Filter) (n : ℕ) (found : Option Chain) (chain : Chain) (mis
     → AllZip (Stands f) (owned_places n found) (rules ++ give mismatch ∷ [])
 owned_stand f n found [] mismatch matched rules is some has words h = absurd (omega arith)
 owned_stand f n found (q ∷ chain) mismatch matched rules is some has words h =
-    rw is (all_zip_append (Stands f) (rules_places n 0 (q ∷ chain)) (CallDiffers n ∷ []) rules (give mismatch ∷ []) h ((q ∷ chain, has,
-        (refl, words.mismatch_is)), tt))
+    rw is (all_zip_append (Stands f) (rules_places n 0 (q ∷ chain)) (CallDiffers n ∷ []) rules (give mismatch ∷ []) h (
+      (
+        q ∷ chain,
+        has,
+        (refl, words.mismatch_is),
+      ),
+      tt,
+    ))
 
 pub own_stand : (f : Filter) (x : Range) (chain : Chain) (mismatch matched : ℕ) (rules code : List sock_filter) → x.chain ≡ Some chain
     → 0 < length chain
     → IsRangeOf f x → AreWords f mismatch matched → AllZip (Stands f) (rules_places x.start 0 chain) rules
-        → code ≡ rules ++ give mismatch ∷ []
+    → code ≡ rules ++ give mismatch ∷ []
     → AllZip (Stands f) (own_places x) code
 own_stand f x chain mismatch matched rules code has some of words h is =
     subst (AllZip (Stands f) (own_places x)) (sym is) (owned_stand f x.start x.chain chain mismatch matched rules has some (range_chain f x
-        chain has some of) words h)
+    chain has some of) words h)
 
 -- a range without rules has nothing of its own
 own_none_stand : (f : Filter) (x : Range) (code : List sock_filter) → HasNoRules x.chain → length code ≡ 0
@@ -88,8 +94,13 @@ pub alone_stand : (f : Filter) (x : Range) (mismatch matched : ℕ) (own code : 
     → AreWords f mismatch matched
     → AllZip (Stands f) (own_places x) own → code ≡ own ++ give mismatch ∷ [] → AllZip (Stands f) (alone_places x) code
 alone_stand f x mismatch matched own code other words h is =
-    rw (alone_is x other, is) (all_zip_append (Stands f) (own_places x) (OthersDiffer ∷ []) own (give mismatch ∷ []) h ((refl,
-        words.mismatch_is), tt))
+    rw (alone_is x other, is) (all_zip_append (Stands f) (own_places x) (OthersDiffer ∷ []) own (give mismatch ∷ []) h (
+      (
+        refl,
+        words.mismatch_is,
+      ),
+      tt,
+    ))
 
 -- ---- a row
 
@@ -99,11 +110,11 @@ pub row_settled : (ranges : List Range) (one : Range) (rest : List Range) → Se
 row_settled ranges one rest (stands x z behind is left e) =
     let whole : row_places (x ∷ one ∷ z ∷ behind) ≡ TestNumber one.start ∷ (own_places one ++ row_places (z ∷ behind)) =
     ap (λ (b : Bool). if b then TestNumber one.start ∷ (own_places one ++ row_places (z ∷ behind)) else TestLeast one.start ∷ (own_places x
-        ++ row_places (one ∷ z ∷ behind))) e in
+    ++ row_places (one ∷ z ∷ behind))) e in
     let first : row_test_place (x ∷ one ∷ z ∷ behind) ≡ TestNumber one.start =
-        ap (λ (b : Bool). if b then TestNumber one.start else TestLeast one.start) e in
+    ap (λ (b : Bool). if b then TestNumber one.start else TestLeast one.start) e in
     ap row_places is ∙ whole ∙ ap₂ (λ (p : Place) (l : List Range). p ∷ (own_places one ++ row_places l)) (sym (ap row_test_place is
-        ∙ first)) (sym left)
+    ∙ first)) (sym left)
 row_settled ranges one [] (is_first is some e) = absurd (omega arith)
 row_settled ranges one (y ∷ []) (is_first is some e) = ap row_places is
     ∙ ap (λ (p : Place). p ∷ (own_places one ++ own_places y)) (sym (ap row_test_place is))
@@ -111,9 +122,9 @@ row_settled ranges one (y ∷ z ∷ behind) (is_first is some e) =
     let out : stands_out one y z ≡ false = ap second_stands_out (sym is) ∙ e in
     let whole : row_places (one ∷ y ∷ z ∷ behind) ≡ TestLeast y.start ∷ (own_places one ++ row_places (y ∷ z ∷ behind)) =
     ap (λ (b : Bool). if b then TestNumber y.start ∷ (own_places y ++ row_places (z ∷ behind)) else TestLeast y.start ∷ (own_places one ++
-        row_places (y ∷ z ∷ behind))) out in
+    row_places (y ∷ z ∷ behind))) out in
     let first : row_test_place (one ∷ y ∷ z ∷ behind) ≡ TestLeast y.start =
-        ap (λ (b : Bool). if b then TestNumber y.start else TestLeast y.start) out in
+    ap (λ (b : Bool). if b then TestNumber y.start else TestLeast y.start) out in
     ap row_places is ∙ whole ∙ ap (λ (p : Place). p ∷ (own_places one ++ row_places (y ∷ z ∷ behind))) (sym (ap row_test_place is ∙ first))
 
 -- what the first test of a row tells
@@ -146,9 +157,11 @@ pub settled_of : (f : Filter) (ranges : List Range) (one : Range) (rest : List R
     → IsRangeOf f one × AreRangesOf f rest
 settled_of f ranges one rest (stands x z behind is left e) all =
     let whole : All (IsRangeOf f) (x ∷ one ∷ z ∷ behind) = subst (All (IsRangeOf f)) is all in
-    let behind_x = All-tail (IsRangeOf f) x (one ∷ z ∷ behind) whole in
-    (All-head (IsRangeOf f) one (z ∷ behind) behind_x, subst (All (IsRangeOf f)) (sym left) (All-tail (IsRangeOf f) one (z ∷ behind)
-        behind_x))
+    let behind_x = All-tail (IsRangeOf f) x (one ∷ z ∷ behind) whole in (
+      All-head (IsRangeOf f) one (z ∷ behind) behind_x,
+      subst (All (IsRangeOf f)) (sym left) (All-tail (IsRangeOf f) one (z ∷ behind)
+          behind_x),
+    )
 settled_of f ranges one rest (is_first is some e) all =
     let whole : All (IsRangeOf f) (one ∷ rest) = subst (All (IsRangeOf f)) is all in
     (All-head (IsRangeOf f) one rest whole, All-tail (IsRangeOf f) one rest whole)
@@ -157,7 +170,7 @@ pub row_one_stands : (f : Filter) (ranges : List Range) (x : Range) (code : List
     → (IsRangeOf f x → AllZip (Stands f) (own_places x) code) → AllZip (Stands f) (row_places ranges) code
 row_one_stands f ranges x code is all h =
     subst (λ (l : List Range). AllZip (Stands f) (row_places l) code) (sym is) (h (All-head (IsRangeOf f) x [] (subst (All (IsRangeOf f))
-        is all)))
+    is all)))
 
 pub row_stands : (f : Filter) (ranges : List Range) (one : Range) (rest : List Range) (i : sock_filter) (first front back : List
     sock_filter) → Settles ranges one rest → first ≡ i ∷ []
@@ -191,8 +204,12 @@ border_stands f high y border jt jf i some is at e = rw (starts_at high y border
 pub block_of_row : (ranges : List Range) (mismatch matched : ℕ) (code : List sock_filter) → row ranges ≤ most
     → ((f : Filter) → AreRangesOf f ranges → AreWords f mismatch matched → AllZip (Stands f) (row_places ranges) code)
     → HasPlaces (IsBlockPlaces ranges) ranges mismatch matched code
-block_of_row ranges mismatch matched code short h = record { places = row_places ranges; are =
-    is_row ranges (row_places ranges) short refl; stand = h }
+block_of_row ranges mismatch matched code short h = record {
+  places = row_places ranges;
+  are =
+      is_row ranges (row_places ranges) short refl;
+  stand = h;
+}
 
 pub block_of_halves : (ranges low high : List Range) (mismatch matched : ℕ) (i : sock_filter) (first front back : List sock_filter)
     → most < row ranges → AreHalves ranges low high
@@ -205,8 +222,11 @@ block_of_halves ranges low high mismatch matched i first front back long halves 
       are = is_halved ranges low high below.places above.places _ long halves below.are above.are refl;
       stand = λ f all words.
           let parts = halves_of_filter f ranges low high halves all in
-          rw is (test f, all_zip_append (Stands f) below.places above.places front back (below.stand f parts.0 words) (above.stand f
-              parts.1 words));
+          rw is (
+            test f,
+            all_zip_append (Stands f) below.places above.places front back (below.stand f parts.0 words) (above.stand f
+                parts.1 words),
+          );
     }
 
 -- ---- all ranges
@@ -260,7 +280,7 @@ tree_of_halves ranges low high mismatch matched border distance test front back 
           subst (λ (b : ℕ). AllZip (Stands f) (test_places b (tree_length low)) test) (sym at)
           (subst (λ (n : ℕ). AllZip (Stands f) (test_places border n) test) far (stands_test f)) in
           all_zip_append (Stands f) (test_places (first_start high) (tree_length low)) (below.places ++ above.places) test (front ++ back)
-              first
+          first
           (all_zip_append (Stands f) below.places above.places front back (below.stand f parts.0 words) (above.stand f parts.1 words));
     }
 
@@ -299,16 +319,20 @@ test_capped : (border n m : ℕ) → m ≡ min n (2 ^ 64 - 1) → test_places bo
 test_capped border n m is =
     ap (λ (b : Bool). if b then TestLeast border ∷ [] else TestLeast border ∷ FarJump ∷ [])
     (⊎_elim
-    (λ near. let one : nat_le m 255 ≡ true = grind (arith, nat_tests) in let other : nat_le n 255 ≡ true = grind (arith,
-        nat_tests) in one ∙ sym other)
-    (λ far. let one : nat_le m 255 ≡ false = grind (arith, nat_tests) in let other : nat_le n 255 ≡ false = grind (arith,
-        nat_tests) in one ∙ sym other)
+    (λ near. let one : nat_le m 255 ≡ true = grind (arith, nat_tests) in let other : nat_le n 255 ≡ true = grind (
+      arith,
+      nat_tests,
+    ) in one ∙ sym other)
+    (λ far. let one : nat_le m 255 ≡ false = grind (arith, nat_tests) in let other : nat_le n 255 ≡ false = grind (
+      arith,
+      nat_tests,
+    ) in one ∙ sym other)
     (cases_lt n 256))
 
 pub cut_added : (ranges low high : List Range) (border distance : ℕ) (old test below above : List Place) → 2 ≤ length ranges
     → 255 < block_length ranges
     → AreHalves ranges low high → first_start high ≡ border → distance ≡ min (tree_length low) (2 ^ 64 - 1)
-        → test ≡ old ++ test_places border distance
+    → test ≡ old ++ test_places border distance
     → Adds (IsTreePlaces low) test below → Adds (IsTreePlaces high) below above → Adds (IsTreePlaces ranges) old above
 cut_added ranges low high border distance old test below above some long halves at far is first second =
     let tests : test_places border distance ≡ test_places (first_start high) (tree_length low) =

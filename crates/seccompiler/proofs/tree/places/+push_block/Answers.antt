@@ -28,7 +28,7 @@ pub returns-then-row_len-le-MOST : goal.returns-then-row_len-le-MOST
 returns-then-row_len-le-MOST t c =
     let short : row c.args.ranges.now ≤ 6 = grind (arith, nat_tests) in
     on_ok_weaker c.push_row.result (λ is. row_added c.args.ranges.now c.args.places.now.items c.push_row.new.places.items short is)
-        c.push_row.ensures
+    c.push_row.ensures
 
 pub returns : goal.returns
 returns t c =
@@ -37,9 +37,13 @@ returns t c =
     let low = c.halves.result.0.now in
     let high = c.halves.result.1.now in
     let whole = halves_long c.args.ranges.now low high c.halves.ensures in
-    let at = starts_at high c.index-high-0.result c.start.result (omega (arith, some, whole,
-        c.halves.ensures.half)) c.index-high-0.is c.start.ensures in
+    let at = starts_at high c.index-high-0.result c.start.result (omega (
+      arith,
+      some,
+      whole,
+      c.halves.ensures.half,
+    )) c.index-high-0.is c.start.ensures in
     on_ok_weaker c.push_block-2.result
     (λ is. halves_added c.args.ranges.now low high c.start.result c.args.places.now.items _ _ c.push_block-2.new.places.items long
-        c.halves.ensures at c.in_ok-push.ensures.items
+    c.halves.ensures at c.in_ok-push.ensures.items
     c.in_ok-push_block.ensures is) c.push_block-2.ensures

@@ -27,7 +27,7 @@ returns-then-ranges-eq1 t c =
     let one : length c.args.ranges.now ≡ 1 = grind (arith, nat_tests) in
     let is_one = only_one c.args.ranges.now c.index-ranges-0.result one c.index-ranges-0.is in
     on_ok_weaker c.push_alone.result (λ is. one_added c.args.ranges.now c.index-ranges-0.result c.args.places.now.items
-        c.push_alone.new.places.items is_one is) c.push_alone.ensures
+    c.push_alone.new.places.items is_one is) c.push_alone.ensures
 
 pub returns-then-block_len-le255 : goal.returns-then-block_len-le255
 returns-then-block_len-le255 t c =
@@ -37,7 +37,7 @@ returns-then-block_len-le255 t c =
     c.if-block_len-le255.true in
     let short = subst (λ n. n ≤ 255) exact c.if-block_len-le255.true in
     block_added c.args.ranges.now c.args.places.now.items _ c.extend_from_slice.new.self.items some short c.in_ok-push_block.ensures
-        c.in_ok-extend_from_slice.ensures.items
+    c.in_ok-extend_from_slice.ensures.items
 
 pub returns : goal.returns
 returns t c =
@@ -48,9 +48,13 @@ returns t c =
     let low = c.halves.result.0.now in
     let high = c.halves.result.1.now in
     let whole = halves_long c.args.ranges.now low high c.halves.ensures in
-    let at = starts_at high c.index-high-0.result c.start.result (omega (arith, some, whole,
-        c.halves.ensures.half)) c.index-high-0.is c.start.ensures in
+    let at = starts_at high c.index-high-0.result c.start.result (omega (
+      arith,
+      some,
+      whole,
+      c.halves.ensures.half,
+    )) c.index-high-0.is c.start.ensures in
     on_ok_weaker c.push_tree-2.result
     (λ is. cut_added c.args.ranges.now low high c.start.result c.tree_len.result c.args.places.now.items _ _ c.push_tree-2.new.places.items
-        some more c.halves.ensures at c.tree_len.ensures
+    some more c.halves.ensures at c.tree_len.ensures
     c.in_ok-push_test.ensures c.in_ok-push_tree.ensures is) c.push_tree-2.ensures

@@ -8,5 +8,5 @@ use Rattle.seccompiler.proofs.tree.places.tree_places.Goals as goal
 pub returns : goal.returns
 returns c =
     let begun = c.in_ok-extend_from_slice.ensures.items ∙ ap (λ (l : List Place). l ++ (guard_places ++ LoadNumber ∷ []))
-        c.new-places.ensures.items in
+    c.new-places.ensures.items in
     only_program c.args.ranges.now _ c.push_tree.new.places.items begun c.in_ok-push_tree.ensures

@@ -40,8 +40,8 @@ pub(crate) fn program<'a>(
     let stats = of_policy(alloc, "stats", STATS, archs)?;
     let of_call = record(alloc, archs)?;
     let compat = of_policy(alloc, "compat", COMPAT, archs)?;
-    top(alloc)
-        .subcommand(compile)?
+    let top = top(alloc)?;
+    top.subcommand(compile)?
         .subcommand(show)?
         .subcommand(check)?
         .subcommand(explain)?
@@ -50,16 +50,19 @@ pub(crate) fn program<'a>(
         .subcommand(compat)
 }
 
-fn top<'a>(alloc: Global) -> Command<'a>
-    ensures { app_of result ≡ top_app }
+fn top<'a>(alloc: Global) -> Result<Command<'a>, AllocError>
+    ensures { IfOk result (λ c. app_of c ≡ top_app) }
 {
-    Command::new(alloc, "seccomptool")
-        .version("0.5.0")
-        .about("Compiles, checks and explains seccomp policies")
-        .after_help(AFTER)
-        .no_binary_name(true)
-        .subcommand_required(true)
-        .arg_required_else_help(true)
+    let named = Command::new(alloc, "seccomptool").bin_name("seccomptool")?;
+    Ok(
+        named
+            .version("0.5.0")
+            .about("Compiles, checks and explains seccomp policies")
+            .after_help(AFTER)
+            .no_binary_name(true)
+            .subcommand_required(true)
+            .arg_required_else_help(true),
+    )
 }
 
 fn compile<'a>(

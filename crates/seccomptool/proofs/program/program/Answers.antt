@@ -10,7 +10,7 @@ pub returns : goal.returns
 returns c =
     let archs = c.args.archs in
     let layouts = c.args.layouts in
-    let is_top : app_of c.top.result ≡ top_app = c.top.ensures in
+    let is_top : app_of c.in_ok-top.top ≡ top_app = c.in_ok-top.ensures in
     let is_compile : app_of c.in_ok-compile.compile ≡ compile_app archs layouts = c.in_ok-compile.ensures.app in
     let is_show : app_of c.in_ok-show.show ≡ show_app archs layouts = c.in_ok-show.ensures.app in
     let is_check : app_of c.in_ok-check.check ≡ policy_app (codes "check") archs = c.in_ok-check.ensures.app in
@@ -21,7 +21,7 @@ returns c =
     let whole : Command → Type 0 = λ r. app_of r ≡ program_app archs layouts in
     record {
       app = IfOk-weaker c.subcommand-7.result _ whole (λ r h.
-          all_added archs layouts c.top.result _ _ _ _ _ _ r c.in_ok-compile.compile c.in_ok-show.show c.in_ok-check.check c.in_ok-explain.explain c.in_ok-stats.stats c.in_ok-of_call.of_call c.in_ok-compat.compat is_top
+          all_added archs layouts c.in_ok-top.top _ _ _ _ _ _ r c.in_ok-compile.compile c.in_ok-show.show c.in_ok-check.check c.in_ok-explain.explain c.in_ok-stats.stats c.in_ok-of_call.of_call c.in_ok-compat.compat is_top
           (is_compile, c.in_ok-compile.ensures.local, c.in_ok-subcommand.ensures)
           (is_show, c.in_ok-show.ensures.local, c.in_ok-subcommand-2.ensures)
           (is_check, c.in_ok-check.ensures.local, c.in_ok-subcommand-3.ensures)

@@ -33,7 +33,7 @@ README_WORDS = 1000
 SENTENCE = 30
 
 # Pages that are still to be rewritten, and those that tell history.
-LATER = ("README.md", "docs/C.md", "docs/DEFINITIONS.md", "docs/DEPENDING.md", "docs/JSON.md", "docs/TOOL.md")
+LATER = ("docs/C.md", "docs/DEFINITIONS.md", "docs/DEPENDING.md", "docs/JSON.md", "docs/TOOL.md")
 HISTORY = ("CHANGELOG.md",)
 
 LINK = re.compile(r"\[[^\]]*\]\(<?([^()\s>]+)>?\)|(?:src|srcset)=\"([^\"]+)\"")

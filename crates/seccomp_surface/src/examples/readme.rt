@@ -1,4 +1,4 @@
-// The example of README.md.
+// The example of docs/ARCHITECTURE.md.
 
 use seccompiler::bpf::sock_filter;
 use seccompiler::machine::{check, run};

@@ -85,12 +85,12 @@ module _ (d : Data) (filters : JsonFilterMap) (are : AreFilters d filters) where
     each = λ name. (
       λ there. has_value name there (get name d) refl,
       λ has. let own = are.each name has.0 has.1 in
-      found_name name own.found filters.0.entries (sym (by_text name filters.0.entries) ∙ own.there),
+          found_name name own.found filters.0.entries (sym (by_text name filters.0.entries) ∙ own.there),
     );
   }
 
 -- What the front end refuses of a text before it looks for policies is that it is none of filters, or want of memory.
-pub shape_refused : (text : List ℕ) (index : ℕ) (e : JsonFrontendError) → ((target : TargetArch) → TellsFrontendFault target text e) 
+pub shape_refused : (text : List ℕ) (index : ℕ) (e : JsonFrontendError) → ((target : TargetArch) → TellsFrontendFault target text e)
     → IsBeforePolicies e → IsNoFailedRead e → IsUnnamed text index (from_frontend e)
 shape_refused text index (frontend.Read cause) tells before none = absurd none
 shape_refused text index frontend.OutOfMemory tells before none = tt

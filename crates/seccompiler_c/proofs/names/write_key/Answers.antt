@@ -34,8 +34,7 @@ returns-then-place-index-clause-found c =
     subst (λ (t : List ℕ). HoldsMessage t c.args.name.now wrote.new.buffer) c.as_str.ensures.value
     (subst (λ (old : List ℕ). HoldsMessage c.as_str.result.now old wrote.new.buffer) so_far.left wrote.ensures.holds) in
     let long = wrote.ensures.told ∙ ap (λ (t : List ℕ). pos (length t)) c.as_str.ensures.value in
-    rw (to_z-of_z w64 wrote.result (record { sfits = wrote.type_inv }))
-    (
+    rw (to_z-of_z w64 wrote.result (record { sfits = wrote.type_inv })) (
       said,
       name_at (keys_of c.args.filters.now.0.entries) done left key c.args.index whole (so_far.count ∙ c.if-place-index.true),
       long,

@@ -147,7 +147,10 @@ impl<'a> Policy<'a> {
                         .map_err(|_| BackendError::OutOfMemory)?;
                     names.push(library::text(&room[..length])?);
                 }
-                Err(_) if answer == NO_FILTER => return Ok(names),
+                Err(_) if answer == NO_FILTER => {
+                    self.message.fill(0);
+                    return Ok(names);
+                }
                 Err(_) => return Err(self.rejection(answer)),
             }
         }

@@ -23,12 +23,23 @@ UNPARSED = FRONTEND + "Error parsing Json: .."
 
 def told(policy, where, what):
     """Returns the case of a policy of which this is told at this place on x86_64."""
-    return rejects("check", policy, f"{where}{what}.\n")
+    return rejects("check", policy, f"{where}: {what}\n")
 
 
 def stands(policy, where, what, may):
     """Returns the case of a policy in which this stands at a place, and something else may."""
-    return told(policy, where, f": {what} stands here, and {may} may")
+    return told(policy, where, f"expected {may}, found {what}")
+
+
+def strange(policy, where, key, keys):
+    """Returns the case of a policy in which an object has a key that is none of these."""
+    return told(policy, where, f'"{key}": unknown key; expected {keys}')
+
+
+def unknown(policy, where, name, near=None):
+    """Returns the case of a policy in which this stands for the name of a call, and one that is like it."""
+    suggested = f'; did you mean "{near}"?' if near else ""
+    return told(policy, where, f"unknown system call {name} on x86_64{suggested}")
 
 
 def entries(text):
@@ -54,11 +65,10 @@ def compared(text):
 CONDITION = "a.filter[1].args[1]"
 
 FILTER = "an object with the actions and the entries of a filter"
-CALL = "the name of a call of x86_64"
-INDEX = "a number from 0 to 5"
-TWO_EQUAL = ": two equal actions stand here, and two that differ may"
-ACTION_NUMBER = "a whole number from 0 to 4294967295"
-NUMBER = "a whole number from 0 to 18446744073709551615"
+INDEX = "0 to 5"
+TWO_EQUAL = "expected two actions that differ, found the same one twice"
+ACTION_NUMBER = "0 to 4294967295"
+NUMBER = "0 to 18446744073709551615"
 ACTIONS = '"allow", {"errno": N}, "kill_process", "kill_thread", "log", {"trace": N} or "trap"'
 OPERATORS = '"eq", "ge", "gt", "le", "lt", {"masked_eq": N} or "ne"'
 
@@ -67,12 +77,12 @@ IN_FILTERS = [
     stands("1.5", "the policy", "1.5", "an object of filters"),
     stands(r'{"a\\\u0007é":[1]}', r"a\x5c\x07é", "an array of 1 value", FILTER),
     stands(r'{"a\u009b":[1]}', r"a\xc2\x9b", "an array of 1 value", FILTER),
-    stands('{"b":0,"a":{"filters":[]}}', "a", 'the key "filters"',
-           "only mismatch_action, default_action, match_action, filter_action and filter"),
+    strange('{"b":0,"a":{"filters":[]}}', "a", "filters",
+            "mismatch_action, default_action, match_action, filter_action or filter"),
     told('{"a":{"match_action":"log","filter":[]}}', "a",
-         ": `mismatch_action` or `default_action` is missing"),
+         'missing "mismatch_action" or "default_action"'),
     told('{"a":{"match_action":"log","mismatch_action":"log","filter_action":"log","filter":[]}}', "a",
-         ": `match_action` and `filter_action` stand here, and only one of them may"),
+         'expected one of "match_action" and "filter_action", found both'),
     # An object of one name is an action by that name, and its number is at fault.
     stands(mismatch('{"errno":4294967296}'), "a.mismatch_action.errno", "4294967296", ACTION_NUMBER),
     stands('{"a":{"match_action":"log","default_action":{"errno":-1},"filter":[]}}',
@@ -83,7 +93,7 @@ IN_FILTERS = [
     stands(mismatch('{"errno":4294967296,"trace":1}'), "a.mismatch_action", "an object", ACTIONS),
     stands(mismatch('{"masked_eq":1}'), "a.mismatch_action", "an object", ACTIONS),
     stands(mismatch('"errno"'), "a.mismatch_action", '"errno"', ACTIONS),
-    told('{"a":{"match_action":"log","mismatch_action":"trap"}}', "a", ": `filter` is missing"),
+    told('{"a":{"match_action":"log","mismatch_action":"trap"}}', "a", 'missing "filter"'),
     stands('{"a":{"match_action":"log","mismatch_action":"trap","filter":null}}', "a.filter",
            "null", "an array of entries"),
     told('{"a":{"match_action":"log","mismatch_action":"log","filter":[]}}', "a", TWO_EQUAL),
@@ -92,38 +102,57 @@ IN_FILTERS = [
 IN_AN_ENTRY = [
     stands(entries('{"syscall":"read"},[]'), "a.filter[1]", "an empty array",
            "an object with the call of an entry"),
-    stands(entries('{"syscall":"read","arg":[]}'), "a.filter[0]", 'the key "arg"',
-           "only syscall, args and comment"),
-    stands(entries('{"syscall":"read","comment":1}'), "a.filter[0].comment", "1", "null or a text"),
-    told(entries('{"args":null}'), "a.filter[0]", ": `syscall` is missing"),
-    stands(entries('{"syscall":-7}'), "a.filter[0].syscall", "-7", "the name of a call, in quotes,"),
+    strange(entries('{"syscall":"read","arg":[]}'), "a.filter[0]", "arg", "syscall, args or comment"),
+    stands(entries('{"syscall":"read","comment":1}'), "a.filter[0].comment", "1", "null or a string"),
+    told(entries('{"args":null}'), "a.filter[0]", 'missing "syscall"'),
+    stands(entries('{"syscall":-7}'), "a.filter[0].syscall", "-7", "the name of a system call"),
     stands(entries('{"syscall":"read","args":{}}'), "a.filter[0].args", "an object",
            "null or an array of conditions"),
-    stands(entries(r'{"syscall":"read"},{"syscall":"read","args":null},{"syscall":"op\"ne"}'),
-           "a.filter[2].syscall", r'"op\"ne"', CALL),
+    unknown(entries(r'{"syscall":"read"},{"syscall":"read","args":null},{"syscall":"op\"ne"}'),
+            "a.filter[2].syscall", r'"op\"ne"'),
     stands(entries('{"syscall":"read","args":[]}'), "a.filter[0].args", "an empty array",
            "null or at least one condition"),
 ]
 
 IN_A_CONDITION = [
     stands(condition("true"), CONDITION, "true", "an object with the four parts of a condition"),
-    stands(condition('{"index":0,"type":"dword","op":"eq","vall":0}'), CONDITION, 'the key "vall"',
-           "only index, type, op, val and comment"),
+    strange(condition('{"index":0,"type":"dword","op":"eq","vall":0}'), CONDITION, "vall",
+            "index, type, op, val or comment"),
     stands(condition('{"index":256,"comment":[1,2]}'), CONDITION + ".comment", "an array of 2 values",
-           "null or a text"),
-    told(condition("{}"), CONDITION, ": `index` is missing"),
+           "null or a string"),
+    told(condition("{}"), CONDITION, 'missing "index"'),
     stands(condition('{"index":256}'), CONDITION + ".index", "256", INDEX),
-    told(condition('{"index":0}'), CONDITION, ": `type` is missing"),
+    told(condition('{"index":0}'), CONDITION, 'missing "type"'),
     stands(condition('{"index":0,"type":"byte"}'), CONDITION + ".type", '"byte"', '"dword" or "qword"'),
-    told(condition('{"index":0,"type":"dword"}'), CONDITION, ": `op` is missing"),
+    told(condition('{"index":0,"type":"dword"}'), CONDITION, 'missing "op"'),
     stands(condition('{"index":0,"type":"dword","op":17}'), CONDITION + ".op", "17", OPERATORS),
     stands(compared('{"masked_eq":-1}'), CONDITION + ".op.masked_eq", "-1", NUMBER),
     stands(compared('{"masked_eq":null}'), CONDITION + ".op.masked_eq", "null", NUMBER),
     stands(compared('{"masked_eq":1,"eq":2}'), CONDITION + ".op", "an object", OPERATORS),
     stands(compared('{"errno":-1}'), CONDITION + ".op", "an object", OPERATORS),
-    told(condition('{"index":0,"type":"dword","op":"eq"}'), CONDITION, ": `val` is missing"),
+    told(condition('{"index":0,"type":"dword","op":"eq"}'), CONDITION, 'missing "val"'),
     stands(condition('{"index":0,"type":"dword","op":"eq","val":-1}'), CONDITION + ".val", "-1", NUMBER),
     stands(condition('{"index":6,"type":"dword","op":"eq","val":0}'), CONDITION + ".index", "6", INDEX),
+]
+
+# A name that is one edit away, or one for each three of its bytes; the first of several that are as near; and
+# none that is further, or longer than any call's name.
+SUGGESTIONS = [
+    unknown(entries('{"syscall":"%s"}' % name), "a.filter[0].syscall", f'"{name}"', near)
+    for name, near in [
+        ("fnctl", "fcntl"),
+        ("READ", None),
+        ("re", None),
+        ("red", "read"),
+        ("dup4", "dup"),
+        ("getpidd", "getpid"),
+        ("rt_sigretrun", "rt_sigreturn"),
+        ("clock_nano_sleeep", "clock_nanosleep"),
+        ("exit-group", "exit_group"),
+        ("open64", "open"),
+        ("", None),
+        ("x" * 65, None),
+    ]
 ]
 
 FIRST_FAULTS = [
@@ -136,8 +165,8 @@ FIRST_FAULTS = [
            '{"syscall":"read","args":[{"index":5,"type":"dword","op":"eq","val":0},'
            '{"index":7,"type":"dword","op":"eq","val":0}]},{"syscall":"opne","args":[]}]}}',
            "a.filter[0].args[1].index", "7", INDEX),
-    stands('{"a":{"mismatch_action":"log","match_action":"log","filter":[{"syscall":"opne","args":[]}]}}',
-           "a.filter[0].syscall", '"opne"', CALL),
+    unknown('{"a":{"mismatch_action":"log","match_action":"log","filter":[{"syscall":"opne","args":[]}]}}',
+            "a.filter[0].syscall", '"opne"', "open"),
     told('{"b":{"mismatch_action":"log","match_action":"log","filter":[{"syscall":"opne"}]},'
          '"a":{"mismatch_action":"log","match_action":"log","filter":[]}}', "a", TWO_EQUAL),
 ]
@@ -147,21 +176,21 @@ OF_FILES = [
     writes("check logs.json", "", ""),
     ("check < logs.json", 0, "", ""),
     rejects("check list.json", "",
-            "the policy: an empty array stands here, and an object of filters may.\n", TOOL + "list.json: "),
+            "the policy: expected an object of filters, found an empty array\n", TOOL + "list.json: "),
     rejects("check no-filter.json", "",
-            "a: `mismatch_action` or `default_action` is missing.\n", TOOL + "no-filter.json: "),
+            'a: missing "mismatch_action" or "default_action"\n', TOOL + "no-filter.json: "),
     rejects("check unknown-call.json", "",
-            "a.filter[0].syscall: \"nosyscall\" stands here, and the name of a call of x86_64 may.\n",
+            'a.filter[0].syscall: unknown system call "nosyscall" on x86_64\n',
             TOOL + "unknown-call.json: "),
     rejects("check no-conditions.json", "",
-            "a.filter[0].args: an empty array stands here, and null or at least one condition may.\n",
+            "a.filter[0].args: expected null or at least one condition, found an empty array\n",
             TOOL + "no-conditions.json: "),
     rejects("check index.json", "",
-            "a.filter[0].args[0].index: 6 stands here, and a number from 0 to 5 may.\n", TOOL + "index.json: "),
+            "a.filter[0].args[0].index: expected 0 to 5, found 6\n", TOOL + "index.json: "),
     rejects("check equal-actions.json", "",
-            "a: two equal actions stand here, and two that differ may.\n", TOOL + "equal-actions.json: "),
+            "a: expected two actions that differ, found the same one twice\n", TOOL + "equal-actions.json: "),
     rejects("check too-large.json", "",
-            "a: a filter of 10130 instructions stands here, and one of at most 4096 may.\n", TOOL + "too-large.json: "),
+            "a: needs 10130 instructions in the linear layout; 4096 fit\n", TOOL + "too-large.json: "),
     rejects("check no-json.json", "", UNPARSED, TOOL + "no-json.json: "),
     rejects("check repeated.json", "", REPEATED, TOOL + "repeated.json: "),
     rejects("check examples", "", FOLDER, TOOL + "examples: "),
@@ -178,9 +207,10 @@ CASES = [
     *IN_FILTERS,
     *IN_AN_ENTRY,
     *IN_A_CONDITION,
+    *SUGGESTIONS,
     *FIRST_FAULTS,
     # `check` tells the filter that is too long.
-    stands(entries(TOO_LONG), "a", "a filter of 10130 instructions", "one of at most 4096"),
+    told(entries(TOO_LONG), "a", "needs 10130 instructions in the linear layout; 4096 fit"),
     # `check` answers faults of its reader.
     rejects("check", Failing(FINE), RESET),
     *OF_FILES,

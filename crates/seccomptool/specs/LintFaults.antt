@@ -1,6 +1,6 @@
 -- The faults of a policy that have a place: where they are, and what is wrong there.
-use Rattle.std.specs.Prelude.{◌≡◌, ◌≢◌, ◌==◌, if◌then◌else◌, ℕ, suc, List, [], ◌∷◌, ◌++◌, Contains, Option, Some, false, option_and_then, codes, decimal, string_bytes, ⊤}
-use Rattle.serde_json.specs.Data.{Data, array, object, Items, no_items, item}
+use Rattle.std.specs.Prelude.{◌≡◌, ◌≢◌, ◌==◌, if◌then◌else◌, ℕ, suc, List, [], ◌∷◌, ◌++◌, Contains, Option, Some, IfSome, false, option_and_then, codes, decimal, string_bytes, ⊤}
+use Rattle.serde_json.specs.Data.{Data, array, object, string, Items, no_items, item}
 use Rattle.serde_json.specs.Find.{get, at}
 use Rattle.serde_json.specs.Read.{read}
 use Rattle.serde_json.specs.Written.{compact_text, has_float}
@@ -87,9 +87,11 @@ OfObject (parts.Object kind) P = P kind
 OfObject part P = ⊥
 
 -- The problem is there, and it is one of the part that stands there: what may stand there is what this part has to be,
--- and the names that are told are those that this part may have, has to have, or has to have one of.
+-- and the names that are told are those that this part may have, has to have, or has to have one of. A name that is
+-- suggested may stand there.
 abbrev pub IsBroken : Part → Data → Problem → Type 0
-IsBroken part d (problem.Stands text e) = (part_of e ≡ part) × IsShown d (string_bytes text) × (IsAllowed e d → ⊥)
+IsBroken part d (problem.Stands text e near) = (part_of e ≡ part) × IsShown d (string_bytes text) × (IsAllowed e d → ⊥)
+    × IfSome near (λ name. IsAllowed e (string name.now))
 IsBroken part d (problem.Strange key kind) = (part ≡ parts.Object kind) × ((value : Data) × Has d (string_bytes key) value)
     × (Contains (names_of kind) (string_bytes key) → ⊥)
 IsBroken part d (problem.Missing key) = OfObject part (λ kind. Contains (required_of kind) key.now) × IsObject d × Lacks d key.now
@@ -111,7 +113,7 @@ cause_of_expected e = cause.Shape
 
 -- The kind of fault that a problem is.
 abbrev pub cause_of : Problem → Cause
-cause_of (problem.Stands text expected) = cause_of_expected expected
+cause_of (problem.Stands text expected near) = cause_of_expected expected
 cause_of problem.SameActions = cause.Actions
 cause_of (problem.TooLong n target) = cause.Length target
 cause_of p = cause.Shape

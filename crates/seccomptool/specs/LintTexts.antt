@@ -1,5 +1,5 @@
 -- The texts of the faults of a policy that have a place.
-use Rattle.std.specs.Prelude.{List, ℕ, [], ◌∷◌, ◌++◌, map, codes, decimal, string_bytes}
+use Rattle.std.specs.Prelude.{List, ℕ, [], ◌∷◌, ◌++◌, map, Option, None, Some, option_map, codes, decimal, string_bytes}
 use Rattle.std.specs.List.{concat}
 use Rattle.seccomp_command_line.specs.Names.{readable}
 use Rattle.seccompiler.specs.Architecture.{arch_text}
@@ -38,37 +38,46 @@ form_text (parts.Object kind.Entry) = codes "an object with the call of an entry
 form_text (parts.Object kind.Condition) = codes "an object with the four parts of a condition"
 form_text parts.Action = codes "\"allow\", {\"errno\": N}, \"kill_process\", \"kill_thread\", \"log\", {\"trace\": N} or \"trap\""
 form_text parts.Entries = codes "an array of entries"
-form_text parts.Name = codes "the name of a call, in quotes,"
-form_text parts.Comment = codes "null or a text"
+form_text parts.Name = codes "the name of a system call"
+form_text parts.Comment = codes "null or a string"
 form_text parts.Conditions = codes "null or an array of conditions"
-form_text parts.Index = codes "a number from 0 to 5"
+form_text parts.Index = codes "0 to 5"
 form_text parts.Length = codes "\"dword\" or \"qword\""
 form_text parts.Operator = codes "\"eq\", \"ge\", \"gt\", \"le\", \"lt\", {\"masked_eq\": N} or \"ne\""
-form_text parts.ActionNumber = codes "a whole number from 0 to 4294967295"
-form_text parts.Number = codes "a whole number from 0 to 18446744073709551615"
+form_text parts.ActionNumber = codes "0 to 4294967295"
+form_text parts.Number = codes "0 to 18446744073709551615"
 
--- What may stand there.
-abbrev pub expected_text : Expected → List ℕ
-expected_text (expected.Form part) = form_text part
-expected_text (expected.Call target) = codes "the name of a call of " ++ arch_text target
-expected_text expected.Argument = codes "a number from 0 to 5"
-expected_text expected.SomeConditions = codes "null or at least one condition"
+-- What may stand there, and the value that does.
+abbrev pub found_text : List ℕ → List ℕ → List ℕ
+found_text text may = codes "expected " ++ may ++ codes ", found " ++ text
+
+-- That a value, which this text tells, stands where something else may.
+abbrev pub stands_text : List ℕ → Expected → List ℕ
+stands_text text (expected.Form part) = found_text text (form_text part)
+stands_text text (expected.Call target) = codes "unknown system call " ++ text ++ codes " on " ++ arch_text target
+stands_text text expected.Argument = found_text text (codes "0 to 5")
+stands_text text expected.SomeConditions = found_text text (codes "null or at least one condition")
+
+-- What may have been meant.
+abbrev pub suggested_text : Option (List ℕ) → List ℕ
+suggested_text None = []
+suggested_text (Some name) = codes "; did you mean \"" ++ name ++ codes "\"?"
 
 -- The names that an object of this kind may have.
 abbrev pub keys_text : Kind → List ℕ
-keys_text kind.Filter = codes "mismatch_action, default_action, match_action, filter_action and filter"
-keys_text kind.Entry = codes "syscall, args and comment"
-keys_text kind.Condition = codes "index, type, op, val and comment"
+keys_text kind.Filter = codes "mismatch_action, default_action, match_action, filter_action or filter"
+keys_text kind.Entry = codes "syscall, args or comment"
+keys_text kind.Condition = codes "index, type, op, val or comment"
 
 -- What is wrong there.
 abbrev pub problem_text : Problem → List ℕ
-problem_text (problem.Stands text e) = string_bytes text ++ codes " stands here, and " ++ expected_text e ++ codes " may."
-problem_text (problem.Strange key kind) = codes "the key \"" ++ readable (string_bytes key) ++ codes "\" stands here, and only " ++ keys_text kind ++ codes " may."
-problem_text (problem.Missing key) = codes "`" ++ key.now ++ codes "` is missing."
-problem_text (problem.Neither key other) = codes "`" ++ key.now ++ codes "` or `" ++ other.now ++ codes "` is missing."
-problem_text (problem.Both key other) = codes "`" ++ key.now ++ codes "` and `" ++ other.now ++ codes "` stand here, and only one of them may."
-problem_text problem.SameActions = codes "two equal actions stand here, and two that differ may."
-problem_text (problem.TooLong n target) = codes "a filter of " ++ decimal n ++ codes " instructions stands here, and one of at most 4096 may."
+problem_text (problem.Stands text e near) = stands_text (string_bytes text) e ++ suggested_text (option_map (λ n. n.now) near)
+problem_text (problem.Strange key kind) = codes "\"" ++ readable (string_bytes key) ++ codes "\": unknown key; expected " ++ keys_text kind
+problem_text (problem.Missing key) = codes "missing \"" ++ key.now ++ codes "\""
+problem_text (problem.Neither key other) = codes "missing \"" ++ key.now ++ codes "\" or \"" ++ other.now ++ codes "\""
+problem_text (problem.Both key other) = codes "expected one of \"" ++ key.now ++ codes "\" and \"" ++ other.now ++ codes "\", found both"
+problem_text problem.SameActions = codes "expected two actions that differ, found the same one twice"
+problem_text (problem.TooLong n target) = codes "needs " ++ decimal n ++ codes " instructions in the linear layout; 4096 fit"
 
 -- The text of a fault.
 abbrev pub fault_text : Fault → List ℕ

@@ -13,6 +13,7 @@ ghost use Rattle.seccomptool.specs.declared.lint.part.Part.TheVariants.{Policy};
 mod allowed;
 mod fault;
 mod length;
+mod near;
 mod part;
 mod text;
 mod walk;
@@ -38,8 +39,9 @@ use std::io::Read;
 /// a place of an array, from 0; `the policy` stands for the empty path. In names the control characters,
 /// those from U+0080 to U+009F too, and the backslash are written as `\x` and two lower-case hexadecimal
 /// digits for each of their bytes. A value that may not stand there is told as JSON, an array by its
-/// length, and an object as `an object`. Where an action or an operator is an object of one name,
-/// `errno`, `trace` or `masked_eq`, the path leads to its number.
+/// length, and an object as `an object`; behind a call's name that the architecture hasn't may come a like
+/// one that it has. Where an action or an operator is an object of one name, `errno`, `trace` or
+/// `masked_eq`, the path leads to its number.
 ///
 /// # Errors
 ///

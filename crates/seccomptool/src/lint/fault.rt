@@ -38,8 +38,8 @@ pub enum Expected {
 /// What is wrong with a value.
 #[derive(Drop)]
 pub enum Problem {
-    /// It is told by this text, and something else may stand there.
-    Stands(String, Expected),
+    /// It is told by this text, and something else may stand there, such as this name, if one is like it.
+    Stands(String, Expected, Option<&'static str>),
     /// It has this name, which no object of its kind has.
     Strange(String, Kind),
     /// It lacks this name.

@@ -1,13 +1,15 @@
 // The text of a fault.
 
-ghost use Rattle.std.specs.Prelude.{◌≡◌, ◌++◌, map, IfOk, OnOk, codes, decimal, string_bytes};
+ghost use Rattle.std.specs.Prelude.{◌≡◌, ◌++◌, map, IfOk, OnOk, codes, decimal, option_map, string_bytes};
 ghost use Rattle.std.specs.List.{concat};
 ghost use Rattle.seccomp_command_line.specs.Names.{readable};
 ghost use Rattle.seccomptool.specs.LintTexts as spec;
+ghost use Rattle.seccomptool.specs.declared.lint.fault.Expected.TheVariants.{Call};
 
 use crate::lint::fault::{Expected, Fault, Problem, Step};
 use crate::lint::part::{Kind, Part};
 use seccomp_command_line::names::push_readable;
+use seccompiler::TargetArch;
 use std::alloc::{AllocError, Global};
 
 // Adds a number in decimal digits.
@@ -92,36 +94,66 @@ fn form_text(part: Part) -> &'static str
             "\"allow\", {\"errno\": N}, \"kill_process\", \"kill_thread\", \"log\", {\"trace\": N} or \"trap\""
         }
         Part::Entries => "an array of entries",
-        Part::Name => "the name of a call, in quotes,",
-        Part::Comment => "null or a text",
+        Part::Name => "the name of a system call",
+        Part::Comment => "null or a string",
         Part::Conditions => "null or an array of conditions",
-        Part::Index => "a number from 0 to 5",
+        Part::Index => "0 to 5",
         Part::Length => "\"dword\" or \"qword\"",
         Part::Operator => { "\"eq\", \"ge\", \"gt\", \"le\", \"lt\", {\"masked_eq\": N} or \"ne\"" }
-        Part::ActionNumber => "a whole number from 0 to 4294967295",
-        Part::Number => "a whole number from 0 to 18446744073709551615",
+        Part::ActionNumber => "0 to 4294967295",
+        Part::Number => "0 to 18446744073709551615",
     }
 }
 
-// What may stand at a place: a text, and a name behind it.
-fn expected_text(expected: Expected) -> (&'static str, &'static str)
-    ensures { result.0.now ++ result.1.now ≡ spec.expected_text expected }
+// Adds that the value of a call's name is none of an architecture.
+fn push_unknown_call(text: &mut Vec<u8>, shown: &str, target: TargetArch) -> Result<(), AllocError>
+    ensures { OnOk result (text.new.items ≡ text.old.items ++ spec.stands_text shown.now (Call target)) }
+{
+    text.extend_from_slice(b"unknown system call ")?;
+    text.extend_from_slice(shown.as_bytes())?;
+    text.extend_from_slice(b" on ")?;
+    text.extend_from_slice(target.name().as_bytes())
+}
+
+// Adds what may stand at a place, and the value that is there.
+fn push_found(text: &mut Vec<u8>, shown: &str, expected: &str) -> Result<(), AllocError>
+    ensures { OnOk result (text.new.items ≡ text.old.items ++ codes "expected " ++ expected.now ++ codes ", found " ++ shown.now) }
+{
+    text.extend_from_slice(b"expected ")?;
+    text.extend_from_slice(expected.as_bytes())?;
+    text.extend_from_slice(b", found ")?;
+    text.extend_from_slice(shown.as_bytes())
+}
+
+// Adds that a value stands where something else may.
+fn push_stands(text: &mut Vec<u8>, shown: &str, expected: Expected) -> Result<(), AllocError>
+    ensures { OnOk result (text.new.items ≡ text.old.items ++ spec.stands_text shown.now expected) }
 {
     match expected {
-        Expected::Form(part) => (form_text(part), ""),
-        Expected::Call(target) => ("the name of a call of ", target.name()),
-        Expected::Argument => ("a number from 0 to 5", ""),
-        Expected::SomeConditions => ("null or at least one condition", ""),
+        Expected::Form(part) => push_found(text, shown, form_text(part)),
+        Expected::Call(target) => push_unknown_call(text, shown, target),
+        Expected::Argument => push_found(text, shown, "0 to 5"),
+        Expected::SomeConditions => push_found(text, shown, "null or at least one condition"),
     }
 }
 
-// Adds what may stand at a place.
-fn push_expected(text: &mut Vec<u8>, expected: Expected) -> Result<(), AllocError>
-    ensures { OnOk result (text.new.items ≡ text.old.items ++ spec.expected_text expected) }
+// Adds that this may have been meant.
+fn push_meant(text: &mut Vec<u8>, near: &str) -> Result<(), AllocError>
+    ensures { OnOk result (text.new.items ≡ text.old.items ++ codes "; did you mean \"" ++ near.now ++ codes "\"?") }
 {
-    let (front, name) = expected_text(expected);
-    text.extend_from_slice(front.as_bytes())?;
-    text.extend_from_slice(name.as_bytes())
+    text.extend_from_slice(b"; did you mean \"")?;
+    text.extend_from_slice(near.as_bytes())?;
+    text.extend_from_slice(b"\"?")
+}
+
+// Adds what may have been meant, if anything.
+fn push_suggested(text: &mut Vec<u8>, near: Option<&str>) -> Result<(), AllocError>
+    ensures { OnOk result (text.new.items ≡ text.old.items ++ spec.suggested_text (option_map (λ n. n.now) near.entry)) }
+{
+    match near {
+        None => Ok(()),
+        Some(near) => push_meant(text, near),
+    }
 }
 
 // The names that an object of this kind may have.
@@ -129,71 +161,60 @@ fn keys_text(kind: Kind) -> &'static str
     ensures { result.now ≡ spec.keys_text kind }
 {
     match kind {
-        Kind::Filter => "mismatch_action, default_action, match_action, filter_action and filter",
-        Kind::Entry => "syscall, args and comment",
-        Kind::Condition => "index, type, op, val and comment",
+        Kind::Filter => "mismatch_action, default_action, match_action, filter_action or filter",
+        Kind::Entry => "syscall, args or comment",
+        Kind::Condition => "index, type, op, val or comment",
     }
-}
-
-// Adds that a value stands where something else may.
-fn push_stands(text: &mut Vec<u8>, shown: &str, expected: Expected) -> Result<(), AllocError>
-    ensures { OnOk result (text.new.items ≡ text.old.items ++ shown.now ++ codes " stands here, and " ++ spec.expected_text expected ++ codes " may.") }
-{
-    text.extend_from_slice(shown.as_bytes())?;
-    text.extend_from_slice(b" stands here, and ")?;
-    push_expected(text, expected)?;
-    text.extend_from_slice(b" may.")
 }
 
 // Adds that a name stands where others may.
 fn push_strange(text: &mut Vec<u8>, key: &str, kind: Kind) -> Result<(), AllocError>
-    ensures { OnOk result (text.new.items ≡ text.old.items ++ codes "the key \"" ++ readable key.now ++ codes "\" stands here, and only " ++ spec.keys_text kind ++ codes " may.") }
+    ensures { OnOk result (text.new.items ≡ text.old.items ++ codes "\"" ++ readable key.now ++ codes "\": unknown key; expected " ++ spec.keys_text kind) }
 {
-    text.extend_from_slice(b"the key \"")?;
+    text.extend_from_slice(b"\"")?;
     push_readable(text, key)?;
-    text.extend_from_slice(b"\" stands here, and only ")?;
-    text.extend_from_slice(keys_text(kind).as_bytes())?;
-    text.extend_from_slice(b" may.")
+    text.extend_from_slice(b"\": unknown key; expected ")?;
+    text.extend_from_slice(keys_text(kind).as_bytes())
 }
 
 // Adds that both of two names are missing.
 fn push_neither(text: &mut Vec<u8>, key: &str, other: &str) -> Result<(), AllocError>
-    ensures { OnOk result (text.new.items ≡ text.old.items ++ codes "`" ++ key.now ++ codes "` or `" ++ other.now ++ codes "` is missing.") }
+    ensures { OnOk result (text.new.items ≡ text.old.items ++ codes "missing \"" ++ key.now ++ codes "\" or \"" ++ other.now ++ codes "\"") }
 {
-    text.extend_from_slice(b"`")?;
+    text.extend_from_slice(b"missing \"")?;
     text.extend_from_slice(key.as_bytes())?;
-    text.extend_from_slice(b"` or `")?;
+    text.extend_from_slice(b"\" or \"")?;
     text.extend_from_slice(other.as_bytes())?;
-    text.extend_from_slice(b"` is missing.")
+    text.extend_from_slice(b"\"")
 }
 
 // Adds that both of two names stand.
 fn push_both(text: &mut Vec<u8>, key: &str, other: &str) -> Result<(), AllocError>
-    ensures { OnOk result (text.new.items ≡ text.old.items ++ codes "`" ++ key.now ++ codes "` and `" ++ other.now ++ codes "` stand here, and only one of them may.") }
+    ensures { OnOk result (text.new.items ≡ text.old.items ++ codes "expected one of \"" ++ key.now ++ codes "\" and \"" ++ other.now ++ codes "\", found both") }
 {
-    text.extend_from_slice(b"`")?;
+    text.extend_from_slice(b"expected one of \"")?;
     text.extend_from_slice(key.as_bytes())?;
-    text.extend_from_slice(b"` and `")?;
+    text.extend_from_slice(b"\" and \"")?;
     text.extend_from_slice(other.as_bytes())?;
-    text.extend_from_slice(b"` stand here, and only one of them may.")
+    text.extend_from_slice(b"\", found both")
 }
 
 // Adds that a name is missing.
 fn push_missing(text: &mut Vec<u8>, key: &str) -> Result<(), AllocError>
-    ensures { OnOk result (text.new.items ≡ text.old.items ++ codes "`" ++ key.now ++ codes "` is missing.") }
+    ensures { OnOk result (text.new.items ≡ text.old.items ++ codes "missing \"" ++ key.now ++ codes "\"") }
 {
-    text.extend_from_slice(b"`")?;
+    text.extend_from_slice(b"missing \"")?;
     text.extend_from_slice(key.as_bytes())?;
-    text.extend_from_slice(b"` is missing.")
+    text.extend_from_slice(b"\"")
 }
 
 // Adds that a program would be too long.
 fn push_too_long(text: &mut Vec<u8>, alloc: Global, length: usize) -> Result<(), AllocError>
-    ensures { OnOk result (text.new.items ≡ text.old.items ++ codes "a filter of " ++ decimal length ++ codes " instructions stands here, and one of at most 4096 may.") }
+    ensures { OnOk result (text.new.items ≡ text.old.items ++ codes "needs " ++ decimal length ++ codes " instructions in the linear layout; 4096 fit") }
 {
-    text.extend_from_slice(b"a filter of ")?;
+    text.extend_from_slice(b"needs ")?;
     push_decimal(text, alloc, length)?;
-    text.extend_from_slice(b" instructions stands here, and one of at most 4096 may.")
+    text.extend_from_slice(b" instructions in the linear layout; 4096 fit")
 }
 
 // Adds what is wrong.
@@ -201,13 +222,16 @@ fn push_problem(text: &mut Vec<u8>, alloc: Global, problem: &Problem) -> Result<
     ensures { OnOk result (text.new.items ≡ text.old.items ++ spec.problem_text problem.now) }
 {
     match problem {
-        Problem::Stands(shown, expected) => push_stands(text, shown.as_str(), *expected),
+        Problem::Stands(shown, expected, near) => {
+            push_stands(text, shown.as_str(), *expected)?;
+            push_suggested(text, *near)
+        }
         Problem::Strange(key, kind) => push_strange(text, key.as_str(), *kind),
         Problem::Missing(key) => push_missing(text, key),
         Problem::Neither(key, other) => push_neither(text, key, other),
         Problem::Both(key, other) => push_both(text, key, other),
         Problem::SameActions => {
-            text.extend_from_slice(b"two equal actions stand here, and two that differ may.")
+            text.extend_from_slice(b"expected two actions that differ, found the same one twice")
         }
         Problem::TooLong(length, _) => push_too_long(text, alloc, *length),
     }

@@ -16,6 +16,7 @@ ghost use Rattle.seccomptool.specs.LintParts.{names_of, required_of, pairs_of, p
 use crate::lint::allowed::{is_allowed, is_among, one_action};
 use crate::lint::fault::{Cause, Expected, Finding, Problem, refuse, under_item, under_key};
 use crate::lint::length::in_lengths;
+use crate::lint::near::near;
 use crate::lint::part::{Kind, Part};
 use serde_json::Value;
 use serde_json::value::Map;
@@ -55,7 +56,8 @@ fn check(alloc: Global, expected: Expected, value: &Value) -> Result<(), Finding
     if is_allowed(expected, value) {
         return Ok(());
     }
-    refuse(alloc, Problem::Stands(shown(alloc, value)?, expected))
+    let near = near(alloc, expected, value)?;
+    refuse(alloc, Problem::Stands(shown(alloc, value)?, expected, near))
 }
 
 // That what stands under the name, if anything, may stand there.

@@ -8,4 +8,4 @@ returns-clause-found c =
     let d = view c.args.value.now in
     let told : IsShown d (string_bytes c.in_ok-shown.field-0) = c.in_ok-shown.ensures in
     let refused : IsAllowed c.args.expected d → ⊥ = λ allowed. let yes = c.is_allowed.ensures.1 allowed in cc in
-    c.refuse.ensures.found (part_of c.args.expected) d (refl, told, refused)
+    c.refuse.ensures.found (part_of c.args.expected) d (refl, told, refused, c.in_ok-near.ensures)

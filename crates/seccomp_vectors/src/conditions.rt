@@ -331,7 +331,7 @@ const NEVER: [Parts; 5] = [
 ];
 
 // Conditions that hold for some, each one off those, and those whose operator leaves some and not all.
-const SOMETIMES: [Parts; 17] = [
+const SOMETIMES: [Parts; 18] = [
     (0, Dword, Ge, 1),
     (0, Qword, Ge, 0x1_0000_0000),
     (0, Dword, Le, 0xffff_fffe),
@@ -340,6 +340,8 @@ const SOMETIMES: [Parts; 17] = [
     (0, Dword, MaskedEq(0x8000_0000), 0),
     (0, Qword, MaskedEq(0x1_0000_0000), 0),
     (0, Dword, MaskedEq(3), 4),
+    // No bit of the value is under the mask, so 0 meets it and 1 doesn't.
+    (5, Qword, MaskedEq(3), 0x4_0000_0004),
     (0, Dword, Lt, 1),
     (0, Qword, Lt, 0x1_0000_0000),
     (0, Dword, Gt, 0xffff_fffe),

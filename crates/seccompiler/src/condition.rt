@@ -49,12 +49,13 @@ impl EqualByParts for SeccompCondition {
 }
 
 impl SeccompCondition {
-    ghost use Rattle.std.specs.Prelude.{◌≡◌, ℕ, List, ◌+◌, ◌*◌, ◌/◌, ◌%◌, ◌^◌, ◌≤◌, ◌<◌, ◌↔◌, length, IfOk, IfErr, IsOk, IsOkUnless, IsTrue};
+    ghost use Rattle.std.specs.Prelude.{◌≡◌, ℕ, List, ◌+◌, ◌*◌, ◌/◌, ◌%◌, ◌^◌, ◌≤◌, ◌<◌, ◌↔◌, length, IfOk, IfErr, IsOk, IsOkUnless, IsTrue, IsFalse};
     ghost use Rattle.seccompiler.specs.declared.backend.BackendError.TheVariants.{InvalidArgumentNumber, OutOfMemory};
     ghost use Rattle.seccompiler.specs.declared.backend.SeccompCmpArgLen.TheVariants.{Dword, Qword};
     ghost use Rattle.seccompiler.specs.Layout.{greatest_offset};
     ghost use Rattle.seccompiler.specs.Policy.{Condition, Holds, size_of};
     ghost use Rattle.seccompiler.specs.ConditionCode.{condition_code};
+    ghost use Rattle.seccompiler.specs.AnyArgument.{HoldsForAll, HoldsForNone, HoldsForSome, FailsForSome};
     ghost use Rattle.seccompiler.specs.LowHalf.{IsSameLowHalf, HasSameLowArgument};
     ghost use Rattle.seccompiler.specs.Machine.{IsRecord, AreInRange};
     ghost use Rattle.seccompiler.specs.Pieces.{IsConditionCode};
@@ -141,7 +142,9 @@ impl SeccompCondition {
     /// assert!(rt; !SeccompCondition::new(0, dword, at_least, 1)?.always_holds());
     /// ```
     pub fn always_holds(&self) -> bool
-        ensures { IsTrue result ↔ ((r : List ℕ) → IsRecord r → Holds self.now r) }
+        ensures calls { IsTrue result ↔ ((r : List ℕ) → IsRecord r → Holds self.now r) }
+        ensures all { IsTrue result → HoldsForAll self.now }
+        ensures some { IsFalse result → FailsForSome self.now }
     {
         let value = part_of(self.arg_len, self.value);
         match self.operator {
@@ -157,6 +160,9 @@ impl SeccompCondition {
     /// What the length compares counts alone, of the value as well. So it is with `Lt` and 0, with `Gt` and
     /// the greatest number of the length, and with no others.
     ///
+    /// `MaskedEq` cuts its value by its mask too. So an argument that is the value meets it, whatever bits the
+    /// value has outside the mask.
+    ///
     /// # Examples
     ///
     /// ```
@@ -165,7 +171,9 @@ impl SeccompCondition {
     /// assert!(rt; !SeccompCondition::new(0, dword, above, 0xffff_fffe)?.never_holds());
     /// ```
     pub fn never_holds(&self) -> bool
-        ensures { IsTrue result ↔ ((r : List ℕ) → IsRecord r → Holds self.now r → ⊥) }
+        ensures calls { IsTrue result ↔ ((r : List ℕ) → IsRecord r → Holds self.now r → ⊥) }
+        ensures none { IsTrue result → HoldsForNone self.now }
+        ensures some { IsFalse result → HoldsForSome self.now }
     {
         let value = part_of(self.arg_len, self.value);
         match self.operator {

@@ -1,13 +1,12 @@
 -- For `SeccompCondition::always_holds` and `never_holds`: an argument of a call may be any number of 64 bits.
-use Rattle.std.proofs.Common.{◌≡◌, ◌↔◌, ℕ, zero, suc, ◌+◌, ◌-◌, ◌*◌, ◌/◌, ◌%◌, ◌<◌, ◌≤◌, ◌^◌, List, [], ◌∷◌, ◌++◌, length, refl, sym, subst, ap, ◌∙◌, arith}
+use Rattle.std.proofs.Common.{◌≡◌, ◌↔◌, ℕ, zero, suc, ◌+◌, ◌-◌, ◌*◌, ◌/◌, ◌%◌, ◌<◌, ◌≤◌, ◌^◌, List, [], ◌∷◌, ◌++◌, length, refl, sym, subst, ap, ◌∙◌, arith, Bool, true, false, true≢false, IsTrue, IsFalse}
 use Rattle.std.proofs.Math.Nat.{pow-succ'}
 use Rattle.std.specs.Prelude.{slice_index, All, replicate}
 use Rattle.std.proofs.lemmas.List.{length-replicate, append_assoc, length-append, get_or-append-add}
 use Rattle.std.proofs.lemmas.List.Elements.{All-nil, All-cons, All-append, All-replicate}
 use Rattle.seccompiler.specs.Machine.{IsRecord, argument_at, number_at}
-use Rattle.seccompiler.specs.declared.backend.SeccompCmpOp.{SeccompCmpOp}
-use Rattle.seccompiler.specs.declared.backend.SeccompCmpArgLen.{SeccompCmpArgLen}
-use Rattle.seccompiler.specs.Policy.{Condition, part_of, operator_part, Compares, Holds}
+use Rattle.seccompiler.specs.Policy.{Condition, Holds}
+use Rattle.seccompiler.specs.AnyArgument.{HoldsFor, HoldsForAll, HoldsForNone, HoldsForSome, FailsForSome}
 use Rattle.seccompiler.proofs.Words.{word_fits, number_halves}
 
 -- an argument has 64 bits
@@ -72,38 +71,32 @@ with_argument i x index small =
       argument = subst (λ k. number_at call k 8 ≡ x) front_length (number_there 8 front back x (omega (arith, small)));
     }
 
--- what a condition says of an argument
-abbrev pub Says : SeccompCmpArgLen → SeccompCmpOp → ℕ → ℕ → Type 0
-Says length operator value x = Compares (operator_part length operator) (part_of length x) (part_of length value)
-
--- It is so of every call exactly where it is so of every number of 64 bits.
-every_call : (c : Condition) → c.arg_index ≤ 5
-    → ((x : ℕ) → x < 2 ^ 64 → Says c.arg_len c.operator c.value x) ↔ ((r : List ℕ) → IsRecord r → Holds c r)
-every_call c index = (
-  (λ all r rec. all (argument_at r c.arg_index) (argument_fits r c.arg_index rec)),
-  (λ all x small.
-      let w = with_argument c.arg_index x index small in
-      subst (λ n. Says c.arg_len c.operator c.value n) w.argument (all w.call w.is_record)),
+-- A test tells of every call whether the condition holds, where it tells it of every value of the argument.
+pub of_every_call : (b : Bool) (c : Condition) → c.arg_index ≤ 5 → (IsTrue b → HoldsForAll c) → (IsFalse b → FailsForSome c)
+    → IsTrue b ↔ ((r : List ℕ) → IsRecord r → Holds c r)
+of_every_call true c index all some = (
+  (λ t r rec. all t (argument_at r c.arg_index) (argument_fits r c.arg_index rec)),
+  (λ every. refl),
+)
+of_every_call false c index all some = (
+  (λ t. absurd (true≢false (sym t))),
+  (λ every.
+      let x = some refl in
+      let w = with_argument c.arg_index x.argument index x.fits in
+      absurd (x.fails (subst (λ n. HoldsFor c n) w.argument (every w.call w.is_record)))),
 )
 
-pub of_all : (now c : Condition) → now ≡ c → c.arg_index ≤ 5 → (operator : SeccompCmpOp) → c.operator ≡ operator
-    → ((x : ℕ) → x < 2 ^ 64 → Says c.arg_len operator c.value x) ↔ ((r : List ℕ) → IsRecord r → Holds now r)
-of_all now c same index operator e =
-    subst (λ o. ((x : ℕ) → x < 2 ^ 64 → Says c.arg_len o c.value x) ↔ ((r : List ℕ) → IsRecord r → Holds now r)) e
-    (subst (λ d. ((x : ℕ) → x < 2 ^ 64 → Says c.arg_len c.operator c.value x) ↔ ((r : List ℕ) → IsRecord r → Holds d r)) (sym same) (every_call c index))
-
--- It is so of no call exactly where it is so of no number of 64 bits.
-no_call : (c : Condition) → c.arg_index ≤ 5
-    → ((x : ℕ) → x < 2 ^ 64 → Says c.arg_len c.operator c.value x → ⊥) ↔ ((r : List ℕ) → IsRecord r → Holds c r → ⊥)
-no_call c index = (
-  (λ none r rec holds. none (argument_at r c.arg_index) (argument_fits r c.arg_index rec) holds),
-  (λ none x small says.
-      let w = with_argument c.arg_index x index small in
-      none w.call w.is_record (subst (λ n. Says c.arg_len c.operator c.value n) (sym w.argument) says)),
+-- It tells whether the condition holds for no call, where it tells it of every value of the argument.
+pub of_no_call : (b : Bool) (c : Condition) → c.arg_index ≤ 5 → (IsTrue b → HoldsForNone c) → (IsFalse b → HoldsForSome c)
+    → IsTrue b ↔ ((r : List ℕ) → IsRecord r → Holds c r → ⊥)
+of_no_call true c index none some = (
+  (λ t r rec holds. none t (argument_at r c.arg_index) (argument_fits r c.arg_index rec) holds),
+  (λ every. refl),
 )
-
-pub of_none : (now c : Condition) → now ≡ c → c.arg_index ≤ 5 → (operator : SeccompCmpOp) → c.operator ≡ operator
-    → ((x : ℕ) → x < 2 ^ 64 → Says c.arg_len operator c.value x → ⊥) ↔ ((r : List ℕ) → IsRecord r → Holds now r → ⊥)
-of_none now c same index operator e =
-    subst (λ o. ((x : ℕ) → x < 2 ^ 64 → Says c.arg_len o c.value x → ⊥) ↔ ((r : List ℕ) → IsRecord r → Holds now r → ⊥)) e
-    (subst (λ d. ((x : ℕ) → x < 2 ^ 64 → Says c.arg_len c.operator c.value x → ⊥) ↔ ((r : List ℕ) → IsRecord r → Holds d r → ⊥)) (sym same) (no_call c index))
+of_no_call false c index none some = (
+  (λ t. absurd (true≢false (sym t))),
+  (λ every.
+      let x = some refl in
+      let w = with_argument c.arg_index x.argument index x.fits in
+      absurd (every w.call w.is_record (subst (λ n. HoldsFor c n) (sym w.argument) x.holds))),
+)

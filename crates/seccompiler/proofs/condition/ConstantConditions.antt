@@ -1,91 +1,94 @@
--- For `SeccompCondition::always_holds` and `never_holds`: which comparisons are so of every number of 64 bits, or of none.
-use Rattle.std.proofs.Common.{◌≡◌, ℕ, ◌-◌, ◌%◌, ◌<◌, ◌≤◌, ◌^◌, refl, sym, ap, ◌∙◌, arith, ⊎_elim, IsTrue, nat_eq, false, true≢false}
+-- For `SeccompCondition::always_holds` and `never_holds`: values of an argument for which a condition holds, and for which it doesn't.
+use Rattle.std.proofs.Common.{◌≡◌, ◌≢◌, ℕ, ◌<◌, ◌^◌, refl, sym, subst, ap, ◌∙◌, arith, ⊎_elim}
 use Rattle.std.specs.Prelude.{bit_and}
 use Rattle.std.specs.Int.Bits.{and_zero_l, xor_self, xor_add_and}
-use Rattle.std.proofs.lemmas.Bool.{cases_lt, eq-eqb, eqb-true}
+use Rattle.std.proofs.lemmas.Bool.{cases_lt}
 use Rattle.seccompiler.specs.declared.backend.SeccompCmpOp.{SeccompCmpOp}
 use Rattle.seccompiler.specs.declared.backend.SeccompCmpOp.TheVariants.{Eq, Ge, Gt, Le, Lt, MaskedEq, Ne}
 use Rattle.seccompiler.specs.declared.backend.SeccompCmpArgLen.{SeccompCmpArgLen}
 use Rattle.seccompiler.specs.declared.backend.SeccompCmpArgLen.TheVariants.{Dword, Qword}
-use Rattle.seccompiler.specs.Policy.{part_of}
-use Rattle.seccompiler.proofs.condition.AnyArgument.{Says}
+use Rattle.seccompiler.specs.Policy.{Condition, Compares, operator_part, part_of}
+use Rattle.seccompiler.specs.AnyArgument.{HoldsForSome, FailsForSome}
 
-abbrev pub OfAll : SeccompCmpArgLen → SeccompCmpOp → ℕ → Type 0
-OfAll length operator v = (x : ℕ) → x < 2 ^ 64 → Says length operator v x
+-- what a condition with this operator says of a value of its argument
+abbrev Says : Condition → SeccompCmpOp → ℕ → Type 0
+Says c operator x = Compares (operator_part c.arg_len operator) (part_of c.arg_len x) (part_of c.arg_len c.value)
 
-abbrev pub OfNone : SeccompCmpArgLen → SeccompCmpOp → ℕ → Type 0
-OfNone length operator v = (x : ℕ) → x < 2 ^ 64 → Says length operator v x → ⊥
+-- It fails for some value if it does for this one.
+fails_at : (c : Condition) (operator : SeccompCmpOp) → c.operator ≡ operator → (x : ℕ) → x < 2 ^ 64 → (Says c operator x → ⊥) → FailsForSome c
+fails_at c operator e x small fails = record { argument = x; fits = small; fails = λ holds. fails (subst (λ o. Says c o x) e holds) }
 
--- a test of two numbers tells what follows from their being equal, and what they are equal by
-pub tells : {A : Type 0} (x y : ℕ) → (x ≡ y → A) → (A → x ≡ y) → (IsTrue (nat_eq x y) → A) × (A → IsTrue (nat_eq x y))
-tells x y to back = (λ t. to (eqb-true x y t), λ a. eq-eqb x y (back a))
+-- It holds for some value if it does for this one.
+holds_at : (c : Condition) (operator : SeccompCmpOp) → c.operator ≡ operator → (x : ℕ) → x < 2 ^ 64 → Says c operator x → HoldsForSome c
+holds_at c operator e x small holds = record { argument = x; fits = small; holds = subst (λ o. Says c o x) (sym e) holds }
 
--- what is so of nothing
-pub tells_never : {A : Type 0} → (A → ⊥) → (IsTrue false → A) × (A → IsTrue false)
-tells_never none = (λ t. absurd (true≢false (sym t)), λ a. absurd (none a))
+-- one of 0 and 1 differs from a number in what is compared
+record Other (length : SeccompCmpArgLen) (v : ℕ) : Type 0 where
+  number : ℕ
+  fits : number < 2 ^ 64
+  differs : part_of length number ≢ part_of length v
 
--- what is compared of a number is at most what is compared of the greatest
-pub at_most_greatest : (length : SeccompCmpArgLen) (x : ℕ) → x < 2 ^ 64 → part_of length x ≤ part_of length (2 ^ 64 - 1)
-at_most_greatest Dword x small = omega arith
-at_most_greatest Qword x small = omega (arith, small)
-
-pub all_ge : (length : SeccompCmpArgLen) (v : ℕ) → OfAll length Ge v → part_of length v ≡ 0
-all_ge Dword v all = omega (arith, all 0 (omega arith))
-all_ge Qword v all = omega (arith, all 0 (omega arith))
-
-pub all_le : (length : SeccompCmpArgLen) (v : ℕ) → v < 2 ^ 64 → OfAll length Le v → part_of length v ≡ part_of length (2 ^ 64 - 1)
-all_le Dword v small all = omega (arith, all (2 ^ 64 - 1) (omega arith))
-all_le Qword v small all = omega (arith, small, all (2 ^ 64 - 1) (omega arith))
+other : (length : SeccompCmpArgLen) (v : ℕ) → Other length v
+other Dword v = ⊎_elim
+    (λ above. record { number = 0; fits = omega arith; differs = λ e. omega (arith, e, above) })
+    (λ zero. record { number = 1; fits = omega arith; differs = λ e. omega (arith, e, zero) })
+    (cases_lt 0 (part_of Dword v))
+other Qword v = ⊎_elim
+    (λ above. record { number = 0; fits = omega arith; differs = λ e. omega (arith, e, above) })
+    (λ zero. record { number = 1; fits = omega arith; differs = λ e. omega (arith, e, zero) })
+    (cases_lt 0 v)
 
 -- a number and itself under a mask
 masked_self : (m : ℕ) → bit_and m m ≡ m
 masked_self m = omega (arith, xor_self m, xor_add_and m m)
 
-pub all_masked : (length : SeccompCmpArgLen) (m v : ℕ) → part_of length m < 2 ^ 64 → OfAll length (MaskedEq m) v → part_of length m ≡ 0
-all_masked Dword m v small all =
-    let k = m % 2 ^ 32 in
-    let fixed : k % 2 ^ 32 ≡ k = omega arith in
-    sym (masked_self k) ∙ sym (ap (λ n. bit_and n k) fixed) ∙ all k small ∙ sym (all 0 (omega arith)) ∙ and_zero_l k
-all_masked Qword m v small all = sym (masked_self m) ∙ all m small ∙ sym (all 0 (omega arith)) ∙ and_zero_l m
+-- `Eq` fails for another number than the value; `Ne`, `Gt` and `Lt` fail for the value.
+pub eq_fails : (c : Condition) → c.operator ≡ Eq → FailsForSome c
+eq_fails c e = let o = other c.arg_len c.value in fails_at c Eq e o.number o.fits o.differs
 
-pub all_eq : (length : SeccompCmpArgLen) (v : ℕ) → OfAll length Eq v → ⊥
-all_eq Dword v all = omega (arith, all 0 (omega arith), all 1 (omega arith))
-all_eq Qword v all = omega (arith, all 0 (omega arith), all 1 (omega arith))
+pub ne_fails : (c : Condition) → c.value < 2 ^ 64 → c.operator ≡ Ne → FailsForSome c
+ne_fails c small e = fails_at c Ne e c.value small (λ differs. differs refl)
 
-pub all_ne : (length : SeccompCmpArgLen) (v : ℕ) → v < 2 ^ 64 → OfAll length Ne v → ⊥
-all_ne length v small all = all v small refl
+pub gt_fails : (c : Condition) → c.value < 2 ^ 64 → c.operator ≡ Gt → FailsForSome c
+gt_fails c small e = fails_at c Gt e c.value small (λ above. omega (arith, above))
 
-pub all_gt : (length : SeccompCmpArgLen) (v : ℕ) → v < 2 ^ 64 → OfAll length Gt v → ⊥
-all_gt length v small all = omega (arith, all v small)
+pub lt_fails : (c : Condition) → c.value < 2 ^ 64 → c.operator ≡ Lt → FailsForSome c
+lt_fails c small e = fails_at c Lt e c.value small (λ below. omega (arith, below))
 
-pub all_lt : (length : SeccompCmpArgLen) (v : ℕ) → v < 2 ^ 64 → OfAll length Lt v → ⊥
-all_lt length v small all = omega (arith, all v small)
+-- nothing is cut of 0
+cut_zero : (length : SeccompCmpArgLen) → part_of length 0 ≡ 0
+cut_zero Dword = omega arith
+cut_zero Qword = refl
 
-pub none_lt : (length : SeccompCmpArgLen) (v : ℕ) → OfNone length Lt v → part_of length v ≡ 0
-none_lt Dword v none = ⊎_elim (λ above. absurd (none 0 (omega arith) (omega (arith, above)))) (λ not. omega (arith, not)) (cases_lt 0 (part_of Dword v))
-none_lt Qword v none = ⊎_elim (λ above. absurd (none 0 (omega arith) above)) (λ not. omega (arith, not)) (cases_lt 0 v)
+-- what is compared of a number is what is compared of that
+cut_twice : (length : SeccompCmpArgLen) (n : ℕ) → part_of length (part_of length n) ≡ part_of length n
+cut_twice Dword n = omega arith
+cut_twice Qword n = refl
 
-pub none_gt : (length : SeccompCmpArgLen) (v : ℕ) → v < 2 ^ 64 → OfNone length Gt v → part_of length v ≡ part_of length (2 ^ 64 - 1)
-none_gt length v small none =
-    let most = at_most_greatest length v small in
+-- `MaskedEq` fails for the mask where the value has no bit under it, and for 0 where it has some.
+pub masked_eq_fails : (c : Condition) (m : ℕ) → part_of c.arg_len m < 2 ^ 64 → part_of c.arg_len m ≢ 0 → c.operator ≡ MaskedEq m → FailsForSome c
+masked_eq_fails c m small some e =
+    let k = part_of c.arg_len m in
+    let masked = bit_and (part_of c.arg_len c.value) k in
+    let of_zero : bit_and (part_of c.arg_len 0) k ≡ 0 = ap (λ n. bit_and n k) (cut_zero c.arg_len) ∙ and_zero_l k in
+    let of_mask : bit_and (part_of c.arg_len k) k ≡ k = ap (λ n. bit_and n k) (cut_twice c.arg_len m) ∙ masked_self k in
     ⊎_elim
-    (λ below. absurd (none (2 ^ 64 - 1) (omega arith) below))
-    (λ not. omega (arith, most, not))
-    (cases_lt (part_of length v) (part_of length (2 ^ 64 - 1)))
+    (λ above. fails_at c (MaskedEq m) e 0 (omega arith) (λ same. omega (arith, above, sym same ∙ of_zero)))
+    (λ not. fails_at c (MaskedEq m) e k small (λ same. some (omega (arith, not, sym of_mask ∙ same))))
+    (cases_lt 0 masked)
 
-pub none_eq : (length : SeccompCmpArgLen) (v : ℕ) → v < 2 ^ 64 → OfNone length Eq v → ⊥
-none_eq length v small none = none v small refl
+-- `Ne` holds for another number than the value; `Eq`, `Ge`, `Le` and `MaskedEq` hold for the value.
+pub eq_holds : (c : Condition) → c.value < 2 ^ 64 → c.operator ≡ Eq → HoldsForSome c
+eq_holds c small e = holds_at c Eq e c.value small refl
 
-pub none_ne : (length : SeccompCmpArgLen) (v : ℕ) → OfNone length Ne v → ⊥
-none_ne Dword v none =
-    ⊎_elim (λ above. none 0 (omega arith) (λ e. omega (arith, e, above))) (λ not. none 1 (omega arith) (λ e. omega (arith, e, not))) (cases_lt 0 (part_of Dword v))
-none_ne Qword v none = ⊎_elim (λ above. none 0 (omega arith) (λ e. omega (arith, e, above))) (λ not. none 1 (omega arith) (λ e. omega (arith, e, not))) (cases_lt 0 v)
+pub ne_holds : (c : Condition) → c.operator ≡ Ne → HoldsForSome c
+ne_holds c e = let o = other c.arg_len c.value in holds_at c Ne e o.number o.fits o.differs
 
-pub none_ge : (length : SeccompCmpArgLen) (v : ℕ) → v < 2 ^ 64 → OfNone length Ge v → ⊥
-none_ge length v small none = none v small (omega arith)
+pub ge_holds : (c : Condition) → c.value < 2 ^ 64 → c.operator ≡ Ge → HoldsForSome c
+ge_holds c small e = holds_at c Ge e c.value small (omega arith)
 
-pub none_le : (length : SeccompCmpArgLen) (v : ℕ) → v < 2 ^ 64 → OfNone length Le v → ⊥
-none_le length v small none = none v small (omega arith)
+pub le_holds : (c : Condition) → c.value < 2 ^ 64 → c.operator ≡ Le → HoldsForSome c
+le_holds c small e = holds_at c Le e c.value small (omega arith)
 
-pub none_masked : (length : SeccompCmpArgLen) (m v : ℕ) → v < 2 ^ 64 → OfNone length (MaskedEq m) v → ⊥
-none_masked length m v small none = none v small refl
+pub masked_eq_holds : (c : Condition) (m : ℕ) → c.value < 2 ^ 64 → c.operator ≡ MaskedEq m → HoldsForSome c
+masked_eq_holds c m small e = holds_at c (MaskedEq m) e c.value small refl

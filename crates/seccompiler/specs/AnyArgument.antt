@@ -1,0 +1,27 @@
+-- Conditions that hold whatever their argument is, and conditions that never do.
+use Rattle.std.specs.Prelude.{ℕ, ◌<◌, ◌^◌}
+use Rattle.seccompiler.specs.Policy.{Condition, Compares, operator_part, part_of}
+
+-- The condition holds for this value of its argument. It holds on a record (`Holds`) exactly if it does for that of the record.
+abbrev pub HoldsFor : Condition → ℕ → Type 0
+HoldsFor c x = Compares (operator_part c.arg_len c.operator) (part_of c.arg_len x) (part_of c.arg_len c.value)
+
+-- It holds for every value: an argument has 64 bits.
+abbrev pub HoldsForAll : Condition → Type 0
+HoldsForAll c = (x : ℕ) → x < 2 ^ 64 → HoldsFor c x
+
+-- It holds for no value.
+abbrev pub HoldsForNone : Condition → Type 0
+HoldsForNone c = (x : ℕ) → x < 2 ^ 64 → HoldsFor c x → ⊥
+
+-- There is a value for which it holds.
+pub record HoldsForSome (c : Condition) : Type 0 where
+  pub argument : ℕ
+  pub fits : argument < 2 ^ 64
+  pub holds : HoldsFor c argument
+
+-- There is a value for which it doesn't.
+pub record FailsForSome (c : Condition) : Type 0 where
+  pub argument : ℕ
+  pub fits : argument < 2 ^ 64
+  pub fails : HoldsFor c argument → ⊥

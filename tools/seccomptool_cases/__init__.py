@@ -5,9 +5,9 @@ Expected values come from the definitions in crates/seccomptool/specs, arithmeti
 from the program's output.
 """
 
-from . import check, compat, compile, explain, record, show, stats, words
+from . import check, compat, compile, diff, explain, record, run, show, stats, words
 
-FILES = {**explain.FILES, **compile.FILES}
+FILES = {**explain.FILES, **compile.FILES, **diff.FILES, **run.FILES}
 CASES = [
-    case for it in (compile, show, check, explain, stats, record, compat, words) for case in it.CASES
+    case for it in (compile, show, check, explain, run, stats, record, diff, compat, words) for case in it.CASES
 ]

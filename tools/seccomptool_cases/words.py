@@ -12,7 +12,7 @@ NAMED = (
     '"":{"mismatch_action":"log","match_action":"allow","filter":[]}}'
 )
 
-COMMANDS = ("compile", "show", "check", "explain", "stats", "record", "compat")
+COMMANDS = ("compile", "show", "check", "explain", "run", "stats", "record", "diff", "compat")
 
 NO_NUMBER = (
     "error: an ARG is no number from -9223372036854775808 to 18446744073709551615, "
@@ -56,7 +56,7 @@ CASES = [
     misused("compile logs.json logs.json"),
     misused("compile -f a -f b logs.json"),
     misused("compile -o"),
-    misused("compile \"$(printf 'a\\377')\" < logs.json", "seccomptool: the words of the command aren't UTF-8\n"),
+    misused("compile \"$(printf 'a\\377')\" < logs.json", "seccomptool: the arguments aren't UTF-8\n"),
     misused("show -f a logs.json"),
     misused("explain < empty"),
     misused("explain logs.json read --records 63-bytes", "error: either CALL or --records is given, not both\n.."),

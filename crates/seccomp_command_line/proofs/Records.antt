@@ -1,6 +1,7 @@
--- Bytes in chunks of 64 are records and a rest.
+-- Bytes in chunks, and those in chunks of 64, which are records and a rest.
 use Rattle.std.proofs.Common.{◌≡◌, ℕ, zero, suc, ◌+◌, ◌*◌, ◌/◌, ◌≤◌, List, ◌++◌, length, take, drop, All, Option, Err, refl, sym, subst, ap, ◌∙◌, append_assoc, take-append-drop, length-drop, length-take-le, arith}
 use Rattle.std.specs.List.{concat}
+use Rattle.std.proofs.Math.Nat.{suc-mul}
 use Rattle.std.specs.Simd.{first_chunks}
 use Rattle.std.proofs.lemmas.List.{drop-drop}
 use Rattle.std.proofs.lemmas.List.Elements.{All-nil, All-cons}
@@ -12,16 +13,16 @@ use Rattle.seccomp_command_line.specs.declared.error.ToolError.{ToolError}
 use Rattle.seccomp_command_line.specs.declared.error.ToolError.TheVariants as tool
 use Rattle.seccomp_command_line.proofs.Readings.{reads_some}
 
--- The chunks and what is left behind them are the bytes.
-chunks_joined : (k : ℕ) (bytes : List ℕ) → concat (first_chunks 64 k bytes) ++ drop (k * 64) bytes ≡ bytes
-chunks_joined zero bytes = refl
-chunks_joined (suc k) bytes =
-    let more : suc k * 64 ≡ 64 + k * 64 = omega arith in
-    let rest : drop (suc k * 64) bytes ≡ drop (k * 64) (drop 64 bytes) = ap (λ n. drop n bytes) more ∙ sym (drop-drop (k * 64) 64 bytes) in
-    append_assoc (take 64 bytes) (concat (first_chunks 64 k (drop 64 bytes))) (drop (suc k * 64) bytes)
-    ∙ ap (λ text. take 64 bytes ++ (concat (first_chunks 64 k (drop 64 bytes)) ++ text)) rest
-    ∙ ap (λ text. take 64 bytes ++ text) (chunks_joined k (drop 64 bytes))
-    ∙ take-append-drop 64 bytes
+-- The chunks of so many bytes and what is left behind them are the bytes.
+pub chunks_joined : (n k : ℕ) (bytes : List ℕ) → concat (first_chunks n k bytes) ++ drop (k * n) bytes ≡ bytes
+chunks_joined n zero bytes = let none : zero * n ≡ zero = omega arith in ap (λ m. drop m bytes) none
+chunks_joined n (suc k) bytes =
+    let more : suc k * n ≡ n + k * n = omega (arith, suc-mul k n) in
+    let rest : drop (suc k * n) bytes ≡ drop (k * n) (drop n bytes) = ap (λ m. drop m bytes) more ∙ sym (drop-drop (k * n) n bytes) in
+    append_assoc (take n bytes) (concat (first_chunks n k (drop n bytes))) (drop (suc k * n) bytes)
+    ∙ ap (λ text. take n bytes ++ (concat (first_chunks n k (drop n bytes)) ++ text)) rest
+    ∙ ap (λ text. take n bytes ++ text) (chunks_joined n k (drop n bytes))
+    ∙ take-append-drop n bytes
 
 -- Each chunk has 64 bytes.
 chunks_whole : (k : ℕ) (bytes : List ℕ) → k * 64 ≤ length bytes → All (λ (call : List ℕ). length call ≡ 64) (first_chunks 64 k bytes)
@@ -34,7 +35,7 @@ chunks_whole (suc k) bytes room =
 -- The whole chunks and the rest are a cut into records.
 cut_by_chunks : (bytes : List ℕ) → IsCutIntoRecords bytes (first_chunks 64 (length bytes / 64) bytes) (drop (length bytes / 64 * 64) bytes)
 cut_by_chunks bytes = record {
-  joined = sym (chunks_joined (length bytes / 64) bytes);
+  joined = sym (chunks_joined 64 (length bytes / 64) bytes);
   whole = chunks_whole (length bytes / 64) bytes (omega arith);
   short = omega (arith, length-drop (length bytes / 64 * 64) bytes);
 }

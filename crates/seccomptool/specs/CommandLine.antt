@@ -3,6 +3,7 @@ use Rattle.std.specs.Prelude.{List, [], ◌∷◌, Some, codes, true}
 use Rattle.std.specs.Borrow.{Bor}
 use Rattle.clap.specs.Words.{App, Rule, Text, new_app, new_rule, with_rule, with_subcommand}
 use Rattle.clap.specs.Simple.{on_top}
+use Rattle.clap.specs.declared.builder.action.ArgAction.TheVariants.{SetTrue}
 use Rattle.clap.specs.declared.builder.value_parser.ValueParser.TheVariants.{Names}
 
 -- The words of which an option's value is one.
@@ -40,6 +41,14 @@ output_rule = record (new_rule (codes "output")) { value_names = 1; short = Some
 abbrev pub records_rule : Rule
 records_rule = record (new_rule (codes "records")) { value_names = 1; long = Some (codes "records") }
 
+-- `--at-most`.
+abbrev pub at_most_rule : Rule
+at_most_rule = record (new_rule (codes "at-most")) { long = Some (codes "at-most"); action = Some SetTrue }
+
+-- `--most N`: a million where it isn't given.
+abbrev pub most_rule : Rule
+most_rule = record (new_rule (codes "most")) { value_names = 1; long = Some (codes "most"); defaults = codes "1000000" ∷ [] }
+
 -- POLICY: `-` where it isn't given.
 abbrev pub policy_rule : Rule
 policy_rule = record (new_rule (codes "policy")) { value_names = 1; defaults = codes "-" ∷ [] }
@@ -47,6 +56,17 @@ policy_rule = record (new_rule (codes "policy")) { value_names = 1; defaults = c
 -- POLICY, which has to be given.
 abbrev pub given_policy_rule : Rule
 given_policy_rule = record (new_rule (codes "policy")) { value_names = 1; required = true }
+
+-- OLD and NEW, which have to be given.
+abbrev pub old_rule : Rule
+old_rule = record (new_rule (codes "old")) { value_names = 1; required = true }
+
+abbrev pub new_policy_rule : Rule
+new_policy_rule = record (new_rule (codes "new")) { value_names = 1; required = true }
+
+-- PROGRAM.
+abbrev pub program_rule : Rule
+program_rule = record (new_rule (codes "program")) { value_names = 1; required = true }
 
 -- CALL.
 abbrev pub call_rule : Rule
@@ -75,8 +95,16 @@ abbrev pub explain_app : NameList → App
 explain_app archs =
     with_rule (with_rule (with_rule (with_rule (with_rule (with_rule (new_app (codes "explain")) (arch_rule archs)) filter_rule) records_rule) given_policy_rule) call_rule) arguments_rule
 
+abbrev pub run_app : NameList → App
+run_app archs =
+    with_rule (with_rule (with_rule (with_rule (with_rule (new_app (codes "run")) (arch_rule archs)) records_rule) program_rule) call_rule) arguments_rule
+
 abbrev pub record_app : NameList → App
 record_app archs = with_rule (with_rule (with_rule (new_app (codes "record")) (arch_rule archs)) given_call_rule) arguments_rule
+
+abbrev pub diff_app : NameList → App
+diff_app archs =
+    with_rule (with_rule (with_rule (with_rule (with_rule (with_rule (new_app (codes "diff")) (arch_rule archs)) filter_rule) at_most_rule) most_rule) old_rule) new_policy_rule
 
 -- The program itself, which has to be given a subcommand. Its own name is none of the words.
 abbrev pub top_app : App
@@ -87,13 +115,21 @@ top_app = on_top (λ s. record s {
   arg_required_else_help = true;
 }) (new_app (codes "seccomptool"))
 
-abbrev pub program_app : NameList → NameList → App
-program_app archs layouts =
-    with_subcommand (with_subcommand (with_subcommand (with_subcommand (with_subcommand (with_subcommand (with_subcommand top_app
+-- The program with the commands that are of what a policy decides.
+abbrev pub deciding_app : NameList → NameList → App
+deciding_app archs layouts =
+    with_subcommand (with_subcommand (with_subcommand (with_subcommand (with_subcommand top_app
     (compile_app archs layouts).top)
     (show_app archs layouts).top)
     (policy_app (codes "check") archs).top)
     (explain_app archs).top)
+    (run_app archs).top
+
+-- The program with all commands.
+abbrev pub program_app : NameList → NameList → App
+program_app archs layouts =
+    with_subcommand (with_subcommand (with_subcommand (with_subcommand (deciding_app archs layouts)
     (policy_app (codes "stats") archs).top)
     (record_app archs).top)
+    (diff_app archs).top)
     (policy_app (codes "compat") archs).top

@@ -1,18 +1,22 @@
 -- What each command answers and writes.
-use Rattle.std.specs.Prelude.{◌≡◌, ℕ, Bool, true, false, List, Option, Some, None, Result, Ok, Err, IsErrAnd, ⊤}
+use Rattle.std.specs.Prelude.{◌≡◌, ℕ, Bool, true, false, List, Option, Some, None, Result, Ok, Err, IfOk, IsErrAnd, ⊤}
 use Rattle.seccompiler.specs.declared.backend.TargetArch.{TargetArch}
 use Rattle.seccompiler.specs.Architecture.{arch_text}
 use Rattle.seccomptool.specs.declared.error.ToolError.{ToolError}
 use Rattle.seccomptool.specs.declared.explain.format.LineFormat.TheVariants.{Path}
+use Rattle.seccomptool.specs.declared.findings.Verdict.{Verdict}
+use Rattle.seccomptool.specs.declared.findings.Verdict.TheVariants.{Same, Different, Undecided}
 use Rattle.seccomptool.specs.declared.words.Command.{Command}
-use Rattle.seccomptool.specs.declared.words.Command.TheVariants.{Compile, Show, Check, Explain, Stats, Record, Compat}
+use Rattle.seccomptool.specs.declared.words.Command.TheVariants.{Compile, Show, Check, Explain, Run, Stats, Record, Diff, Compat}
 use Rattle.seccomptool.specs.declared.words.Records.{Records}
 use Rattle.seccomptool.specs.declared.words.Records.TheVariants as records
 use Rattle.seccomptool.specs.Chosen.{AnswersChosen}
+use Rattle.seccomptool.specs.Diff.{AnswersDiff}
 use Rattle.seccomptool.specs.Explain.{AnswersExplain}
 use Rattle.seccomptool.specs.Lint.{AnswersLint}
 use Rattle.seccomptool.specs.Raw.{AnswersRaw}
 use Rattle.seccomptool.specs.Record.{AnswersRecord, IsRecordOf, IsUncalled}
+use Rattle.seccomptool.specs.Run.{AnswersRun}
 use Rattle.seccomptool.specs.Show.{AnswersShow}
 use Rattle.seccomptool.specs.Steps.{AnswersSteps}
 use Rattle.seccomptool.specs.Widened.{AnswersWidened}
@@ -34,30 +38,54 @@ AnswersExplainedOn (records.Call call arguments) arch filter policy known answer
     AnswersCall arch call.now arguments (λ bytes. AnswersExplained arch filter policy (Some bytes) answer old new) answer
 AnswersExplainedOn (records.In path) arch filter policy known answer old new = AnswersExplained arch filter policy known answer old new
 
--- The answer of a command, where its policy has these bytes and its records those.
-abbrev pub AnswersCommand : Command → (policy records : Option (List ℕ)) → Result ⊤ ToolError → (old new : Option (List ℕ)) → Type 0
-AnswersCommand (Compile arch filter layout output path) policy records answer old new =
-    AnswersChosen policy (text_of filter) (λ text name. AnswersRaw (arch_text arch) (Some text) name layout answer old new) answer
-AnswersCommand (Show arch layout path) policy records answer old new = AnswersShow (arch_text arch) policy layout answer old new
-AnswersCommand (Check arch path) policy records answer old new = AnswersLint (arch_text arch) policy answer
-AnswersCommand (Explain arch filter asked path) policy records answer old new = AnswersExplainedOn asked arch (text_of filter) policy records answer old new
-AnswersCommand (Stats arch path) policy records answer old new = AnswersSteps (arch_text arch) policy answer old new
-AnswersCommand (Record arch call arguments) policy records answer old new = AnswersRecord (arch_text arch) call.now arguments answer old new
-AnswersCommand (Compat arch path) policy records answer old new = AnswersWidened (arch_text arch) policy answer old new
+-- The answer of `run` for the records that it is asked about: that of a call, or those of the file or input.
+abbrev pub AnswersRunOn : Records → TargetArch → (program records : Option (List ℕ)) → Result ⊤ ToolError → (old new : Option (List ℕ)) → Type 0
+AnswersRunOn (records.Call call arguments) arch program known answer old new =
+    AnswersCall arch call.now arguments (λ bytes. AnswersRun program (Some bytes) answer old new) answer
+AnswersRunOn (records.In path) arch program known answer old new = AnswersRun program known answer old new
 
--- The path of the policy that a command reads.
+-- An answer without its verdict.
+abbrev pub plain_of : Result Verdict ToolError → Result ⊤ ToolError
+plain_of (Ok verdict) = Ok tt
+plain_of (Err e) = Err e
+
+-- The answer of a command that compares nothing: P holds of it, and its verdict is `Same` where it is carried out.
+abbrev pub AnswersPlain : (Result ⊤ ToolError → Type 0) → Result Verdict ToolError → Type 0
+AnswersPlain P answer = P (plain_of answer) × IfOk answer (λ verdict. verdict ≡ Same)
+
+-- The answer of a command, where its policy or its program has these bytes, and its records or its new policy those.
+abbrev pub AnswersCommand : Command → (policy records : Option (List ℕ)) → Result Verdict ToolError → (old new : Option (List ℕ)) → Type 0
+AnswersCommand (Compile arch filter layout output path) policy records answer old new =
+    AnswersPlain (λ plain. AnswersChosen policy (text_of filter) (λ text name. AnswersRaw (arch_text arch) (Some text) name layout plain old new) plain) answer
+AnswersCommand (Show arch layout path) policy records answer old new = AnswersPlain (λ plain. AnswersShow (arch_text arch) policy layout plain old new) answer
+AnswersCommand (Check arch path) policy records answer old new = AnswersPlain (λ plain. AnswersLint (arch_text arch) policy plain) answer
+AnswersCommand (Explain arch filter asked path) policy records answer old new =
+    AnswersPlain (λ plain. AnswersExplainedOn asked arch (text_of filter) policy records plain old new) answer
+AnswersCommand (Run arch asked path) policy records answer old new = AnswersPlain (λ plain. AnswersRunOn asked arch policy records plain old new) answer
+AnswersCommand (Stats arch path) policy records answer old new = AnswersPlain (λ plain. AnswersSteps (arch_text arch) policy plain old new) answer
+AnswersCommand (Record arch call arguments) policy records answer old new =
+    AnswersPlain (λ plain. AnswersRecord (arch_text arch) call.now arguments plain old new) answer
+AnswersCommand (Diff arch filter relation most first second) policy records answer old new =
+    AnswersDiff (arch_text arch) (text_of filter) relation policy records answer old new
+AnswersCommand (Compat arch path) policy records answer old new = AnswersPlain (λ plain. AnswersWidened (arch_text arch) policy plain old new) answer
+
+-- The path of the policy or program that a command reads, that of the old policy where it compares two.
 abbrev pub policy_of : Command → Option (List ℕ)
 policy_of (Compile arch filter layout output path) = Some path.now
 policy_of (Show arch layout path) = Some path.now
 policy_of (Check arch path) = Some path.now
 policy_of (Explain arch filter asked path) = Some path.now
+policy_of (Run arch asked path) = Some path.now
 policy_of (Stats arch path) = Some path.now
 policy_of (Record arch call arguments) = None
+policy_of (Diff arch filter relation most first second) = Some first.now
 policy_of (Compat arch path) = Some path.now
 
--- The path of the records that a command reads.
+-- The path of the records that a command reads, or of the new policy.
 abbrev pub records_of : Command → Option (List ℕ)
 records_of (Explain arch filter (records.In path) policy) = Some path.now
+records_of (Run arch (records.In path) program) = Some path.now
+records_of (Diff arch filter relation most first second) = Some second.now
 records_of command = None
 
 -- The path of the file that a command writes.
@@ -71,10 +99,30 @@ writes_bytes (Compile arch filter layout None path) = true
 writes_bytes (Record arch call arguments) = true
 writes_bytes command = false
 
--- The command is carried out without a fault, for some contents of its policy and its records.
-pub record IsPerformed (command : Command) : Type 0 where
+-- A command compares two policies.
+abbrev pub compares : Command → Bool
+compares (Diff arch filter relation most first second) = true
+compares command = false
+
+-- The exit status of a command that fails.
+abbrev pub trouble : Command → ℕ
+trouble (Diff arch filter relation most first second) = 2
+trouble command = 1
+
+-- The exit status of a command that is carried out, by what it finds.
+abbrev pub verdict_status : Verdict → ℕ
+verdict_status Same = 0
+verdict_status Different = 1
+verdict_status Undecided = 3
+
+abbrev pub status_of : Command → Result Verdict ToolError → ℕ
+status_of command (Ok verdict) = verdict_status verdict
+status_of command (Err e) = trouble command
+
+-- The command is carried out without a fault, and this is what it finds, for some contents of its policy and its records.
+pub record IsPerformed (command : Command) (verdict : Verdict) : Type 0 where
   pub policy : Option (List ℕ)
   pub records : Option (List ℕ)
   pub old : Option (List ℕ)
   pub new : Option (List ℕ)
-  pub answers : AnswersCommand command policy records (Ok tt) old new
+  pub answers : AnswersCommand command policy records (Ok verdict) old new

@@ -19,7 +19,7 @@ use Rattle.seccomp_command_line.specs.Names.{readable}
 use Rattle.seccomptool.specs.Findings.{AreFindings, HoldsThroughout, verdict_of, worse, lines_of}
 use Rattle.seccomptool.specs.Policies.{IsNameOf, IsTextFault}
 use Rattle.seccomptool.specs.declared.error.ToolError.{ToolError}
-use Rattle.seccomptool.specs.declared.error.ToolError.TheVariants.{Library, NoFilter, Write, OutOfMemory}
+use Rattle.seccomptool.specs.declared.error.ToolError.TheVariants.{Library, NewPolicy, NoFilter, Write, OutOfMemory}
 use Rattle.seccomptool.specs.declared.findings.Finding.{Finding}
 use Rattle.seccomptool.specs.declared.findings.Verdict.{Verdict}
 use Rattle.seccomptool.specs.declared.findings.Verdict.TheVariants.{Same, Different, Undecided}
@@ -135,13 +135,17 @@ pub record AreRefused (asked : Option (List ℕ)) (cause : BackendError) (target
   pub is_new : new name ≡ Some new_filter
   pub refused : IsComparisonRefusal new_filter old_filter cause
 
--- The first fault: of the architecture's name and of the old policy's text; of the new policy's text, where the old one has
--- none; of the comparison of two filters.
+-- The first fault of the new policy's text, where the old one has none.
+pub record IsNewFault (arch : List ℕ) (known_old known_new : Option (List ℕ)) (e : Error) : Type 0 where
+  pub target : TargetArch
+  pub named : IsNameOf arch target
+  pub old : Policies
+  pub of_old : Reads known_old (λ text. OfValue text (ArePoliciesOf target old))
+  pub fault : IsTextFault arch known_new e
+
+-- The first fault: of the architecture's name and of the old policy's text; of the comparison of two filters.
 pub data IsDiffFault (arch : List ℕ) (asked known_old known_new : Option (List ℕ)) (e : Error) : Type 0 where
   of_old : IsTextFault arch known_old e → IsDiffFault arch asked known_old known_new e
-  of_new : (target : TargetArch) → IsNameOf arch target → (old : Policies)
-      → Reads known_old (λ text. OfValue text (ArePoliciesOf target old)) → IsTextFault arch known_new e
-      → IsDiffFault arch asked known_old known_new e
   of_filters : (cause : BackendError) → e ≡ library.Backend cause → OfPolicies arch known_old known_new (AreRefused asked cause)
       → IsDiffFault arch asked known_old known_new e
 
@@ -153,6 +157,7 @@ abbrev pub AnswersDiff : List ℕ → Option (List ℕ) → Relation → (known_
 AnswersDiff arch asked relation known_old known_new (Ok verdict) before after = OfPolicies arch known_old known_new (WritesReports relation
     asked verdict before after)
 AnswersDiff arch asked relation known_old known_new (Err (Library e)) before after = IsDiffFault arch asked known_old known_new e
+AnswersDiff arch asked relation known_old known_new (Err (NewPolicy e)) before after = IsNewFault arch known_old known_new e
 AnswersDiff arch (Some name) relation known_old known_new (Err (NoFilter text)) before after = (string_bytes text ≡ name)
     × OfPolicies arch known_old known_new (λ target old new. (old name ≡ None) × (new name ≡ None))
 AnswersDiff arch asked relation known_old known_new (Err (Write e)) before after =

@@ -5,6 +5,7 @@
 pub mod Numbers
 pub mod CommandLine
 pub mod Words
+pub mod RunFaults
 pub mod Errors
 pub mod Policies
 pub mod Chosen
@@ -25,6 +26,8 @@ pub mod Explain
 pub mod Record
 pub mod Findings
 pub mod Diff
+pub mod Run
+pub mod ShowProgram
 pub mod Commands
 pub mod Answers
 -- Between layers: what the private steps of the engines promise each other.
@@ -34,3 +37,4 @@ pub mod WidenedParts
 pub mod ExplainSteps
 pub mod FindingsParts
 pub mod DiffParts
+pub mod RunParts

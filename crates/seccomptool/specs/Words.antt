@@ -6,12 +6,14 @@ use Rattle.clap.specs.declared.error.Error.{Error}
 use Rattle.clap.specs.declared.error.kind.ErrorKind.TheVariants.{OutOfMemory, ValueValidation}
 use Rattle.seccompiler.specs.declared.backend.TargetArch.{TargetArch}
 use Rattle.seccompiler.specs.declared.backend.TargetArch.TheVariants.{x86_64, aarch64, riscv64}
+use Rattle.seccompiler.specs.declared.compare.Relation.{Relation}
+use Rattle.seccompiler.specs.declared.compare.Relation.TheVariants.{Alike, AtMostAsPermissive}
 use Rattle.seccompiler.specs.declared.layout.Layout.{Layout}
 use Rattle.seccompiler.specs.declared.layout.Layout.TheVariants.{Linear, Tree}
 use Rattle.seccomptool.specs.CommandLine.{NameList, program_app}
 use Rattle.seccomptool.specs.Numbers.{IsNumber}
 use Rattle.seccomptool.specs.declared.words.Command.{Command}
-use Rattle.seccomptool.specs.declared.words.Command.TheVariants.{Compile, Show, Check, Explain, Stats, Record, Compat}
+use Rattle.seccomptool.specs.declared.words.Command.TheVariants.{Compile, Show, Check, Explain, Run, Stats, Record, Diff, Compat}
 use Rattle.seccomptool.specs.declared.words.Records.{Records}
 use Rattle.seccomptool.specs.declared.words.Records.TheVariants as records
 
@@ -48,8 +50,8 @@ pub record IsCallAsked (rows : List Row) (call : Text) (arguments : List ℕ) : 
   pub call_is : first_of (codes "call") rows ≡ Some call
   pub arguments_are : AreArguments (given_arguments rows) arguments
 
--- The records that `explain` is asked about: that of CALL, beside which there is no `--records`; or those of a file, or
--- of standard input, which isn't the policy too.
+-- The records that `explain` or `run` is asked about: that of CALL, beside which there is no `--records`; or those of a
+-- file, or of standard input, which isn't the policy or the program too.
 abbrev pub AreRecords : List Row → Text → Records → Type 0
 AreRecords rows policy (records.Call call arguments) = IsCallAsked rows call.now arguments × (first_of (codes "records") rows ≡ None)
 AreRecords rows policy (records.In path) =
@@ -82,10 +84,35 @@ pub record IsExplain (rows : List Row) (arch : TargetArch) (filter : Option Text
   pub policy_is : first_of (codes "policy") rows ≡ Some policy
   pub records_are : AreRecords rows policy records
 
+-- The values of `run`.
+pub record IsRun (rows : List Row) (arch : TargetArch) (records : Records) (program : Text) : Type 0 where
+  pub arch_is : IsArch rows arch
+  pub program_is : first_of (codes "program") rows ≡ Some program
+  pub records_are : AreRecords rows program records
+
 -- The values of `record`.
 pub record IsRecord (rows : List Row) (arch : TargetArch) (call : Text) (arguments : List ℕ) : Type 0 where
   pub arch_is : IsArch rows arch
   pub call_is : IsCallAsked rows call arguments
+
+-- The relation is the weaker one exactly where `--at-most` is given.
+abbrev pub IsRelation : List Row → Relation → Type 0
+IsRelation rows AtMostAsPermissive = first_of (codes "at-most") rows ≡ Some (codes "true")
+IsRelation rows Alike = first_of (codes "at-most") rows ≡ Some (codes "true") → ⊥
+
+-- The value of `--most` is this number.
+pub record IsMost (rows : List Row) (most : ℕ) : Type 0 where
+  pub is : IsNumber (unwrap_or (first_of (codes "most") rows) []) most
+
+-- The values of `diff`. Standard input isn't both policies.
+pub record IsDiff (rows : List Row) (arch : TargetArch) (filter : Option Text) (relation : Relation) (most : ℕ) (old new : Text) : Type 0 where
+  pub arch_is : IsArch rows arch
+  pub filter_is : first_of (codes "filter") rows ≡ filter
+  pub relation_is : IsRelation rows relation
+  pub most_is : IsMost rows most
+  pub old_is : first_of (codes "old") rows ≡ Some old
+  pub new_is : first_of (codes "new") rows ≡ Some new
+  pub apart : old ≡ codes "-" → new ≡ codes "-" → ⊥
 
 -- The text behind a reference, if there is one.
 abbrev pub text_of : Option (Bor Text) → Option Text
@@ -97,8 +124,10 @@ IsCommand name rows (Compile arch filter layout output policy) = (name ≡ codes
 IsCommand name rows (Show arch layout policy) = (name ≡ codes "show") × IsShow rows arch layout policy.now
 IsCommand name rows (Check arch policy) = (name ≡ codes "check") × IsOfPolicy rows arch policy.now
 IsCommand name rows (Explain arch filter records policy) = (name ≡ codes "explain") × IsExplain rows arch (text_of filter) records policy.now
+IsCommand name rows (Run arch records program) = (name ≡ codes "run") × IsRun rows arch records program.now
 IsCommand name rows (Stats arch policy) = (name ≡ codes "stats") × IsOfPolicy rows arch policy.now
 IsCommand name rows (Record arch call arguments) = (name ≡ codes "record") × IsRecord rows arch call.now arguments
+IsCommand name rows (Diff arch filter relation most old new) = (name ≡ codes "diff") × IsDiff rows arch (text_of filter) relation most old.now new.now
 IsCommand name rows (Compat arch policy) = (name ≡ codes "compat") × IsOfPolicy rows arch policy.now
 
 -- The names that `--arch` and `--layout` take.

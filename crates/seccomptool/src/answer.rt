@@ -1,9 +1,10 @@
 // What the program answers to the words that it is called with.
 
-ghost use Rattle.std.specs.Prelude.{◌≡◌, ◌≢◌, ◌≤◌, map, string_bytes};
+ghost use Rattle.std.specs.Prelude.{◌≡◌, ◌≢◌, ◌⊎◌, ◌≤◌, map, string_bytes};
 ghost use Rattle.std.specs.Process.{exit_status};
 ghost use Rattle.clap.specs.Words.{kind_of};
-ghost use Rattle.seccomptool.specs.Answers.{IsAnswered, IsShown};
+ghost use Rattle.seccomptool.specs.Answers.{IsAnswered, IsCarriedOut, IsShown, MayFail};
+ghost use Rattle.seccomptool.specs.declared.findings.Verdict.TheVariants.{Different, Undecided};
 
 use crate::carry_out::carry_out;
 use crate::words::read;
@@ -20,11 +21,15 @@ pub(crate) fn answer(
     words: &[String],
     to_terminal: bool,
 ) -> ExitCode
-    ensures ended { exit_status result ≤ 2 }
+    ensures ended { exit_status result ≤ 3 }
 
-    // Status 0 comes only where the words mean a command and it is carried out, or where they ask for help
-    // or the version.
+    // Status 0 comes only where the words mean a command and it is carried out, and finds no difference where
+    // it compares; or where they ask for help or the version.
     ensures answered { exit_status result ≡ 0 → IsAnswered (map string_bytes words.now) }
+
+    // Status 1 comes of a comparison only where it finds a difference, and status 3 only where it is undecided.
+    ensures different { exit_status result ≡ 1 → IsCarriedOut (map string_bytes words.now) Different ⊎ MayFail (map string_bytes words.now) }
+    ensures undecided { exit_status result ≡ 3 → IsCarriedOut (map string_bytes words.now) Undecided }
 {
     match read(rt.alloc(), words) {
         Ok(command) => carry_out(rt, command, to_terminal),
@@ -32,16 +37,16 @@ pub(crate) fn answer(
     }
 }
 
-// Tells what `clap` has to say: status 0 where that is help or the version, and it is written; 2 where the
-// words are no command; and else 1.
+// Tells what `clap` has to say: status 0 where that is help or the version, and it is written, and 1 where it
+// isn't; 2 where the words are no command, or memory runs out before one is known.
 fn misused(rt: &(impl Print + Eprint), error: &clap::Error) -> ExitCode
     ensures ended { exit_status result ≤ 2 }
-    ensures shown { exit_status result ≡ 0 → IsShown (kind_of error.now) }
+    ensures shown { exit_status result ≤ 1 → IsShown (kind_of error.now) }
 {
     match error.kind() {
         ErrorKind::OutOfMemory => {
             let _ = eprintln!(rt; "seccomptool: Out of memory.");
-            ExitCode::FAILURE
+            ExitCode::from(2)
         }
         ErrorKind::DisplayHelp => printed(rt, error),
         ErrorKind::DisplayVersion => printed(rt, error),
@@ -67,12 +72,12 @@ fn printed(rt: &(impl Print + Eprint), error: &clap::Error) -> ExitCode
 
 // Tells that the words can't be read: for want of memory, or as one of them is no text.
 pub(crate) fn unread(rt: &impl Eprint, error: &io::Error) -> ExitCode
-    ensures { exit_status result ≢ 0 }
+    ensures { exit_status result ≡ 2 }
 {
     if error.kind() == io::ErrorKind::OutOfMemory {
         let _ = eprintln!(rt; "seccomptool: Out of memory.");
-        return ExitCode::FAILURE;
+    } else {
+        let _ = eprintln!(rt; "seccomptool: the arguments aren't UTF-8");
     }
-    let _ = eprintln!(rt; "seccomptool: the words of the command aren't UTF-8");
     ExitCode::from(2)
 }

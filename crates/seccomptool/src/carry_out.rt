@@ -1,13 +1,15 @@
 // A command, carried out, and the status that the program ends with.
 
-ghost use Rattle.std.specs.Prelude.{◌≡◌, ◌≤◌, OnOk, OnErr, true};
+ghost use Rattle.std.specs.Prelude.{◌≡◌, ◌≤◌, true};
 ghost use Rattle.std.specs.Process.{exit_status};
 ghost use Rattle.seccomptool.specs.Commands as spec;
-ghost use Rattle.seccomptool.specs.Commands.{IsPerformed};
+ghost use Rattle.seccomptool.specs.Commands.{IsPerformed, status_of, verdict_status};
 ghost use Rattle.seccomptool.specs.Words.{text_of};
+ghost use Rattle.seccomptool.specs.declared.findings.Verdict.{Verdict};
 
 use crate::error::ToolError;
 use crate::failure::{Failure, tell};
+use crate::findings::Verdict;
 use crate::perform::perform;
 use crate::source::{Source, open};
 use crate::words::{Command, Records};
@@ -23,11 +25,12 @@ pub(crate) fn carry_out(
     command: Command<'_>,
     to_terminal: bool,
 ) -> ExitCode
-    ensures ended { exit_status result ≤ 1 }
-    ensures kept { to_terminal ≡ true → spec.writes_bytes command.entry ≡ true → exit_status result ≡ 1 }
+    ensures ended { exit_status result ≤ 3 }
+    ensures kept { to_terminal ≡ true → spec.writes_bytes command.entry ≡ true → exit_status result ≡ spec.trouble command.entry }
 
-    // Status 0 comes only where the command is carried out.
-    ensures performed { exit_status result ≡ 0 → IsPerformed command.entry }
+    // A status that isn't that of a failure comes only where the command is carried out, and is that of what
+    // it finds.
+    ensures performed { (verdict : Verdict) → exit_status result ≡ verdict_status verdict → (exit_status result ≡ spec.trouble command.entry → ⊥) → IsPerformed command.entry verdict }
 {
     if to_terminal && writes_bytes(command) {
         return failed(rt, command, Failure::Terminal);
@@ -58,8 +61,8 @@ fn in_file<P: Read + Drop, R: Read + Drop>(
     records: R,
     path: &str,
 ) -> ExitCode
-    ensures ended { exit_status result ≤ 1 }
-    ensures performed { exit_status result ≡ 0 → IsPerformed command.entry }
+    ensures ended { exit_status result ≤ 3 }
+    ensures performed { (verdict : Verdict) → exit_status result ≡ verdict_status verdict → (exit_status result ≡ spec.trouble command.entry → ⊥) → IsPerformed command.entry verdict }
 {
     let alloc = rt.alloc();
     let mut bytes = Vec::new(alloc);
@@ -83,7 +86,7 @@ fn writes_bytes(command: Command<'_>) -> bool
     }
 }
 
-// The path of the policy that a command reads.
+// The path of the policy or program that a command reads, that of the old policy where it compares two.
 fn policy_of<'a>(command: Command<'a>) -> Option<&'a str>
     ensures { text_of result ≡ spec.policy_of command.entry }
 {
@@ -92,13 +95,15 @@ fn policy_of<'a>(command: Command<'a>) -> Option<&'a str>
         Command::Show { policy, .. } => Some(policy),
         Command::Check { policy, .. } => Some(policy),
         Command::Explain { policy, .. } => Some(policy),
+        Command::Run { program, .. } => Some(program),
         Command::Stats { policy, .. } => Some(policy),
         Command::Record { .. } => None,
+        Command::Diff { old, .. } => Some(old),
         Command::Compat { policy, .. } => Some(policy),
     }
 }
 
-// The path of the records that a command reads.
+// The path of the records that a command reads, or of the new policy.
 fn records_of<'a>(command: Command<'a>) -> Option<&'a str>
     ensures { text_of result ≡ spec.records_of command.entry }
 {
@@ -107,6 +112,11 @@ fn records_of<'a>(command: Command<'a>) -> Option<&'a str>
             records: Records::In(path),
             ..
         } => Some(path),
+        Command::Run {
+            records: Records::In(path),
+            ..
+        } => Some(path),
+        Command::Diff { new, .. } => Some(new),
         _ => None,
     }
 }
@@ -121,28 +131,42 @@ fn output_of<'a>(command: Command<'a>) -> Option<&'a str>
     }
 }
 
-// Status 0, or status 1 where a command failed, with the error's text on standard error.
+// The status of what a command finds, or of its failure, with the error's text on standard error.
 fn answered(
     rt: &(impl Eprint + AllocGlobal),
     command: Command<'_>,
-    answer: Result<(), ToolError>,
+    answer: Result<Verdict, ToolError>,
 ) -> ExitCode
-    ensures done { OnOk answer (exit_status result ≡ 0) }
-    ensures failed { OnErr answer (exit_status result ≡ 1) }
+    ensures { exit_status result ≡ status_of command.entry answer }
 {
     match answer {
-        Ok(()) => ExitCode::SUCCESS,
+        Ok(Verdict::Same) => ExitCode::SUCCESS,
+        Ok(Verdict::Different) => ExitCode::from(1),
+        Ok(Verdict::Undecided) => ExitCode::from(3),
         Err(error) => failed(rt, command, Failure::Engine(error)),
     }
 }
 
-// Status 1, with what failed on standard error.
+// Whether a command compares two policies.
+fn compares(command: Command<'_>) -> bool
+    ensures { result ≡ spec.compares command.entry }
+{
+    match command {
+        Command::Diff { .. } => true,
+        _ => false,
+    }
+}
+
+// The status of a failure, with what failed on standard error.
 fn failed(rt: &(impl Eprint + AllocGlobal), command: Command<'_>, failure: Failure) -> ExitCode
-    ensures { exit_status result ≡ 1 }
+    ensures { exit_status result ≡ spec.trouble command.entry }
 {
     let policy = policy_of(command).unwrap_or("-");
     let records = records_of(command).unwrap_or("-");
     let output = output_of(command).unwrap_or("-");
-    tell(rt, &failure, policy, records, output);
-    ExitCode::FAILURE
+    tell(rt, &failure, compares(command), policy, records, output);
+    match command {
+        Command::Diff { .. } => ExitCode::from(2),
+        _ => ExitCode::FAILURE,
+    }
 }

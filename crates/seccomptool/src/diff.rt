@@ -3,8 +3,9 @@
 mod filters;
 mod report;
 
-ghost use Rattle.std.specs.Prelude.{IfErr, option_map};
+ghost use Rattle.std.specs.Prelude.{◌≡◌, IfErr, option_map};
 ghost use Rattle.seccomptool.specs.Diff.{AnswersDiff};
+ghost use Rattle.seccomptool.specs.Errors as spec;
 ghost use Rattle.seccomptool.specs.Errors.{KeepsOutput};
 
 use crate::diff::report::report_of;
@@ -37,8 +38,8 @@ use std::io::{Read, Write};
 ///
 /// The first of these: `Library` with `InvalidTargetArch` and the text as it was given where `arch` is
 /// no architecture's name, ASCII case aside; `Library` with what `JsonCompiler::compile` refuses of the
-/// old policy, and then of the new one, `JsonFrontend(Read)` among it where the reader fails;
-/// `NoFilter` with the name where neither policy has the filter; `Library` with `FilterTooLarge` of a
+/// old policy, and then `NewPolicy` with what it refuses of the new one, `JsonFrontend(Read)` among it
+/// where the reader fails; `NoFilter` with the name where neither policy has the filter; `Library` with `FilterTooLarge` of a
 /// filter that both have and that is too large in both layouts; `Write` where the writer fails.
 /// `OutOfMemory` comes in place of any of these where memory is refused, and where a reader fails for
 /// want of memory. On any error but `Write` nothing is written.
@@ -59,7 +60,10 @@ pub fn diff<O: Read + Drop, N: Read + Drop, W: Write>(
     let target = TargetArch::from_text(alloc, arch)?;
     let compiler = JsonCompiler::new(target);
     let old = compiler.compile_in_order(alloc, old)?;
-    let new = compiler.compile_in_order(alloc, new)?;
+    let new = match compiler.compile_in_order(alloc, new) {
+        Ok(new) => new,
+        Err(refusal) => return Err(of_new_policy(refusal.into())),
+    };
     let terms = Terms {
         target,
         relation,
@@ -68,4 +72,14 @@ pub fn diff<O: Read + Drop, N: Read + Drop, W: Write>(
     let report = report_of(alloc, terms, filter, &old, &new)?;
     send(out, &report.text)?;
     Ok(report.verdict)
+}
+
+// A refusal, as one of the new policy.
+fn of_new_policy(refusal: ToolError) -> ToolError
+    ensures { result ≡ spec.of_new_policy refusal }
+{
+    match refusal {
+        ToolError::Library(error) => ToolError::NewPolicy(error),
+        other => other,
+    }
 }

@@ -1,5 +1,7 @@
 // Why an engine of the program fails.
 
+use crate::run::fault::ProgramFault;
+use seccomp_command_line::error::ToolError as SharedError;
 use seccompiler::json::JsonFrontendError;
 use seccompiler::{BackendError, TargetArch};
 use std::alloc::{AllocError, AllocFailed};
@@ -12,6 +14,8 @@ use std::{fmt, io};
 pub enum ToolError {
     /// The library refuses.
     Library(seccompiler::Error),
+    /// The library refuses the new one of two policies.
+    NewPolicy(seccompiler::Error),
     /// No filter of the policy has this name.
     NoFilter(String),
     /// No filter is asked for, and the policy hasn't one but these, by their names.
@@ -24,6 +28,8 @@ pub enum ToolError {
     Read(io::Error),
     /// The policy has a fault that has a place; the text tells the place, what stands there and what may.
     Fault(String),
+    /// The program can't be read, or may not be run.
+    Program(ProgramFault),
     /// The output can't be written; how much of it went out is not known.
     Write(io::Error),
     /// A growth of memory was refused, or reading failed for want of memory.
@@ -39,6 +45,7 @@ impl fmt::Display for ToolError {
     fn fmt<W: fmt::Write>(&self, f: &mut fmt::Formatter<W>) -> fmt::Result {
         match self {
             ToolError::Library(error) => write!(f, "{error}"),
+            ToolError::NewPolicy(error) => write!(f, "{error}"),
             ToolError::NoFilter(name) => write!(f, "No filter has this name: {name}."),
             ToolError::Unchosen(names) => {
                 write!(f, "Name one of its filters by --filter: {names}.")
@@ -54,6 +61,7 @@ impl fmt::Display for ToolError {
             }
             ToolError::Read(_) => f.write_str("Error reading input."),
             ToolError::Fault(told) => f.write_str(told.as_str()),
+            ToolError::Program(fault) => write!(f, "{fault}"),
             ToolError::Write(_) => f.write_str("Error writing output."),
             ToolError::OutOfMemory => f.write_str("Out of memory."),
         }
@@ -111,5 +119,37 @@ impl From<AllocError> for ToolError {
 
     fn from(_refused: AllocError) -> ToolError {
         ToolError::OutOfMemory
+    }
+}
+
+impl From<ProgramFault> for ToolError {
+    ghost use Rattle.std.specs.Prelude.{◌≡◌};
+    ghost use Rattle.seccomptool.specs.declared.error.ToolError.TheVariants.{Program};
+
+    ghost from_gives = { λ fault error. error ≡ Program fault };
+
+    fn from(fault: ProgramFault) -> ToolError {
+        ToolError::Program(fault)
+    }
+}
+
+/// An error of the steps that the programs share, by its own name.
+impl From<SharedError> for ToolError {
+    ghost use Rattle.std.specs.Prelude.{◌≡◌};
+    ghost use Rattle.seccomptool.specs.Errors.{from_shared};
+
+    ghost from_gives = { λ told error. error ≡ from_shared told };
+
+    fn from(told: SharedError) -> ToolError {
+        match told {
+            SharedError::Library(refusal) => ToolError::Library(refusal),
+            SharedError::NoFilter(name) => ToolError::NoFilter(name),
+            SharedError::UnknownCall(call, target) => ToolError::UnknownCall(call, target),
+            SharedError::ShortRecord(rest) => ToolError::ShortRecord(rest),
+            SharedError::Read(error) => ToolError::Read(error),
+            SharedError::Fault(text) => ToolError::Fault(text),
+            SharedError::Write(error) => ToolError::Write(error),
+            SharedError::OutOfMemory => ToolError::OutOfMemory,
+        }
     }
 }

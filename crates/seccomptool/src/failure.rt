@@ -1,6 +1,7 @@
 // What the program tells of a failure.
 
 use crate::error::ToolError;
+use crate::run::fault::ProgramFault;
 use seccomp_command_line::names::push_readable;
 use seccompiler::Error;
 use seccompiler::json::JsonFrontendError;
@@ -32,16 +33,18 @@ enum Place {
     Output,
 }
 
-// Tells a failure on standard error: the program, the file that it is in, and the error, in one line.
+// Tells a failure on standard error: the program, the file that it is in, and the error, in one line. Of a
+// command that compares, the new policy stands for the records.
 pub(crate) fn tell(
     rt: &(impl Eprint + AllocGlobal),
     failure: &Failure,
+    compares: bool,
     policy: &str,
     records: &str,
     output: &str,
 ) {
     let alloc = rt.alloc();
-    let text = match place_of(failure) {
+    let text = match place_of(failure, compares) {
         Place::Nowhere => front_of(alloc, "", ""),
         Place::Policy => front_of(alloc, policy, "standard input"),
         Place::Records => front_of(alloc, records, "standard input"),
@@ -72,9 +75,12 @@ fn front_of(alloc: Global, path: &str, standard: &str) -> Result<String, AllocEr
 }
 
 // Where a failure is: of a reader's and a writer's at what they read and write; other faults that aren't
-// of the words are the policy's.
-fn place_of(failure: &Failure) -> Place {
+// of the words are the policy's, those of two filters that are compared aside.
+fn place_of(failure: &Failure, compares: bool) -> Place {
     match failure {
+        Failure::Engine(ToolError::NoFilter(_)) if compares => Place::Nowhere,
+        Failure::Engine(ToolError::Library(Error::Backend(_))) if compares => Place::Nowhere,
+        Failure::Engine(ToolError::NewPolicy(_)) => Place::Records,
         Failure::Policy(_) => Place::Policy,
         Failure::Records(_) => Place::Records,
         Failure::Output(_) => Place::Output,
@@ -99,8 +105,14 @@ fn told(rt: &impl Eprint, front: &str, failure: &Failure) -> io::Result<()> {
         }
         Failure::Engine(ToolError::Read(error)) => told_by_system(rt, front, error),
         Failure::Engine(ToolError::Write(error)) => told_by_system(rt, front, error),
+        Failure::Engine(ToolError::Program(ProgramFault::Read(error))) => {
+            told_by_system(rt, front, error)
+        }
         Failure::Engine(ToolError::Library(Error::JsonFrontend(JsonFrontendError::Read(error)))) =>
             { told_by_system(rt, front, error) }
+        Failure::Engine(
+            ToolError::NewPolicy(Error::JsonFrontend(JsonFrontendError::Read(error))),
+        ) => { told_by_system(rt, front, error) }
         Failure::Engine(error) => eprintln!(rt; "{front}{error}"),
     }
 }

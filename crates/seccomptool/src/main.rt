@@ -16,6 +16,7 @@ mod policy;
 mod program;
 mod raw;
 mod record;
+mod run;
 mod send;
 mod show;
 mod source;

@@ -3,19 +3,20 @@
 ghost use Rattle.std.specs.Prelude.{◌≡◌, IfOk, false};
 ghost use Rattle.clap.specs.Words.{app_of, rule_of};
 ghost use Rattle.clap.specs.declared.builder.command.Command.TheViews.{out-Command};
-ghost use Rattle.seccomptool.specs.CommandLine.{arch_rule, arguments_rule, call_rule, compile_app, explain_app, filter_rule, given_call_rule, given_policy_rule, layout_rule, output_rule, policy_app, policy_rule, program_app, record_app, records_rule, show_app, top_app};
+ghost use Rattle.seccomptool.specs.CommandLine.{arch_rule, arguments_rule, at_most_rule, call_rule, compile_app, deciding_app, diff_app, explain_app, filter_rule, given_call_rule, given_policy_rule, layout_rule, most_rule, new_policy_rule, old_rule, output_rule, policy_app, policy_rule, program_app, program_rule, record_app, records_rule, run_app, show_app, top_app};
 
-use clap::{Arg, Command};
+use clap::{Arg, ArgAction, Command};
 use std::alloc::{AllocError, Global};
 
 const AFTER: &str = "\
-POLICY and FILE are paths; POLICY is standard input where it is - or isn't given.
-CALL is the name or number of a system call. Numbers are decimal, or hexadecimal
-behind 0x; an ARG may be negative, and then stands behind --, as in
-`seccomptool record lseek 3 -- -1`.
+POLICY, OLD, NEW, PROGRAM and FILE are paths; - is standard input, and so is
+POLICY where it isn't given. CALL is the name or number of a system call.
+Numbers are decimal, or hexadecimal behind 0x; an ARG may be negative, and then
+stands behind --, as in `seccomptool record lseek 3 -- -1`.
 
-Exit status: 0, 1 where the policy is rejected or a file or the output fails, 2
-where the words are no command.";
+Exit status: 0; 1 where the policy is rejected or a file or the output fails; 2
+where the arguments are no command. Of `diff`: 0 where the policies are the
+same, 1 where they differ, 2 on any failure, 3 where it wasn't decided.";
 
 const CHECK: &str = "Tell the first fault of a policy, with its place";
 
@@ -33,21 +34,37 @@ pub(crate) fn program<'a>(
 ) -> Result<Command<'a>, AllocError>
     ensures app { IfOk result (λ c. app_of c ≡ program_app archs.entry layouts.entry) }
 {
+    let stats = of_policy(alloc, "stats", STATS, archs)?;
+    let of_call = record(alloc, archs)?;
+    let diff = diff(alloc, archs)?;
+    let compat = of_policy(alloc, "compat", COMPAT, archs)?;
+    let deciding = deciding(alloc, archs, layouts)?;
+    deciding
+        .subcommand(stats)?
+        .subcommand(of_call)?
+        .subcommand(diff)?
+        .subcommand(compat)
+}
+
+// The program with the commands that are of what a policy decides.
+fn deciding<'a>(
+    alloc: Global,
+    archs: &'a [&'a str],
+    layouts: &'a [&'a str],
+) -> Result<Command<'a>, AllocError>
+    ensures { IfOk result (λ c. app_of c ≡ deciding_app archs.entry layouts.entry) }
+{
     let compile = compile(alloc, archs, layouts)?;
     let show = show(alloc, archs, layouts)?;
     let check = of_policy(alloc, "check", CHECK, archs)?;
     let explain = explain(alloc, archs)?;
-    let stats = of_policy(alloc, "stats", STATS, archs)?;
-    let of_call = record(alloc, archs)?;
-    let compat = of_policy(alloc, "compat", COMPAT, archs)?;
+    let of_program = run(alloc, archs)?;
     let top = top(alloc)?;
     top.subcommand(compile)?
         .subcommand(show)?
         .subcommand(check)?
         .subcommand(explain)?
-        .subcommand(stats)?
-        .subcommand(of_call)?
-        .subcommand(compat)
+        .subcommand(of_program)
 }
 
 fn top<'a>(alloc: Global) -> Result<Command<'a>, AllocError>
@@ -127,6 +144,19 @@ fn explain<'a>(alloc: Global, archs: &'a [&'a str]) -> Result<Command<'a>, Alloc
         .arg(arguments(alloc))
 }
 
+fn run<'a>(alloc: Global, archs: &'a [&'a str]) -> Result<Command<'a>, AllocError>
+    ensures app { IfOk result (λ c. app_of c ≡ run_app archs.entry) }
+    ensures local { IfOk result (λ c. (out-Command c).has_globals ≡ false) }
+{
+    Command::new(alloc, "run")
+        .about("Tell what a program returns for calls")
+        .arg(arch(alloc, archs))?
+        .arg(records(alloc))?
+        .arg(program_file(alloc))?
+        .arg(call(alloc))?
+        .arg(arguments(alloc))
+}
+
 fn record<'a>(alloc: Global, archs: &'a [&'a str]) -> Result<Command<'a>, AllocError>
     ensures app { IfOk result (λ c. app_of c ≡ record_app archs.entry) }
     ensures local { IfOk result (λ c. (out-Command c).has_globals ≡ false) }
@@ -136,6 +166,20 @@ fn record<'a>(alloc: Global, archs: &'a [&'a str]) -> Result<Command<'a>, AllocE
         .arg(arch(alloc, archs))?
         .arg(given_call(alloc))?
         .arg(arguments(alloc))
+}
+
+fn diff<'a>(alloc: Global, archs: &'a [&'a str]) -> Result<Command<'a>, AllocError>
+    ensures app { IfOk result (λ c. app_of c ≡ diff_app archs.entry) }
+    ensures local { IfOk result (λ c. (out-Command c).has_globals ≡ false) }
+{
+    Command::new(alloc, "diff")
+        .about("Tell on which calls two policies differ")
+        .arg(arch(alloc, archs))?
+        .arg(filter(alloc))?
+        .arg(at_most(alloc))?
+        .arg(most(alloc))?
+        .arg(old(alloc))?
+        .arg(new_policy(alloc))
 }
 
 fn arch<'a>(alloc: Global, archs: &'a [&'a str]) -> Arg<'a>
@@ -195,6 +239,47 @@ fn records<'a>(alloc: Global) -> Arg<'a>
         .help("Records of calls, in place of standard input, where no CALL is given")
 }
 
+fn at_most<'a>(alloc: Global) -> Arg<'a>
+    ensures rule { rule_of result ≡ at_most_rule }
+    ensures local { result.global ≡ false }
+{
+    Arg::new(alloc, "at-most")
+        .long("at-most")
+        .action(ArgAction::SetTrue)
+        .help("Ask only where NEW permits more than OLD")
+}
+
+fn most<'a>(alloc: Global) -> Arg<'a>
+    ensures rule { rule_of result ≡ most_rule }
+    ensures local { result.global ≡ false }
+{
+    Arg::new(alloc, "most")
+        .long("most")
+        .value_name("N")
+        .default_value("1000000")
+        .help("How many sets of arguments are looked at, at most, for each call")
+}
+
+fn old<'a>(alloc: Global) -> Arg<'a>
+    ensures rule { rule_of result ≡ old_rule }
+    ensures local { result.global ≡ false }
+{
+    Arg::new(alloc, "old")
+        .value_name("OLD")
+        .required(true)
+        .help("The old policy's file, or - for standard input")
+}
+
+fn new_policy<'a>(alloc: Global) -> Arg<'a>
+    ensures rule { rule_of result ≡ new_policy_rule }
+    ensures local { result.global ≡ false }
+{
+    Arg::new(alloc, "new")
+        .value_name("NEW")
+        .required(true)
+        .help("The new policy's file, or - for standard input")
+}
+
 fn policy<'a>(alloc: Global) -> Arg<'a>
     ensures rule { rule_of result ≡ policy_rule }
     ensures local { result.global ≡ false }
@@ -213,6 +298,16 @@ fn given_policy<'a>(alloc: Global) -> Arg<'a>
         .value_name("POLICY")
         .required(true)
         .help("The policy's file, or - for standard input")
+}
+
+fn program_file<'a>(alloc: Global) -> Arg<'a>
+    ensures rule { rule_of result ≡ program_rule }
+    ensures local { result.global ≡ false }
+{
+    Arg::new(alloc, "program")
+        .value_name("PROGRAM")
+        .required(true)
+        .help("The program's file, as compile writes it, or - for standard input")
 }
 
 fn call<'a>(alloc: Global) -> Arg<'a>

@@ -1,8 +1,9 @@
 // The programs of a policy, for people.
 
-mod instruction;
+pub(crate) mod instruction;
 mod labels;
 mod listing;
+pub(crate) mod program;
 mod text;
 
 ghost use Rattle.std.specs.Prelude.{IfOk, IfErr};

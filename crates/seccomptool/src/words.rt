@@ -9,7 +9,7 @@ mod matches;
 use crate::program::program;
 use crate::words::matches::{command_in, misuse_in};
 use clap::error::ErrorKind;
-use seccompiler::{Layout, TargetArch};
+use seccompiler::{Layout, Relation, TargetArch};
 use std::alloc::Global;
 
 static ARCHITECTURES: [&str; 5] = ["x86_64", "aarch64", "riscv64", "amd64", "arm64"];
@@ -59,6 +59,15 @@ pub enum Command<'a> {
         /// The policy.
         policy: &'a str,
     },
+    /// Tell what a program returns for calls.
+    Run {
+        /// The architecture of a call.
+        arch: TargetArch,
+        /// The records of the calls.
+        records: Records<'a>,
+        /// The program's bytes.
+        program: &'a str,
+    },
     /// Tell how long the programs of a policy are, and how many steps they take.
     Stats {
         /// The architecture.
@@ -74,6 +83,21 @@ pub enum Command<'a> {
         call: &'a str,
         /// The call's arguments, 0 where none is given.
         arguments: [u64; 6],
+    },
+    /// Tell on which calls two policies differ.
+    Diff {
+        /// The architecture.
+        arch: TargetArch,
+        /// The filter's name; all filters where there is none.
+        filter: Option<&'a str>,
+        /// What is asked of the new policy's actions beside the old one's.
+        relation: Relation,
+        /// How many sets of records are looked at, at most, for each call.
+        most: usize,
+        /// The old policy.
+        old: &'a str,
+        /// The new policy.
+        new: &'a str,
     },
     /// Name the calls that the Rust crate would decide otherwise.
     Compat {
@@ -103,9 +127,9 @@ pub enum Records<'a> {
 /// # Errors
 ///
 /// `clap`'s: help and the version where they are asked for, and its own error of words that are no
-/// command. `ValueValidation` where an ARG is no number, where `explain` is given both CALL and
-/// `--records`, and where it would read policy and records from standard input. `OutOfMemory` may come
-/// in place of any.
+/// command. `ValueValidation` where an ARG or the value of `--most` is no number, where `explain` or `run`
+/// is given both CALL and `--records`, and where two files would both be read from standard input: policy
+/// and records, program and records, or both policies of `diff`. `OutOfMemory` may come in place of any.
 pub(crate) fn read<'a>(alloc: Global, words: &'a [String]) -> Result<Command<'a>, clap::Error>
     // With the names of architectures and layouts that the options take.
     ensures { (choices : Choices) × IfOk result (Means choices (map string_bytes words.now))

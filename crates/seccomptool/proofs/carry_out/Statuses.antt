@@ -1,13 +1,28 @@
--- For `carry_out` and `in_file`: what an answer says where the program ends with status 0, since each error ends it with 1.
-use Rattle.std.proofs.Common.{◌≡◌, ℕ, List, Option, Result, Ok, Err, arith}
-use Rattle.std.specs.Prelude.{OnErr, ⊤}
-use Rattle.seccomptool.specs.Commands.{AnswersCommand, IsPerformed}
+-- For `carry_out` and `in_file`: what an answer says where the program ends with a status that isn't that of a failure.
+use Rattle.std.proofs.Common.{◌≡◌, ◌∙◌, ℕ, List, Option, Result, Ok, Err, refl, subst, sym}
+use Rattle.seccomptool.specs.Commands.{AnswersCommand, IsPerformed, status_of, trouble, verdict_status}
 use Rattle.seccomptool.specs.declared.error.ToolError.{ToolError}
+use Rattle.seccomptool.specs.declared.findings.Verdict.{Verdict}
+use Rattle.seccomptool.specs.declared.findings.Verdict.TheVariants.{Same, Different, Undecided}
 use Rattle.seccomptool.specs.declared.words.Command.{Command}
 
--- Where a command ends with 0, it is carried out.
-pub is_performed : (command : Command) (policy records old new : Option (List ℕ)) (r : Result ⊤ ToolError) (status : ℕ)
-    → AnswersCommand command policy records r old new → OnErr r (status ≡ 1) → status ≡ 0 → IsPerformed command
-is_performed command policy records old new (Ok done) status answers failed zero =
-    record { policy = policy; records = records; old = old; new = new; answers = answers }
-is_performed command policy records old new (Err e) status answers failed zero = absurd (omega arith)
+-- Each verdict has a status of its own.
+one_status : (a b : Verdict) → verdict_status a ≡ verdict_status b → a ≡ b
+one_status Same Same e = refl
+one_status Same Different e = absurd cc
+one_status Same Undecided e = absurd cc
+one_status Different Same e = absurd cc
+one_status Different Different e = refl
+one_status Different Undecided e = absurd cc
+one_status Undecided Same e = absurd cc
+one_status Undecided Different e = absurd cc
+one_status Undecided Undecided e = refl
+
+-- Where a command ends with a verdict's status, and not with that of a failure, it is carried out with this verdict.
+pub is_performed : (command : Command) (policy records old new : Option (List ℕ)) (r : Result Verdict ToolError) (status : ℕ)
+    → AnswersCommand command policy records r old new → status ≡ status_of command r
+    → (verdict : Verdict) → status ≡ verdict_status verdict → (status ≡ trouble command → ⊥) → IsPerformed command verdict
+is_performed command policy records old new (Ok found) status answers is verdict shown other =
+    let answered = subst (λ v. AnswersCommand command policy records (Ok v) old new) (one_status found verdict (sym is ∙ shown)) answers in
+    record { policy = policy; records = records; old = old; new = new; answers = answered }
+is_performed command policy records old new (Err e) status answers is verdict shown other = absurd (other is)

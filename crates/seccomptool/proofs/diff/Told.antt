@@ -5,9 +5,9 @@ use Rattle.seccompiler.specs.declared.backend.TargetArch.{TargetArch}
 use Rattle.seccompiler.specs.declared.compare.Relation.{Relation}
 use Rattle.seccompiler.specs.JsonAnswers.{OfValue, ArePoliciesOf}
 use Rattle.seccompiler.specs.Reads.{Reads}
-use Rattle.seccomptool.specs.Diff.{Policies, OfPolicies, WritesReports, of_old, of_new, of_filters, AnswersDiff}
+use Rattle.seccomptool.specs.Diff.{Policies, OfPolicies, WritesReports, of_old, of_filters, AnswersDiff}
 use Rattle.seccomptool.specs.DiffParts.{IsReport, IsRefusedReport}
-use Rattle.seccomptool.specs.Errors.{IsWriteError}
+use Rattle.seccomptool.specs.Errors.{IsWriteError, of_new_policy}
 use Rattle.seccomptool.specs.Policies.{IsNameOf, IsRefusedText}
 use Rattle.seccomptool.specs.declared.diff.report.Report.{Report}
 use Rattle.seccomptool.specs.declared.error.ToolError.{ToolError}
@@ -24,8 +24,8 @@ module _ (arch : List ℕ) (asked : Option (List ℕ)) (relation : Relation) (kn
       (ArePoliciesOf target old))) where
     -- What is refused of the new policy's text is told where the old one has no fault.
     pub new_told : (e : ToolError) → IsRefusedText arch known_new e
-        → AnswersDiff arch asked relation known_old known_new (Err e) before after
-    new_told (tool.Library e) refused = of_new target named old is_old refused
+        → AnswersDiff arch asked relation known_old known_new (Err (of_new_policy e)) before after
+    new_told (tool.Library e) refused = record { target = target; named = named; old = old; of_old = is_old; fault = refused }
     new_told tool.OutOfMemory refused = tt
     new_told _ refused = absurd refused
 

@@ -1,4 +1,4 @@
--- For `text::note`, `text::push_noted` and `listing::push_program`: lines of instructions.
+-- For `text::note`, `text::push_noted` and `listing::push_instructions`: lines of instructions.
 use Rattle.std.proofs.Common.{◌≡◌, ◌≢◌, ℕ, suc, ◌+◌, ◌<◌, List, [], ◌∷◌, ◌++◌, length, take, get_or, codes, refl, sym, ap, ◌∙◌, subst, append_assoc, append-nil, length-take, arith}
 use Rattle.std.proofs.lemmas.List.{take_more}
 use Rattle.seccompiler.specs.declared.bpf.sock_filter.{sock_filter}

@@ -34,7 +34,7 @@ const DATA: u32 = 0x0000_ffff;
 
 /// A word that a program returns, by its action.
 #[derive(Clone, Copy)]
-struct Word(u32);
+pub(crate) struct Word(pub u32);
 
 impl fmt::Display for Word {
     ghost use Rattle.std.specs.Prelude.{Some};

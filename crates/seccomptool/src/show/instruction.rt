@@ -13,19 +13,19 @@ use seccompiler::sock_filter;
 use std::alloc::{AllocError, Global};
 
 // The codes of the instructions that compiled programs have.
-const LOAD: u16 = BPF_LD | BPF_W | BPF_ABS;
+pub(crate) const LOAD: u16 = BPF_LD | BPF_W | BPF_ABS;
 
-const MASK: u16 = BPF_ALU | BPF_AND | BPF_K;
+pub(crate) const MASK: u16 = BPF_ALU | BPF_AND | BPF_K;
 
-const JUMP: u16 = BPF_JMP | BPF_JA;
+pub(crate) const JUMP: u16 = BPF_JMP | BPF_JA;
 
-const JUMP_EQUAL: u16 = BPF_JMP | BPF_JEQ | BPF_K;
+pub(crate) const JUMP_EQUAL: u16 = BPF_JMP | BPF_JEQ | BPF_K;
 
-const JUMP_GREATER: u16 = BPF_JMP | BPF_JGT | BPF_K;
+pub(crate) const JUMP_GREATER: u16 = BPF_JMP | BPF_JGT | BPF_K;
 
-const JUMP_AT_LEAST: u16 = BPF_JMP | BPF_JGE | BPF_K;
+pub(crate) const JUMP_AT_LEAST: u16 = BPF_JMP | BPF_JGE | BPF_K;
 
-const RETURN: u16 = BPF_RET | BPF_K;
+pub(crate) const RETURN: u16 = BPF_RET | BPF_K;
 
 // An instruction that stands at this place, in the words of bpf_asm. Jumps tell the places that they
 // lead to.

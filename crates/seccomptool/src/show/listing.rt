@@ -3,7 +3,7 @@
 ghost use Rattle.std.specs.Prelude.{◌≡◌, ◌++◌, map, IfOk, IfErr, OnOk, string_bytes, string_cmp};
 ghost use Rattle.std.specs.BTreeMap as tree;
 ghost use Rattle.seccompiler.specs.Layouts.{IsRefusalIn};
-ghost use Rattle.seccomptool.specs.ShowText.{label_in, text_of};
+ghost use Rattle.seccomptool.specs.ShowText.{label_in, lines_from, text_of};
 ghost use Rattle.seccomptool.specs.ShowParts.{AreLabelled, HasProgramIn};
 ghost use Rattle.seccomptool.specs.StepsParts.{IsFirstRefusal};
 
@@ -49,6 +49,18 @@ fn push_program(
     ensures { OnOk result (text.new.items ≡ text.old.items ++ text_of (map string_bytes labels.now) name.now program.now) }
 {
     push_header(alloc, text, program.len(), name)?;
+    push_instructions(alloc, text, labels, program)
+}
+
+// Adds the lines of a program's instructions, whose places have these labels.
+pub(crate) fn push_instructions(
+    alloc: Global,
+    text: &mut Vec<u8>,
+    labels: &[String],
+    program: BpfProgramRef<'_>,
+) -> Result<(), AllocError>
+    ensures { OnOk result (text.new.items ≡ text.old.items ++ lines_from (label_in (map string_bytes labels.now)) 0 program.now) }
+{
     for (place, instruction) in program.iter().enumerate() {
         push_line(alloc, text, place, label_at(labels, place), instruction)?;
     }

@@ -1,17 +1,19 @@
 // The command that clap's matches are.
 
-ghost use Rattle.std.specs.Prelude.{◌≡◌, ℕ, List, IfSome, IfNone, Some, codes, unwrap_or};
+ghost use Rattle.std.specs.Prelude.{◌≡◌, ℕ, List, [], IfSome, IfNone, Some, codes, unwrap_or};
 ghost use Rattle.clap.specs.Words.{first_of, found_of, rows_of};
 ghost use Rattle.seccompiler.specs.declared.backend.TargetArch.{TargetArch};
 ghost use Rattle.seccompiler.specs.declared.layout.Layout.{Layout};
-ghost use Rattle.seccomptool.specs.Words.{AreArguments, AreRecords, IsArch, IsCommand, given_arguments, layout_text, text_of};
+ghost use Rattle.seccomptool.specs.Numbers.{IsNumber};
+ghost use Rattle.seccomptool.specs.Words.{AreArguments, AreRecords, IsArch, IsCommand, IsMost, IsRelation, given_arguments, layout_text, text_of};
 ghost use Rattle.seccomptool.specs.declared.words.Command.{Command};
 ghost use Rattle.seccomptool.specs.declared.words.Records.{Records};
 
 use super::arguments::read_arguments;
 use super::{Command, Records};
+use crate::numbers::read_number;
 use clap::ArgMatches;
-use seccompiler::{Layout, TargetArch};
+use seccompiler::{Layout, Relation, TargetArch};
 
 // The command that the matches of the subcommand of this name are.
 pub(crate) fn command_in<'a>(name: &str, found: &ArgMatches<'a>) -> Option<Command<'a>>
@@ -23,8 +25,10 @@ pub(crate) fn command_in<'a>(name: &str, found: &ArgMatches<'a>) -> Option<Comma
         "show" => show_in(found),
         "check" => check_in(found),
         "explain" => explain_in(found),
+        "run" => run_in(found),
         "stats" => stats_in(found),
         "record" => record_in(found),
+        "diff" => diff_in(found),
         "compat" => compat_in(found),
         _ => None,
     }
@@ -32,13 +36,27 @@ pub(crate) fn command_in<'a>(name: &str, found: &ArgMatches<'a>) -> Option<Comma
 
 // What is wrong where the matches are no command.
 pub(crate) fn misuse_in(found: &ArgMatches<'_>) -> &'static str {
+    if text_in(found, "new").is_some() {
+        return misuse_of_diff(found);
+    }
     if arguments_in(found).is_none() {
         return "an ARG is no number from -9223372036854775808 to 18446744073709551615, decimal or hexadecimal behind 0x";
     }
     if text_in(found, "call").is_some() {
         return "either CALL or --records is given, not both";
     }
+    if text_in(found, "program").is_some() {
+        return "PROGRAM and records can't both be read from standard input: give CALL or --records";
+    }
     "policy and records can't both be read from standard input: give CALL or --records"
+}
+
+// What is wrong where the matches of `diff` are no command.
+fn misuse_of_diff(found: &ArgMatches<'_>) -> &'static str {
+    if most_in(found).is_none() {
+        return "the value of --most is no number from 0 to 18446744073709551615, decimal or hexadecimal behind 0x";
+    }
+    "OLD and NEW can't both be read from standard input"
 }
 
 // The command that the matches of `compile` are.
@@ -121,6 +139,27 @@ fn explain_in<'a>(found: &ArgMatches<'a>) -> Option<Command<'a>>
     })
 }
 
+// The command that the matches of `run` are.
+fn run_in<'a>(found: &ArgMatches<'a>) -> Option<Command<'a>>
+    ensures some { IfSome result (IsCommand (codes "run") (rows_of (found_of found.now))) }
+    ensures none { IfNone result ((c : Command) → IsCommand (codes "run") (rows_of (found_of found.now)) c → ⊥) }
+{
+    let Some(arch) = arch_in(found) else {
+        return None;
+    };
+    let Some(program) = text_in(found, "program") else {
+        return None;
+    };
+    let Some(records) = records_in(found, program) else {
+        return None;
+    };
+    Some(Command::Run {
+        arch,
+        records,
+        program,
+    })
+}
+
 // The command that the matches of `stats` are.
 fn stats_in<'a>(found: &ArgMatches<'a>) -> Option<Command<'a>>
     ensures some { IfSome result (IsCommand (codes "stats") (rows_of (found_of found.now))) }
@@ -153,6 +192,36 @@ fn record_in<'a>(found: &ArgMatches<'a>) -> Option<Command<'a>>
         arch,
         call,
         arguments,
+    })
+}
+
+// The command that the matches of `diff` are.
+fn diff_in<'a>(found: &ArgMatches<'a>) -> Option<Command<'a>>
+    ensures some { IfSome result (IsCommand (codes "diff") (rows_of (found_of found.now))) }
+    ensures none { IfNone result ((c : Command) → IsCommand (codes "diff") (rows_of (found_of found.now)) c → ⊥) }
+{
+    let Some(arch) = arch_in(found) else {
+        return None;
+    };
+    let Some(most) = most_in(found) else {
+        return None;
+    };
+    let Some(old) = text_in(found, "old") else {
+        return None;
+    };
+    let Some(new) = text_in(found, "new") else {
+        return None;
+    };
+    if old == "-" && new == "-" {
+        return None;
+    }
+    Some(Command::Diff {
+        arch,
+        filter: text_in(found, "filter"),
+        relation: relation_in(found),
+        most,
+        old,
+        new,
     })
 }
 
@@ -204,6 +273,45 @@ fn layout_in(found: &ArgMatches<'_>) -> Option<Layout>
     }
 }
 
+// The relation that is asked for.
+fn relation_in(found: &ArgMatches<'_>) -> Relation
+    ensures { IsRelation (rows_of (found_of found.now)) result }
+{
+    match text_in(found, "at-most") {
+        Some("true") => Relation::AtMostAsPermissive,
+        _ => Relation::Alike,
+    }
+}
+
+// The number of sets that `--most` gives.
+fn most_in(found: &ArgMatches<'_>) -> Option<usize>
+    ensures some { IfSome result (IsMost (rows_of (found_of found.now))) }
+    ensures none { IfNone result ((most : ℕ) → IsMost (rows_of (found_of found.now)) most → ⊥) }
+{
+    sets_in(most_text(found))
+}
+
+// The value of `--most`.
+fn most_text<'a>(found: &ArgMatches<'a>) -> &'a str
+    ensures { result.now ≡ unwrap_or (first_of (codes "most") (rows_of (found_of found.now))) [] }
+{
+    match text_in(found, "most") {
+        Some(text) => text,
+        None => "",
+    }
+}
+
+// The number that a text writes.
+fn sets_in(text: &str) -> Option<usize>
+    ensures some { IfSome result (IsNumber text.now) }
+    ensures none { IfNone result ((most : ℕ) → IsNumber text.now most → ⊥) }
+{
+    let Some(most) = read_number(text) else {
+        return None;
+    };
+    Some(most as usize)
+}
+
 // The arguments that the values of ARG write.
 fn arguments_in(found: &ArgMatches<'_>) -> Option<[u64; 6]>
     ensures some { IfSome result (AreArguments (given_arguments (rows_of (found_of found.now)))) }
@@ -215,7 +323,7 @@ fn arguments_in(found: &ArgMatches<'_>) -> Option<[u64; 6]>
     }
 }
 
-// The records that `explain` is asked about, beside a policy.
+// The records that are asked about, beside a policy or a program.
 fn records_in<'a>(found: &ArgMatches<'a>, policy: &str) -> Option<Records<'a>>
     ensures some { IfSome result (AreRecords (rows_of (found_of found.now)) policy.now) }
     ensures none { IfNone result ((records : Records) → AreRecords (rows_of (found_of found.now)) policy.now records → ⊥) }

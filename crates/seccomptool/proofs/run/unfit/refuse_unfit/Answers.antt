@@ -1,0 +1,23 @@
+use Rattle.std.proofs.Common.{ℕ, ◌<◌, ◌≤◌, List, length, get_or, arith}
+use Rattle.std.proofs.lemmas.Option.{slice_get-get_or, slice_get_within}
+use Rattle.seccompiler.specs.FirstUnfit.{IsUnfitAt, none, not_fine, too_many, no_return}
+use Rattle.seccompiler.specs.declared.bpf.sock_filter.{sock_filter}
+use Rattle.seccomptool.proofs.run.unfit.refuse_unfit.Goals as goal
+
+-- What is amiss in a program of some instructions is so at one of them.
+unfit_within : (program : List sock_filter) (place : ℕ) → 1 ≤ length program → IsUnfitAt program place → place < length program
+unfit_within program place some (none empty first) = absurd (omega arith)
+unfit_within program place some (not_fine i there broken) = slice_get_within program place i there
+unfit_within program place some (too_many here behind) = behind
+unfit_within program place some (no_return i there last other) = omega arith
+
+pub returns-in-Some-clause-unfit : goal.returns-in-Some-clause-unfit
+returns-in-Some-clause-unfit c =
+    let program = c.args.program.now in
+    let place = c.in-Some.place in
+    record {
+      first = c.in-Some.ensures.unfit;
+      instruction = get_or program place (record { code = 0; jt = 0; jf = 0; k = 0 });
+      there = slice_get-get_or program place _ (unfit_within program place c.requires.some c.in-Some.ensures.unfit.unfit);
+      is_amiss = c.amiss.ensures;
+    }

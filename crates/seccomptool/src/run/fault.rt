@@ -1,0 +1,70 @@
+// What is wrong with the bytes of a program.
+
+use std::{fmt, io};
+
+/// Why a program isn't run, in the order in which the faults are told.
+#[derive(Debug, Drop)]
+pub enum ProgramFault {
+    /// Its bytes can't be read.
+    Read(io::Error),
+    /// Its bytes end inside an instruction, after so many bytes of it, from 1 to 7.
+    Short(usize),
+    /// It has so many instructions: none, or more than 4096.
+    Length(usize),
+    /// Its instruction at this place, from 0, is the first that may not stand where it does.
+    Unfit(usize, Amiss),
+}
+
+/// Why an instruction may not stand where it does.
+#[derive(Clone, Copy, Debug)]
+pub enum Amiss {
+    /// Its code is this one, and none of the seven that `machine::run` knows.
+    Operation(u16),
+    /// It loads from a byte that is no multiple of 4, or lies behind byte 60: none of a record's words.
+    Load,
+    /// A place that it leads to lies behind the program's end.
+    Jump,
+    /// It is the last one, and doesn't return.
+    End,
+}
+
+/// The fault's text.
+impl fmt::Display for ProgramFault {
+    ghost use Rattle.std.specs.Prelude.{Some};
+    ghost use Rattle.seccomptool.specs.RunFaults.{fault_text};
+
+    ghost output = { λ fault. Some (fault_text fault) };
+
+    fn fmt<W: fmt::Write>(&self, f: &mut fmt::Formatter<W>) -> fmt::Result {
+        match self {
+            ProgramFault::Read(_) => f.write_str("Error reading input."),
+            ProgramFault::Short(rest) => {
+                write!(
+                    f,
+                    "The input ends inside an instruction, after {rest} bytes of it."
+                )
+            }
+            ProgramFault::Length(count) => {
+                write!(f, "expected 1 to 4096 instructions, found {count}")
+            }
+            ProgramFault::Unfit(place, amiss) => write!(f, "instruction {place}: {amiss}"),
+        }
+    }
+}
+
+/// What is amiss, in words.
+impl fmt::Display for Amiss {
+    ghost use Rattle.std.specs.Prelude.{Some};
+    ghost use Rattle.seccomptool.specs.RunFaults.{amiss_text};
+
+    ghost output = { λ amiss. Some (amiss_text amiss) };
+
+    fn fmt<W: fmt::Write>(&self, f: &mut fmt::Formatter<W>) -> fmt::Result {
+        match self {
+            Amiss::Operation(code) => write!(f, "unknown operation 0x{code:x}"),
+            Amiss::Load => f.write_str("load of no word of a call record"),
+            Amiss::Jump => f.write_str("jump behind the end"),
+            Amiss::End => f.write_str("no return at the end"),
+        }
+    }
+}

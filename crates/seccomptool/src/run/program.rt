@@ -1,0 +1,85 @@
+// The program that bytes are.
+
+ghost use Rattle.std.specs.Prelude.{◌≡◌, ◌≤◌, length, map, All, IfOk, IfErr, IfSome};
+ghost use Rattle.std.specs.List.{concat};
+ghost use Rattle.seccompiler.specs.Machine.{IsChecked, IsInRange};
+ghost use Rattle.seccompiler.specs.Reads.{Reads};
+ghost use Rattle.seccomptool.specs.Raw.{instruction_bytes};
+ghost use Rattle.seccomptool.specs.Run.{IsProgramOf, IsRefusedProgram};
+ghost use Rattle.seccomptool.specs.RunParts.{IsCutFault, IsReadRefusal};
+
+use crate::error::ToolError;
+use crate::run::fault::ProgramFault;
+use crate::run::unfit::refuse_unfit;
+use seccompiler::bpf::BPF_MAX_LEN;
+use seccompiler::{BpfProgram, sock_filter};
+use std::alloc::{AllocError, Global};
+use std::io::{ErrorKind, Read};
+
+// The program that a reader's bytes are, which may be run.
+pub(crate) fn program_of<P: Read + Drop>(alloc: Global, program: P) -> Result<BpfProgram, ToolError>
+    ensures program { IfOk result (λ read. Reads (P.remaining program) (λ bytes. IsProgramOf bytes read.items)) }
+    ensures checked { IfOk result (λ read. IsChecked read.items) }
+    ensures refused { IfErr result (IsRefusedProgram (P.remaining program)) }
+{
+    let bytes = read_bytes(alloc, program)?;
+    let program = instructions(alloc, cut(bytes.as_slice())?)?;
+    refuse_unfit(program.as_slice())?;
+    Ok(program)
+}
+
+// All bytes that the reader of a program gives.
+fn read_bytes<P: Read + Drop>(alloc: Global, mut program: P) -> Result<Vec<u8>, ToolError>
+    ensures bytes { IfOk result (λ bytes. IfSome (P.remaining program) (λ known. bytes.items ≡ known)) }
+    ensures refused { IfErr result IsReadRefusal }
+{
+    let mut bytes = Vec::new(alloc);
+    match program.read_to_end(&mut bytes) {
+        Ok(_) => Ok(bytes),
+        Err(error) if error.kind() == ErrorKind::OutOfMemory => Err(ToolError::OutOfMemory),
+        Err(error) => Err(ToolError::Program(ProgramFault::Read(error))),
+    }
+}
+
+// Bytes, cut into as many instructions as a program may have.
+fn cut(bytes: &[u8]) -> Result<&[[u8; 8]], ProgramFault>
+    ensures joined { IfOk result (λ pieces. concat pieces.now ≡ bytes.now) }
+    ensures some { IfOk result (λ pieces. 1 ≤ length pieces.now) }
+    ensures few { IfOk result (λ pieces. length pieces.now ≤ 4096) }
+    ensures fault { IfErr result (IsCutFault bytes.now) }
+{
+    let (pieces, rest) = bytes.as_chunks::<8>();
+    if !rest.is_empty() {
+        return Err(ProgramFault::Short(rest.len()));
+    }
+    if pieces.is_empty() || pieces.len() > BPF_MAX_LEN {
+        return Err(ProgramFault::Length(pieces.len()));
+    }
+    Ok(pieces)
+}
+
+// The instructions of these bytes.
+fn instructions(alloc: Global, pieces: &[[u8; 8]]) -> Result<BpfProgram, AllocError>
+    ensures bytes { IfOk result (λ program. map instruction_bytes program.items ≡ pieces.now) }
+    ensures ranges { IfOk result (λ program. All IsInRange program.items) }
+{
+    let mut program = Vec::with_capacity(alloc, pieces.len())?;
+    for piece in pieces {
+        program.push(instruction(piece))?;
+    }
+    Ok(program)
+}
+
+// The instruction of these bytes.
+fn instruction(bytes: &[u8; 8]) -> sock_filter
+    ensures bytes { instruction_bytes result ≡ bytes.now }
+    ensures range { IsInRange result }
+{
+    let [code0, code1, jt, jf, k0, k1, k2, k3] = *bytes;
+    sock_filter {
+        code: u16::from_le_bytes([code0, code1]),
+        jt,
+        jf,
+        k: u32::from_le_bytes([k0, k1, k2, k3]),
+    }
+}

@@ -1,0 +1,46 @@
+// The first instruction that keeps a program from being run.
+
+ghost use Rattle.std.specs.Prelude.{◌≤◌, length, IfOk, IfErr};
+ghost use Rattle.seccompiler.specs.Machine.{IsChecked};
+ghost use Rattle.seccomptool.specs.RunFaults.{IsAmiss};
+ghost use Rattle.seccomptool.specs.RunParts.{CantStand, IsUnfit};
+
+use crate::run::fault::{Amiss, ProgramFault};
+use crate::show::instruction::{JUMP, JUMP_AT_LEAST, JUMP_EQUAL, JUMP_GREATER, LOAD, MASK, RETURN};
+use seccompiler::machine::first_unfit;
+use seccompiler::{BpfProgramRef, sock_filter};
+
+// The byte of a record at which its last word begins.
+const LAST_WORD: u32 = 60;
+
+// Refuses a program that may not be run, by its first instruction that may not stand where it does.
+pub(crate) fn refuse_unfit(program: BpfProgramRef<'_>) -> Result<(), ProgramFault>
+    requires some { 1 ≤ length program.now }
+    requires few { length program.now ≤ 4096 }
+    ensures checked { IfOk result (λ done. IsChecked program.now) }
+    ensures unfit { IfErr result (IsUnfit program.now) }
+{
+    match first_unfit(program) {
+        None => Ok(()),
+        Some(place) => Err(ProgramFault::Unfit(place, amiss(program[place], place, program.len()))),
+    }
+}
+
+// Why an instruction may not stand at a place of a program of this length.
+fn amiss(instruction: sock_filter, place: usize, length: usize) -> Amiss
+    requires { CantStand instruction place length }
+    ensures { IsAmiss instruction place length result }
+{
+    let sock_filter {
+        code,
+        jt: _,
+        jf: _,
+        k,
+    } = instruction;
+    match code {
+        LOAD if k % 4 != 0 || k > LAST_WORD => Amiss::Load,
+        LOAD | MASK | RETURN => Amiss::End,
+        JUMP | JUMP_EQUAL | JUMP_GREATER | JUMP_AT_LEAST => Amiss::Jump,
+        _ => Amiss::Operation(code),
+    }
+}

@@ -1,0 +1,125 @@
+"""What `diff` has to do: the calls on which two policies differ, and the faults."""
+
+from program_cases import FRONTEND
+
+from .forms import CLOSED, FOLDER, FULL, INPUT, LOGS, MISSING, NO_OBJECT, OUTPUT, RESET, TOOL, Case, Failing
+
+READ = '{"syscall":"read"}'
+READ_OF_5 = '{"syscall":"read","args":[{"index":0,"type":"dword","op":"eq","val":5}]}'
+
+
+def policy(entries, default='"log"', match='"allow"', name="a"):
+    """Returns a policy of one filter."""
+    return f'{{"{name}":{{"mismatch_action":{default},"match_action":{match},"filter":[{entries}]}}}}'
+
+
+def filters(*names):
+    """Returns a policy whose filters have these names, and no entries."""
+    return "{" + ",".join(policy("", name=name)[1:-1] for name in names) + "}"
+
+
+FILES = {
+    "allows-read.json": policy(READ),
+    "allows-read-of-5.json": policy(READ_OF_5),
+    "errno-1.json": policy(READ, match='{"errno":1}'),
+    "errno-2.json": policy(READ, match='{"errno":2}'),
+    "traps.json": policy("", default='"trap"'),
+    "none.json": "{}",
+    "filters-b-a.json": filters("b", "a"),
+    "filters-c-a.json": filters("c", "a"),
+    "opens.json": policy('{"syscall":"open"}'),
+}
+
+SAME = "filter a: same\n"
+READS = "  read: log -> allow, more: read(0x0, 0x0, 0x0, 0x0, 0x0, 0x0)\n"
+READS_5 = "  read: log -> allow, more: read(0x5, 0x0, 0x0, 0x0, 0x0, 0x0)\n"
+NO_LONGER_READS = "  read: allow -> log, less: read(0x0, 0x0, 0x0, 0x0, 0x0, 0x0)\n"
+OTHER_ERRNO = "  read: errno 1 -> errno 2, otherwise: read(0x0, 0x0, 0x0, 0x0, 0x0, 0x0)\n"
+NAMES = "filter a: same\nfilter b: only in OLD\nfilter c: only in NEW\n"
+
+# The fault of `unknown-call.json`.
+UNKNOWN_CALL = FRONTEND + "Invalid syscall name: nosyscall for given arch: x86_64.\n"
+
+
+def same(words, output, given=""):
+    """Returns the case of policies of which nothing is found."""
+    return Case("diff " + words, 0, output, "", given)
+
+
+def differ(words, output, given=""):
+    """Returns the case of policies that differ."""
+    return Case("diff " + words, 1, output, "", given)
+
+
+def fails(words, told, place=TOOL, given=""):
+    """Returns the case of words that write no output and tell this line of a place."""
+    return Case("diff " + words, 2, "", place + told, given)
+
+
+def misused(words, told="error: .."):
+    """Returns the case of words that are no command."""
+    return Case("diff " + words, 2, "", told)
+
+
+CASES = [
+    # The same policy, and another of the same decisions.
+    same("logs.json logs.json", SAME),
+    same("- logs.json", SAME, LOGS),
+    same("logs.json -", SAME, LOGS),
+    same("-f a logs.json logs.json", SAME),
+    same("none.json none.json", ""),
+    # A call that the new policy lets through, and the way back.
+    differ("logs.json allows-read.json", "filter a: different\n" + READS),
+    differ("allows-read.json logs.json", "filter a: different\n" + NO_LONGER_READS),
+    differ("logs.json allows-read-of-5.json", "filter a: different\n" + READS_5),
+    differ("-a riscv64 logs.json allows-read.json", "filter a: different\n" + READS),
+    differ("errno-1.json errno-2.json", "filter a: different\n" + OTHER_ERRNO),
+    # Each call has a line where the default changes, and so has each range of numbers without a name.
+    differ("logs.json traps.json",
+           "filter a: different\n  read: log -> trap, less: read(0x0, 0x0, 0x0, 0x0, 0x0, 0x0)\n"
+           "  write: log -> trap, less: write(0x0, 0x0, 0x0, 0x0, 0x0, 0x0)\n.."),
+    # With `--at-most` a policy that permits less, or as much of another kind, is none that differs.
+    differ("--at-most logs.json allows-read.json", "filter a: more permissive\n" + READS),
+    same("--at-most allows-read.json logs.json", "filter a: nowhere more permissive\n"),
+    same("logs.json traps.json --at-most", "filter a: nowhere more permissive\n"),
+    same("--at-most errno-1.json errno-2.json", "filter a: nowhere more permissive\n"),
+    # Filters that one policy lacks, those of the old policy first; and one filter alone.
+    differ("filters-b-a.json filters-c-a.json", NAMES),
+    differ("--at-most logs.json none.json", "filter a: only in OLD\n"),
+    differ("-f b filters-b-a.json filters-c-a.json", "filter b: only in OLD\n"),
+    differ("--filter=c filters-b-a.json filters-c-a.json", "filter c: only in NEW\n"),
+    same("--filter=a filters-b-a.json filters-c-a.json", SAME),
+    # No set may be looked at, or few.
+    Case("diff --most 0 logs.json logs.json", 3, "filter a: undecided\n  read: undecided\n  write: undecided\n..", ""),
+    Case("diff --most=0x0 --at-most logs.json logs.json", 3, "filter a: undecided\n  read: undecided\n..", ""),
+    same("--most 0x10 logs.json logs.json", SAME),
+    # A filter that neither has.
+    fails("-f b logs.json logs.json", "No filter has this name: b.\n"),
+    # The faults of the old policy, and then those of the new one.
+    fails("missing.json logs.json", MISSING, TOOL + "missing.json: "),
+    fails("logs.json missing.json", MISSING, TOOL + "missing.json: "),
+    fails("examples logs.json", FOLDER, TOOL + "examples: "),
+    fails("logs.json examples", FOLDER, TOOL + "examples: "),
+    fails("- unknown-call.json", NO_OBJECT, INPUT, "[]"),
+    fails("logs.json unknown-call.json", UNKNOWN_CALL, TOOL + "unknown-call.json: "),
+    fails("unknown-call.json logs.json", UNKNOWN_CALL, TOOL + "unknown-call.json: "),
+    fails("-a aarch64 logs.json opens.json",
+          FRONTEND + "Invalid syscall name: open for given arch: aarch64.\n", TOOL + "opens.json: "),
+    fails("- logs.json", RESET, INPUT, Failing(LOGS)),
+    fails("logs.json -", RESET, INPUT, Failing(LOGS)),
+    # A filter that neither layout can hold.
+    fails("too-large.json too-large.json", "Backend error: The seccomp filter .."),
+    # An output that takes nothing.
+    fails("logs.json allows-read.json > /dev/full", FULL, OUTPUT),
+    fails("logs.json logs.json >&-", CLOSED, OUTPUT),
+    # Words that are no command.
+    misused("logs.json"),
+    misused("- -", "error: OLD and NEW can't both be read from standard input\n.."),
+    misused("--most 1a logs.json logs.json", 
+            "error: the value of --most is no number from 0 to 18446744073709551615, "
+            "decimal or hexadecimal behind 0x\n.."),
+    misused("--most=-1 logs.json logs.json"),
+    misused("--at-most=true logs.json logs.json"),
+    misused("--at-most --at-most logs.json logs.json"),
+    misused("logs.json logs.json logs.json"),
+]

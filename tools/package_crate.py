@@ -1,0 +1,101 @@
+"""The Rust crate of the package, tried where cargo is installed; a part of tools/check-package."""
+
+import pathlib
+import re
+import shutil
+import subprocess
+
+from package_forms import ENVIRONMENT, TOP, run
+
+# The project that takes the crate from the package, and the tests of the crate that want one of Debian's crates.
+PROJECT = """[package]
+name = "fresh"
+version = "0.1.0"
+edition = "2021"
+
+[dependencies]
+seccompiler = {{ version = "0.5.0", features = {features} }}
+{crates}
+[patch.crates-io]
+seccompiler = {{ path = "{crate}" }}
+"""
+CRATE = "share/seccompiler/rust/seccompiler"
+REGISTRY = pathlib.Path("/usr/share/cargo/registry")
+DEBIAN = f'[source.crates-io]\nreplace-with = "debian"\n[source.debian]\ndirectory = "{REGISTRY}"\n'
+WANTING = {"libc": ("libc", 'libc = "0.2"\n'), "deserialize": ("serde", 'serde = "1"\n')}
+IN_KERNEL = {"kernel", "threads"}
+
+
+def cargo_environment():
+    """Returns the environment for cargo, in which the kit isn't found, or None where cargo isn't installed."""
+    if shutil.which("rustc") is None:
+        return None
+    top = pathlib.Path(subprocess.check_output(["rustc", "--print", "sysroot"], text=True).strip())
+    path = f"{top / 'bin'}:{ENVIRONMENT['PATH']}"
+    return {"PATH": path} if shutil.which("cargo", path=path) else None
+
+
+def write_project(unpacked, place):
+    """Writes a project of cargo that takes the crate from the package, and runs those of its tests that can be run."""
+    there = {test: it for test, it in WANTING.items() if any(REGISTRY.glob(f"{it[0]}-[0-9]*"))}
+    (place / "src").mkdir(parents=True)
+    (place / ".cargo").mkdir()
+    (place / "src/lib.rs").write_text("")
+    features = '["json", "serde"]' if "deserialize" in there else '["json"]'
+    crates = "".join(line for _, line in there.values())
+    (place / "Cargo.toml").write_text(PROJECT.format(features=features, crates=crates, crate=unpacked / CRATE))
+    if there:
+        (place / ".cargo/config.toml").write_text(DEBIAN)
+    shutil.copytree(unpacked / CRATE / "tests", place / "tests")
+    for test in WANTING.keys() - there.keys():
+        print(f"Debian's crate {WANTING[test][0]} isn't installed, so the test {test} of the Rust crate isn't run")
+        (place / f"tests/{test}.rs").unlink()
+
+
+def check_alone(results, unpacked, folder, environment):
+    """Builds the crate alone: where the library is named, and where it isn't, and the crate says what to do."""
+    alone = folder / "alone"
+    shutil.copytree(unpacked / CRATE, alone)
+    # At the top of a project the crate wants all that any of its features takes.
+    manifest = re.sub(r'^(serde|libc) = [{"].*\n', "", (alone / "Cargo.toml").read_text(), flags=re.M)
+    manifest = manifest.replace('"dep:serde"', "")
+    (alone / "Cargo.toml").write_text(manifest)
+    named = {"SECCOMPILER_LIB": str(unpacked / "lib")}
+    out, err, status = run(["cargo", "build", "--offline"], alone, **environment, **named)
+    results.compare(f"the crate with a library that is named: {err[-500:]}", 0, status)
+    for more in ({}, {"SECCOMPILER_LIB": str(alone)}):
+        out, err, status = run(["cargo", "build", "--offline"], alone, **environment, **more)
+        found = "isn't found" in err and "SECCOMPILER_LIB" in err and "rt lib" in err, status
+        results.compare(f"the crate without a library: {err[-500:]}", (True, 101), found)
+
+
+def check_style(results, place, environment):
+    """Looks at the crate, its tests and the jailer over it by rustfmt and clippy, where they are installed."""
+    top = TOP / "rust/seccompiler"
+    sources = [it for part in ("*.rs", "src/*.rs", "tests/*.rs") for it in top.glob(part)]
+    sources += (TOP / "examples/jail-rs/src").glob("*.rs")
+    if shutil.which("rustfmt", path=environment["PATH"]):
+        found = run(["rustfmt", "--check", "--edition", "2021", *sources], place, **environment)
+        results.compare("rustfmt", ("", "", 0), found)
+    if shutil.which("cargo-clippy", path=environment["PATH"]):
+        for words in (["-p", "seccompiler"], ["--all-targets"]):
+            words = ["cargo", "clippy", "--offline", "--quiet", *words, "--", "-D", "warnings"]
+            results.compare(" ".join(words), ("", "", 0), run(words, place, **environment))
+
+
+def check_crate(results, unpacked, folder, why):
+    """Runs the tests of the Rust crate over the package."""
+    environment = cargo_environment()
+    if environment is None:
+        print("cargo isn't installed, so nothing is built over the Rust crate")
+        return
+    place, more = folder / "fresh", {**environment, "RUSTFLAGS": "-D warnings", "RUST_BACKTRACE": "0"}
+    write_project(unpacked, place)
+    for test in sorted(it.stem for it in (place / "tests").glob("*.rs")):
+        if why is not None and test in IN_KERNEL:
+            continue
+        out, err, status = run(["cargo", "test", "--offline", "--test", test], place, **more)
+        passed = re.search(r"^test result: ok\. [1-9]\d* passed; 0 failed; 0 ignored", out, re.M) is not None
+        results.compare(f"the crate's test {test}: {err[-500:]}{out[-1500:]}", (True, 0), (passed, status))
+    check_alone(results, unpacked, folder, more)
+    check_style(results, place, more)

@@ -1,5 +1,6 @@
 """What tools/try-jail runs: policies, commands, and what they have to answer."""
 
+import os
 import signal
 
 KILLED = -signal.SIGSYS
@@ -17,6 +18,11 @@ def when(call, *conditions):
     return {"syscall": call, "args": [dict(zip(names, it)) for it in conditions]}
 
 
+def answer_of(number):
+    """Returns what `call` prints of a call that fails with this error number, or returns 0."""
+    return f"errno {number}: {os.strerror(number)}\n" if number else "0\n"
+
+
 def denying(*entries):
     """Returns the filter that answers these entries with error number 1000 and allows the rest."""
     return filter_of({"errno": 1000}, "allow", *entries)
@@ -24,7 +30,15 @@ def denying(*entries):
 
 WIDE = 4294967298  # 2 to the 32, and 2: its low half is 2.
 FIONREAD = 0x541B  # A request of `ioctl` that a pipe answers, by EFAULT where its argument is 0.
+TIOCSTI = 0x5412  # A request of `ioctl` that types into a terminal.
 CALLS = denying("sched_yield")
+
+# Error numbers of a policy, and what a call returns for them. A program has 16 bits for the number, so a policy's
+# higher ones are cut off (SECCOMP_RET_DATA, seccomp(2)). The kernel takes 4095, MAX_ERRNO, for what is above it, and
+# answers 0 as a call that went well (__seccomp_filter in kernel/seccomp.c).
+LARGE_ERRNOS = {
+    4095: 4095, 4096: 4095, 65535: 4095, 65536: 0, 65537: 1, 65536 + 4096: 4095, 4294901760: 0, 4294967295: 4095,
+}
 
 # The policies of the cases. A text or bytes stand as they are, anything else as JSON.
 POLICIES = {
@@ -45,12 +59,16 @@ POLICIES = {
         ),
         "": CALLS,
         "errno 38": filter_of({"errno": 38}, "allow", "sched_yield"),
+        **{f"errno {it}": filter_of({"errno": it}, "allow", "getpid", "unlinkat") for it in LARGE_ERRNOS},
+        "TIOCSTI of 64 bits": denying(when("ioctl", (1, "qword", "eq", TIOCSTI))),
+        "TIOCSTI of 32 bits": denying(when("ioctl", (1, "dword", "eq", TIOCSTI))),
         "request of 64 bits": denying(when("ioctl", (1, "qword", "eq", FIONREAD))),
         "request of 32 bits": denying(when("ioctl", (1, "dword", "eq", FIONREAD))),
         "no execve": filter_of({"errno": 13}, "allow", "execve"),
         "no write": filter_of("kill_process", "allow", "write"),
         "no prctl": filter_of({"errno": 13}, "allow", "prctl"),
         "no seccomp": filter_of({"errno": 13}, "allow", "seccomp"),
+        "seccomp as if done": filter_of({"errno": 0}, "allow", "seccomp"),
         "no memory to read": filter_of({"errno": 12}, "allow", when("read", (0, "dword", "eq", 0))),
     },
     "empty": "",
@@ -69,6 +87,7 @@ POLICIES = {
 }
 
 INDEX = "The seccomp rule contains an invalid argument index. Maximum index value: 5"
+NO_FILTER = "No filter has this name: "
 PARSING = "Error parsing Json: .."
 LARGE = "The seccomp filter contains too many BPF instructions: {}. Max length is 4096."
 
@@ -86,16 +105,16 @@ REFUSED = [
     ("no-conditions.json", "a", "The condition vector of a rule cannot be empty."),
     ("index.json", "a", INDEX),
     ("equal-actions.json", "a", "`match_action` and `mismatch_action` are equal."),
-    ("no-filters.json", "a", "No filter has this name."),
-    ("no-filters.json", "", "No filter has this name."),
-    ("actions.json", b"\xff", "No filter has this name."),
+    ("no-filters.json", "a", NO_FILTER + "a."),
+    ("no-filters.json", "", NO_FILTER + "."),
+    ("actions.json", b"\xff", NO_FILTER + "\udcff."),
     # Names are parted at commas, and the command isn't run where one of them is no filter's.
-    ("comma.json", "a,b", "No filter has this name."),
-    ("comma.json", "a,", "No filter has this name."),
-    ("actions.json", "errno,dog", "No filter has this name."),
-    ("actions.json", "dog,errno", "No filter has this name."),
+    ("comma.json", "a,b", NO_FILTER + "b."),
+    ("comma.json", "a,", NO_FILTER + "."),
+    ("actions.json", "errno,dog", NO_FILTER + "dog."),
+    ("actions.json", "dog,errno", NO_FILTER + "dog."),
     # No filter is installed before the next is compiled: this one would kill the jailer, which writes the line.
-    ("actions.json", "no write,dog", "No filter has this name."),
+    ("actions.json", "no write,dog", NO_FILTER + "dog."),
     ("too-large.json", "a", LARGE),
 ]
 
@@ -104,6 +123,7 @@ CALLED = [
     ("errno", "sched_yield", "errno 1: Operation not permitted\n", 0),
     ("large errno", "sched_yield", "errno 1000: Unknown error 1000\n", 0),
     ("errno 0", "getpid", "0\n", 0),
+    *[(f"errno {it}", "getpid", answer_of(number), 0) for it, number in LARGE_ERRNOS.items()],
     ("kill_process", "sched_yield", "", KILLED),
     ("kill_thread", "sched_yield", "", KILLED),
     ("trap", "sched_yield", "", KILLED),
@@ -123,6 +143,10 @@ CALLED = [
     ("request of 64 bits", "ioctl 0 0x10000541b", "errno 14: Bad address\n", 0),
     ("request of 32 bits", "ioctl 0 0x541b", "errno 1000: Unknown error 1000\n", 0),
     ("request of 32 bits", "ioctl 0 0x10000541b", "errno 1000: Unknown error 1000\n", 0),
+    # So it is for what types into a terminal. Standard input is a pipe, which knows no such request.
+    ("TIOCSTI of 64 bits", "ioctl 0 0x5412", "errno 1000: Unknown error 1000\n", 0),
+    ("TIOCSTI of 64 bits", "ioctl 0 0x100005412", "errno 25: Inappropriate ioctl for device\n", 0),
+    ("TIOCSTI of 32 bits", "ioctl 0 0x100005412", "errno 1000: Unknown error 1000\n", 0),
     # Of several filters the strictest answer holds, and of error numbers that of the last filter.
     ("errno,errno 38", "sched_yield", "errno 38: Function not implemented\n", 0),
     ("errno 38,errno", "sched_yield", "errno 1: Operation not permitted\n", 0),
@@ -139,13 +163,20 @@ CALLED = [
     ("errno,", "sched_yield", "errno 1000: Unknown error 1000\n", 0),
     (",errno", "sched_yield", "errno 1: Operation not permitted\n", 0),
     ("errno,no seccomp", "sched_yield", "errno 1: Operation not permitted\n", 0),
+    # Where a filter answers `seccomp` with 0, the next one isn't installed, and neither jailer notices.
+    ("seccomp as if done,errno", "sched_yield", "0\n", 0),
 ]
 
-# Filters of actions.json that can't be installed one behind the other: what each jailer says that fails.
+# Filters of actions.json under which `unlinkat` is answered with 0, and nothing is done.
+FAKED = [f"errno {it}" for it, number in LARGE_ERRNOS.items() if number == 0]
+
+# Filters of actions.json that can't be installed one behind the other: the first that isn't, and the call that fails,
+# which the jailer in Rust names.
 UNINSTALLED = [
-    ("no seccomp,errno", {"jail": "installing", "jail-rs": "seccomp"}),
-    ("errno,no seccomp,errno 0", {"jail": "installing", "jail-rs": "seccomp"}),
-    ("no prctl,errno", {"jail": "installing", "jail-rs": "prctl"}),
+    ("no seccomp,errno", "errno", "seccomp"),
+    ("errno,no seccomp,errno 0,log", "errno 0", "seccomp"),
+    ("no prctl,errno", "errno", "prctl"),
+    ("no prctl,", "", "prctl"),
 ]
 
 # Other commands under a filter of actions.json: standard output, and the status.
@@ -176,6 +207,15 @@ UNRUN = [
     ("no execve", "{call}", 126, 13),
 ]
 
+# Calls of x86_64 that an entry stops, and the same of x32, whose numbers have one bit more: no entry stops these. A
+# kernel without x32 answers with ENOSYS, and one that has it makes the call, which returns 0.
+X32_BIT = 0x40000000
+X32_CALLS = {"sched_yield": 24, "unshare": 272}
+X32_ANSWERS = ["errno 38: Function not implemented\n", "0\n"]
+
+# A call that no table has yet, `open_tree_attr`: an entry can't stop it either. No kernel answers it with 1000.
+UNNAMED = 467
+
 # Under examples/cat-policy.json: what gives the same as without a filter, and calls with their answers.
 CAT_COMMANDS = [
     "cat numbers", "cat", "head -n 3 numbers", "tail -n 3 numbers", "wc numbers", "sort -r numbers",
@@ -202,6 +242,10 @@ CAT_CALLS = [
     ("clone 17", 1),
     ("kill 0 0", 1),
     ("unlink", 1),
+    # Numbers without a name, of which no list of what is allowed has one: `sched_yield` of x32, whose other number
+    # is allowed, and a newer call.
+    (str(X32_BIT + X32_CALLS["sched_yield"]), 1),
+    (str(UNNAMED), 1),
 ]
 
 # Under examples/web-server-policy.json, whose refusal is error number 38.
@@ -223,6 +267,9 @@ WEB_CALLS = [
     ("kill 0 0", 38),
 ]
 
+# What that policy doesn't tell apart from TCP: a socket of MPTCP. A kernel without it answers with another number.
+WEB_PASSED = "socket 2 1 262"
+
 # Under the filter `deny` of examples/deny-policy.json: what is refused, where the first argument is 0, a flag of a
 # namespace or, before a request, standard input; and what isn't.
 DENIED = [
@@ -239,16 +286,6 @@ DENIED = [
 NOT_DENIED = [
     ("openat 0 0 1", 14), ("socket 99", 97), ("kill 0x7fffffff", 3), ("ioctl 99 0x5413", 9), ("ioctl 99 0x541b", 9),
 ]
-
-# Numbers of x86_64 that no filter of this policy stops: that of `unshare` with the bit of the x32 calls, and a call
-# that the table has not got yet, `open_tree_attr`. A program for Python makes the call, and tells its error number.
-UNNAMED = [0x40000110, 467]
-UNNAMED_CALL = """
-import ctypes, sys
-library = ctypes.CDLL(None, use_errno=True)
-library.syscall(int(sys.argv[1]), 0, 0, 0, 0, 0, 0)
-print(ctypes.get_errno())
-"""
 
 # Under both filters of examples/deny-policy.json: a program for Python with a thread and a child.
 BUSY = """
@@ -269,50 +306,3 @@ WRAPPED_CALLS = [
     (["--add-seccomp-fd"] * 2, "sched_yield", 1001),
     (["--add-seccomp-fd"] * 2, "getpgid", 1000),
 ]
-
-# What stands around the lines of C that the pages show: they are handed a policy as text.
-AROUND = """
-#define _GNU_SOURCE
-#include <stdio.h>
-#include <unistd.h>
-
-LINES
-
-int main(int argc, char **argv)
-{
-    static char text[65536];
-    FILE *file = argc > 2 ? fopen(argv[1], "rb") : NULL;
-    size_t length = file != NULL ? fread(text, 1, sizeof text, file) : 0;
-
-    if (confine(text, length) != 0)
-        return 125;
-    execvp(argv[2], argv + 2);
-    return 126;
-}
-"""
-
-# A package of cargo, and what stands around the lines of Rust that the pages show.
-PACKAGE = """
-[package]
-name = "lines-rs"
-version = "0.1.0"
-edition = "2021"
-
-[dependencies]
-seccompiler = { path = "CRATE", features = ["json"] }
-
-[workspace]
-"""
-AROUND_RUST = """
-use seccompiler::{apply_filter_all_threads, compile_from_json};
-use std::env::consts::ARCH;
-use std::fs::File;
-use std::os::unix::process::CommandExt;
-use std::process::Command;
-use std::error;
-
-fn main() -> Result<(), Box<dyn error::Error>> {
-LINES
-    Err(error.into())
-}
-"""

@@ -9,7 +9,8 @@
  * Of several filters the kernel takes the strictest answer, and of several error numbers that of the
  * filter installed last. They are installed in the order in which they are named, so each but the last
  * has to allow `prctl` and `seccomp`. Names are parted at every comma: an empty one is a name too, and a
- * filter whose name holds a comma can't be named here.
+ * filter whose name holds a comma can't be named here. Where one answers `seccomp` with error number 0, the
+ * next one isn't installed, and nothing tells: the kernel's answer is the same.
  *
  * The command takes this process over, so its exit status is that of the command. Where it doesn't come
  * to that, a line on standard error says why, and the status is
@@ -53,10 +54,12 @@ struct policy {
     uint32_t layout;
 };
 
-/* What is to be installed: so many instructions of the array. */
+/* What is to be installed: so many instructions of the array, of the filter of this name. */
 struct program {
     struct sock_filter instructions[BPF_MAXINSNS];
     unsigned short length;
+    const char *name;
+    int name_length;
 };
 
 /* Says at what an error, whose number is in errno, stands in the way, and ends with this status. */
@@ -104,19 +107,21 @@ static struct text read_whole(const char *path)
     return text;
 }
 
-/* Compiles the filter of this name; where it is rejected, says why, and ends. */
-static void compile(const struct policy *policy, const char *name, size_t name_length,
-                    struct program *program)
+/* Compiles the filter that the program is named after; where it is rejected, says why, and ends. */
+static void compile(const struct policy *policy, struct program *program)
 {
     char reason[4097];
-    int64_t length = seccompiler_compile(policy->text.bytes, policy->text.length, ARCHITECTURE, name,
-                                         name_length, policy->layout, program->instructions,
-                                         BPF_MAXINSNS, reason, sizeof reason);
+    int64_t length = seccompiler_compile(policy->text.bytes, policy->text.length, ARCHITECTURE,
+                                         program->name, (size_t)program->name_length, policy->layout,
+                                         program->instructions, BPF_MAXINSNS, reason, sizeof reason);
 
-    if (length < 0) {
+    if (length == SECCOMPILER_NO_FILTER)
+        fprintf(stderr, "jail: %s: No filter has this name: %.*s.\n", policy->path, program->name_length,
+                program->name);
+    else if (length < 0)
         fprintf(stderr, "jail: %s: %s\n", policy->path, reason);
+    if (length < 0)
         exit(FAILED);
-    }
     program->length = (unsigned short)length;
 }
 
@@ -132,27 +137,35 @@ static struct program *compile_each(const struct policy *policy, const char *nam
     if (programs == NULL)
         fail(FAILED, policy->path);
     for (size_t k = 0; k < *count; k++) {
-        size_t length = strcspn(names, ",");
-
-        compile(policy, names, length, &programs[k]);
-        names += length + 1;
+        programs[k].name = names;
+        programs[k].name_length = (int)strcspn(names, ",");
+        compile(policy, &programs[k]);
+        names += programs[k].name_length + 1;
     }
     return programs;
 }
 
 /* Installs the program for all threads of this process, and rules new privileges out. */
-static void install(const struct program *program)
+static void install(const struct policy *policy, const struct program *program, const char *hint)
 {
     long answer = seccompiler_install(program->instructions, program->length, SECCOMP_FILTER_FLAG_TSYNC);
 
-    if (answer < 0) {
-        errno = (int)-answer;
-        fail(FAILED, "installing");
-    }
-    if (answer > 0) {
-        fprintf(stderr, "jail: installing: thread %ld has another filter\n", answer);
-        exit(FAILED);
-    }
+    if (answer == 0)
+        return;
+    fprintf(stderr, "jail: %s: installing %.*s: ", policy->path, program->name_length, program->name);
+    if (answer < 0)
+        fprintf(stderr, "%s%s\n", strerror((int)-answer), hint);
+    else
+        fprintf(stderr, "thread %ld has another filter\n", answer);
+    exit(FAILED);
+}
+
+/* Installs one program after the other. The filters that are installed hold for what installs the next. */
+static void install_each(const struct policy *policy, const struct program *programs, size_t count)
+{
+    for (size_t k = 0; k < count; k++)
+        install(policy, &programs[k],
+                k == 0 ? "" : "; each filter before it has to allow prctl and seccomp");
 }
 
 int main(int count, char **words)
@@ -174,8 +187,7 @@ int main(int count, char **words)
     policy.text = read_whole(policy.path);
     programs = compile_each(&policy, words[2], &program_count);
     free(policy.text.bytes);
-    for (size_t k = 0; k < program_count; k++)
-        install(&programs[k]);
+    install_each(&policy, programs, program_count);
     execvp(words[3], words + 3);
     fail(errno == ENOENT ? NOT_FOUND : CANNOT_RUN, words[3]);
 }

@@ -6,7 +6,8 @@
 //! where the command can't be run and 127 where there is none.
 //!
 //! The filters are installed in the order in which they are named, so each but the last has to allow
-//! `prctl` and `seccomp`. They hold for the last steps of this program already: it makes
+//! `prctl` and `seccomp`; where one answers `seccomp` with error number 0, the next one isn't installed,
+//! and nothing tells. They hold for the last steps of this program already: it makes
 //! `rt_sigprocmask`, `rt_sigaction` and `execve`, and where that fails, `write` and `exit_group`.
 
 #![forbid(unsafe_code)]
@@ -31,10 +32,10 @@ enum Failure {
     Policy(OsString, io::Error),
     /// The policy is rejected.
     Filter(OsString, seccompiler::Error),
-    /// The policy has no filter of one of the names.
-    NoFilter(OsString),
-    /// The kernel doesn't take one of the programs.
-    Install(seccompiler::Error),
+    /// The policy has no filter of this name.
+    NoFilter(OsString, OsString),
+    /// The kernel doesn't take the program of the filter of this name, and what it may take.
+    Install(OsString, OsString, seccompiler::Error, &'static str),
     /// The command can't be run.
     Command(OsString, io::Error),
 }
@@ -64,36 +65,60 @@ impl fmt::Display for Failure {
                 let told = told.unwrap_or_else(|| error.to_string());
                 write!(f, "jail-rs: {}: {told}", path.to_string_lossy())
             }
-            Failure::NoFilter(path) => {
-                let path = path.to_string_lossy();
-                write!(f, "jail-rs: {path}: No filter has this name.")
+            Failure::NoFilter(path, name) => {
+                let (path, name) = (path.to_string_lossy(), name.to_string_lossy());
+                write!(f, "jail-rs: {path}: No filter has this name: {name}.")
             }
-            Failure::Install(seccompiler::Error::Prctl(error)) => {
-                write!(f, "jail-rs: prctl: {error}")
+            Failure::Install(path, name, error, hint) => {
+                let (path, name) = (path.to_string_lossy(), name.to_string_lossy());
+                write!(f, "jail-rs: {path}: installing {name}: ")?;
+                match error {
+                    seccompiler::Error::Prctl(error) => write!(f, "prctl: {error}{hint}"),
+                    seccompiler::Error::Seccomp(error) => write!(f, "seccomp: {error}{hint}"),
+                    error => write!(f, "{error}"),
+                }
             }
-            Failure::Install(seccompiler::Error::Seccomp(error)) => {
-                write!(f, "jail-rs: seccomp: {error}")
-            }
-            Failure::Install(error) => write!(f, "jail-rs: {error}"),
         }
     }
 }
 
-/// Reads the policy, and returns the programs of the filters whose names stand between commas.
-fn compiled(path: OsString, names: &OsStr, layout: Layout) -> Result<Vec<BpfProgram>, Failure> {
-    let policy = match fs::read(&path) {
-        Ok(policy) => policy,
-        Err(error) => return Err(Failure::Policy(path, error)),
-    };
+/// Reads the policy, and returns the filters whose names stand between commas: names and programs.
+fn compiled(
+    path: &OsStr,
+    names: &OsStr,
+    layout: Layout,
+) -> Result<Vec<(OsString, BpfProgram)>, Failure> {
+    let policy = fs::read(path).map_err(|error| Failure::Policy(path.into(), error))?;
     let arch = ARCH.try_into().map_err(seccompiler::Error::Backend);
-    let programs = match arch.and_then(|arch| compile_from_json_in(&policy[..], arch, layout)) {
-        Ok(programs) => programs,
-        Err(error) => return Err(Failure::Filter(path, error)),
+    let programs = arch
+        .and_then(|arch| compile_from_json_in(&policy[..], arch, layout))
+        .map_err(|error| Failure::Filter(path.into(), error))?;
+    let named = |name: &[u8]| {
+        let program = str::from_utf8(name)
+            .ok()
+            .and_then(|name| programs.get(name));
+        let name = OsStr::from_bytes(name).to_owned();
+        match program {
+            Some(program) => Ok((name, program.clone())),
+            None => Err(Failure::NoFilter(path.into(), name)),
+        }
     };
-    let program = |name| programs.get(str::from_utf8(name).ok()?).cloned();
-    let names = names.as_bytes().split(|byte| *byte == b',');
-    let found: Option<_> = names.map(program).collect();
-    found.ok_or(Failure::NoFilter(path))
+    names
+        .as_bytes()
+        .split(|byte| *byte == b',')
+        .map(named)
+        .collect()
+}
+
+/// Installs the programs for all threads, one after the other. Each holds for what installs the next.
+fn install(path: &OsStr, programs: &[(OsString, BpfProgram)]) -> Result<(), Failure> {
+    let mut hint = "";
+    for (name, program) in programs {
+        apply_filter_all_threads(program)
+            .map_err(|error| Failure::Install(path.into(), name.clone(), error, hint))?;
+        hint = "; each filter before it has to allow prctl and seccomp";
+    }
+    Ok(())
 }
 
 /// Does what the words ask for. Where it goes well this program is gone, and the command in its place.
@@ -108,9 +133,7 @@ fn jail(mut words: impl Iterator<Item = OsString>) -> Result<(), Failure> {
         (Some(path), Some(names), Some(command)) => (path, names, command),
         _ => return Err(Failure::Words),
     };
-    for program in &compiled(path, &names, layout)? {
-        apply_filter_all_threads(program).map_err(Failure::Install)?;
-    }
+    install(&path, &compiled(&path, &names, layout)?)?;
     let error = Command::new(&command).args(words).exec();
     Err(Failure::Command(command, error))
 }

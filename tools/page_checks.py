@@ -13,7 +13,6 @@ usage: tools/page_checks.py [--long]
 - A table's cell has at most 200 characters, and README.md at most 1,000 words outside its blocks of code.
 - The picture in docs/ is what tools/make-picture makes of its source.
 
-The pages of LATER are still to be rewritten: of these only links, anchors and paths are looked at.
 Prints each difference, and as its last line 'N passed, M failed'. With --long it prints the sentences of more than
 30 words instead, which pages have few of.
 """
@@ -32,8 +31,7 @@ CELL = 200
 README_WORDS = 1000
 SENTENCE = 30
 
-# Pages that are still to be rewritten, and those that tell history.
-LATER = ("docs/C.md", "docs/DEFINITIONS.md", "docs/DEPENDING.md", "docs/JSON.md", "docs/TOOL.md")
+# The pages that tell history, which keep the terms and paths of their time.
 HISTORY = ("CHANGELOG.md",)
 
 LINK = re.compile(r"\[[^\]]*\]\(<?([^()\s>]+)>?\)|(?:src|srcset)=\"([^\"]+)\"")
@@ -146,7 +144,7 @@ def is_there(page, path):
 
 def compare_paths(results):
     """Looks up each path that stands in backticks."""
-    for page in (it for it in pages() if name_of(it) not in HISTORY):
+    for page in current():
         for number, line in lines_of(page):
             words = [word for span in CODE.findall(line) for word in span.strip("`").split()]
             for path in [it for word in words if looks_like_path(word) for it in spelled_out(word)]:
@@ -201,7 +199,7 @@ def compare_terms(results):
     results.compare("CONTRIBUTING.md: terms in its table 'Words'", (True,), (len(terms) > 9,))
     unwanted = re.compile(r"\b(" + "|".join(re.escape(it) for it in terms) + r")\b", re.I)
     table = section_of(TOP / "CONTRIBUTING.md", "Words")
-    for page in rewritten():
+    for page in current():
         used = []
         for number, line in lines_of(page):
             text = re.sub(r"(?i)exit status(es)?", "", LINK.sub("", CODE.sub("", line)))
@@ -209,14 +207,14 @@ def compare_terms(results):
         results.compare(f"{name_of(page)}: terms that pages don't use", ([],), (used,))
 
 
-def rewritten():
-    """Returns the pages whose text is looked at."""
-    return [it for it in pages() if name_of(it) not in (*LATER, *HISTORY)]
+def current():
+    """Returns the pages whose text is looked at: all but those of history."""
+    return [it for it in pages() if name_of(it) not in HISTORY]
 
 
 def compare_lengths(results):
     """Compares the lengths of the cells of tables, and of the README."""
-    for page in rewritten():
+    for page in current():
         rows = [(number, cell) for number, line in lines_of(page) for cell in cells_of(line)]
         long = [f"{number}: {cell}" for number, cell in rows if len(cell) > CELL]
         results.compare(f"{name_of(page)}: cells of more than {CELL} characters", ([],), (long,))
@@ -249,7 +247,7 @@ def sentences_of(page):
     for number, line in lines_of(page):
         text = CODE.sub("code", re.sub(r"\[([^\]]*)\]\([^)]*\)", r"\1", line))
         for part in re.split(r"\|", text) if text.startswith("|") else [text]:
-            sentences += [(number, it) for it in re.split(r"[.:;?!]\**\s+", part)]
+            sentences += [(number, it) for it in re.split(r"[.:;?!]\**\s+|\s·\s", part)]
     return sentences
 
 
@@ -269,7 +267,7 @@ class Results:
 
 def main():
     if sys.argv[1:] == ["--long"]:
-        for page in rewritten():
+        for page in current():
             for number, sentence in sentences_of(page):
                 if len(sentence.split()) > SENTENCE:
                     print(f"{name_of(page)}:{number}: {len(sentence.split())} words: {sentence}")

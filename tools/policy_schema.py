@@ -1,12 +1,14 @@
 """Whether docs/policy.schema.json says of the policies of all cases what the built programs do.
 
-Each policy that a case has accepted is valid, and each of which a case tells a wrong shape is not. The schema is then
+Each policy that a case has accepted is valid, and each of which a case reports a wrong shape is not. The schema is then
 changed in each of its words and numbers: there has to be a policy of which each changed one says something else.
+Prints how many policies and changes were tried, and how many policies were left out.
 
-What JSON Schema can't say, and so is asked of no policy: that a text is no JSON (UNPARSED), repeats a key, names no
-call of the architecture, has two equal actions, or takes too many instructions; and that a whole number is written
-with a fraction, an exponent or as -0, which JSON Schema takes for the same number. Without Python's `jsonschema`
-(Debian: python3-jsonschema) nothing is compared, which is said.
+What JSON Schema can't say, and so is asked of no policy: that a text is no JSON, repeats a key, names no call of the
+architecture, has two equal actions, or takes too many instructions; and that a whole number is written with a
+fraction, an exponent or as -0, which JSON Schema takes for the same number. The messages of these are UNSAID; one that
+is neither among them nor of a wrong shape is a difference, so that no policy is left out unseen. Without Python's
+`jsonschema` (Debian: python3-jsonschema) nothing is compared, which is said.
 """
 
 import copy
@@ -27,17 +29,34 @@ SCHEMA = TOP / "docs/policy.schema.json"
 # The command of seccompc that reads a policy from standard input, and the one that is given its file; and those of
 # seccomptool that read a policy, and their options that have a value behind them, and that ask for help.
 READING, GIVEN_A_FILE = "list", "run"
-OF_TOOL = ("compile", "show", "check", "explain", "stats", "compat")
-WITH_VALUES = ("-a", "--arch", "-f", "--filter", "-o", "--output", "--layout", "--records")
+OF_TOOL = ("compile", "show", "check", "explain", "stats", "diff", "compat")
+WITH_VALUES = ("-a", "--arch", "-f", "--filter", "-o", "--output", "--layout", "--most", "--records")
 HELP = ("-h", "--help")
 
-# What stands in front of what seccomptool tells: its name, and the policy's.
-IN_FRONT = re.compile(r"seccomptool: [^:]*: ")
+# What stands in front of what seccomptool reports: its name, and a file's where it is about one.
+IN_FRONT = re.compile(r"seccomptool: (standard (input|output): |[\w./-]+: )?")
 
-# What is told of a policy of wrong shape; by `check` with its place in front, but for the faults of LATER.
+# What is reported of a policy of wrong shape, as the library does.
 WRONG = tuple(FRONTEND + it for it in ("Json filter has a wrong shape: ", NO_OBJECT, INDEX, NO_CONDITIONS))
-OF_CHECK = re.compile(r"(.*: .* stands? here, and .* may|.*: `.*` is missing)\.\n", re.DOTALL)
-LATER = ("the name of a call of x86_64 may.\n", "two that differ may.\n", "one of at most 4096 may.\n")
+
+# What is reported of a policy or a command, and says nothing of the policy's shape.
+UNSAID = re.compile(
+    FRONTEND + r"(Error (parsing|reading) Json|Repeated key in Json\.|Invalid syscall name: |`match_action` and )"
+    r"|Backend error: (The seccomp filter |Invalid target arch: )"
+    r"|The input ends inside a record, |Error (reading input|writing output)\."
+    r"|No filter has this name: |Name one of its filters by --filter: |No call of \w+ has this name or number: "
+    r"|[A-Z][\w ]+ \(os error \d+\)\n|usage: |error: |$"
+)
+
+# What `check` reports behind a place: that the shape is wrong there; and what can only be found in one that is right.
+WRONG_AT = re.compile(
+    r'(expected .*, found .*|"[^"]*": unknown key; expected .*|missing "\w+"( or "\w+")?'
+    r'|expected one of "\w+" and "\w+", found both)\n'
+)
+UNSAID_AT = re.compile(
+    r'(unknown system call ".*" on \w+(; did you mean "\w+"\?)?|needs \d+ instructions in the linear layout; 4096 fit'
+    r"|expected two actions that differ, found the same one twice)\n"
+)
 
 # So much of a policy is shown of which the schema says something else.
 SHOWN = 200
@@ -78,7 +97,7 @@ def policy_of(case, files):
     """Returns the text of the policy that a case's command reads; None where it reads none, or reading fails."""
     words = [it or '""' for it in shlex.split(case.words)]
     name = None
-    if words[:1] == [GIVEN_A_FILE] and len(words) > 2:
+    if words[:1] == [GIVEN_A_FILE] and len(words) > 2 and not words[1].startswith("-") and ".bpf" not in words[1]:
         name = words[2]
     elif words[:1] == [READING]:
         name = "-"
@@ -91,11 +110,16 @@ def policy_of(case, files):
     return content_of(name.removeprefix("./"), files) if name is not None else None
 
 
-def is_wrong(case):
-    """Returns whether a case tells that its policy has a wrong shape."""
-    told = IN_FRONT.sub("", case.errors, count=1)
-    of_check = case.words.startswith("check") and OF_CHECK.fullmatch(told)
-    return told.startswith(WRONG) or (of_check and not told.endswith(LATER))
+def is_valid(case):
+    """Returns whether a case has its policy's shape right; None where it doesn't say that, and the message that says
+    something else where it is unknown."""
+    message = IN_FRONT.sub("", case.errors, count=1)
+    at_place = message.partition(": ")[2] if case.words.startswith("check") else ""
+    if case.status == 0 or (case.words.startswith("diff") and not case.errors):
+        return True
+    if UNSAID.match(message) or UNSAID_AT.fullmatch(at_place):
+        return None
+    return False if message.startswith(WRONG) or WRONG_AT.fullmatch(at_place) else message
 
 
 def has_loose_numbers(text):
@@ -107,17 +131,24 @@ def has_loose_numbers(text):
     return any(loose)
 
 
-def judged_policies():
-    """Returns the values of the policies of all cases and of the examples, each with whether it is valid; the
-    shortest first."""
+def judged_policies(results):
+    """Returns the values of the policies of all cases and of the examples, each with whether it is valid, the shortest
+    first; and how many others there are. Compares that no message is unknown."""
     tables = (FILES, seccompc_cases.FILES, seccomptool_cases.FILES)
     files = {name: content for table in tables for name, content in table.items()}
     judged = {path.read_bytes(): True for path in sorted((TOP / "examples").glob("*.json"))}
+    others = set()
     for case in (Case(*it) for it in (*CASES, *seccompc_cases.CASES, *seccomptool_cases.CASES)):
-        text = policy_of(case, files)
-        if text is not None and (case.status == 0 or is_wrong(case)) and not has_loose_numbers(text):
-            judged[text] = case.status == 0
-    return [(json.loads(it), judged[it]) for it in sorted(judged, key=len)]
+        text, valid = policy_of(case, files), is_valid(case)
+        if text is None:
+            continue
+        if isinstance(valid, str):
+            results.compare(f"{case.words}: a message that tools/policy_schema.py doesn't know", ("",), (valid,))
+        elif valid is None or has_loose_numbers(text):
+            others.add(text)
+        else:
+            judged[text] = valid
+    return [(json.loads(it), judged[it]) for it in sorted(judged, key=len)], len(others - set(judged))
 
 
 def places_of(value, place=()):
@@ -164,10 +195,14 @@ def compare_schema(results):
         return
     name, schema = SCHEMA.relative_to(TOP), json.loads(SCHEMA.read_text(encoding="utf-8"))
     Validator.check_schema(schema)
-    validator, judged = Validator(schema), judged_policies()
+    validator, (judged, others) = Validator(schema), judged_policies(results)
     for value, valid in judged:
         results.compare(f"{name} on {json.dumps(value)[:SHOWN]}", (valid,), (validator.is_valid(value),))
-    for what, other in changes_of(schema):
+    changes = list(changes_of(schema))
+    for what, other in changes:
         changed_one = Validator(other)
         shown = any(changed_one.is_valid(value) != valid for value, valid in judged)
         results.compare(f"{name} {what}: whether a policy shows it", (True,), (shown,))
+    accepted = sum(valid for _, valid in judged)
+    print(f"{name}: {len(judged)} policies tried, {accepted} of them accepted, and {len(changes)} changes of it;"
+          f" {others} policies left out, of whose shape no case says anything")

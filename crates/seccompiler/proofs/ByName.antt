@@ -1,5 +1,6 @@
 -- Look-ups by name in lists of values, in order or not, and what is made of such a list value by value.
-use Rattle.std.proofs.Common.{◌≡◌, ℕ, ◌++◌, List, [], ◌∷◌, true, false, cond, Option, Some, None, String, Global, Less, string_bytes, string_cmp, string_eq, bytes_eq, refl, sym, ap, ◌∙◌, subst, arith}
+use Rattle.std.proofs.Common.{◌≡◌, ℕ, ◌++◌, List, [], ◌∷◌, true, false, cond, Option, Some, None, String, Global, Less, string_bytes}
+use Rattle.std.proofs.Common.{string_cmp, string_eq, bytes_eq, refl, sym, ap, ◌∙◌, subst, arith}
 use Rattle.std.specs.BTreeMap.{BTreeMap, is_at}
 use Rattle.std.specs.BTreeMap as tree
 use Rattle.std.specs.HashMap.{HashMap}
@@ -26,7 +27,8 @@ module _ {X : Type 0} where
 
   -- What is found stands under a key of that name.
   key_of : (q : List ℕ) (xs : ByName X) (x : X) → under xs q ≡ Some x → (key : String Global) × (string_bytes key ≡ q)
-  key_of q xs x there = let place = place_from_lookup (λ key. bytes_eq q (string_bytes key)) xs x there in (place.1, sym ((bytes_eq-Decides q (string_bytes place.1)).0 place.3))
+  key_of q xs x there = let place = place_from_lookup (λ key. bytes_eq q (string_bytes key)) xs x there in
+      (place.1, sym ((bytes_eq-Decides q (string_bytes place.1)).0 place.3))
 
   -- An ordered map finds a name as a list does.
   pub by_text : (q : List ℕ) (xs : ByName X) → lookup (is_at (text_cmp q)) xs ≡ under xs q
@@ -46,11 +48,14 @@ module _ {X : Type 0} where
 
   -- In order, no name stands twice.
   once : (xs : ByName X) → AreInOrder xs → IsDistinct string_eq (keys_of xs)
-  once xs h = subst (λ e. IsDistinct e (keys_of xs)) (λ i x y. is_eq-slice_cmp (string_bytes x) (string_bytes y) i) (IsDistinct-from_sorted string_cmp (keys_of xs) h)
+  once xs h = subst (λ e. IsDistinct e (keys_of xs)) (λ i x y. is_eq-slice_cmp (string_bytes x) (string_bytes y) i)
+      (IsDistinct-from_sorted string_cmp (keys_of xs) h)
 
   -- Each value is found under its name.
-  pub found_there : (front : ByName X) (e : String Global × X) (back : ByName X) → AreInOrder (front ++ e ∷ back) → under (front ++ e ∷ back) (string_bytes e.0) ≡ Some e.1
-  found_there front e back h = lookup-from_Contains string_eq_equiv e.0 e.1 (front ++ e ∷ back) (once _ h) (Contains-append_right front (e ∷ back) e (0, omega arith, refl))
+  pub found_there : (front : ByName X) (e : String Global × X) (back : ByName X) → AreInOrder (front ++ e ∷ back)
+      → under (front ++ e ∷ back) (string_bytes e.0) ≡ Some e.1
+  found_there front e back h = lookup-from_Contains string_eq_equiv e.0 e.1 (front ++ e ∷ back)
+      (once _ h) (Contains-append_right front (e ∷ back) e (0, omega arith, refl))
 
   -- What is found under a name below another stands in front of that one.
   pub found_in_front : (front : ByName X) (e : String Global × X) (back : ByName X) → AreInOrder (front ++ e ∷ back)
@@ -58,13 +63,16 @@ module _ {X : Type 0} where
   found_in_front front e back h q x there less =
       let key = key_of q (front ++ e ∷ back) x there in
       let below : string_cmp key.0 e.0 ≡ Less = subst (λ r. IsBelow r (string_bytes e.0)) (sym key.1) less in
-      let none = sym (by_text (string_bytes key.0) (e ∷ back)) ∙ lookup-none (is_at (string_cmp key.0)) (e ∷ back) (none_below_head string_cmp_total key.0 e back (behind front (e ∷ back) h) below) in
+      let none = sym (by_text (string_bytes key.0) (e ∷ back))
+      ∙ lookup-none (is_at (string_cmp key.0)) (e ∷ back)
+      (none_below_head string_cmp_total key.0 e back (behind front (e ∷ back) h) below) in
       sym (in_front q front (e ∷ back) (subst (λ r. under (e ∷ back) r ≡ None) key.1 none)) ∙ there
 
   -- ---- in a map
 
   -- Where the same is found by each key, the same is found by each name.
-  same_by_name : (xs ys : ByName X) → ((key : String Global) → lookup (string_eq key) xs ≡ lookup (string_eq key) ys) → (q : List ℕ) → under xs q ≡ under ys q
+  same_by_name : (xs ys : ByName X) → ((key : String Global) → lookup (string_eq key) xs ≡ lookup (string_eq key) ys)
+      → (q : List ℕ) → under xs q ≡ under ys q
   same_by_name xs ys same q = by (under xs q) (under ys q) refl refl
     where
       at : (key : String Global) → string_bytes key ≡ q → under xs q ≡ under ys q
@@ -76,17 +84,21 @@ module _ {X : Type 0} where
       by None (Some y) e f = let key = key_of q ys y f in at key.0 key.1
 
   -- A map that is made of a list in order finds what the list has.
-  pub hashed : {S : Type 0} (xs : ByName X) (m : HashMap (String Global) X S) → AreInOrder xs → hash.IsFromIterResult string_eq xs m → (q : List ℕ) → hash.get_by_text m q ≡ under xs q
-  hashed xs m order made = same_by_name m.entries xs (λ key. made.0 key ∙ update_all_none string_eq_equiv string_eq (λ x y. refl) xs key (once xs order))
+  pub hashed : {S : Type 0} (xs : ByName X) (m : HashMap (String Global) X S) → AreInOrder xs
+      → hash.IsFromIterResult string_eq xs m → (q : List ℕ) → hash.get_by_text m q ≡ under xs q
+  hashed xs m order made = same_by_name m.entries xs (λ key. made.0 key
+      ∙ update_all_none string_eq_equiv string_eq (λ x y. refl) xs key (once xs order))
 
-  pub ordered : (xs : ByName X) (m : BTreeMap (String Global) X) → AreInOrder xs → tree.IsFromIterResult string_cmp xs m → (q : List ℕ) → tree.get_by_text m q ≡ under xs q
+  pub ordered : (xs : ByName X) (m : BTreeMap (String Global) X) → AreInOrder xs → tree.IsFromIterResult string_cmp xs m
+      → (q : List ℕ) → tree.get_by_text m q ≡ under xs q
   ordered xs m order made q = by_text q m.entries ∙ same_by_name m.entries xs found q
     where
       ties : (x y : String Global) → eq_by_cmp string_cmp x y ≡ string_eq x y
       ties x y = is_eq-slice_cmp (string_bytes x) (string_bytes y)
 
       found : (key : String Global) → lookup (string_eq key) m.entries ≡ lookup (string_eq key) xs
-      found key = sym (by_text (string_bytes key) m.entries) ∙ made.0 key ∙ update_all_none string_eq_equiv (eq_by_cmp string_cmp) ties xs key (once xs order)
+      found key = sym (by_text (string_bytes key) m.entries) ∙ made.0 key
+          ∙ update_all_none string_eq_equiv (eq_by_cmp string_cmp) ties xs key (once xs order)
 
   -- A map that is made of an ordered one finds what that has.
   pub rehashed : {S : Type 0} (n : BTreeMap (String Global) X) (m : HashMap (String Global) X S) → AreInOrder n.entries
@@ -100,7 +112,8 @@ abbrev pub AreMade : {X Y : Type 0} → (X → Y → Type 0) → ByName X → By
 AreMade R xs ys = AllZip (λ x y. (y.0 ≡ x.0) × R x.1 y.1) xs ys
 
 module _ {X Y : Type 0} (R : X → Y → Type 0) where
-  pub made_more : (xs : ByName X) (ys : ByName Y) (x : String Global × X) (y : String Global × Y) → AreMade R xs ys → y.0 ≡ x.0 → R x.1 y.1 → AreMade R (xs ++ x ∷ []) (ys ++ y ∷ [])
+  pub made_more : (xs : ByName X) (ys : ByName Y) (x : String Global × X) (y : String Global × Y)
+      → AreMade R xs ys → y.0 ≡ x.0 → R x.1 y.1 → AreMade R (xs ++ x ∷ []) (ys ++ y ∷ [])
   made_more [] [] x y h name made = ((name, made), tt)
   made_more [] (b ∷ ys) x y h name made = absurd h
   made_more (a ∷ xs) [] x y h name made = absurd h
@@ -116,12 +129,15 @@ module _ {X Y : Type 0} (R : X → Y → Type 0) where
   made_in_order xs ys h order = subst (IsStrictlySortedBy string_cmp) (sym (same_keys xs ys h)) order
 
   -- Under a name there is what is made of the value that is found; where none is found, there is nothing.
-  pub made_under : (xs : ByName X) (ys : ByName Y) → AreMade R xs ys → (q : List ℕ) → MatchOption (under xs q) (under ys q ≡ None) (λ x. (y : Y) × (under ys q ≡ Some y) × R x y)
+  pub made_under : (xs : ByName X) (ys : ByName Y) → AreMade R xs ys → (q : List ℕ)
+      → MatchOption (under xs q) (under ys q ≡ None) (λ x. (y : Y) × (under ys q ≡ Some y) × R x y)
   made_under [] [] h q = refl
   made_under [] (b ∷ ys) h q = absurd h
   made_under (a ∷ xs) [] h q = absurd h
   made_under (a ∷ xs) (b ∷ ys) h q =
-      rw h.0.0 (elim (bytes_eq q (string_bytes a.0)) as (λ t. MatchOption (cond t (Some a.1) (under xs q)) (cond t (Some b.1) (under ys q) ≡ None) (λ x. (y : Y) × (cond t (Some b.1) (under ys q) ≡ Some y) × R x y)) [
+      rw h.0.0 (elim (bytes_eq q (string_bytes a.0)) as
+      (λ t. MatchOption (cond t (Some a.1) (under xs q)) (cond t (Some b.1) (under ys q) ≡ None)
+      (λ x. (y : Y) × (cond t (Some b.1) (under ys q) ≡ Some y) × R x y)) [
         | true ↦ (b.1, refl, h.0.1)
         | false ↦ made_under xs ys h.1 q
       ])

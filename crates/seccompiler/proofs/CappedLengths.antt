@@ -1,5 +1,6 @@
 -- Lengths that stop at the greatest number that a machine's number holds.
-use Rattle.std.proofs.Common.{List, ℤ, refl, ◌++◌, map, Bor, Vec, Global, sum_by, ◌≡◌, ◌==◌, ℕ, ◌+◌, ◌<◌, ◌≤◌, [], ◌∷◌, length, get_or, take, min, false, sym, ap, ◌∙◌, arith}
+use Rattle.std.proofs.Common.{List, ℤ, refl, ◌++◌, map, Bor, Vec, Global, sum_by, ◌≡◌, ◌==◌, ℕ, ◌+◌, ◌<◌, ◌≤◌, [], ◌∷◌, length, get_or}
+use Rattle.std.proofs.Common.{take, min, false, sym, ap, ◌∙◌, arith}
 use Rattle.std.proofs.lemmas.List.{take_all}
 use Rattle.std.proofs.lemmas.List.Sums.{sum_by_more, sum_by_push, sum_by-cons}
 use Rattle.std.specs.Map.{values_of}
@@ -16,15 +17,18 @@ pub capped_rule : (m : ℕ) (chain : Chain) (i : ℕ) (rule : Rule) (so_far size
     → i < length chain → rule ≡ get_or chain i rule → so_far ≡ min (rules_length (take i chain)) m → size ≡ min (rule_length rule) m
     → both ≡ min (so_far + size) m → more ≡ min (both + 1) m → more ≡ min (rules_length (take (i + 1) chain)) m
 capped_rule m chain i rule so_far size both more within is first second third fourth =
-    let sum : rules_length (take (i + 1) chain) ≡ rules_length (take i chain) + (rule_length rule + 1) = sum_by_more (λ q. rule_length q + 1) chain i rule within ∙ ap (λ q. rules_length (take i chain) + (rule_length q + 1)) (sym is) in
+    let sum : rules_length (take (i + 1) chain) ≡ rules_length (take i chain) + (rule_length rule + 1) =
+    sum_by_more (λ q. rule_length q + 1) chain i rule within ∙ ap (λ q. rules_length (take i chain) + (rule_length q + 1)) (sym is) in
     rw (fourth, third, first, second, capped_sum m (rules_length (take i chain)) (rule_length rule)) (ap (λ n. min n m) (sym sum))
 
 -- All rules of a chain.
-pub capped_rules : (m : ℕ) (chain : Chain) (i so_far : ℕ) → length chain ≤ i → so_far ≡ min (rules_length (take i chain)) m → so_far ≡ min (rules_length chain) m
+pub capped_rules : (m : ℕ) (chain : Chain) (i so_far : ℕ) → length chain ≤ i → so_far ≡ min (rules_length (take i chain)) m
+    → so_far ≡ min (rules_length chain) m
 capped_rules m chain i so_far long first = first ∙ ap (λ rules. min (rules_length rules) m) (take_all i chain long)
 
 -- A chain that has some.
-pub capped_chain : (m : ℕ) (chain : Chain) (rules more : ℕ) → false ≡ (length chain == 0) → rules ≡ min (rules_length chain) m → more ≡ min (rules + 2) m → more ≡ min (chain_length chain) m
+pub capped_chain : (m : ℕ) (chain : Chain) (rules more : ℕ) → false ≡ (length chain == 0)
+    → rules ≡ min (rules_length chain) m → more ≡ min (rules + 2) m → more ≡ min (chain_length chain) m
 capped_chain m [] rules more some first second = cc
 capped_chain m (q ∷ chain) rules more some first second = second ∙ ap (λ n. min (n + 2) m) first ∙ omega arith
 
@@ -38,13 +42,16 @@ capped_sum_of_two m a b = omega arith
 
 -- One chain more.
 pub capped_chain_more : (m : ℕ) (lent : List (Bor (Vec Rule Global))) (chain : Bor (Vec Rule Global)) (rules : Chain) (so_far size more : ℕ)
-    → rules ≡ chain.now.items → so_far ≡ min (5 + lent_length lent) m → size ≡ min (chain_length rules) m → more ≡ min (so_far + size) m → more ≡ min (5 + lent_length (lent ++ chain ∷ [])) m
+    → rules ≡ chain.now.items → so_far ≡ min (5 + lent_length lent) m → size ≡ min (chain_length rules) m
+    → more ≡ min (so_far + size) m → more ≡ min (5 + lent_length (lent ++ chain ∷ [])) m
 capped_chain_more m lent chain rules so_far size more same first second third =
-    let sum : lent_length (lent ++ chain ∷ []) ≡ lent_length lent + chain_length chain.now.items = sum_by_push (λ c. chain_length c.now.items) lent chain in
+    let sum : lent_length (lent ++ chain ∷ []) ≡ lent_length lent + chain_length chain.now.items =
+    sum_by_push (λ c. chain_length c.now.items) lent chain in
     rw (third, first, second, same, capped_sum_of_two m (lent_length lent) (chain_length chain.now.items), sum) refl
 
 -- The chains that a map lends are its chains.
-lent_chains : (entries : List (ℤ × Vec Rule Global)) (lent : List (Bor (Vec Rule Global))) → map deref lent ≡ values_of entries → lent_length lent ≡ chains_length (chains_of entries)
+lent_chains : (entries : List (ℤ × Vec Rule Global)) (lent : List (Bor (Vec Rule Global)))
+    → map deref lent ≡ values_of entries → lent_length lent ≡ chains_length (chains_of entries)
 lent_chains [] [] same = refl
 lent_chains [] (chain ∷ lent) same = cc
 lent_chains (e ∷ entries) [] same = cc
@@ -57,7 +64,8 @@ lent_chains (e ∷ entries) (chain ∷ lent) same =
     ∙ sym (sum_by-cons (λ (c : ℤ × Chain). chain_length c.1) (e.0, e.1.items) (chains_of entries))
 
 -- The counted length of a filter that has chains is a sum.
-counted_with_chains : (entries : List (ℤ × Vec Rule Global)) → (length entries ≡ 0 → ⊥) → counted_length_of (chains_of entries) ≡ 5 + chains_length (chains_of entries)
+counted_with_chains : (entries : List (ℤ × Vec Rule Global)) → (length entries ≡ 0 → ⊥)
+    → counted_length_of (chains_of entries) ≡ 5 + chains_length (chains_of entries)
 counted_with_chains [] some = absurd (some refl)
 counted_with_chains (e ∷ entries) some = refl
 
@@ -68,12 +76,15 @@ counted_without_chains (e ∷ entries) none = absurd (omega arith)
 
 -- All chains of a filter that has some.
 pub capped_filter : (m : ℕ) (f : Filter) (entries : List (ℤ × Vec Rule Global)) (lent : List (Bor (Vec Rule Global))) (so_far : ℕ)
-    → chains_of entries ≡ f.chains → (length entries ≡ 0 → ⊥) → map deref lent ≡ values_of entries → so_far ≡ min (5 + lent_length lent) m → so_far ≡ min (counted_length f) m
+    → chains_of entries ≡ f.chains → (length entries ≡ 0 → ⊥) → map deref lent ≡ values_of entries
+    → so_far ≡ min (5 + lent_length lent) m → so_far ≡ min (counted_length f) m
 capped_filter m f entries lent so_far same some all first =
-    first ∙ ap (λ n. min (5 + n) m) (lent_chains entries lent all) ∙ ap (λ n. min n m) (sym (counted_with_chains entries some) ∙ ap counted_length_of same)
+    first ∙ ap (λ n. min (5 + n) m) (lent_chains entries lent all)
+    ∙ ap (λ n. min n m) (sym (counted_with_chains entries some) ∙ ap counted_length_of same)
 
 -- A filter that has none.
-pub empty_filter : (m : ℕ) (f : Filter) (entries : List (ℤ × Vec Rule Global)) → 4 ≤ m → chains_of entries ≡ f.chains → length entries ≡ 0 → 4 ≡ min (counted_length f) m
+pub empty_filter : (m : ℕ) (f : Filter) (entries : List (ℤ × Vec Rule Global)) → 4 ≤ m
+    → chains_of entries ≡ f.chains → length entries ≡ 0 → 4 ≡ min (counted_length f) m
 empty_filter m f entries large same none =
     let four : 4 ≡ min 4 m = omega arith in
     four ∙ ap (λ n. min n m) (sym (counted_without_chains entries none) ∙ ap counted_length_of same)

@@ -1,10 +1,12 @@
 -- Closed pieces: where the jumps of a piece lead, alone and inside a longer one.
-use Rattle.std.proofs.Common.{◌≡◌, ℕ, zero, suc, ◌+◌, ◌≤◌, ◌<◌, ◌^◌, List, [], ◌∷◌, ◌++◌, length, Some, sym, subst, arith, ◌⊎◌, inl, inr, ⊎_elim}
+use Rattle.std.proofs.Common.{◌≡◌, ℕ, zero, suc, ◌+◌, ◌≤◌, ◌<◌, ◌^◌, List, [], ◌∷◌, ◌++◌, length, Some, sym, subst, arith, ◌⊎◌, inl, inr}
+use Rattle.std.proofs.Common.{⊎_elim}
 use Rattle.std.specs.Prelude.{slice_get}
 use Rattle.seccompiler.specs.declared.bpf.sock_filter.{sock_filter}
 use Rattle.seccompiler.specs.Code.{jump}
 use Rattle.seccompiler.specs.Machine.{IsInRange, AreInRange}
-use Rattle.seccompiler.specs.Pieces.{IsInside, inside_load, inside_mask, inside_jump, inside_equal, inside_greater, inside_at_least, IsClosed}
+use Rattle.seccompiler.specs.Pieces.{IsInside, inside_load, inside_mask, inside_jump, inside_equal, inside_greater, inside_at_least}
+use Rattle.seccompiler.specs.Pieces.{IsClosed}
 
 -- an instruction further on, of a piece that leaves at most further on
 pub inside_shift : (i : sock_filter) (base place m m' : ℕ) → base + m ≤ m' → IsInside i place m → IsInside i (base + place) m'
@@ -16,7 +18,8 @@ inside_shift i base place m m' le (inside_greater c a b) = inside_greater c (ome
 inside_shift i base place m m' le (inside_at_least c a b) = inside_at_least c (omega arith) (omega arith)
 
 -- an element of two lists is one of the first or of the second
-pub get_split : (a b : List sock_filter) (k : ℕ) (i : sock_filter) → slice_get (a ++ b) k ≡ Some i → (slice_get a k ≡ Some i) ⊎ ((j : ℕ) × (k ≡ length a + j) × (slice_get b j ≡ Some i))
+pub get_split : (a b : List sock_filter) (k : ℕ) (i : sock_filter) → slice_get (a ++ b) k ≡ Some i
+    → (slice_get a k ≡ Some i) ⊎ ((j : ℕ) × (k ≡ length a + j) × (slice_get b j ≡ Some i))
 get_split [] b k i e = inr (k, omega arith, e)
 get_split (x ∷ a) b zero i e = inl e
 get_split (x ∷ a) b (suc k) i e =
@@ -40,7 +43,8 @@ abbrev pub EachInside : ℕ → ℕ → List sock_filter → Type 0
 EachInside place m [] = Unit {0}
 EachInside place m (i ∷ is) = IsInside i place m × EachInside (place + 1) m is
 
-each_at : (is : List sock_filter) (base m k : ℕ) (i : sock_filter) → EachInside base m is → slice_get is k ≡ Some i → IsInside i (base + k) m
+each_at : (is : List sock_filter) (base m k : ℕ) (i : sock_filter) → EachInside base m is
+    → slice_get is k ≡ Some i → IsInside i (base + k) m
 each_at [] base m k i h e = cc
 each_at (x ∷ is) base m zero i h e =
     let same : x ≡ i = cc in

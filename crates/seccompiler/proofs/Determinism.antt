@@ -4,7 +4,8 @@ use Rattle.std.proofs.lemmas.Bool.{cases_lt}
 use Rattle.std.specs.Prelude.{◌==◌, if◌then◌else◌}
 use Rattle.std.proofs.lemmas.Bool.Decides.{nat_tests}
 use Rattle.seccompiler.specs.declared.bpf.sock_filter.{sock_filter}
-use Rattle.seccompiler.specs.Machine.{word_at, Does, loads, masks, jumps, is_equal, is_not_equal, is_greater, is_not_greater, is_at_least, is_less, Step, Goes, stays, then_step, Ends}
+use Rattle.seccompiler.specs.Machine.{word_at, Does, loads, masks, jumps, is_equal, is_not_equal, is_greater, is_not_greater, is_at_least}
+use Rattle.seccompiler.specs.Machine.{is_less, Step, Goes, stays, then_step, Ends}
 
 -- Where an instruction leads.
 abbrev place_after : sock_filter → ℕ → ℕ → ℕ
@@ -56,7 +57,8 @@ does_not_return i r place a place' a' (is_at_least code _ _ _) = λ returns. ome
 does_not_return i r place a place' a' (is_less code _ _ _) = λ returns. omega arith
 
 -- A step from one place and accumulator leads to one place and accumulator.
-step_only : (p : List sock_filter) (r : List ℕ) {place a place' a' at b at' b' : ℕ} → Step p r place a place' a' → Step p r at b at' b' → place ≡ at → a ≡ b → (place' ≡ at') × (a' ≡ b')
+step_only : (p : List sock_filter) (r : List ℕ) {place a place' a' at b at' b' : ℕ} → Step p r place a place' a'
+    → Step p r at b at' b' → place ≡ at → a ≡ b → (place' ≡ at') × (a' ≡ b')
 step_only p r {place} {a} {place'} {a'} {at} {b} {at'} {b'} s t here with_same =
     let same : s.instruction ≡ t.instruction = cc (s.here, t.here) in
     let places = place_after-does s.instruction r place a place' a' s.does in
@@ -66,7 +68,8 @@ step_only p r {place} {a} {place'} {a'} {at} {b} {at'} {b'} s t here with_same =
     ((rw (same, here, with_same) at places) ∙ sym other_places, (rw (same, with_same) at accumulators) ∙ sym other_accumulators)
 
 -- So do equally many steps.
-goes_only : (p : List sock_filter) (r : List ℕ) {place a n place' a' m place'' a'' : ℕ} → Goes p r place a n place' a' → Goes p r place a m place'' a'' → n ≡ m → (place' ≡ place'') × (a' ≡ a'')
+goes_only : (p : List sock_filter) (r : List ℕ) {place a n place' a' m place'' a'' : ℕ}
+    → Goes p r place a n place' a' → Goes p r place a m place'' a'' → n ≡ m → (place' ≡ place'') × (a' ≡ a'')
 goes_only p r stays stays equally_many = (refl, refl)
 goes_only p r stays (then_step g s) equally_many = absurd (omega arith)
 goes_only p r (then_step g s) stays equally_many = absurd (omega arith)
@@ -84,7 +87,8 @@ record GoesOn (p : List sock_filter) (r : List ℕ) (place a n : ℕ) : Type 0 w
   step : Step p r place' a' place'' a''
 
 -- A run goes on after each lesser number of steps.
-goes_on_before : (p : List sock_filter) (r : List ℕ) {place a m place' a' : ℕ} (n : ℕ) → Goes p r place a m place' a' → n < m → GoesOn p r place a n
+goes_on_before : (p : List sock_filter) (r : List ℕ) {place a m place' a' : ℕ} (n : ℕ)
+    → Goes p r place a m place' a' → n < m → GoesOn p r place a n
 goes_on_before p r n stays fewer = absurd (omega arith)
 goes_on_before p r n (then_step {n = m} g s) fewer =
     ⊎_elim

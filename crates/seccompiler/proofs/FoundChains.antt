@@ -1,5 +1,6 @@
 -- What is found under a call number in chains with one more behind them, and the entries of a map of chains that are left.
-use Rattle.std.proofs.Common.{◌≡◌, ◌≢◌, ℕ, ℤ, pos, List, [], ◌∷◌, ◌++◌, Some, None, Bool, true, false, cond, refl, sym, ap, ◌∙◌, subst, arith, append_assoc, Vec, map}
+use Rattle.std.proofs.Common.{◌≡◌, ◌≢◌, ℕ, ℤ, pos, List, [], ◌∷◌, ◌++◌, Some, None, Bool, true, false, cond, refl, sym, ap, ◌∙◌, subst}
+use Rattle.std.proofs.Common.{arith, append_assoc, Vec, map}
 use Rattle.std.proofs.lemmas.List.Elements.{All-head, All-tail}
 use Rattle.std.proofs.lemmas.Bool.Decides.{nat_tests}
 use Rattle.std.specs.Prelude.{All}
@@ -19,28 +20,37 @@ at_other : (a n : ℕ) → a ≢ n → is_at (int_cmp (pos a)) (pos n) ≡ false
 at_other a n differs = grind (arith, nat_tests)
 
 -- a chain that is found is found with one more behind
-pub found_before : (chains : List Entry) (e : Entry) (a : ℕ) (chain : Chain) → chain_under chains a ≡ Some chain → chain_under (chains ++ e ∷ []) a ≡ Some chain
+pub found_before : (chains : List Entry) (e : Entry) (a : ℕ) (chain : Chain) → chain_under chains a ≡ Some chain
+    → chain_under (chains ++ e ∷ []) a ≡ Some chain
 found_before [] e a chain h = cc
 found_before (x ∷ chains) e a chain h = go (is_at (int_cmp (pos a)) x.0) h (found_before chains e a chain)
   where
-    go : (b : Bool) → cond b (Some x.1) (chain_under chains a) ≡ Some chain → (chain_under chains a ≡ Some chain → chain_under (chains ++ e ∷ []) a ≡ Some chain) → cond b (Some x.1) (chain_under (chains ++ e ∷ []) a) ≡ Some chain
+    go : (b : Bool) → cond b (Some x.1) (chain_under chains a) ≡ Some chain
+        → (chain_under chains a ≡ Some chain → chain_under (chains ++ e ∷ []) a ≡ Some chain)
+        → cond b (Some x.1) (chain_under (chains ++ e ∷ []) a) ≡ Some chain
     go true h rest = h
     go false h rest = rest h
 
 -- where none is found, the one behind is tried
-found_last : (chains : List Entry) (e : Entry) (a : ℕ) → chain_under chains a ≡ None → chain_under (chains ++ e ∷ []) a ≡ cond (is_at (int_cmp (pos a)) e.0) (Some e.1) None
+found_last : (chains : List Entry) (e : Entry) (a : ℕ) → chain_under chains a ≡ None
+    → chain_under (chains ++ e ∷ []) a ≡ cond (is_at (int_cmp (pos a)) e.0) (Some e.1) None
 found_last [] e a h = refl
 found_last (x ∷ chains) e a h = go (is_at (int_cmp (pos a)) x.0) h (found_last chains e a)
   where
-    go : (b : Bool) → cond b (Some x.1) (chain_under chains a) ≡ None → (chain_under chains a ≡ None → chain_under (chains ++ e ∷ []) a ≡ cond (is_at (int_cmp (pos a)) e.0) (Some e.1) None) → cond b (Some x.1) (chain_under (chains ++ e ∷ []) a) ≡ cond (is_at (int_cmp (pos a)) e.0) (Some e.1) None
+    go : (b : Bool) → cond b (Some x.1) (chain_under chains a) ≡ None
+        → (chain_under chains a ≡ None → chain_under (chains ++ e ∷ []) a ≡ cond (is_at (int_cmp (pos a)) e.0) (Some e.1) None)
+        → cond b (Some x.1) (chain_under (chains ++ e ∷ []) a) ≡ cond (is_at (int_cmp (pos a)) e.0) (Some e.1) None
     go true h rest = cc
     go false h rest = rest h
 
-pub last_same : (chains : List Entry) (a : ℕ) (chain : Chain) → chain_under chains a ≡ None → chain_under (chains ++ (pos a, chain) ∷ []) a ≡ Some chain
+pub last_same : (chains : List Entry) (a : ℕ) (chain : Chain) → chain_under chains a ≡ None
+    → chain_under (chains ++ (pos a, chain) ∷ []) a ≡ Some chain
 last_same chains a chain none = found_last chains (pos a, chain) a none ∙ ap (λ b. cond b (Some chain) None) (at_same a)
 
-pub last_other : (chains : List Entry) (a n : ℕ) (chain : Chain) → a ≢ n → chain_under chains a ≡ None → chain_under (chains ++ (pos n, chain) ∷ []) a ≡ None
-last_other chains a n chain differs none = found_last chains (pos n, chain) a none ∙ ap (λ b. cond b (Some chain) None) (at_other a n differs)
+pub last_other : (chains : List Entry) (a n : ℕ) (chain : Chain) → a ≢ n → chain_under chains a ≡ None
+    → chain_under (chains ++ (pos n, chain) ∷ []) a ≡ None
+last_other chains a n chain differs none = found_last chains (pos n, chain) a none
+    ∙ ap (λ b. cond b (Some chain) None) (at_other a n differs)
 
 abbrev pub MapEntry : Type 0
 MapEntry = ℤ × Vec Rule Global
@@ -50,10 +60,12 @@ key_of_rest : (done t : List MapEntry) (e : MapEntry) → All IsCallNumber (map 
 key_of_rest [] t e h = All-head IsCallNumber e.0 (map (λ (x : MapEntry). x.0) t) h
 key_of_rest (x ∷ done) t e h = key_of_rest done t e (All-tail IsCallNumber x.0 (map (λ (y : MapEntry). y.0) (done ++ e ∷ t)) h)
 
-pub key_fits : (entries done rest t : List MapEntry) (e : MapEntry) → rest ≡ e ∷ t → done ++ rest ≡ entries → All IsCallNumber (map (λ (x : MapEntry). x.0) entries) → IsCallNumber e.0
+pub key_fits : (entries done rest t : List MapEntry) (e : MapEntry) → rest ≡ e ∷ t → done ++ rest ≡ entries
+    → All IsCallNumber (map (λ (x : MapEntry). x.0) entries) → IsCallNumber e.0
 key_fits entries done rest t e er ee h =
     let same : done ++ e ∷ t ≡ entries = sym (ap (λ l. done ++ l) er) ∙ ee in
     key_of_rest done t e (subst (λ l. All IsCallNumber (map (λ (x : MapEntry). x.0) l)) (sym same) h)
 
-pub rest_step : (entries done rest t : List MapEntry) (e : MapEntry) → rest ≡ e ∷ t → done ++ rest ≡ entries → (done ++ e ∷ []) ++ t ≡ entries
+pub rest_step : (entries done rest t : List MapEntry) (e : MapEntry) → rest ≡ e ∷ t → done ++ rest ≡ entries
+    → (done ++ e ∷ []) ++ t ≡ entries
 rest_step entries done rest t e er ee = append_assoc done (e ∷ []) t ∙ sym (ap (λ l. done ++ l) er) ∙ ee

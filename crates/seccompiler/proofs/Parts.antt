@@ -1,10 +1,11 @@
 -- A list of which a part was written anew, and a list cut at an index.
-use Rattle.std.proofs.Common.{◌≡◌, ℕ, suc, ◌+◌, ◌-◌, ◌<◌, ◌≤◌, List, [], ◌∷◌, ◌++◌, length, get_or, set, take, drop, sym, ap, ◌∙◌, refl, length-drop, take-append-drop, append_assoc, subst, arith}
+use Rattle.std.proofs.Common.{◌≡◌, ℕ, suc, ◌+◌, ◌-◌, ◌<◌, ◌≤◌, List, [], ◌∷◌, ◌++◌, length, get_or, set, take, drop, sym, ap, ◌∙◌, refl}
+use Rattle.std.proofs.Common.{length-append, length-drop, take-append-drop, append_assoc, subst, arith}
 use Rattle.std.proofs.Math.ListN.{length-set}
 use Rattle.std.proofs.Math.Seq.{drop-cons, take-suc-set, take-append-add}
 use Rattle.std.proofs.lemmas.List.{take_all, take-append-le}
 use Rattle.std.proofs.lemmas.Slice.{take-put_mid}
-use lib.Seq.{length-take-le, drop_at}
+use lib.Seq.{length-take-le, drop_at, take_at}
 use borrow.Rule.Slice.PartMut.{put_mid, post_of, Post-is, same_len_mid}
 
 -- from the start of the part on, it has what was written, and then what it had behind the part
@@ -15,25 +16,32 @@ drop-written a e xs ys some within =
 
 -- a part has as many elements as its bounds say
 pub length-part : {X : Type 0} (a e : ℕ) (xs : List X) → a ≤ e → e ≤ length xs → length (take (e - a) (drop a xs)) ≡ e - a
-length-part a e xs some within = let left : e - a ≤ length (drop a xs) = omega (arith, length-drop a xs) in length-take-le (e - a) (drop a xs) left
+length-part a e xs some within = let left : e - a ≤ length (drop a xs) = omega (arith, length-drop a xs) in
+    length-take-le (e - a) (drop a xs) left
 
 -- up to one place behind the part, where one more element was set, it has what it had, what was written, and that element
-pub take-written : {X : Type 0} (a e : ℕ) (xs ys : List X) (x : X) → a ≤ e → e < length xs → length ys ≡ e - a → take (e + 1) (set (put_mid a (e - a) xs ys) e x) ≡ take a xs ++ (ys ++ x ∷ [])
+pub take-written : {X : Type 0} (a e : ℕ) (xs ys : List X) (x : X) → a ≤ e → e < length xs
+    → length ys ≡ e - a → take (e + 1) (set (put_mid a (e - a) xs ys) e x) ≡ take a xs ++ (ys ++ x ∷ [])
 take-written a e xs ys x some within long =
     let inside : a ≤ length xs = omega arith in
-    let here : e < length (put_mid a (e - a) xs ys) = omega (arith, same_len_mid a (e - a) xs ys (long ∙ sym (length-part a e xs some (omega arith)))) in
+    let here : e < length (put_mid a (e - a) xs ys) =
+    omega (arith, same_len_mid a (e - a) xs ys (long ∙ sym (length-part a e xs some (omega arith)))) in
     let z : e + 1 ≡ suc e = omega arith in
     let before = take-put_mid a (e - a) xs ys e (omega arith) inside in
-    ap (λ n. take n (set (put_mid a (e - a) xs ys) e x)) z ∙ take-suc-set (put_mid a (e - a) xs ys) e x here ∙ ap (λ l. l ++ x ∷ []) before ∙ append_assoc (take a xs) ys (x ∷ [])
+    ap (λ n. take n (set (put_mid a (e - a) xs ys) e x)) z ∙ take-suc-set (put_mid a (e - a) xs ys) e x here
+    ∙ ap (λ l. l ++ x ∷ []) before ∙ append_assoc (take a xs) ys (x ∷ [])
 
 -- a list, cut at an index
-pub around : {X : Type 0} (items : List X) (i : ℕ) (x : X) → i < length items → x ≡ get_or items i x → items ≡ take i items ++ x ∷ drop (i + 1) items
+pub around : {X : Type 0} (items : List X) (i : ℕ) (x : X) → i < length items → x ≡ get_or items i x
+    → items ≡ take i items ++ x ∷ drop (i + 1) items
 around items i x within is =
     let e : i + 1 ≡ suc i = omega arith in
-    sym (take-append-drop i items) ∙ ap (λ l. take i items ++ l) (drop-cons items i x within ∙ ap (λ y. y ∷ drop (suc i) items) (sym is) ∙ ap (λ n. x ∷ drop n items) (sym e))
+    sym (take-append-drop i items) ∙ ap (λ l. take i items ++ l) (drop-cons items i x within
+    ∙ ap (λ y. y ∷ drop (suc i) items) (sym is) ∙ ap (λ n. x ∷ drop n items) (sym e))
 
 -- up to a place of the part, it has what it had, and then what was written up to that place
-pub take-front : {X : Type 0} (a n : ℕ) (xs ys : List X) → a ≤ length xs → n ≤ length ys → take (a + n) (put_mid a (length xs - a) xs ys) ≡ take a xs ++ take n ys
+pub take-front : {X : Type 0} (a n : ℕ) (xs ys : List X) → a ≤ length xs → n ≤ length ys
+    → take (a + n) (put_mid a (length xs - a) xs ys) ≡ take a xs ++ take n ys
 take-front a n xs ys inside few =
     let behind = post_of a (length xs - a) xs in
     let at : length (take a xs) ≡ a = length-take-le a xs inside in
@@ -41,7 +49,8 @@ take-front a n xs ys inside few =
     (take-append-add (take a xs) (ys ++ behind) n ∙ ap (λ l. take a xs ++ l) (take-append-le n ys behind few))
 
 -- the front of a list whose first element was written, what lies behind it, and one more element behind n of these
-pub framed : {X : Type 0} (n : ℕ) (xs ys : List X) (x z : X) → length ys + 1 ≡ length xs → n < length ys → let first = set xs 0 x in take (1 + n + 1) (set (put_mid 1 (length first - 1) first ys) (1 + n) z) ≡ x ∷ (take n ys ++ z ∷ [])
+pub framed : {X : Type 0} (n : ℕ) (xs ys : List X) (x z : X) → length ys + 1 ≡ length xs → n < length ys → let first = set xs 0 x in
+    take (1 + n + 1) (set (put_mid 1 (length first - 1) first ys) (1 + n) z) ≡ x ∷ (take n ys ++ z ∷ [])
 framed n [] ys x z long few = absurd (omega arith)
 framed n (y ∷ xs) ys x z long few =
     let first = x ∷ xs in
@@ -49,10 +58,12 @@ framed n (y ∷ xs) ys x z long few =
     let count : length ys ≡ length first - 1 = omega arith in
     let same = same_len_mid 1 (length first - 1) first ys (count ∙ sym (length-part 1 (length first) first (omega arith) (omega arith))) in
     let one_more : 1 + n + 1 ≡ suc (1 + n) = omega arith in
-    ap (λ m. take m (set whole (1 + n) z)) one_more ∙ take-suc-set whole (1 + n) z (omega arith) ∙ ap (λ l. l ++ z ∷ []) (take-front 1 n first ys (omega arith) (omega arith))
+    ap (λ m. take m (set whole (1 + n) z)) one_more ∙ take-suc-set whole (1 + n) z (omega arith)
+    ∙ ap (λ l. l ++ z ∷ []) (take-front 1 n first ys (omega arith) (omega arith))
 
 -- a list of four elements of which three were written together, and then the last
-pub four-written : {X : Type 0} (front xs : List X) (a b c d : X) → front ≡ a ∷ b ∷ c ∷ [] → length xs ≡ 4 → set (front ++ drop 3 xs) 3 d ≡ a ∷ b ∷ c ∷ d ∷ []
+pub four-written : {X : Type 0} (front xs : List X) (a b c d : X) → front ≡ a ∷ b ∷ c ∷ []
+    → length xs ≡ 4 → set (front ++ drop 3 xs) 3 d ≡ a ∷ b ∷ c ∷ d ∷ []
 four-written front [] a b c d is long = absurd (omega arith)
 four-written front (x ∷ []) a b c d is long = absurd (omega arith)
 four-written front (x ∷ y ∷ []) a b c d is long = absurd (omega arith)
@@ -62,7 +73,8 @@ four-written front (x ∷ y ∷ z ∷ w ∷ v ∷ xs) a b c d is long = absurd (
 
 -- a list of which the first three elements were written together, then the fourth, what lies between it and the last, and the last
 pub headed : {X : Type 0} (front xs ys : List X) (a b c d z : X) → front ≡ a ∷ b ∷ c ∷ [] → length ys + 5 ≡ length xs
-    → let first = set (front ++ drop 3 xs) 3 d in set (put_mid 4 (length first - 1 - 4) first ys) (length first - 1) z ≡ a ∷ b ∷ c ∷ d ∷ (ys ++ z ∷ [])
+    → let first = set (front ++ drop 3 xs) 3 d in
+    set (put_mid 4 (length first - 1 - 4) first ys) (length first - 1) z ≡ a ∷ b ∷ c ∷ d ∷ (ys ++ z ∷ [])
 headed front [] ys a b c d z is long = absurd (omega arith)
 headed front (x ∷ []) ys a b c d z is long = absurd (omega arith)
 headed front (x ∷ y ∷ []) ys a b c d z is long = absurd (omega arith)
@@ -73,5 +85,26 @@ headed front (x ∷ y ∷ v ∷ w ∷ xs) ys a b c d z is long =
     let e : last + 1 ≡ length first = omega arith in
     let whole = set (put_mid 4 (last - 4) first ys) last z in
     let count : length ys ≡ last - 4 = omega arith in
-    let long_whole : length whole ≡ length first = length-set (put_mid 4 (last - 4) first ys) last z ∙ same_len_mid 4 (last - 4) first ys (count ∙ sym (length-part 4 last first (omega arith) (omega arith))) in
+    let long_whole : length whole ≡ length first = length-set (put_mid 4 (last - 4) first ys) last z
+    ∙ same_len_mid 4 (last - 4) first ys (count ∙ sym (length-part 4 last first (omega arith) (omega arith))) in
     rw is (sym (take_all (last + 1) whole (omega arith)) ∙ take-written 4 last first ys z (omega arith) (omega arith) count)
+
+-- a list whose last element was set
+pub last-written : {X : Type 0} (n : ℕ) (xs : List X) (z : X) → length xs ≡ n + 1 → set xs n z ≡ take n xs ++ z ∷ []
+last-written n xs z long =
+    sym (take_all (suc n) (set xs n z) (omega (arith, length-set xs n z))) ∙ take-suc-set xs n z (omega arith)
+
+-- up to an element that is set behind what was written in front, a list has what was written and that element
+pub front-written : {X : Type 0} (n : ℕ) (xs ys : List X) (x : X) → length ys ≡ n → n < length xs
+    → take (n + 1) (set (ys ++ drop n xs) n x) ≡ ys ++ x ∷ []
+front-written n xs ys x long within =
+    let one_more : n + 1 ≡ suc n = omega arith in
+    let here : n < length (ys ++ drop n xs) = omega (arith, length-append ys (drop n xs), length-drop n xs) in
+    ap (λ m. take m (set (ys ++ drop n xs) n x)) one_more ∙ take-suc-set (ys ++ drop n xs) n x here
+    ∙ ap (λ l. l ++ x ∷ []) (take_at ys (drop n xs) n long)
+
+-- a list of one element
+pub only_one : {X : Type 0} (xs : List X) (x : X) → length xs ≡ 1 → x ≡ get_or xs 0 x → xs ≡ x ∷ []
+only_one [] x one is = absurd (omega arith)
+only_one (y ∷ []) x one is = ap (λ z. z ∷ []) (sym is)
+only_one (y ∷ z ∷ xs) x one is = absurd (omega arith)

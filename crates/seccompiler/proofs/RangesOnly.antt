@@ -1,5 +1,6 @@
 -- Ranges of the same chains that are tight are the same.
-use Rattle.std.proofs.Common.{ℤ, ◌≡◌, ℕ, ◌+◌, ◌^◌, ◌<◌, ◌≤◌, List, [], ◌∷◌, Option, Some, None, true, false, refl, sym, ap, ap₂, ◌∙◌, subst, nat_le, ◌⊎◌, inl, inr, ⊎_elim, arith}
+use Rattle.std.proofs.Common.{ℤ, ◌≡◌, ℕ, ◌+◌, ◌^◌, ◌<◌, ◌≤◌, List, [], ◌∷◌, Option, Some, None, true, false, refl, sym, ap, ap₂, ◌∙◌, subst}
+use Rattle.std.proofs.Common.{nat_le, ◌⊎◌, inl, inr, ⊎_elim, arith}
 use Rattle.std.proofs.lemmas.Bool.{cases_lt}
 use Rattle.std.proofs.lemmas.Bool.Decides.{nat_tests}
 use Rattle.seccompiler.specs.Policy.{Chain}
@@ -25,13 +26,16 @@ from_next : (x y : Range) (ranges : List Range) (a : ℕ) → y.start ≤ a → 
 from_next x y ranges a over = let yes : nat_le y.start a ≡ true = grind (arith, nat_tests) in rw yes
 
 -- a range cannot follow where the other ranges still have the one before
-no_follow : (x x' y : Range) (ranges : List Range) → x.chain ≡ x'.chain → AscendsFrom x.start (y ∷ ranges) → y.start < 2 ^ 32 → Follows x y → (HasNoRules x.chain → found_in (y ∷ ranges) y.start ≡ x'.chain → ⊥)
+no_follow : (x x' y : Range) (ranges : List Range) → x.chain ≡ x'.chain
+    → AscendsFrom x.start (y ∷ ranges) → y.start < 2 ^ 32 → Follows x y
+    → (HasNoRules x.chain → found_in (y ∷ ranges) y.start ≡ x'.chain → ⊥)
 no_follow x x' y ranges same up small follows plain found = follows.0 plain (same ∙ sym found ∙ at_start y ranges up.1)
 
 equal_ranges : (x x' : Range) → x.start ≡ x'.start → x.chain ≡ x'.chain → x ≡ x'
 equal_ranges x x' s c = ap₂ (λ (n : ℕ) (found : Option Chain). let y : Range = record { start = n; chain = found } in y) s c
 
-only_tight : (x x' : Range) (one other : List Range) → x.start ≡ x'.start → AscendsFrom x.start one → AscendsFrom x'.start other → TightFrom x one → TightFrom x' other
+only_tight : (x x' : Range) (one other : List Range) → x.start ≡ x'.start → AscendsFrom x.start one
+    → AscendsFrom x'.start other → TightFrom x one → TightFrom x' other
     → ((a : ℕ) → x.start ≤ a → a < 2 ^ 32 → found_in (x ∷ one) a ≡ found_in (x' ∷ other) a) → x.start < 2 ^ 32 → x ∷ one ≡ x' ∷ other
 only_tight x x' [] [] start up up' tight tight' same small =
     let first : x ≡ x' = equal_ranges x x' start (same x.start (omega arith) small) in
@@ -39,7 +43,8 @@ only_tight x x' [] [] start up up' tight tight' same small =
 only_tight x x' (y ∷ one) [] start up up' tight tight' same small =
     let small_y : y.start < 2 ^ 32 = tight.1.0 in
     let chains : x.chain ≡ x'.chain = sym (before_next x y one x.start up.0) ∙ same x.start (omega arith) small in
-    let there : found_in (y ∷ one) y.start ≡ x'.chain = sym (from_next x y one y.start (omega arith)) ∙ same y.start (omega (arith, up.0)) small_y in
+    let there : found_in (y ∷ one) y.start ≡ x'.chain = sym (from_next x y one y.start (omega arith))
+    ∙ same y.start (omega (arith, up.0)) small_y in
     absurd (⊎_elim
     (λ plain. no_follow x x' y one chains up small_y tight.0 plain there)
     (λ rules. let last : x'.start + 1 ≡ 2 ^ 32 = tight' (λ p. rules (subst HasNoRules (sym chains) p)) in omega (arith, up.0))
@@ -47,7 +52,8 @@ only_tight x x' (y ∷ one) [] start up up' tight tight' same small =
 only_tight x x' [] (y ∷ other) start up up' tight tight' same small =
     let small_y : y.start < 2 ^ 32 = tight'.1.0 in
     let chains : x.chain ≡ x'.chain = same x.start (omega arith) small ∙ before_next x' y other x.start (omega (arith, up'.0)) in
-    let there : found_in (y ∷ other) y.start ≡ x.chain = sym (from_next x' y other y.start (omega arith)) ∙ sym (same y.start (omega (arith, up'.0)) small_y) in
+    let there : found_in (y ∷ other) y.start ≡ x.chain = sym (from_next x' y other y.start (omega arith))
+    ∙ sym (same y.start (omega (arith, up'.0)) small_y) in
     absurd (⊎_elim
     (λ plain. no_follow x' x y other (sym chains) up' small_y tight'.0 (subst HasNoRules chains plain) there)
     (λ rules. let last : x.start + 1 ≡ 2 ^ 32 = tight rules in omega (arith, up'.0))
@@ -55,7 +61,8 @@ only_tight x x' [] (y ∷ other) start up up' tight tight' same small =
 only_tight x x' (y ∷ one) (y' ∷ other) start up up' tight tight' same small =
     let small_y : y.start < 2 ^ 32 = tight.1.0 in
     let small_y' : y'.start < 2 ^ 32 = tight'.1.0 in
-    let chains : x.chain ≡ x'.chain = sym (before_next x y one x.start up.0) ∙ same x.start (omega arith) small ∙ before_next x' y' other x.start (omega (arith, up'.0)) in
+    let chains : x.chain ≡ x'.chain = sym (before_next x y one x.start up.0) ∙ same x.start (omega arith) small
+    ∙ before_next x' y' other x.start (omega (arith, up'.0)) in
     let equal : y.start ≡ y'.start =
     ⊎_elim
     (λ plain.
@@ -65,7 +72,8 @@ only_tight x x' (y ∷ one) (y' ∷ other) start up up' tight tight' same small 
     (λ le.
     ⊎_elim
     (λ lt. absurd (no_follow x' x y' other (sym chains) up' small_y' tight'.0 (subst HasNoRules chains plain)
-    (sym (from_next x' y' other y'.start (omega arith)) ∙ sym (same y'.start (omega (arith, up'.0)) small_y') ∙ before_next x y one y'.start lt)))
+    (sym (from_next x' y' other y'.start (omega arith)) ∙ sym (same y'.start (omega (arith, up'.0)) small_y')
+    ∙ before_next x y one y'.start lt)))
     (λ le'. omega arith)
     (cases_lt y'.start y.start))
     (cases_lt y.start y'.start))
@@ -80,4 +88,5 @@ pub only_ranges : (chains : List (ℤ × Chain)) (one other : List Range) → Ar
 only_ranges chains [] other h h' = absurd h.ascends
 only_ranges chains (x ∷ one) [] h h' = absurd h'.ascends
 only_ranges chains (x ∷ one) (x' ∷ other) h h' =
-    only_tight x x' one other (h.first ∙ sym h'.first) h.ascends h'.ascends h.tight.1 h'.tight.1 (λ a over fits. h.each a fits ∙ sym (h'.each a fits)) h.tight.0
+    only_tight x x' one other (h.first ∙ sym h'.first) h.ascends h'.ascends h.tight.1 h'.tight.1
+    (λ a over fits. h.each a fits ∙ sym (h'.each a fits)) h.tight.0

@@ -3,7 +3,8 @@ use Rattle.std.proofs.Common.{◌≡◌, ℕ, zero, suc, ◌+◌, ◌≤◌, Lis
 use Rattle.std.specs.Prelude.{slice_get}
 use Rattle.seccompiler.specs.declared.bpf.sock_filter.{sock_filter}
 use Rattle.seccompiler.specs.Pieces.{Leads}
-use Rattle.seccompiler.specs.Machine.{Does, loads, masks, jumps, is_equal, is_not_equal, is_greater, is_not_greater, is_at_least, is_less, Step, Goes, stays, then_step}
+use Rattle.seccompiler.specs.Machine.{Does, loads, masks, jumps, is_equal, is_not_equal, is_greater, is_not_greater, is_at_least, is_less}
+use Rattle.seccompiler.specs.Machine.{Step, Goes, stays, then_step}
 
 -- the piece stands in the program from this place on
 pub record Stands (p : List sock_filter) (base : ℕ) (piece : List sock_filter) : Type 0 where
@@ -23,7 +24,8 @@ get_before (x ∷ a) b zero i e = e
 get_before (x ∷ a) b (suc k) i e = get_before a b k i e
 
 -- an instruction does the same further on
-does_shift : (i : sock_filter) (r : List ℕ) (base place a place' a' : ℕ) → Does i r place a place' a' → Does i r (base + place) a (base + place') a'
+does_shift : (i : sock_filter) (r : List ℕ) (base place a place' a' : ℕ) → Does i r place a place' a'
+    → Does i r (base + place) a (base + place') a'
 does_shift i r base place a place' a' (loads c h e f) = loads c h (omega arith) f
 does_shift i r base place a place' a' (masks c e f) = masks c (omega arith) f
 does_shift i r base place a place' a' (jumps c e f) = jumps c (omega arith) f
@@ -46,7 +48,8 @@ does_later i r place a place' a' (is_not_greater c t e f) = omega arith
 does_later i r place a place' a' (is_at_least c t e f) = omega arith
 does_later i r place a place' a' (is_less c t e f) = omega arith
 
-step_shift : (p piece : List sock_filter) (r : List ℕ) (base : ℕ) {place a place' a' : ℕ} → Stands p base piece → Step piece r place a place' a' → Step p r (base + place) a (base + place') a'
+step_shift : (p piece : List sock_filter) (r : List ℕ) (base : ℕ) {place a place' a' : ℕ}
+    → Stands p base piece → Step piece r place a place' a' → Step p r (base + place) a (base + place') a'
 step_shift p piece r base {place} {a} {place'} {a'} s h = record {
   instruction = h.instruction;
   here = s.at place h.instruction h.here;
@@ -56,12 +59,14 @@ step_shift p piece r base {place} {a} {place'} {a'} s h = record {
 }
 
 -- the lemma on pieces
-pub goes_shift : (p piece : List sock_filter) (r : List ℕ) (base : ℕ) {place a n place' a' : ℕ} → Stands p base piece → Goes piece r place a n place' a' → Goes p r (base + place) a n (base + place') a'
+pub goes_shift : (p piece : List sock_filter) (r : List ℕ) (base : ℕ) {place a n place' a' : ℕ}
+    → Stands p base piece → Goes piece r place a n place' a' → Goes p r (base + place) a n (base + place') a'
 goes_shift p piece r base s stays = stays
 goes_shift p piece r base s (then_step g h) = then_step (goes_shift p piece r base s g) (step_shift p piece r base s h)
 
 -- one run after another
-pub goes_on : (p : List sock_filter) (r : List ℕ) {place a m place' a' n place'' a'' : ℕ} → Goes p r place a m place' a' → Goes p r place' a' n place'' a'' → Goes p r place a (m + n) place'' a''
+pub goes_on : (p : List sock_filter) (r : List ℕ) {place a m place' a' n place'' a'' : ℕ}
+    → Goes p r place a m place' a' → Goes p r place' a' n place'' a'' → Goes p r place a (m + n) place'' a''
 goes_on p r {place} {a} {m} {place'} {a'} g stays = let z : m + 0 ≡ m = omega arith in rw z g
 goes_on p r {m = m} g (then_step {n = n} f h) = let z : m + suc n ≡ suc (m + n) = omega arith in rw z (then_step (goes_on p r g f) h)
 
@@ -90,18 +95,27 @@ leads_first : (a b : List sock_filter) (r : List ℕ) (x s y : ℕ) → Leads a 
 leads_first a b r x s y h =
     let zx : 0 + x ≡ x = omega arith in
     let zy : 0 + y ≡ y = omega arith in
-    leads_from (a ++ b) r _ _ s y zx (leads_to (a ++ b) r _ s _ _ zy record { count = h.count; accumulator = h.accumulator; goes = goes_shift (a ++ b) a r 0 (stands_first a b) h.goes })
+    leads_from (a ++ b) r _ _ s y zx (leads_to (a ++ b) r _ s _ _ zy record {
+      count = h.count;
+      accumulator = h.accumulator;
+      goes = goes_shift (a ++ b) a r 0 (stands_first a b) h.goes;
+    })
 
 -- what the second does
 pub leads_second : (a b : List sock_filter) (r : List ℕ) (x s y : ℕ) → Leads b r x s y → Leads (a ++ b) r (length a + x) s (length a + y)
-leads_second a b r x s y h = record { count = h.count; accumulator = h.accumulator; goes = goes_shift (a ++ b) b r (length a) (stands_second a b) h.goes }
+leads_second a b r x s y h = record {
+  count = h.count;
+  accumulator = h.accumulator;
+  goes = goes_shift (a ++ b) b r (length a) (stands_second a b) h.goes;
+}
 
 -- the accumulator stays in its range
 pub stays_small : (p : List sock_filter) (r : List ℕ) {x a n y b : ℕ} → a < 2 ^ 32 → Goes p r x a n y b → b < 2 ^ 32
 stays_small p r h stays = h
 stays_small p r h (then_step g s) = s.after
 
-leads_on : (p : List sock_filter) (r : List ℕ) (x a y z : ℕ) → a < 2 ^ 32 → Leads p r x a y → ((b : ℕ) → b < 2 ^ 32 → Leads p r y b z) → Leads p r x a z
+leads_on : (p : List sock_filter) (r : List ℕ) (x a y z : ℕ) → a < 2 ^ 32 → Leads p r x a y
+    → ((b : ℕ) → b < 2 ^ 32 → Leads p r y b z) → Leads p r x a z
 leads_on p r x a y z small g f =
     let h = f g.accumulator (stays_small p r small g.goes) in
     record { count = g.count + h.count; accumulator = h.accumulator; goes = goes_on p r g.goes h.goes }
@@ -118,7 +132,8 @@ goes_front a b r (then_step {place' = place'} g h) = then_step (goes_front a b r
 }
 
 -- the first piece to its end, and then the second
-pub leads_through : (cc code : List sock_filter) (r : List ℕ) (a y : ℕ) (g : Leads cc r 0 a (length cc)) → Leads code r 0 g.accumulator y → Leads (cc ++ code) r 0 a (length cc + y)
+pub leads_through : (cc code : List sock_filter) (r : List ℕ) (a y : ℕ) (g : Leads cc r 0 a (length cc))
+    → Leads code r 0 g.accumulator y → Leads (cc ++ code) r 0 a (length cc + y)
 leads_through cc code r a y g h =
     let z : length cc + 0 ≡ length cc = omega arith in
     let k = leads_from (cc ++ code) r _ _ g.accumulator _ z (leads_second cc code r 0 g.accumulator y h) in
@@ -126,9 +141,11 @@ leads_through cc code r a y g h =
 
 -- what a first piece and then a run in a second do together
 module _ (cc code : List sock_filter) (r : List ℕ) where
-  pub leads_both : (a x y : ℕ) → a < 2 ^ 32 → Leads cc r 0 a (length cc + x) → ((b : ℕ) → b < 2 ^ 32 → Leads code r x b y) → Leads (cc ++ code) r 0 a (length cc + y)
+  pub leads_both : (a x y : ℕ) → a < 2 ^ 32 → Leads cc r 0 a (length cc + x) → ((b : ℕ) → b < 2 ^ 32 → Leads code r x b y)
+      → Leads (cc ++ code) r 0 a (length cc + y)
   leads_both a x y small g f =
-      leads_on (cc ++ code) r 0 a (length cc + x) (length cc + y) small (leads_first cc code r 0 a (length cc + x) g) (λ b fits. leads_second cc code r x b y (f b fits))
+      leads_on (cc ++ code) r 0 a (length cc + x) (length cc + y) small (leads_first cc code r 0 a (length cc + x) g)
+      (λ b fits. leads_second cc code r x b y (f b fits))
 
 -- one step and then a run
 pub via : (p : List sock_filter) (r : List ℕ) (x a y z : ℕ) → Step p r x a y a → Leads p r y a z → Leads p r x a z

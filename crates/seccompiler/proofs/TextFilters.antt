@@ -15,7 +15,8 @@ reads_some None P all = ([], tt, all [])
 reads_some (Some text) P all = (text, refl, all text)
 
 -- What is found under a name is that of the name's value.
-pub value_under : {X : Type 0} (P : Data → X → Type 0) (find : List ℕ → Option X) (d : Data) → AreFound P find d → (name : List ℕ) (x : X) → find name ≡ Some x → Under d name (λ value. P value x)
+pub value_under : {X : Type 0} (P : Data → X → Type 0) (find : List ℕ → Option X) (d : Data)
+    → AreFound P find d → (name : List ℕ) (x : X) → find name ≡ Some x → Under d name (λ value. P value x)
 value_under {X} P find d are name x there = by (get name d) refl
   where
     by : (o : Option Data) → get name d ≡ o → Under d name (λ value. P value x)

@@ -32,4 +32,5 @@ pub mask_halves : (x m : ℕ) → bit_and x m ≡ bit_and (x / 2 ^ 32) (m / 2 ^ 
 mask_halves x m =
     let ex : x ≡ x / 2 ^ 32 * 2 ^ 32 + x % 2 ^ 32 = omega arith in
     let em : m ≡ m / 2 ^ 32 * 2 ^ 32 + m % 2 ^ 32 = omega arith in
-    ap (λ n. bit_and n m) ex ∙ ap (λ n. bit_and (x / 2 ^ 32 * 2 ^ 32 + x % 2 ^ 32) n) em ∙ and_block 32 (x / 2 ^ 32) (m / 2 ^ 32) (x % 2 ^ 32) (m % 2 ^ 32) (omega arith) (omega arith)
+    ap (λ n. bit_and n m) ex ∙ ap (λ n. bit_and (x / 2 ^ 32 * 2 ^ 32 + x % 2 ^ 32) n) em
+    ∙ and_block 32 (x / 2 ^ 32) (m / 2 ^ 32) (x % 2 ^ 32) (m % 2 ^ 32) (omega arith) (omega arith)

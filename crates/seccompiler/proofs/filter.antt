@@ -1,4 +1,5 @@
 -- Lemmas for the functions of `filter`.
+pub mod Guarded
 pub mod WholeProgram
 pub mod FilterPlaces
 pub mod Chains

@@ -7,4 +7,5 @@ pub mod RangesMade
 pub mod RangesExist
 pub mod TreeLengths
 pub mod TreeCode
+pub mod RowPlaces
 pub mod TreePlaces

@@ -61,8 +61,10 @@ pub record IsChainCode (number : ℕ) (chain : Chain) (mismatch matched : ℕ) (
 -- What the code of chains does with a call number: it returns a word where there is a chain, and leaves at its end where
 -- there is none.
 pub data Dispatches (chains : List (ℤ × Chain)) (mismatch matched : ℕ) (code : List sock_filter) (r : List ℕ) (a : ℕ) : Type 0 where
-  in_chain : (chain : Chain) → chain_under chains a ≡ Some chain → ReturnsBy code matched mismatch r a (ChainMatches chain r) → Dispatches chains mismatch matched code r a
-  no_chain : chain_under chains a ≡ None → Goes code r 0 a (chains_steps chains) (length code) a → Dispatches chains mismatch matched code r a
+  in_chain : (chain : Chain) → chain_under chains a ≡ Some chain → ReturnsBy code matched mismatch r a (ChainMatches chain r)
+      → Dispatches chains mismatch matched code r a
+  no_chain : chain_under chains a ≡ None → Goes code r 0 a (chains_steps chains) (length code) a
+      → Dispatches chains mismatch matched code r a
 
 -- The code of the chains of a filter, entered with the call number in the accumulator.
 pub record IsChainsCode (chains : List (ℤ × Chain)) (mismatch matched : ℕ) (code : List sock_filter) : Type 0 where

@@ -32,7 +32,8 @@ comparison_code Qword Le low v d =
 comparison_code Qword Lt low v d =
     load (low + 4) ∷ jump_greater (v / 2 ^ 32) (d + 3) 0 ∷ jump_equal (v / 2 ^ 32) 0 2 ∷ load low ∷ jump_at_least (v % 2 ^ 32) d 0 ∷ []
 comparison_code Qword (MaskedEq m) low v d =
-    load (low + 4) ∷ mask (m / 2 ^ 32) ∷ jump_equal (bit_and (v / 2 ^ 32) (m / 2 ^ 32)) 0 (d + 3) ∷ load low ∷ mask (m % 2 ^ 32) ∷ jump_equal (bit_and (v % 2 ^ 32) (m % 2 ^ 32)) 0 d ∷ []
+    load (low + 4) ∷ mask (m / 2 ^ 32) ∷ jump_equal (bit_and (v / 2 ^ 32) (m / 2 ^ 32)) 0 (d + 3)
+    ∷ load low ∷ mask (m % 2 ^ 32) ∷ jump_equal (bit_and (v % 2 ^ 32) (m % 2 ^ 32)) 0 d ∷ []
 
 -- The code of a condition that leaves d places behind its end where it fails.
 abbrev pub condition_code : Condition → ℕ → List sock_filter

@@ -29,4 +29,5 @@ are_filters_equal f g =
 -- Two refusals of the backend are the same: they are equal, or both refuse an architecture's name, with the same bytes.
 pub data IsSameRefusal (x y : BackendError) : Type 0 where
   same : x ≡ y → IsSameRefusal x y
-  same_name : (s t : String Global) → x ≡ InvalidTargetArch s → y ≡ InvalidTargetArch t → string_bytes s ≡ string_bytes t → IsSameRefusal x y
+  same_name : (s t : String Global) → x ≡ InvalidTargetArch s → y ≡ InvalidTargetArch t
+      → string_bytes s ≡ string_bytes t → IsSameRefusal x y

@@ -6,7 +6,8 @@ use Rattle.std.proofs.Common.{sym, ap}
 use Rattle.std.proofs.lemmas.Bool.{true≢false}
 use Rattle.std.proofs.lemmas.Bool.Decides.{Decides-and}
 use Rattle.seccompiler.specs.declared.backend.BackendError.{BackendError}
-use Rattle.seccompiler.specs.declared.backend.BackendError.TheVariants.{EmptyRule, FilterTooLarge, IdenticalActions, InvalidArgumentNumber, InvalidTargetArch, InvalidSyscallNumber, OutOfMemory}
+use Rattle.seccompiler.specs.declared.backend.BackendError.TheVariants.{EmptyRule, FilterTooLarge, IdenticalActions, InvalidArgumentNumber}
+use Rattle.seccompiler.specs.declared.backend.BackendError.TheVariants.{InvalidTargetArch, InvalidSyscallNumber, OutOfMemory}
 use Rattle.seccompiler.specs.contracts.backend.BackendErrorPartialEq.TheImpl as refusal
 use Rattle.seccompiler.specs.contracts.backend.SeccompActionEqualByParts.TheImpl.Laws as action
 use Rattle.seccompiler.specs.contracts.backend.TargetArchEqualByParts.TheImpl.Laws as arch
@@ -29,7 +30,8 @@ pub filters_decide : (f g : Filter) → Decides (are_filters_equal f g) (f ≡ g
 filters_decide f g = through (are_filters_equal f g)
     (λ e. λ i. record { chains = e.0.0.0 i; mismatch_action = e.0.0.1 i; match_action = e.0.1 i; target_arch = e.1 i })
     (λ e. (((ap (λ h. h.chains) e, ap (λ h. h.mismatch_action) e), ap (λ h. h.match_action) e), ap (λ h. h.target_arch) e))
-    (Decides-and _ _ (Decides-and _ _ (Decides-and _ _ (pointwise_decides entries_decide f.chains g.chains) (action.decides-law _ _)) (action.decides-law _ _)) (arch.decides-law _ _))
+    (Decides-and _ _ (Decides-and _ _ (Decides-and _ _ (pointwise_decides entries_decide f.chains g.chains) (action.decides-law _ _))
+    (action.decides-law _ _)) (arch.decides-law _ _))
 
 -- Refusals that pass the test are the same.
 same_refusal : (x y : BackendError) → refusal.ghosts.eq x y ≡ true → IsSameRefusal x y

@@ -33,7 +33,8 @@ error_text (whole.Backend e) = Some (codes "Backend error: " ++ backend_text e)
 error_text whole.EmptyFilter = Some (codes "Cannot install empty filter.")
 error_text (whole.Prctl number) = Some (codes "Error calling `prctl`: " ++ signed_decimal number)
 error_text (whole.Seccomp number) = Some (codes "Error calling `seccomp`: " ++ signed_decimal number)
-error_text (whole.ThreadSync thread) = Some (codes "Seccomp filter synchronization failed in thread `" ++ signed_decimal thread ++ codes "`")
+error_text (whole.ThreadSync thread) =
+    Some (codes "Seccomp filter synchronization failed in thread `" ++ signed_decimal thread ++ codes "`")
 error_text (whole.JsonFrontend e) = option_map (λ text. codes "Json Frontend error: " ++ text) (json_text e)
 error_text whole.OutOfMemory = Some (codes "Out of memory.")
 

@@ -10,7 +10,8 @@ use Rattle.seccompiler.specs.JsonShape.{IsObject, IsFilter}
 use Rattle.seccompiler.specs.Policy.{Filter}
 use Rattle.seccompiler.specs.declared.backend.TargetArch.{TargetArch}
 use Rattle.seccompiler.specs.declared.json.error.JsonFrontendError.{JsonFrontendError}
-use Rattle.seccompiler.specs.declared.json.error.JsonFrontendError.TheVariants.{Backend, SerdeJson, SyscallName, Read, RepeatedKey, NotAnObject, Shape, OutOfMemory}
+use Rattle.seccompiler.specs.declared.json.error.JsonFrontendError.TheVariants.{Backend, SerdeJson, SyscallName, Read, RepeatedKey}
+use Rattle.seccompiler.specs.declared.json.error.JsonFrontendError.TheVariants.{NotAnObject, Shape, OutOfMemory}
 use Rattle.seccompiler.specs.JsonTypes.{JsonFilter}
 
 -- The bytes are UTF-8, and serde_json reads this value of them.
@@ -42,7 +43,8 @@ ArePoliciesOf arch = AreFound (HasPolicy arch)
 
 -- All values are filters; this is the first fault of one, and each name below its name has a policy.
 abbrev pub IsLeastRefused : TargetArch → Fault → Data → Type 0
-IsLeastRefused arch fault d = AreAll IsSomeFilter d × (name : List ℕ) × IsLeast (λ value. (f : JsonFilter) × IsFilter value f × IsFirstFault arch f fault) (HasSomePolicy arch) d name
+IsLeastRefused arch fault d = AreAll IsSomeFilter d × (name : List ℕ)
+    × IsLeast (λ value. (f : JsonFilter) × IsFilter value f × IsFirstFault arch f fault) (HasSomePolicy arch) d name
 
 -- The error tells what is at fault in the text, and nothing that comes earlier in the order of faults is: the bytes
 -- are no JSON; they have more colons than names; the top is no object; a filter has a wrong shape; a filter is refused. The least

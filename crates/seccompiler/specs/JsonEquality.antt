@@ -11,15 +11,18 @@ use Rattle.seccompiler.specs.contracts.json.types.JsonConditionPartialEq.TheImpl
 
 -- Whether two entries are equal: the bytes of their names, and their conditions, one by one.
 abbrev pub rule_eq : JsonRule → JsonRule → Bool
-rule_eq = eq_of_both (on (λ (r : JsonRule). r.syscall) (pointwise nat_eq)) (on (λ (r : JsonRule). r.conditions) (option_eq (pointwise condition.ghosts.eq)))
+rule_eq = eq_of_both (on (λ (r : JsonRule). r.syscall) (pointwise nat_eq))
+    (on (λ (r : JsonRule). r.conditions) (option_eq (pointwise condition.ghosts.eq)))
 
 -- Whether two filters are equal: their actions, and their entries, one by one.
 abbrev pub filter_eq : JsonFilter → JsonFilter → Bool
-filter_eq = eq_of_both (on (λ (f : JsonFilter). f.mismatch_action) action.ghosts.eq) (eq_of_both (on (λ (f : JsonFilter). f.match_action) action.ghosts.eq) (on (λ (f : JsonFilter). f.rules) (pointwise rule_eq)))
+filter_eq = eq_of_both (on (λ (f : JsonFilter). f.mismatch_action) action.ghosts.eq)
+    (eq_of_both (on (λ (f : JsonFilter). f.match_action) action.ghosts.eq) (on (λ (f : JsonFilter). f.rules) (pointwise rule_eq)))
 
 -- Whether two maps of filters have equal names and filters.
 abbrev pub filter_map_eq : JsonFilterMap → JsonFilterMap → Bool
-filter_map_eq = on (λ (m : JsonFilterMap). m.0.entries) (pointwise (λ (p q : String Global × JsonFilter). string_eq p.0 q.0 && filter_eq p.1 q.1))
+filter_map_eq = on (λ (m : JsonFilterMap). m.0.entries)
+    (pointwise (λ (p q : String Global × JsonFilter). string_eq p.0 q.0 && filter_eq p.1 q.1))
 
 -- A filter with its name, which is given by its bytes.
 abbrev pub Named : Type 0

@@ -42,7 +42,8 @@ chain_of false found = found
 
 -- The chains are those of what was gathered.
 pub record HasChains (gathered : Gathered) (chains : BTreeMap ℤ (Vec Rule Global)) : Type 0 where
-  pub each : (number : ℤ) → chain_at (chains_of chains.entries) number ≡ chain_of (contains int_cmp gathered.always number) (rules_at gathered number)
+  pub each : (number : ℤ) → chain_at (chains_of chains.entries) number
+      ≡ chain_of (contains int_cmp gathered.always number) (rules_at gathered number)
   pub ordered : IsOrdered int_cmp gathered.rules → IsOrdered int_cmp chains
 
 -- The numbers that were gathered of both kinds of entries.

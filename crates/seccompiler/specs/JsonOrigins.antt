@@ -26,7 +26,8 @@ indices_at origins number = option_map (λ v. v.items) (lookup (is_at (int_cmp n
 -- Under the number of each entry's call stand the indices of the entries with this number; under no other number
 -- there is anything.
 pub record AreOrigins (arch : TargetArch) (entries : List JsonRule) (origins : BTreeMap ℤ (Vec ℕ Global)) : Type 0 where
-  pub each : (number : ℤ) → Any (IsFor arch number) entries → (indices : List ℕ) × (indices_at origins number ≡ Some indices) × AreIndicesFor arch entries number indices
+  pub each : (number : ℤ) → Any (IsFor arch number) entries → (indices : List ℕ) × (indices_at origins number ≡ Some indices)
+      × AreIndicesFor arch entries number indices
   pub no_other : (number : ℤ) → (Any (IsFor arch number) entries → ⊥) → indices_at origins number ≡ None
 
 -- A number has indices exactly where it has a chain.

@@ -1,5 +1,6 @@
 -- Which filter is the policy of a JSON filter, and which fault is the first of one that has none.
-use Rattle.std.specs.Prelude.{◌≡◌, ◌≢◌, ◌≤◌, ◌<◌, ℤ, Bool, false, ◌&&◌, List, [], ◌∷◌, ◌++◌, Option, Some, None, All, Any, IfSome, map, if◌then◌else◌, ℕ}
+use Rattle.std.specs.Prelude.{◌≡◌, ◌≢◌, ◌≤◌, ◌<◌, ℤ, Bool, false, ◌&&◌, List, [], ◌∷◌, ◌++◌, Option, Some, None, All, Any, IfSome, map}
+use Rattle.std.specs.Prelude.{if◌then◌else◌, ℕ}
 use Rattle.std.specs.BTreeMap.{is_at}
 use Rattle.std.specs.List.{flat_map, list_any}
 use Rattle.std.specs.List.Sorted.{IsStrictlySortedBy}
@@ -118,4 +119,5 @@ pub record IsFirstOf (arch : TargetArch) (entries : List JsonRule) (fault : Faul
 -- that its two actions are equal.
 pub data IsFirstFault (arch : TargetArch) (j : JsonFilter) (fault : Fault) : Type 0 where
   in_entries : IsFirstOf arch j.rules fault → IsFirstFault arch j fault
-  in_actions : All (IsFineEntry arch) j.rules → j.mismatch_action ≡ j.match_action → fault ≡ refused IdenticalActions → IsFirstFault arch j fault
+  in_actions : All (IsFineEntry arch) j.rules → j.mismatch_action ≡ j.match_action → fault ≡ refused IdenticalActions
+      → IsFirstFault arch j fault

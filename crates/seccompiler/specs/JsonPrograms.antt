@@ -43,7 +43,8 @@ AreProgramsOf arch = AreFound (λ value program. IsProgramOf arch value program.
 -- All values have policies; one policy is too large, n telling its length, and no policy of a name below its name is.
 abbrev pub IsLeastTooLarge : TargetArch → ℕ → Data → Type 0
 IsLeastTooLarge arch n d = AreAll (HasSomePolicy arch) d × (name : List ℕ)
-    × IsLeast (λ value. (policy : Filter) × HasPolicy arch value policy × IsTooLarge policy n) (λ value. (policy : Filter) × HasPolicy arch value policy × IsCompilable policy) d name
+    × IsLeast (λ value. (policy : Filter) × HasPolicy arch value policy × IsTooLarge policy n)
+    (λ value. (policy : Filter) × HasPolicy arch value policy × IsCompilable policy) d name
 
 -- The error tells what is at fault in the text, and nothing that comes earlier in the order of faults is: all faults of
 -- the front end, and then the least name's policy that is too large. Want of memory may come in place of all.

@@ -120,7 +120,8 @@ IsOneAction _ _ action = ⊥
 
 -- The value is this filter: an object of its two actions, each under one of two names, and its entries.
 pub record IsFilter (d : Data) (f : JsonFilter) : Type 0 where
-  pub names : HasOnly d (codes "mismatch_action" ∷ codes "default_action" ∷ codes "match_action" ∷ codes "filter_action" ∷ codes "filter" ∷ [])
+  pub names : HasOnly d (codes "mismatch_action" ∷ codes "default_action" ∷ codes "match_action"
+      ∷ codes "filter_action" ∷ codes "filter" ∷ [])
   pub mismatch_action : IsOneAction (get (codes "mismatch_action") d) (get (codes "default_action") d) f.mismatch_action
   pub match_action : IsOneAction (get (codes "match_action") d) (get (codes "filter_action") d) f.match_action
   pub rules : Under d (codes "filter") (λ value. IsListOf IsEntry value f.rules)

@@ -68,7 +68,8 @@ ArePoliciesFor arch filters = AreMadeUnder (IsPolicyOf arch) (get_by_text filter
 
 -- Why not all of the filters have policies, as an error tells it: the first fault of the least name's that has none.
 abbrev pub IsLeastPolicyRefusal : TargetArch → JsonFilterMap → JsonFrontendError → Type 0
-IsLeastPolicyRefusal arch filters = Tells (λ fault. (name : List ℕ) × IsLeastGiven (λ f. IsFirstFault arch f fault) (IsFaultless arch) (get_by_text filters.0) name)
+IsLeastPolicyRefusal arch filters =
+    Tells (λ fault. (name : List ℕ) × IsLeastGiven (λ f. IsFirstFault arch f fault) (IsFaultless arch) (get_by_text filters.0) name)
 
 -- The call numbers of each policy that is found are those of a table.
 abbrev pub HaveTableNumbers : (List ℕ → Option Filter) → Type 0

@@ -27,4 +27,5 @@ MatchesOn numbers arch j = (now : Filter) → IsPolicyOf arch j now → (r : Lis
 
 -- Each record that the Rust crate's filter matches is matched by the policy.
 abbrev pub KeepsMatches : TargetArch → JsonFilter → Type 0
-KeepsMatches arch j = (before now : Filter) → IsPolicyBefore arch j before → IsPolicyOf arch j now → (r : List ℕ) → Matches before r → Matches now r
+KeepsMatches arch j = (before now : Filter) → IsPolicyBefore arch j before → IsPolicyOf arch j now
+    → (r : List ℕ) → Matches before r → Matches now r

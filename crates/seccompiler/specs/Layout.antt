@@ -50,7 +50,8 @@ pub record IsCutIntoGroups (q : List Condition) (groups : List (List Condition))
   pub joined : flat_map (λ group. group) groups ≡ q
   pub some : All (λ group. 1 ≤ length group) groups
   pub late : All ClosesLate groups
-  pub full : (front back : List (List Condition)) (group next : List Condition) → groups ≡ front ++ group ∷ next ∷ back → greatest_offset ≤ total_size group
+  pub full : (front back : List (List Condition)) (group next : List Condition) → groups ≡ front ++ group ∷ next ∷ back
+      → greatest_offset ≤ total_size group
 
 -- The groups of a group that is begun and the conditions behind it.
 abbrev pub groups_from : List Condition → List Condition → List (List Condition)

@@ -1,5 +1,6 @@
 -- Call records, the machine that runs a program on one, and the programs that a kernel takes.
-use Rattle.std.specs.Prelude.{◌≡◌, ℕ, zero, suc, ◌+◌, ◌*◌, ◌<◌, List, length, slice_index, All, ◌≢◌, ◌-◌, ◌^◌, ◌≤◌, Some, slice_get, bit_and, ◌%◌}
+use Rattle.std.specs.Prelude.{◌≡◌, ℕ, zero, suc, ◌+◌, ◌*◌, ◌<◌, List, length, slice_index, All, ◌≢◌, ◌-◌, ◌^◌, ◌≤◌, Some, slice_get}
+use Rattle.std.specs.Prelude.{bit_and, ◌%◌}
 use Rattle.seccompiler.specs.declared.bpf.sock_filter.{sock_filter}
 
 -- ---- call records
@@ -49,7 +50,8 @@ pub record Step (p : List sock_filter) (r : List ℕ) (place a place' a' : ℕ) 
 -- So many steps of a program, from a place and an accumulator to others.
 pub data Goes (p : List sock_filter) (r : List ℕ) : ℕ → ℕ → ℕ → ℕ → ℕ → Type 0 where
   stays : {place a : ℕ} → Goes p r place a zero place a
-  then_step : {place a n place' a' place'' a'' : ℕ} → Goes p r place a n place' a' → Step p r place' a' place'' a'' → Goes p r place a (suc n) place'' a''
+  then_step : {place a n place' a' place'' a'' : ℕ} → Goes p r place a n place' a' → Step p r place' a' place'' a''
+      → Goes p r place a (suc n) place'' a''
 
 -- The run from place 0 with accumulator 0 returns this word as its n-th step: the return is counted.
 pub record Ends (p : List sock_filter) (r : List ℕ) (n w : ℕ) : Type 0 where

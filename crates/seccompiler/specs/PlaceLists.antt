@@ -5,11 +5,15 @@ use Rattle.seccompiler.specs.declared.backend.SeccompCmpOp.TheVariants.{Eq, Mask
 use Rattle.seccompiler.specs.declared.backend.SeccompCmpArgLen.{SeccompCmpArgLen}
 use Rattle.seccompiler.specs.declared.backend.SeccompCmpArgLen.TheVariants.{Dword, Qword}
 use Rattle.seccompiler.specs.declared.layout.places.ConditionPlace.{ConditionPlace}
-use Rattle.seccompiler.specs.declared.layout.places.ConditionPlace.TheVariants.{LoadHigh, MaskHigh, TestHighGreater, TestHighEqual, LoadLow, MaskLow, TestLow}
+use Rattle.seccompiler.specs.declared.layout.places.ConditionPlace.TheVariants.{LoadHigh, MaskHigh, TestHighGreater, TestHighEqual, LoadLow}
+use Rattle.seccompiler.specs.declared.layout.places.ConditionPlace.TheVariants.{MaskLow, TestLow}
 use Rattle.seccompiler.specs.declared.layout.places.RulePlace.{RulePlace}
-use Rattle.seccompiler.specs.declared.layout.places.RulePlace.TheVariants.{ToConditions, PastRule, OfCondition, RelayToConditions, RelayToExit, RelayPastRule}
+use Rattle.seccompiler.specs.declared.layout.places.RulePlace.TheVariants.{ToConditions, PastRule, OfCondition, RelayToConditions}
+use Rattle.seccompiler.specs.declared.layout.places.RulePlace.TheVariants.{RelayToExit, RelayPastRule}
 use Rattle.seccompiler.specs.declared.layout.places.Place.{Place}
-use Rattle.seccompiler.specs.declared.layout.places.Place.TheVariants.{LoadArchitecture, TestArchitecture, OtherArchitecture, LoadNumber, TestNumber, ToMatch, PastMatch, OfRule, RuleHolds, CallMatches, CallDiffers, OthersDiffer}
+use Rattle.seccompiler.specs.declared.layout.places.Place.TheVariants.{LoadArchitecture, TestArchitecture, OtherArchitecture, LoadNumber}
+use Rattle.seccompiler.specs.declared.layout.places.Place.TheVariants.{TestNumber, ToMatch, PastMatch, OfRule, RuleHolds, CallMatches}
+use Rattle.seccompiler.specs.declared.layout.places.Place.TheVariants.{CallDiffers, OthersDiffer}
 use Rattle.seccompiler.specs.Policy.{Condition, size_of, word_of, Rule, Chain, Filter}
 use Rattle.seccompiler.specs.Relay.{offset_behind}
 use Rattle.seccompiler.specs.Layout.{greatest_offset}

@@ -5,11 +5,15 @@ use Rattle.seccompiler.specs.declared.backend.SeccompCmpOp.{SeccompCmpOp}
 use Rattle.seccompiler.specs.declared.backend.SeccompCmpOp.TheVariants.{Eq, Ge, Gt, Le, Lt, MaskedEq, Ne}
 use Rattle.seccompiler.specs.declared.bpf.sock_filter.{sock_filter}
 use Rattle.seccompiler.specs.declared.layout.places.ConditionPlace.{ConditionPlace}
-use Rattle.seccompiler.specs.declared.layout.places.ConditionPlace.TheVariants.{LoadHigh, MaskHigh, TestHighGreater, TestHighEqual, LoadLow, MaskLow, TestLow}
+use Rattle.seccompiler.specs.declared.layout.places.ConditionPlace.TheVariants.{LoadHigh, MaskHigh, TestHighGreater, TestHighEqual, LoadLow}
+use Rattle.seccompiler.specs.declared.layout.places.ConditionPlace.TheVariants.{MaskLow, TestLow}
 use Rattle.seccompiler.specs.declared.layout.places.RulePlace.{RulePlace}
-use Rattle.seccompiler.specs.declared.layout.places.RulePlace.TheVariants.{ToConditions, PastRule, OfCondition, RelayToConditions, RelayToExit, RelayPastRule}
+use Rattle.seccompiler.specs.declared.layout.places.RulePlace.TheVariants.{ToConditions, PastRule, OfCondition, RelayToConditions}
+use Rattle.seccompiler.specs.declared.layout.places.RulePlace.TheVariants.{RelayToExit, RelayPastRule}
 use Rattle.seccompiler.specs.declared.layout.places.Place.{Place}
-use Rattle.seccompiler.specs.declared.layout.places.Place.TheVariants.{LoadArchitecture, TestArchitecture, OtherArchitecture, LoadNumber, TestNumber, TestLeast, FarJump, ToMatch, PastMatch, OfRule, RuleHolds, CallMatches, CallDiffers, OthersMatch, OthersDiffer}
+use Rattle.seccompiler.specs.declared.layout.places.Place.TheVariants.{LoadArchitecture, TestArchitecture, OtherArchitecture, LoadNumber}
+use Rattle.seccompiler.specs.declared.layout.places.Place.TheVariants.{TestNumber, TestLeast, FarJump, ToMatch, PastMatch, OfRule}
+use Rattle.seccompiler.specs.declared.layout.places.Place.TheVariants.{RuleHolds, CallMatches, CallDiffers, OthersMatch, OthersDiffer}
 use Rattle.seccompiler.specs.Policy.{word_of, Condition, Rule, Chain, Filter}
 use Rattle.seccompiler.specs.Architecture.{audit_word}
 

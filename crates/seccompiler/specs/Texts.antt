@@ -5,14 +5,16 @@ use Rattle.std.specs.declared.fmt.Formatter.{Formatter}
 use Rattle.std.specs.declared.fmt.Error as fmt
 use Rattle.seccompiler.specs.Architecture.{arch_text}
 use Rattle.seccompiler.specs.declared.backend.BackendError.{BackendError}
-use Rattle.seccompiler.specs.declared.backend.BackendError.TheVariants.{EmptyRule, FilterTooLarge, IdenticalActions, InvalidArgumentNumber, InvalidTargetArch, InvalidSyscallNumber, OutOfMemory}
+use Rattle.seccompiler.specs.declared.backend.BackendError.TheVariants.{EmptyRule, FilterTooLarge, IdenticalActions, InvalidArgumentNumber}
+use Rattle.seccompiler.specs.declared.backend.BackendError.TheVariants.{InvalidTargetArch, InvalidSyscallNumber, OutOfMemory}
 use Rattle.seccompiler.specs.declared.json.error.JsonFrontendError.{JsonFrontendError}
 use Rattle.seccompiler.specs.declared.json.error.JsonFrontendError.TheVariants as frontend
 
 -- The text of an error of the backend.
 abbrev pub backend_text : BackendError → List ℕ
 backend_text EmptyRule = codes "The condition vector of a rule cannot be empty."
-backend_text (FilterTooLarge n) = codes "The seccomp filter contains too many BPF instructions: " ++ decimal n ++ codes ". Max length is 4096."
+backend_text (FilterTooLarge n) = codes "The seccomp filter contains too many BPF instructions: "
+    ++ decimal n ++ codes ". Max length is 4096."
 backend_text IdenticalActions = codes "`match_action` and `mismatch_action` are equal."
 backend_text InvalidArgumentNumber = codes "The seccomp rule contains an invalid argument index. Maximum index value: 5"
 backend_text (InvalidTargetArch t) = codes "Invalid target arch: " ++ string_bytes t ++ codes "."
@@ -28,7 +30,8 @@ IsInvalidArch _ text = ⊥
 abbrev pub json_text : JsonFrontendError → Option (List ℕ)
 json_text (frontend.Backend e) = Some (backend_text e)
 json_text (frontend.SerdeJson e) = None
-json_text (frontend.SyscallName name arch) = Some (codes "Invalid syscall name: " ++ string_bytes name ++ codes " for given arch: " ++ arch_text arch ++ codes ".")
+json_text (frontend.SyscallName name arch) =
+    Some (codes "Invalid syscall name: " ++ string_bytes name ++ codes " for given arch: " ++ arch_text arch ++ codes ".")
 json_text (frontend.Read e) = Some (codes "Error reading Json.")
 json_text frontend.RepeatedKey = Some (codes "Repeated key in Json.")
 json_text frontend.NotAnObject = Some (codes "Json is not an object of filters.")

@@ -1,5 +1,6 @@
 -- The second layout of a filter's program, a tree of tests over ranges of call numbers: how long it is, and what it does.
-use Rattle.std.specs.Prelude.{◌≡◌, ℕ, zero, suc, ◌+◌, ◌-◌, ◌*◌, ◌/◌, ◌^◌, ◌<◌, ◌≤◌, List, [], ◌∷◌, Option, Some, None, length, Bool, true, false, ◌&&◌, take, drop, nat_eq, nat_le, if◌then◌else◌, min, sum_by}
+use Rattle.std.specs.Prelude.{◌≡◌, ℕ, zero, suc, ◌+◌, ◌-◌, ◌*◌, ◌/◌, ◌^◌, ◌<◌, ◌≤◌, List, [], ◌∷◌, Option, Some, None, length, Bool, true}
+use Rattle.std.specs.Prelude.{false, ◌&&◌, take, drop, nat_eq, nat_le, if◌then◌else◌, min, sum_by}
 use Rattle.seccompiler.specs.declared.bpf.sock_filter.{sock_filter}
 use Rattle.seccompiler.specs.declared.backend.BackendError.{BackendError}
 use Rattle.seccompiler.specs.declared.backend.BackendError.TheVariants.{FilterTooLarge, InvalidSyscallNumber, OutOfMemory}

@@ -3,7 +3,8 @@ use Rattle.std.specs.Prelude.{◌≡◌, ℕ, ◌<◌, ◌≤◌, List, [], ◌�
 use Rattle.std.specs.List.{AllZip}
 use Rattle.seccompiler.specs.declared.bpf.sock_filter.{sock_filter}
 use Rattle.seccompiler.specs.declared.layout.places.Place.{Place}
-use Rattle.seccompiler.specs.declared.layout.places.Place.TheVariants.{LoadNumber, TestNumber, TestLeast, FarJump, CallDiffers, OthersMatch, OthersDiffer}
+use Rattle.seccompiler.specs.declared.layout.places.Place.TheVariants.{LoadNumber, TestNumber, TestLeast, FarJump, CallDiffers, OthersMatch}
+use Rattle.seccompiler.specs.declared.layout.places.Place.TheVariants.{OthersDiffer}
 use Rattle.seccompiler.specs.Policy.{Rule, Chain, Filter}
 use Rattle.seccompiler.specs.Places.{Stands, HasChain, ArePlaces}
 use Rattle.seccompiler.specs.PlaceLists.{AreWords, guard_places, rules_places}

@@ -1,5 +1,6 @@
 -- For `write_chains`: what the code of all chains of a filter does, one behind the other.
-use Rattle.std.proofs.Common.{◌≡◌, ℕ, ℤ, pos, ◌+◌, ◌<◌, ◌≤◌, ◌^◌, List, [], ◌∷◌, ◌++◌, length, Some, refl, sym, ap, ◌∙◌, subst, arith, length-append, inl, inr, ⊎_elim, Vec}
+use Rattle.std.proofs.Common.{◌≡◌, ℕ, ℤ, pos, ◌+◌, ◌<◌, ◌≤◌, ◌^◌, List, [], ◌∷◌, ◌++◌, length, Some, refl, sym, ap, ◌∙◌, subst, arith}
+use Rattle.std.proofs.Common.{length-append, inl, inr, ⊎_elim, Vec}
 use Rattle.std.proofs.lemmas.List.{map-append}
 use Rattle.std.proofs.lemmas.List.Sums.{sum_by_push, sum_by-append, sum_by-cons}
 use Rattle.std.proofs.lemmas.Bool.{cases_eq}
@@ -23,12 +24,15 @@ chains_empty mismatch matched = record {
 }
 
 -- past the code so far, and then a return
-after_chains : (code own : List sock_filter) (r : List ℕ) (a k w : ℕ) → Goes code r 0 a k (length code) a → Returns own r 0 a w → Returns (code ++ own) r 0 a w
+after_chains : (code own : List sock_filter) (r : List ℕ) (a k w : ℕ) → Goes code r 0 a k (length code) a
+    → Returns own r 0 a w → Returns (code ++ own) r 0 a w
 after_chains code own r a k w g x =
-    returns_after (code ++ own) r 0 a (length code) w record { count = k; accumulator = a; goes = goes_front code own r g } (returns_behind code own r a w x)
+    returns_after (code ++ own) r 0 a (length code) w record { count = k; accumulator = a; goes = goes_front code own r g }
+    (returns_behind code own r a w x)
 
 -- past the code so far, and then past one more
-past_chains : (code own : List sock_filter) (r : List ℕ) (a k m : ℕ) → Goes code r 0 a k (length code) a → Goes own r 0 a m (length own) a → Goes (code ++ own) r 0 a (k + m) (length (code ++ own)) a
+past_chains : (code own : List sock_filter) (r : List ℕ) (a k m : ℕ) → Goes code r 0 a k (length code) a
+    → Goes own r 0 a m (length own) a → Goes (code ++ own) r 0 a (k + m) (length (code ++ own)) a
 past_chains code own r a k m g h =
     let p = code ++ own in
     let z : length code + 0 ≡ length code = omega arith in
@@ -36,7 +40,10 @@ past_chains code own r a k m g h =
     subst (λ y. Goes p r 0 a (k + m) y a) (sym (length-append code own)) (goes_on p r (goes_front code own r g) second)
 
 -- what one chain more does with a call number
-dispatches_more : (chains : List Entry) (mismatch matched n : ℕ) (chain : Chain) (code own : List sock_filter) → IsChainCode n chain mismatch matched own → (r : List ℕ) → IsRecord r → (a : ℕ) → a < 2 ^ 32 → Dispatches chains mismatch matched code r a → Dispatches (chains ++ (pos n, chain) ∷ []) mismatch matched (code ++ own) r a
+dispatches_more : (chains : List Entry) (mismatch matched n : ℕ) (chain : Chain) (code own : List sock_filter)
+    → IsChainCode n chain mismatch matched own → (r : List ℕ) → IsRecord r → (a : ℕ)
+    → a < 2 ^ 32 → Dispatches chains mismatch matched code r a
+    → Dispatches (chains ++ (pos n, chain) ∷ []) mismatch matched (code ++ own) r a
 dispatches_more chains mismatch matched n chain code own one r rec a small (in_chain found there (inl t)) =
     in_chain found (found_before chains (pos n, chain) a found there) (inl (t.0, returns_front code own r 0 a matched t.1))
 dispatches_more chains mismatch matched n chain code own one r rec a small (in_chain found there (inr t)) =
@@ -44,7 +51,8 @@ dispatches_more chains mismatch matched n chain code own one r rec a small (in_c
 dispatches_more chains mismatch matched n chain code own one r rec a small (no_chain none g) =
     ⊎_elim
     (λ same.
-    let there : chain_under (chains ++ (pos n, chain) ∷ []) a ≡ Some chain = subst (λ k. chain_under (chains ++ (pos k, chain) ∷ []) a ≡ Some chain) same (last_same chains a chain none) in
+    let there : chain_under (chains ++ (pos n, chain) ∷ []) a ≡ Some chain =
+    subst (λ k. chain_under (chains ++ (pos k, chain) ∷ []) a ≡ Some chain) same (last_same chains a chain none) in
     in_chain chain there (⊎_elim
     (λ t. inl (t.0, after_chains code own r a _ matched g (subst (λ k. Returns own r 0 k matched) (sym same) t.1)))
     (λ t. inr (t.0, after_chains code own r a _ mismatch g (subst (λ k. Returns own r 0 k mismatch) (sym same) t.1)))
@@ -52,11 +60,14 @@ dispatches_more chains mismatch matched n chain code own one r rec a small (no_c
     (λ differs.
     let steps = sym (sum_by_push (λ (e : Entry). chain_steps e.1) chains (pos n, chain)) in
     no_chain (last_other chains a n chain differs none)
-    (subst (λ k. Goes (code ++ own) r 0 a k (length (code ++ own)) a) steps (past_chains code own r a _ _ g (one.passes r a small differs))))
+    (subst (λ k. Goes (code ++ own) r 0 a k (length (code ++ own)) a) steps
+    (past_chains code own r a _ _ g (one.passes r a small differs))))
     (cases_eq a n)
 
 -- one chain more
-chains_more : (chains : List Entry) (mismatch matched n : ℕ) (chain : Chain) (code own : List sock_filter) → IsChainCode n chain mismatch matched own → IsChainsCode chains mismatch matched code → IsChainsCode (chains ++ (pos n, chain) ∷ []) mismatch matched (code ++ own)
+chains_more : (chains : List Entry) (mismatch matched n : ℕ) (chain : Chain) (code own : List sock_filter)
+    → IsChainCode n chain mismatch matched own → IsChainsCode chains mismatch matched code
+    → IsChainsCode (chains ++ (pos n, chain) ∷ []) mismatch matched (code ++ own)
 chains_more chains mismatch matched n chain code own one h =
     let len : length (code ++ own) ≡ length code + length own = length-append code own in
     record {
@@ -67,17 +78,31 @@ chains_more chains mismatch matched n chain code own one h =
     }
 
 -- a step of the loop over the entries of the map
-pub chains_step : (done : List MapEntry) (mismatch matched n : ℕ) (k : ℤ) (chain : Vec Rule Global) (items : Chain) (code own code' : List sock_filter) → k ≡ pos n → items ≡ chain.items → IsChainCode n items mismatch matched own → code' ≡ code ++ own → IsChainsCode (chains_of done) mismatch matched code → IsChainsCode (chains_of (done ++ (k, chain) ∷ [])) mismatch matched code'
+pub chains_step : (done : List MapEntry) (mismatch matched n : ℕ) (k : ℤ) (chain : Vec Rule Global) (items : Chain)
+    (code own code' : List sock_filter) → k ≡ pos n → items ≡ chain.items → IsChainCode n items mismatch matched own
+    → code' ≡ code ++ own → IsChainsCode (chains_of done) mismatch matched code
+    → IsChainsCode (chains_of (done ++ (k, chain) ∷ [])) mismatch matched code'
 chains_step done mismatch matched n k chain items code own code' ek ei one ec h =
-    let all = chains_more (chains_of done) mismatch matched n chain.items code own (subst (λ x. IsChainCode n x mismatch matched own) ei one) h in
+    let all = chains_more (chains_of done) mismatch matched n chain.items code own
+    (subst (λ x. IsChainCode n x mismatch matched own) ei one) h in
     let keyed = subst (λ (x : ℤ). IsChainsCode (chains_of done ++ (x, chain.items) ∷ []) mismatch matched (code ++ own)) (sym ek) all in
-    let mapped : chains_of (done ++ (k, chain) ∷ []) ≡ chains_of done ++ (k, chain.items) ∷ [] = map-append (λ (e : MapEntry). (e.0, e.1.items)) done ((k, chain) ∷ []) in
-    subst (λ x. IsChainsCode x mismatch matched code') (sym mapped) (subst (λ x. IsChainsCode (chains_of done ++ (k, chain.items) ∷ []) mismatch matched x) (sym ec) keyed)
+    let mapped : chains_of (done ++ (k, chain) ∷ []) ≡ chains_of done ++ (k, chain.items) ∷ [] =
+    map-append (λ (e : MapEntry). (e.0, e.1.items)) done ((k, chain) ∷ []) in
+    subst (λ x. IsChainsCode x mismatch matched code') (sym mapped)
+    (subst (λ x. IsChainsCode (chains_of done ++ (k, chain.items) ∷ []) mismatch matched x) (sym ec) keyed)
 
 -- there is room for the chain of an entry that is left
-pub chains_room : (entries done rest t : List MapEntry) (e : MapEntry) (start : ℕ) → rest ≡ e ∷ t → done ++ rest ≡ entries → start ≡ chains_length (chains_of done) → start + chain_length e.1.items ≤ chains_length (chains_of entries)
+pub chains_room : (entries done rest t : List MapEntry) (e : MapEntry) (start : ℕ)
+    → rest ≡ e ∷ t → done ++ rest ≡ entries → start ≡ chains_length (chains_of done)
+    → start + chain_length e.1.items ≤ chains_length (chains_of entries)
 chains_room entries done rest t e start er ee es =
     let f = λ (x : Entry). chain_length x.1 in
     let same : entries ≡ done ++ e ∷ t = sym ee ∙ ap (λ l. done ++ l) er in
-    let mapped : chains_of entries ≡ chains_of done ++ (e.0, e.1.items) ∷ chains_of t = ap chains_of same ∙ map-append (λ (x : MapEntry). (x.0, x.1.items)) done (e ∷ t) in
-    omega (arith, ap chains_length mapped, sum_by-append f (chains_of done) ((e.0, e.1.items) ∷ chains_of t), sum_by-cons f (e.0, e.1.items) (chains_of t))
+    let mapped : chains_of entries ≡ chains_of done ++ (e.0, e.1.items) ∷ chains_of t =
+    ap chains_of same ∙ map-append (λ (x : MapEntry). (x.0, x.1.items)) done (e ∷ t) in
+    omega (
+      arith,
+      ap chains_length mapped,
+      sum_by-append f (chains_of done) ((e.0, e.1.items) ∷ chains_of t),
+      sum_by-cons f (e.0, e.1.items) (chains_of t),
+    )

@@ -1,5 +1,6 @@
 -- For `write_rule`, `write_rules`, `write_chain` and `write_chains`, and for `places`: what stands at the places of chains.
-use Rattle.std.proofs.Common.{◌≡◌, ℕ, ℤ, pos, suc, ◌+◌, ◌<◌, ◌≤◌, List, [], ◌∷◌, ◌++◌, length, map, refl, sym, ap, ◌∙◌, subst, arith, take, length-take, get_or, append_assoc, append-nil, Vec, Global}
+use Rattle.std.proofs.Common.{◌≡◌, ℕ, ℤ, pos, suc, ◌+◌, ◌<◌, ◌≤◌, List, [], ◌∷◌, ◌++◌, length, map, refl, sym, ap, ◌∙◌, subst, arith, take}
+use Rattle.std.proofs.Common.{length-take, get_or, append_assoc, append-nil, Vec, Global}
 use Rattle.std.specs.Prelude.{nat_abs, Contains}
 use Rattle.std.specs.List.{AllZip}
 use Rattle.std.proofs.lemmas.List.{take_more, take_all, map-append}
@@ -23,8 +24,8 @@ numbered_stand f n j q w own has is stand =
     (all_zip_map (StandsInRule q) (Stands f) (OfRule n j) (λ p i h. (q, has, h)) (rule_places q) own stand) ((q, has, (refl, is)), tt)
 
 -- the places of one rule more
-rules_push : (n j : ℕ) (rules : List Rule) (q : Rule) → rules_places n j (rules ++ q ∷ []) ≡ rules_places n j rules ++ numbered_places n (j
-    + length rules) q
+rules_push : (n j : ℕ) (rules : List Rule) (q : Rule) → rules_places n j (rules ++ q ∷ [])
+    ≡ rules_places n j rules ++ numbered_places n (j + length rules) q
 rules_push n j [] q = let here : j ≡ j + 0 = omega arith in append-nil (numbered_places n j q) ∙ ap (λ m. numbered_places n m q) here
 rules_push n j (r ∷ rules) q =
     let further : j + suc (length rules) ≡ j + 1 + length rules = omega arith in
@@ -153,14 +154,11 @@ has_next f entries done rest t k chain n items is er ee ek ei =
     ) here)
 
 -- a step of the loop over the entries
-pub chains_stand : (f : Filter) (entries done rest t : List MapEntry) (k : ℤ) (chain : Vec Rule Global) (n : ℕ) (items : Chain) (code own
-    code' : List sock_filter)
-    → f.chains ≡ chains_of entries → rest ≡ (k, chain) ∷ t → done ++ rest ≡ entries → k ≡ pos n → items ≡ chain.items
-    → (HasChain f n items → AllZip (Stands f) (chain_places n items) own) → code' ≡ code ++ own
-    → AllZip (Stands f) (chains_places (chains_of done)) code → AllZip (Stands f) (chains_places (chains_of (done ++ (
-      k,
-      chain,
-    ) ∷ []))) code'
+pub chains_stand : (f : Filter) (entries done rest t : List MapEntry) (k : ℤ) (chain : Vec Rule Global) (n : ℕ) (items : Chain)
+    (code own code' : List sock_filter) → f.chains ≡ chains_of entries → rest ≡ (k, chain) ∷ t → done ++ rest ≡ entries → k ≡ pos n
+    → items ≡ chain.items → (HasChain f n items → AllZip (Stands f) (chain_places n items) own) → code' ≡ code ++ own
+    → AllZip (Stands f) (chains_places (chains_of done)) code
+    → AllZip (Stands f) (chains_places (chains_of (done ++ (k, chain) ∷ []))) code'
 chains_stand f entries done rest t k chain n items code own code' is er ee ek ei stands ec h =
     let one = stands (has_next f entries done rest t k chain n items is er ee ek ei) in
     let places : chains_places (chains_of (done ++ (k, chain) ∷ [])) ≡ chains_places (chains_of done) ++ chain_places n items =

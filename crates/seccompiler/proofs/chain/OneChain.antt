@@ -1,5 +1,6 @@
 -- For `write_chain`: what the code of one chain does: a test of the call number, the rules, and a return.
-use Rattle.std.proofs.Common.{◌≡◌, ◌≢◌, ℕ, ◌+◌, ◌<◌, ◌^◌, List, [], ◌∷◌, ◌++◌, length, Some, refl, sym, ap, ◌∙◌, subst, arith, length-append, inl, inr, ⊎_elim}
+use Rattle.std.proofs.Common.{◌≡◌, ◌≢◌, ℕ, ◌+◌, ◌<◌, ◌^◌, List, [], ◌∷◌, ◌++◌, length, Some, refl, sym, ap, ◌∙◌, subst, arith}
+use Rattle.std.proofs.Common.{length-append, inl, inr, ⊎_elim}
 use Rattle.std.specs.Prelude.{slice_get, sum_by}
 use Rattle.seccompiler.specs.declared.bpf.sock_filter.{sock_filter}
 use Rattle.seccompiler.specs.Code.{give, jump, jump_equal}
@@ -11,14 +12,22 @@ use Rattle.seccompiler.specs.ChainCode.{IsRulesCode, IsChainCode}
 use Rattle.seccompiler.proofs.Runs.{goes_shift, goes_on, goes_front, stands_second}
 use Rattle.seccompiler.proofs.Closed.{ranges_join, ranges_from, jump_in_range}
 use Rattle.seccompiler.proofs.Steps.{on_jump}
-use Rattle.seccompiler.proofs.Blocks.{returns_front, returns_second, returns_after, returns_here, leads_front, block_join, block_give, give_in_range, block_one, test_in_range}
+use Rattle.seccompiler.proofs.Blocks.{returns_front, returns_second, returns_after, returns_here, leads_front, block_join, block_give}
+use Rattle.seccompiler.proofs.Blocks.{give_in_range, block_one, test_in_range}
 
 -- the test of the call number goes on with this number, and skips one instruction with another
 on_number : (p : List sock_filter) (r : List ℕ) (n : ℕ) → slice_get p 0 ≡ Some (jump_equal n 0 1) → n < 2 ^ 32 → Step p r 0 n 1 n
-on_number p r n here small = record { instruction = jump_equal n 0 1; here = here; before = small; after = small; does = is_equal refl refl refl refl }
+on_number p r n here small = record {
+  instruction = jump_equal n 0 1;
+  here = here;
+  before = small;
+  after = small;
+  does = is_equal refl refl refl refl;
+}
 
 on_others : (p : List sock_filter) (r : List ℕ) (n a : ℕ) → slice_get p 0 ≡ Some (jump_equal n 0 1) → a < 2 ^ 32 → a ≢ n → Step p r 0 a 2 a
-on_others p r n a here small differs = record { instruction = jump_equal n 0 1; here = here; before = small; after = small; does = is_not_equal refl differs refl refl }
+on_others p r n a here small differs =
+    record { instruction = jump_equal n 0 1; here = here; before = small; after = small; does = is_not_equal refl differs refl refl }
 
 module _ (n mismatch matched : ℕ) (fits : n < 2 ^ 32) (fits_mismatch : mismatch < 2 ^ 32) (fits_matched : matched < 2 ^ 32) where
   -- a chain without rules
@@ -27,17 +36,43 @@ module _ (n mismatch matched : ℕ) (fits : n < 2 ^ 32) (fits_mismatch : mismatc
       let p = jump_equal n 0 1 ∷ jump 1 ∷ jump 2 ∷ give matched ∷ give mismatch ∷ [] in
       record {
         long = refl;
-        ranges = ranges_from p (test_in_range n 0 1 fits (omega arith) (omega arith), (jump_in_range 1 (omega arith), (jump_in_range 2 (omega arith), (give_in_range matched fits_matched, (give_in_range mismatch fits_mismatch, tt)))));
-        block = block_join (jump_equal n 0 1 ∷ []) (jump 1 ∷ jump 2 ∷ give matched ∷ give mismatch ∷ []) 5 4 5 (block_one _ 5 (inside_equal refl (omega arith) (omega arith)))
+        ranges = ranges_from p (
+          test_in_range n 0 1 fits (omega arith) (omega arith),
+          (
+            jump_in_range 1 (omega arith),
+            (
+              jump_in_range 2 (omega arith),
+              (give_in_range matched fits_matched, (give_in_range mismatch fits_mismatch, tt)),
+            ),
+          ),
+        );
+        block = block_join (jump_equal n 0 1 ∷ []) (jump 1 ∷ jump 2 ∷ give matched ∷ give mismatch ∷ []) 5 4 5
+            (block_one _ 5 (inside_equal refl (omega arith) (omega arith)))
             (block_join (jump 1 ∷ []) (jump 2 ∷ give matched ∷ give mismatch ∷ []) 4 3 4 (block_one _ 4 (inside_jump refl (omega arith)))
             (block_join (jump 2 ∷ []) (give matched ∷ give mismatch ∷ []) 3 2 3 (block_one _ 3 (inside_jump refl (omega arith)))
-            (block_join (give matched ∷ []) (give mismatch ∷ []) 2 1 2 (block_give matched 2) (block_give mismatch 1) (omega arith) (omega arith)) (omega arith) (omega arith)) (omega arith) (omega arith)) (omega arith) (omega arith);
-        enters = λ r rec. inl (inl refl, record { to = 3; count = 2; accumulator = n; instruction = give matched; goes = then_step (then_step stays (on_number p r n refl fits)) (on_jump p r 1 n 1 refl fits); here = refl; returns = refl; value = refl });
+            (block_join (give matched ∷ []) (give mismatch ∷ []) 2 1 2 (block_give matched 2)
+            (block_give mismatch 1) (omega arith) (omega arith)) (omega arith) (omega arith)) (omega arith) (omega arith))
+            (omega arith) (omega arith);
+        enters = λ r rec. inl (
+          inl refl,
+          record {
+            to = 3;
+            count = 2;
+            accumulator = n;
+            instruction = give matched;
+            goes = then_step (then_step stays (on_number p r n refl fits)) (on_jump p r 1 n 1 refl fits);
+            here = refl;
+            returns = refl;
+            value = refl;
+          },
+        );
         passes = λ r a small differs. then_step (then_step stays (on_others p r n a refl small differs)) (on_jump p r 2 a 2 refl small);
       }
 
   -- a chain with rules
-  full_chain : (q : Rule) (chain : Chain) (rules : List sock_filter) → IsRulesCode (q ∷ chain) matched rules → IsChainCode n (q ∷ chain) mismatch matched (jump_equal n 0 1 ∷ (rules ++ give mismatch ∷ []))
+  full_chain : (q : Rule) (chain : Chain) (rules : List sock_filter)
+      → IsRulesCode (q ∷ chain) matched rules → IsChainCode n (q ∷ chain) mismatch matched
+      (jump_equal n 0 1 ∷ (rules ++ give mismatch ∷ []))
   unfolding leads_front
   full_chain q chain rules h =
       let head = jump_equal n 0 1 ∷ [] in
@@ -48,25 +83,43 @@ module _ (n mismatch matched : ℕ) (fits : n < 2 ^ 32) (fits_mismatch : mismatc
       let len : length p ≡ 1 + (length rules + 1) = length-append head both ∙ ap (λ x. 1 + x) len_both in
       record {
         long = omega (arith, h.long);
-        ranges = ranges_join head both (ranges_from head (test_in_range n 0 1 fits (omega arith) (omega arith), tt)) (ranges_join rules last h.ranges (ranges_from last (give_in_range mismatch fits_mismatch, tt)));
-        block = block_join head both 2 (length rules + 1) (length p) (block_one _ 2 (inside_equal refl (omega arith) (omega arith))) (block_join rules last (length rules + 1) 1 (length rules + 1) h.block (block_give mismatch 1) (omega arith) (omega arith)) (omega (arith, len)) (omega (arith, len));
+        ranges = ranges_join head both (ranges_from head (test_in_range n 0 1 fits (omega arith) (omega arith), tt))
+            (ranges_join rules last h.ranges (ranges_from last (give_in_range mismatch fits_mismatch, tt)));
+        block = block_join head both 2 (length rules + 1) (length p) (block_one _ 2 (inside_equal refl (omega arith) (omega arith)))
+            (block_join rules last (length rules + 1) 1 (length rules + 1) h.block (block_give mismatch 1) (omega arith) (omega arith))
+            (omega (arith, len)) (omega (arith, len));
         enters = λ r rec.
             let g : Leads p r 0 n 1 = record { count = 1; accumulator = n; goes = then_step stays (on_number p r n refl fits) } in
             ⊎_elim
-            (λ t. inl (inr t.0, returns_after p r 0 n 1 matched g (returns_second head both r 0 n matched (returns_front rules last r 0 n matched t.1))))
-            (λ t. inr (λ m. ⊎_elim (λ none. absurd (cc)) t.0 m, returns_after p r 0 n 1 mismatch g (returns_second head both r 0 n mismatch (returns_after both r 0 n (length rules) mismatch (leads_front rules last r 0 n (length rules) t.1) (returns_here rules mismatch [] r _)))))
+            (λ t. inl (
+              inr t.0,
+              returns_after p r 0 n 1 matched g
+                  (returns_second head both r 0 n matched (returns_front rules last r 0 n matched t.1)),
+            ))
+            (λ t. inr (
+              λ m. ⊎_elim (λ none. absurd (cc)) t.0 m,
+              returns_after p r 0 n 1 mismatch g
+                  (returns_second head both r 0 n mismatch
+                  (returns_after both r 0 n (length rules) mismatch (leads_front rules last r 0 n (length rules) t.1)
+                  (returns_here rules mismatch [] r _))),
+            ))
             (h.enters r rec n fits);
         passes = λ r a small differs.
             let g = goes_shift p both r 1 (stands_second head both) (goes_front rules last r (h.skips r a small)) in
             let e : 1 + (length rules + 1) ≡ length p = sym len in
-            subst (λ k. Goes p r 0 a (1 + sum_by rule_steps (q ∷ chain)) k a) e (goes_on p r (then_step stays (on_others p r n a refl small differs)) g);
+            subst (λ k. Goes p r 0 a (1 + sum_by rule_steps (q ∷ chain)) k a) e
+            (goes_on p r (then_step stays (on_others p r n a refl small differs)) g);
       }
 
   -- the same of a chain of which it is known whether it has rules
-  pub chain_without : (chain : Chain) (code : List sock_filter) → length chain ≡ 0 → code ≡ jump_equal n 0 1 ∷ jump 1 ∷ jump 2 ∷ give matched ∷ give mismatch ∷ [] → IsChainCode n chain mismatch matched code
+  pub chain_without : (chain : Chain) (code : List sock_filter) → length chain ≡ 0
+      → code ≡ jump_equal n 0 1 ∷ jump 1 ∷ jump 2 ∷ give matched ∷ give mismatch ∷ [] → IsChainCode n chain mismatch matched code
   chain_without [] code none e = subst (λ x. IsChainCode n [] mismatch matched x) (sym e) empty_chain
   chain_without (q ∷ chain) code none e = absurd (omega arith)
 
-  pub chain_with : (chain : Chain) (rules code : List sock_filter) → 0 < length chain → IsRulesCode chain matched rules → code ≡ jump_equal n 0 1 ∷ (rules ++ give mismatch ∷ []) → IsChainCode n chain mismatch matched code
+  pub chain_with : (chain : Chain) (rules code : List sock_filter) → 0 < length chain
+      → IsRulesCode chain matched rules → code ≡ jump_equal n 0 1 ∷ (rules ++ give mismatch ∷ [])
+      → IsChainCode n chain mismatch matched code
   chain_with [] rules code some h e = absurd (omega arith)
-  chain_with (q ∷ chain) rules code some h e = subst (λ x. IsChainCode n (q ∷ chain) mismatch matched x) (sym e) (full_chain q chain rules h)
+  chain_with (q ∷ chain) rules code some h e =
+      subst (λ x. IsChainCode n (q ∷ chain) mismatch matched x) (sym e) (full_chain q chain rules h)

@@ -1,5 +1,6 @@
 -- For `write_rule` and `write_rules`: what the rules of a chain do, each with its return behind it, one after another.
-use Rattle.std.proofs.Common.{◌≡◌, ℕ, ◌+◌, ◌<◌, ◌≤◌, ◌^◌, List, [], ◌∷◌, ◌++◌, length, refl, sym, ap, ◌∙◌, subst, arith, length-append, ◌⊎◌, inl, inr, ⊎_elim, get_or, take, drop}
+use Rattle.std.proofs.Common.{◌≡◌, ℕ, ◌+◌, ◌<◌, ◌≤◌, ◌^◌, List, [], ◌∷◌, ◌++◌, length, refl, sym, ap, ◌∙◌, subst, arith, length-append, ◌⊎◌}
+use Rattle.std.proofs.Common.{inl, inr, ⊎_elim, get_or, take, drop}
 use Rattle.std.specs.Prelude.{Any, sum_by}
 use Rattle.std.proofs.lemmas.List.Quantifiers.{Any-push}
 use Rattle.std.proofs.lemmas.List.Sums.{sum_by_push, sum_by-append, sum_by-cons}
@@ -12,7 +13,8 @@ use Rattle.seccompiler.specs.Policy.{Rule, Chain, RuleHolds}
 use Rattle.seccompiler.specs.Layout.{rule_length, rule_steps, rules_length}
 use Rattle.seccompiler.specs.Pieces.{IsRuleCode}
 use Rattle.seccompiler.specs.ChainCode.{IsReturningRuleCode, IsRulesCode}
-use Rattle.seccompiler.proofs.Blocks.{leads_join, leads_front, returns_front, returns_behind, returns_after, returns_here, block_join, block_from_closed, block_give, give_in_range}
+use Rattle.seccompiler.proofs.Blocks.{leads_join, leads_front, returns_front, returns_behind, returns_after, returns_here, block_join}
+use Rattle.seccompiler.proofs.Blocks.{block_from_closed, block_give, give_in_range}
 use Rattle.seccompiler.proofs.Runs.{goes_shift, goes_on, goes_front, stands_second, leads_to, leads_from, leads_second, stays_small}
 use Rattle.seccompiler.proofs.Parts.{around}
 use Rattle.seccompiler.proofs.Closed.{ranges_join, ranges_from}
@@ -23,7 +25,10 @@ rules_empty w = record {
   long = refl;
   ranges = ranges_from [] tt;
   block = record { each = λ k i e. cc };
-  enters = λ r rec a small. inr ((λ h. let past : h.0 < 0 = h.2 in absurd (omega arith)), record { count = 0; accumulator = a; goes = stays });
+  enters = λ r rec a small. inr (
+    (λ h. let past : h.0 < 0 = h.2 in absurd (omega arith)),
+    record { count = 0; accumulator = a; goes = stays },
+  );
   skips = λ r a small. stays;
 }
 
@@ -53,10 +58,15 @@ with_return q w own fits h =
     record {
       long = omega (arith, h.long);
       ranges = ranges_join own (give w ∷ []) h.ranges (ranges_from (give w ∷ []) (give_in_range w fits, tt));
-      block = block_join own (give w ∷ []) (length own + 2) 0 (length p + 1) (block_from_closed own (length own + 2) h.closed) (block_give w 0) (omega arith) (omega arith);
+      block = block_join own (give w ∷ []) (length own + 2) 0 (length p + 1) (block_from_closed own (length own + 2) h.closed)
+          (block_give w 0) (omega arith) (omega arith);
       enters = λ r rec a small.
           ⊎_elim
-          (λ t. inl (t.0, returns_after p r 0 a (length own) w (leads_front own (give w ∷ []) r 0 a (length own) t.1) (returns_here own w [] r _)))
+          (λ t. inl (
+            t.0,
+            returns_after p r 0 a (length own) w (leads_front own (give w ∷ []) r 0 a (length own) t.1)
+                (returns_here own w [] r _),
+          ))
           (λ t. inr (t.0, leads_to p r 0 a _ _ (sym len) (leads_front own (give w ∷ []) r 0 a (length own + 1) t.1)))
           (h.enters r rec a small);
       skips = λ r a small.
@@ -75,7 +85,8 @@ rules_more chain w code one q last h =
     record {
       long = omega (arith, h.long, last.long, sum_by_push (λ rule. rule_length rule + 1) chain q);
       ranges = ranges_join code one h.ranges last.ranges;
-      block = block_join code one (length code + 1) (length one + 1) (length p + 1) h.block last.block (omega (arith, last.long)) (omega arith);
+      block = block_join code one (length code + 1) (length one + 1) (length p + 1) h.block last.block
+          (omega (arith, last.long)) (omega arith);
       enters = λ r rec a small.
           ⊎_elim
           (λ t. inl (any_front (λ x. RuleHolds x r) chain q t.0, returns_front code one r 0 a w t.1))
@@ -83,8 +94,17 @@ rules_more chain w code one q last h =
           let g = leads_front code one r 0 a (length code) t.1 in
           let fits = stays_small code r small t.1.goes in
           ⊎_elim
-          (λ u. inl (Any-push (λ x. RuleHolds x r) chain q u.0, returns_after p r 0 a (length code) w g (returns_behind code one r g.accumulator w u.1)))
-          (λ u. inr (λ any. ⊎_elim t.0 u.0 (any_split (λ x. RuleHolds x r) chain q any), leads_to p r 0 a _ _ (sym len) (leads_join p r 0 a (length code) _ g (leads_from p r _ _ g.accumulator _ z (leads_second code one r 0 g.accumulator (length one) u.1)))))
+          (λ u. inl (
+            Any-push (λ x. RuleHolds x r) chain q u.0,
+            returns_after p r 0 a (length code) w g
+                (returns_behind code one r g.accumulator w u.1),
+          ))
+          (λ u. inr (
+            λ any. ⊎_elim t.0 u.0 (any_split (λ x. RuleHolds x r) chain q any),
+            leads_to p r 0 a _ _ (sym len)
+                (leads_join p r 0 a (length code) _ g
+                (leads_from p r _ _ g.accumulator _ z (leads_second code one r 0 g.accumulator (length one) u.1))),
+          ))
           (last.enters r rec g.accumulator fits))
           (h.enters r rec a small);
       skips = λ r a small.
@@ -92,7 +112,8 @@ rules_more chain w code one q last h =
           let second = goes_shift p one r (length code) (stands_second code one) (last.skips r a small) in
           let steps : sum_by rule_steps chain + rule_steps q ≡ sum_by rule_steps (chain ++ q ∷ []) = sym (sum_by_push rule_steps chain q) in
           let to_far : length code + (length one + 1) ≡ length p + 1 = omega arith in
-          subst (λ n. Goes p r 1 a n (length p + 1) a) steps (subst (λ n. Goes p r 1 a (sum_by rule_steps chain + rule_steps q) n a) to_far (goes_on p r first second));
+          subst (λ n. Goes p r 1 a n (length p + 1) a) steps
+          (subst (λ n. Goes p r 1 a (sum_by rule_steps chain + rule_steps q) n a) to_far (goes_on p r first second));
     }
 
 -- a step of the loop over the rules
@@ -103,11 +124,18 @@ rules_step chain i w q code one code' within is rule ec h =
     rw (e, ec) (rules_more (take i chain) w code one q rule h)
 
 -- the end of the loop
-pub rules_all : (chain : Chain) (i w : ℕ) (code : List sock_filter) → length chain ≤ i → IsRulesCode (take i chain) w code → IsRulesCode chain w code
+pub rules_all : (chain : Chain) (i w : ℕ) (code : List sock_filter) → length chain ≤ i
+    → IsRulesCode (take i chain) w code → IsRulesCode chain w code
 rules_all chain i w code past h = subst (λ x. IsRulesCode x w code) (take_all i chain past) h
 
 -- there is room for a further rule
-pub rules_room : (chain : Chain) (i start : ℕ) (q : Rule) → i < length chain → q ≡ get_or chain i q → start ≡ rules_length (take i chain) → start + rule_length q + 1 ≤ rules_length chain
+pub rules_room : (chain : Chain) (i start : ℕ) (q : Rule) → i < length chain → q ≡ get_or chain i q
+    → start ≡ rules_length (take i chain) → start + rule_length q + 1 ≤ rules_length chain
 rules_room chain i start q within is e =
     let f = λ (rule : Rule). rule_length rule + 1 in
-    omega (arith, ap rules_length (around chain i q within is), sum_by-append f (take i chain) (q ∷ drop (i + 1) chain), sum_by-cons f q (drop (i + 1) chain))
+    omega (
+      arith,
+      ap rules_length (around chain i q within is),
+      sum_by-append f (take i chain) (q ∷ drop (i + 1) chain),
+      sum_by-cons f q (drop (i + 1) chain),
+    )

@@ -42,7 +42,11 @@ set_kept part w v j s found =
     ⊎_elim
     (λ same.
     let at : w < length part = omega (arith, same, within) in
-    inl (same, slice_get-get_or (slice_set part w v) j v in_new ∙ ap (λ t. Some t) (ap (λ n. get_or (slice_set part w v) n v) same ∙ get_or-set_same part w v v at)))
+    inl (
+      same,
+      slice_get-get_or (slice_set part w v) j v in_new ∙ ap (λ t. Some t)
+          (ap (λ n. get_or (slice_set part w v) n v) same ∙ get_or-set_same part w v v at),
+    ))
     (λ other. inr (slice_get-get_or (slice_set part w v) j s in_new ∙ ap (λ t. Some t) (get_or-set_other part w j v s other ∙ is)))
     (cases_eq j w)
 
@@ -80,7 +84,8 @@ pub from_narrowed : (part : List Values) (w : ℕ) (v : Values) (r : List ℕ) �
 from_narrowed part w v r rec among inside = record {
   each = λ j s found.
       ⊎_elim
-      (λ new. among (word_at r (4 * j)) (word_fits r (4 * j) rec) (inside.each j v new.1) s (subst (λ n. slice_get part n ≡ Some s) new.0 found))
+      (λ new. among (word_at r (4 * j)) (word_fits r (4 * j) rec) (inside.each j v new.1) s
+      (subst (λ n. slice_get part n ≡ Some s) new.0 found))
       (λ old. inside.each j s old)
       (set_kept part w v j s found);
 }

@@ -4,7 +4,8 @@ use Rattle.std.specs.Prelude.{slice_get, bit_and}
 use Rattle.std.proofs.lemmas.Bool.{false≢true}
 use Rattle.std.proofs.lemmas.Nat.{and_assoc, and_le_l}
 use Rattle.seccompiler.specs.declared.bpf.sock_filter.{sock_filter}
-use Rattle.seccompiler.specs.Machine.{IsRecord, word_at, Does, masks, is_equal, is_not_equal, is_greater, is_not_greater, is_at_least, is_less, then_step}
+use Rattle.seccompiler.specs.Machine.{IsRecord, word_at, Does, masks, is_equal, is_not_equal, is_greater, is_not_greater, is_at_least}
+use Rattle.seccompiler.specs.Machine.{is_less, then_step}
 use Rattle.seccompiler.proofs.Words.{word_fits}
 use Rattle.seccompiler.specs.declared.compare.follow.At.{At}
 use Rattle.seccompiler.specs.WordSets.{Passes, passes_equal, passes_greater, passes_at_least}
@@ -30,7 +31,8 @@ does_else i r place a (passes_at_least code h) = let n : i.k ≤ a → ⊥ = λ 
 pub does_mask : (i : sock_filter) (r : List ℕ) (at to : At) → i.code ≡ 0x54 → to.place ≡ at.place + 1 → to.word ≡ at.word
     → to.mask ≡ bit_and at.mask i.k → Does i r at.place (accumulator r at) to.place (accumulator r to)
 does_mask i r at to code place word mask =
-    masks code place (ap (λ w. bit_and (word_at r (4 * w)) to.mask) word ∙ ap (λ m. bit_and (word_at r (4 * at.word)) m) mask ∙ sym (and_assoc i.k (word_at r (4 * at.word)) at.mask))
+    masks code place (ap (λ w. bit_and (word_at r (4 * w)) to.mask) word ∙ ap (λ m. bit_and (word_at r (4 * at.word)) m) mask
+    ∙ sym (and_assoc i.k (word_at r (4 * at.word)) at.mask))
 
 -- one step more
 pub reaches_on : (p : List sock_filter) (r : List ℕ) (at to : At) (i : sock_filter) → IsRecord r → slice_get p at.place ≡ Some i

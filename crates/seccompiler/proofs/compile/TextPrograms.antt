@@ -1,6 +1,7 @@
 -- For `compile_policies`, `compile_from_json` and `compile_from_json_in_order`: the programs of a value's policies, and
 -- the refusal of the least name's.
-use Rattle.std.proofs.Common.{◌≡◌, ℕ, ℤ, pos, negsuc, ◌++◌, List, ◌∷◌, Option, Some, None, String, Global, Vec, string_bytes, refl, IfSome, arith}
+use Rattle.std.proofs.Common.{◌≡◌, ℕ, ℤ, pos, negsuc, ◌++◌, List, ◌∷◌, Option, Some, None, String, Global, Vec, string_bytes, refl, IfSome}
+use Rattle.std.proofs.Common.{arith}
 use Rattle.std.specs.Prelude.{All}
 use Rattle.std.specs.BTreeMap.{BTreeMap, get_by_text}
 use Rattle.std.proofs.lemmas.Int.{ints}
@@ -71,7 +72,8 @@ module _ (arch : TargetArch) (d : Data) (find : List ℕ → Option Filter) (are
   refused_told text is numbers e (name, least) = absurd least.own
 
 -- Each of a value's programs may be run.
-pub all_checked : (arch : TargetArch) (find : List ℕ → Option (Vec sock_filter Global)) (d : Data) → AreProgramsOf arch find d → (name : List ℕ) → IfSome (find name) (λ program. IsChecked program.items)
+pub all_checked : (arch : TargetArch) (find : List ℕ → Option (Vec sock_filter Global)) (d : Data)
+    → AreProgramsOf arch find d → (name : List ℕ) → IfSome (find name) (λ program. IsChecked program.items)
 all_checked arch find d are name = by (find name) refl
   where
     by : (o : Option (Vec sock_filter Global)) → find name ≡ o → IfSome o (λ program. IsChecked program.items)

@@ -1,5 +1,6 @@
 -- For `SeccompCondition::always_holds` and `never_holds`: an argument of a call may be any number of 64 bits.
-use Rattle.std.proofs.Common.{◌≡◌, ◌↔◌, ℕ, zero, suc, ◌+◌, ◌-◌, ◌*◌, ◌/◌, ◌%◌, ◌<◌, ◌≤◌, ◌^◌, List, [], ◌∷◌, ◌++◌, length, refl, sym, subst, ap, ◌∙◌, arith, Bool, true, false, true≢false, IsTrue, IsFalse}
+use Rattle.std.proofs.Common.{◌≡◌, ◌↔◌, ℕ, zero, suc, ◌+◌, ◌-◌, ◌*◌, ◌/◌, ◌%◌, ◌<◌, ◌≤◌, ◌^◌, List, [], ◌∷◌, ◌++◌, length, refl, sym, subst}
+use Rattle.std.proofs.Common.{ap, ◌∙◌, arith, Bool, true, false, true≢false, IsTrue, IsFalse}
 use Rattle.std.proofs.Math.Nat.{pow-succ'}
 use Rattle.std.specs.Prelude.{slice_index, All, replicate}
 use Rattle.std.proofs.lemmas.List.{length-replicate, append_assoc, length-append, get_or-append-add}
@@ -64,7 +65,15 @@ with_argument i x index small =
     record {
       call = call;
       is_record = record {
-        long = omega (arith, length-append front (bytes_of 8 x ++ back), length-append (bytes_of 8 x) back, front_length, back_length, bytes_length 8 x, index);
+        long = omega (
+          arith,
+          length-append front (bytes_of 8 x ++ back),
+          length-append (bytes_of 8 x) back,
+          front_length,
+          back_length,
+          bytes_length 8 x,
+          index,
+        );
         bytes = All-append is_byte front (bytes_of 8 x ++ back) (All-replicate is_byte (16 + 8 * i) 0 (omega arith))
             (All-append is_byte (bytes_of 8 x) back (are_bytes 8 x) (All-replicate is_byte (40 - 8 * i) 0 (omega arith)));
       };

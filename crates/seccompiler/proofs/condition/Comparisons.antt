@@ -1,6 +1,7 @@
 -- For `SeccompCondition::write`: what the code of each comparison does: it leaves at its end where the comparison
 -- holds, and d places further where not.
-use Rattle.std.proofs.Common.{◌≡◌, ◌≢◌, ℕ, ◌+◌, ◌*◌, ◌/◌, ◌%◌, ◌<◌, ◌≤◌, ◌^◌, List, [], ◌∷◌, length, refl, sym, ap, ◌∙◌, arith, ◌⊎◌, inl, inr, ⊎_elim}
+use Rattle.std.proofs.Common.{◌≡◌, ◌≢◌, ℕ, ◌+◌, ◌*◌, ◌/◌, ◌%◌, ◌<◌, ◌≤◌, ◌^◌, List, [], ◌∷◌, length, refl, sym, ap, ◌∙◌, arith, ◌⊎◌, inl}
+use Rattle.std.proofs.Common.{inr, ⊎_elim}
 use Rattle.std.specs.Prelude.{bit_and}
 use Rattle.std.proofs.lemmas.Nat.{and_le_l}
 use Rattle.seccompiler.specs.declared.bpf.sock_filter.{sock_filter}
@@ -29,7 +30,9 @@ turned : {A B X Y X' Y' : Type 0} → (X → Y') → (Y → X') → (X × A) ⊎
 turned f g t = ⊎_elim (λ u. inr (f u.0, u.1)) (λ u. inl (g u.0, u.1)) t
 
 -- of an argument x whose low and high half are the words X and Y of the record, compared with v
-module _ (low v d x X Y : ℕ) (r : List ℕ) (within : low + 8 ≤ length r) (fits_X : X < 2 ^ 32) (fits_Y : Y < 2 ^ 32) (is_X : X ≡ word_at r low) (is_Y : Y ≡ word_at r (low + 4)) (is_x : x ≡ X + 2 ^ 32 * Y) (a : ℕ) (small : a < 2 ^ 32) where
+module _ (low v d x X Y : ℕ) (r : List ℕ) (within : low + 8 ≤ length r) (fits_X : X < 2 ^ 32)
+    (fits_Y : Y < 2 ^ 32) (is_X : X ≡ word_at r low) (is_Y : Y ≡ word_at r (low + 4)) (is_x : x ≡ X + 2 ^ 32 * Y)
+    (a : ℕ) (small : a < 2 ^ 32) where
   -- a load of the low half and a test
   low_half : (test : sock_filter) (fact : Type 0) → let p = load low ∷ test ∷ [] in Tests p r 1 X 2 (2 + d) fact → Exits p d r a fact
   low_half test fact t =
@@ -55,7 +58,8 @@ module _ (low v d x X Y : ℕ) (r : List ℕ) (within : low + 8 ≤ length r) (f
   dword_lt : Exits (comparison_code Dword Lt low v d) d r a (x % 2 ^ 32 < v % 2 ^ 32)
   dword_lt = low_half _ _ (turned (λ e h. omega arith) (λ n. omega arith) (on_at_least _ r 1 X (v % 2 ^ 32) d 0 refl fits_X))
 
-  dword_masked : (m : ℕ) → Exits (comparison_code Dword (MaskedEq m) low v d) d r a (bit_and (x % 2 ^ 32) (m % 2 ^ 32) ≡ bit_and (v % 2 ^ 32) (m % 2 ^ 32))
+  dword_masked : (m : ℕ) → Exits (comparison_code Dword (MaskedEq m) low v d) d r a
+      (bit_and (x % 2 ^ 32) (m % 2 ^ 32) ≡ bit_and (v % 2 ^ 32) (m % 2 ^ 32))
   dword_masked m =
       let p = comparison_code Dword (MaskedEq m) low v d in
       let M = m % 2 ^ 32 in
@@ -138,16 +142,20 @@ module _ (low v d x X Y : ℕ) (r : List ℕ) (within : low + 8 ≤ length r) (f
       (on_greater p r 1 Y (v / 2 ^ 32) (d + 3) 0 refl fits_Y)
 
   qword_ge : Exits (comparison_code Qword Ge low v d) d r a (v ≤ x)
-  qword_ge = above _ _ (λ t. omega arith) (λ t h. omega arith) (λ s. reworded (λ u. omega arith) (λ u h. omega arith) (on_at_least _ r 4 X (v % 2 ^ 32) 0 d refl fits_X))
+  qword_ge = above _ _ (λ t. omega arith) (λ t h. omega arith)
+      (λ s. reworded (λ u. omega arith) (λ u h. omega arith) (on_at_least _ r 4 X (v % 2 ^ 32) 0 d refl fits_X))
 
   qword_gt : Exits (comparison_code Qword Gt low v d) d r a (v < x)
-  qword_gt = above _ _ (λ t. omega arith) (λ t h. omega arith) (λ s. reworded (λ u. omega arith) (λ u h. omega arith) (on_greater _ r 4 X (v % 2 ^ 32) 0 d refl fits_X))
+  qword_gt = above _ _ (λ t. omega arith) (λ t h. omega arith)
+      (λ s. reworded (λ u. omega arith) (λ u h. omega arith) (on_greater _ r 4 X (v % 2 ^ 32) 0 d refl fits_X))
 
   qword_le : Exits (comparison_code Qword Le low v d) d r a (x ≤ v)
-  qword_le = below _ _ (λ t h. omega arith) (λ t. omega arith) (λ s. turned (λ u h. omega arith) (λ u. omega arith) (on_greater _ r 4 X (v % 2 ^ 32) d 0 refl fits_X))
+  qword_le = below _ _ (λ t h. omega arith) (λ t. omega arith)
+      (λ s. turned (λ u h. omega arith) (λ u. omega arith) (on_greater _ r 4 X (v % 2 ^ 32) d 0 refl fits_X))
 
   qword_lt : Exits (comparison_code Qword Lt low v d) d r a (x < v)
-  qword_lt = below _ _ (λ t h. omega arith) (λ t. omega arith) (λ s. turned (λ u h. omega arith) (λ u. omega arith) (on_at_least _ r 4 X (v % 2 ^ 32) d 0 refl fits_X))
+  qword_lt = below _ _ (λ t h. omega arith) (λ t. omega arith)
+      (λ s. turned (λ u h. omega arith) (λ u. omega arith) (on_at_least _ r 4 X (v % 2 ^ 32) d 0 refl fits_X))
 
   qword_masked : (m : ℕ) → Exits (comparison_code Qword (MaskedEq m) low v d) d r a (bit_and x m ≡ bit_and v m)
   qword_masked m =
@@ -158,15 +166,18 @@ module _ (low v d x X Y : ℕ) (r : List ℕ) (within : low + 8 ≤ length r) (f
       let W = v / 2 ^ 32 in
       let eX : x % 2 ^ 32 ≡ X = omega arith in
       let eY : x / 2 ^ 32 ≡ Y = omega arith in
-      let of_x : bit_and x m ≡ bit_and Y N * 2 ^ 32 + bit_and X M = mask_halves x m ∙ ap (λ n. bit_and n N * 2 ^ 32 + bit_and (x % 2 ^ 32) M) eY ∙ ap (λ n. bit_and Y N * 2 ^ 32 + bit_and n M) eX in
+      let of_x : bit_and x m ≡ bit_and Y N * 2 ^ 32 + bit_and X M =
+      mask_halves x m ∙ ap (λ n. bit_and n N * 2 ^ 32 + bit_and (x % 2 ^ 32) M) eY ∙ ap (λ n. bit_and Y N * 2 ^ 32 + bit_and n M) eX in
       let of_v : bit_and v m ≡ bit_and W N * 2 ^ 32 + bit_and V M = mask_halves v m in
       let small_X : bit_and X M < 2 ^ 32 = omega (arith, and_le_l X M) in
       let small_Y : bit_and Y N < 2 ^ 32 = omega (arith, and_le_l Y N) in
       let small_V : bit_and V M < 2 ^ 32 = omega (arith, and_le_l V M) in
-      let g = then_step (then_step stays (on_load p r 0 a (low + 4) Y refl (omega arith) small fits_Y is_Y)) (on_mask p r 1 Y N refl fits_Y) in
+      let g = then_step (then_step stays (on_load p r 0 a (low + 4) Y refl (omega arith) small fits_Y is_Y))
+      (on_mask p r 1 Y N refl fits_Y) in
       ⊎_elim
       (λ t.
-      let k = then_step (then_step (then_step g t.1) (on_load p r 3 (bit_and Y N) low X refl (omega arith) small_Y fits_X is_X)) (on_mask p r 4 X M refl fits_X) in
+      let k = then_step (then_step (then_step g t.1) (on_load p r 3 (bit_and Y N) low X refl (omega arith) small_Y fits_X is_X))
+      (on_mask p r 4 X M refl fits_X) in
       ⊎_elim
       (λ u. inl (omega arith, arrive p r 6 (then_step k u.1) refl))
       (λ u. inr (λ h. u.0 (omega arith), arrive p r (6 + d) (then_step k u.1) refl))
@@ -174,7 +185,8 @@ module _ (low v d x X Y : ℕ) (r : List ℕ) (within : low + 8 ≤ length r) (f
       (λ t. inr (λ h. t.0 (omega arith), arrive p r (6 + d) (then_step g t.1) (omega arith)))
       (on_equal p r 2 (bit_and Y N) (bit_and W N) 0 (d + 3) refl small_Y)
 
-  pub comparison_exits : (len : SeccompCmpArgLen) (op : SeccompCmpOp) → Exits (comparison_code len op low v d) d r a (Compares (operator_part len op) (part_of len x) (part_of len v))
+  pub comparison_exits : (len : SeccompCmpArgLen) (op : SeccompCmpOp)
+      → Exits (comparison_code len op low v d) d r a (Compares (operator_part len op) (part_of len x) (part_of len v))
   comparison_exits Dword Eq = dword_eq
   comparison_exits Dword Ne = dword_ne
   comparison_exits Dword Ge = dword_ge

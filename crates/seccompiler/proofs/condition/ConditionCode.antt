@@ -14,7 +14,8 @@ use Rattle.seccompiler.proofs.Closed.{EachInside, closed_from}
 use Rattle.seccompiler.proofs.Words.{word_fits, number_halves}
 use Rattle.seccompiler.proofs.condition.Comparisons.{comparison_exits}
 
-length-comparison_code : (len : SeccompCmpArgLen) (op : SeccompCmpOp) (low v d : ℕ) → length (comparison_code len op low v d) ≡ size_by len op
+length-comparison_code : (len : SeccompCmpArgLen) (op : SeccompCmpOp) (low v d : ℕ)
+    → length (comparison_code len op low v d) ≡ size_by len op
 length-comparison_code Dword Eq low v d = refl
 length-comparison_code Dword Ne low v d = refl
 length-comparison_code Dword Ge low v d = refl
@@ -32,34 +33,99 @@ length-comparison_code Qword (MaskedEq m) low v d = refl
 
 -- each jump of a comparison leads at most d places behind its end
 module _ (low v d : ℕ) (aligned : low % 4 ≡ 0) (within : low ≤ 56) where
-  inside_code : (len : SeccompCmpArgLen) (op : SeccompCmpOp) → EachInside 0 (length (comparison_code len op low v d) + d) (comparison_code len op low v d)
+  inside_code : (len : SeccompCmpArgLen) (op : SeccompCmpOp)
+      → EachInside 0 (length (comparison_code len op low v d) + d) (comparison_code len op low v d)
   inside_code Dword Eq = (inside_load refl aligned (omega arith), (inside_equal refl (omega arith) (omega arith), tt))
   inside_code Dword Ne = (inside_load refl aligned (omega arith), (inside_equal refl (omega arith) (omega arith), tt))
   inside_code Dword Ge = (inside_load refl aligned (omega arith), (inside_at_least refl (omega arith) (omega arith), tt))
   inside_code Dword Gt = (inside_load refl aligned (omega arith), (inside_greater refl (omega arith) (omega arith), tt))
   inside_code Dword Le = (inside_load refl aligned (omega arith), (inside_greater refl (omega arith) (omega arith), tt))
   inside_code Dword Lt = (inside_load refl aligned (omega arith), (inside_at_least refl (omega arith) (omega arith), tt))
-  inside_code Dword (MaskedEq m) = (inside_load refl aligned (omega arith), (inside_mask refl, (inside_equal refl (omega arith) (omega arith), tt)))
-  inside_code Qword Eq = (inside_load refl (omega arith) (omega arith), (inside_equal refl (omega arith) (omega arith), (inside_load refl aligned (omega arith), (inside_equal refl (omega arith) (omega arith), tt))))
-  inside_code Qword Ne = (inside_load refl (omega arith) (omega arith), (inside_equal refl (omega arith) (omega arith), (inside_load refl aligned (omega arith), (inside_equal refl (omega arith) (omega arith), tt))))
-  inside_code Qword Ge = (inside_load refl (omega arith) (omega arith), (inside_greater refl (omega arith) (omega arith), (inside_equal refl (omega arith) (omega arith), (inside_load refl aligned (omega arith), (inside_at_least refl (omega arith) (omega arith), tt)))))
-  inside_code Qword Gt = (inside_load refl (omega arith) (omega arith), (inside_greater refl (omega arith) (omega arith), (inside_equal refl (omega arith) (omega arith), (inside_load refl aligned (omega arith), (inside_greater refl (omega arith) (omega arith), tt)))))
-  inside_code Qword Le = (inside_load refl (omega arith) (omega arith), (inside_greater refl (omega arith) (omega arith), (inside_equal refl (omega arith) (omega arith), (inside_load refl aligned (omega arith), (inside_greater refl (omega arith) (omega arith), tt)))))
-  inside_code Qword Lt = (inside_load refl (omega arith) (omega arith), (inside_greater refl (omega arith) (omega arith), (inside_equal refl (omega arith) (omega arith), (inside_load refl aligned (omega arith), (inside_at_least refl (omega arith) (omega arith), tt)))))
-  inside_code Qword (MaskedEq m) = (inside_load refl (omega arith) (omega arith), (inside_mask refl, (inside_equal refl (omega arith) (omega arith), (inside_load refl aligned (omega arith), (inside_mask refl, (inside_equal refl (omega arith) (omega arith), tt))))))
+  inside_code Dword (MaskedEq m) = (
+    inside_load refl aligned (omega arith),
+    (inside_mask refl, (inside_equal refl (omega arith) (omega arith), tt)),
+  )
+  inside_code Qword Eq = (
+    inside_load refl (omega arith) (omega arith),
+    (
+      inside_equal refl (omega arith) (omega arith),
+      (inside_load refl aligned (omega arith), (inside_equal refl (omega arith) (omega arith), tt)),
+    ),
+  )
+  inside_code Qword Ne = (
+    inside_load refl (omega arith) (omega arith),
+    (
+      inside_equal refl (omega arith) (omega arith),
+      (inside_load refl aligned (omega arith), (inside_equal refl (omega arith) (omega arith), tt)),
+    ),
+  )
+  inside_code Qword Ge = (
+    inside_load refl (omega arith) (omega arith),
+    (
+      inside_greater refl (omega arith) (omega arith),
+      (
+        inside_equal refl (omega arith) (omega arith),
+        (inside_load refl aligned (omega arith), (inside_at_least refl (omega arith) (omega arith), tt)),
+      ),
+    ),
+  )
+  inside_code Qword Gt = (
+    inside_load refl (omega arith) (omega arith),
+    (
+      inside_greater refl (omega arith) (omega arith),
+      (
+        inside_equal refl (omega arith) (omega arith),
+        (inside_load refl aligned (omega arith), (inside_greater refl (omega arith) (omega arith), tt)),
+      ),
+    ),
+  )
+  inside_code Qword Le = (
+    inside_load refl (omega arith) (omega arith),
+    (
+      inside_greater refl (omega arith) (omega arith),
+      (
+        inside_equal refl (omega arith) (omega arith),
+        (inside_load refl aligned (omega arith), (inside_greater refl (omega arith) (omega arith), tt)),
+      ),
+    ),
+  )
+  inside_code Qword Lt = (
+    inside_load refl (omega arith) (omega arith),
+    (
+      inside_greater refl (omega arith) (omega arith),
+      (
+        inside_equal refl (omega arith) (omega arith),
+        (inside_load refl aligned (omega arith), (inside_at_least refl (omega arith) (omega arith), tt)),
+      ),
+    ),
+  )
+  inside_code Qword (MaskedEq m) = (
+    inside_load refl (omega arith) (omega arith),
+    (
+      inside_mask refl,
+      (
+        inside_equal refl (omega arith) (omega arith),
+        (inside_load refl aligned (omega arith), (inside_mask refl, (inside_equal refl (omega arith) (omega arith), tt))),
+      ),
+    ),
+  )
 
 -- the code of a condition, whose fields are in range
-condition_code-meets : (c : Condition) (d : ℕ) → c.arg_index ≤ 5 → AreInRange (condition_code c d) → IsConditionCode c d (condition_code c d)
+condition_code-meets : (c : Condition) (d : ℕ) → c.arg_index ≤ 5 → AreInRange (condition_code c d)
+    → IsConditionCode c d (condition_code c d)
 condition_code-meets c d is_argument ranges =
     let low = 16 + 8 * c.arg_index in
     record {
       long = length-comparison_code c.arg_len c.operator low c.value d;
       ranges = ranges;
       closed = closed_from (condition_code c d) _ (inside_code low c.value d (omega arith) (omega arith) c.arg_len c.operator);
-      enters = λ r rec a small. comparison_exits low c.value d (argument_at r c.arg_index) (word_at r low) (word_at r (low + 4)) r (omega (arith, rec.long)) (word_fits r low rec) (word_fits r (low + 4) rec) refl refl (number_halves r low) a small c.arg_len c.operator;
+      enters = λ r rec a small. comparison_exits low c.value d (argument_at r c.arg_index) (word_at r low) (word_at r (low + 4)) r
+          (omega (arith, rec.long)) (word_fits r low rec) (word_fits r (low + 4) rec) refl refl
+          (number_halves r low) a small c.arg_len c.operator;
     }
 
 -- the same, of a condition whose index is known under another name, and a part that was filled with its code
-pub written_meets : (c : Condition) (index d : ℕ) (part : List sock_filter) → index ≡ c.arg_index → index ≤ 5 → part ≡ condition_code c d → AreInRange part → IsConditionCode c d part
+pub written_meets : (c : Condition) (index d : ℕ) (part : List sock_filter) → index ≡ c.arg_index
+    → index ≤ 5 → part ≡ condition_code c d → AreInRange part → IsConditionCode c d part
 written_meets c index d part same is_argument written ranges =
     subst (λ code. IsConditionCode c d code) (sym written) (condition_code-meets c d (omega arith) (subst AreInRange written ranges))

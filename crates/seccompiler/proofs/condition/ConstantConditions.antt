@@ -15,7 +15,8 @@ abbrev Says : Condition → SeccompCmpOp → ℕ → Type 0
 Says c operator x = Compares (operator_part c.arg_len operator) (part_of c.arg_len x) (part_of c.arg_len c.value)
 
 -- It fails for some value if it does for this one.
-fails_at : (c : Condition) (operator : SeccompCmpOp) → c.operator ≡ operator → (x : ℕ) → x < 2 ^ 64 → (Says c operator x → ⊥) → FailsForSome c
+fails_at : (c : Condition) (operator : SeccompCmpOp) → c.operator ≡ operator → (x : ℕ)
+    → x < 2 ^ 64 → (Says c operator x → ⊥) → FailsForSome c
 fails_at c operator e x small fails = record { argument = x; fits = small; fails = λ holds. fails (subst (λ o. Says c o x) e holds) }
 
 -- It holds for some value if it does for this one.
@@ -66,7 +67,8 @@ cut_twice Dword n = omega arith
 cut_twice Qword n = refl
 
 -- `MaskedEq` fails for the mask where the value has no bit under it, and for 0 where it has some.
-pub masked_eq_fails : (c : Condition) (m : ℕ) → part_of c.arg_len m < 2 ^ 64 → part_of c.arg_len m ≢ 0 → c.operator ≡ MaskedEq m → FailsForSome c
+pub masked_eq_fails : (c : Condition) (m : ℕ) → part_of c.arg_len m < 2 ^ 64 → part_of c.arg_len m ≢ 0
+    → c.operator ≡ MaskedEq m → FailsForSome c
 masked_eq_fails c m small some e =
     let k = part_of c.arg_len m in
     let masked = bit_and (part_of c.arg_len c.value) k in

@@ -1,7 +1,8 @@
 -- For `SeccompFilter::check_numbers`, `SeccompFilter::clone`, `SeccompFilter::matches`, `SeccompFilter::program_len`,
 -- `SeccompFilter::to_tree_bpf` and others: the chains that a map holds: in ascending order of their keys, and found
 -- under them.
-use Rattle.std.proofs.Common.{◌≡◌, ◌↔◌, ℕ, ℤ, pos, ◌++◌, List, [], ◌∷◌, Vec, Global, Bool, false, Option, Some, None, Less, Greater, option_map, refl, sym, ap, ◌∙◌, subst, append_assoc, length, arith}
+use Rattle.std.proofs.Common.{◌≡◌, ◌↔◌, ℕ, ℤ, pos, ◌++◌, List, [], ◌∷◌, Vec, Global, Bool, false, Option, Some, None, Less, Greater}
+use Rattle.std.proofs.Common.{option_map, refl, sym, ap, ◌∙◌, subst, append_assoc, length, arith}
 use Rattle.std.specs.Prelude.{IsTrue}
 use Rattle.std.specs.List.{AllByRecursion}
 use Rattle.std.specs.List.Sorted.{IsStrictlySortedBy}
@@ -21,17 +22,20 @@ numbers_are_keys [] = refl
 numbers_are_keys (e ∷ entries) = ap (λ keys. e.0 ∷ keys) (numbers_are_keys entries)
 
 -- The call numbers of a map's chains ascend, since its keys do.
-pub numbers_ascend : (f : Filter) (entries : List (ℤ × Vec Rule Global)) → chains_of entries ≡ f.chains → IsStrictlySortedBy int_cmp (keys_of entries) → IsStrictlySortedBy int_cmp (keys_of f.chains)
+pub numbers_ascend : (f : Filter) (entries : List (ℤ × Vec Rule Global)) → chains_of entries ≡ f.chains
+    → IsStrictlySortedBy int_cmp (keys_of entries) → IsStrictlySortedBy int_cmp (keys_of f.chains)
 numbers_ascend f entries same = subst (IsStrictlySortedBy int_cmp) (sym (numbers_are_keys entries) ∙ ap keys_of same)
 
 -- So do those of no chains.
-pub no_numbers_ascend : (f : Filter) (entries : List (ℤ × Vec Rule Global)) → chains_of entries ≡ f.chains → length entries ≡ 0 → IsStrictlySortedBy int_cmp (keys_of f.chains)
+pub no_numbers_ascend : (f : Filter) (entries : List (ℤ × Vec Rule Global)) → chains_of entries ≡ f.chains
+    → length entries ≡ 0 → IsStrictlySortedBy int_cmp (keys_of f.chains)
 unfolding IsStrictlySortedBy
 no_numbers_ascend f [] same none = numbers_ascend f [] same tt
 no_numbers_ascend f (e ∷ entries) same none = absurd (omega arith)
 
 -- What stands behind others that are all above a number is above it.
-above_middle : (number : ℤ) (front : List (ℤ × Chain)) (e : ℤ × Chain) (back : List (ℤ × Chain)) → AllByRecursion (λ y. int_cmp number y ≡ Less) (keys_of (front ++ e ∷ back)) → int_cmp number e.0 ≡ Less
+above_middle : (number : ℤ) (front : List (ℤ × Chain)) (e : ℤ × Chain) (back : List (ℤ × Chain))
+    → AllByRecursion (λ y. int_cmp number y ≡ Less) (keys_of (front ++ e ∷ back)) → int_cmp number e.0 ≡ Less
 above_middle number [] e back all = all.0
 above_middle number (x ∷ front) e back all = above_middle number front e back all.1
 
@@ -42,31 +46,38 @@ insert_last : (so_far : List (ℤ × Vec Rule Global)) (number : ℤ) (chain : V
 insert_last [] number chain back ascends = refl
 insert_last (x ∷ so_far) number chain back ascends =
     let rest = chains_of so_far ++ (number, chain.items) ∷ back in
-    let below : int_cmp x.0 number ≡ Less = above_middle x.0 (chains_of so_far) (number, chain.items) back (sorted_head int_cmp x.0 (keys_of rest) ascends) in
+    let below : int_cmp x.0 number ≡ Less =
+    above_middle x.0 (chains_of so_far) (number, chain.items) back (sorted_head int_cmp x.0 (keys_of rest) ascends) in
     let above : int_cmp number x.0 ≡ Greater = int_cmp_total.antisymm number x.0 ∙ ap ordering_reverse below in
-    rw above (ap (λ chains. (x.0, x.1.items) ∷ chains) (insert_last so_far number chain back (sorted_tail int_cmp x.0 (keys_of rest) ascends)))
+    rw above (ap (λ chains. (x.0, x.1.items) ∷ chains)
+    (insert_last so_far number chain back (sorted_tail int_cmp x.0 (keys_of rest) ascends)))
 
 -- The next chain of a map, put into another map behind the chains so far.
 pub insert_next : (entries so_far left back : List (ℤ × Vec Rule Global)) (number : ℤ) (chain copy : Vec Rule Global)
-    → IsStrictlySortedBy int_cmp (keys_of entries) → chains_of so_far ++ chains_of left ≡ chains_of entries → left ≡ (number, chain) ∷ back → copy.items ≡ chain.items
+    → IsStrictlySortedBy int_cmp (keys_of entries) → chains_of so_far ++ chains_of left ≡ chains_of entries
+    → left ≡ (number, chain) ∷ back → copy.items ≡ chain.items
     → chains_of (insert_entry int_cmp so_far number copy) ++ chains_of back ≡ chains_of entries
 insert_next entries so_far left back number chain copy ascends split next same =
     let whole : chains_of so_far ++ (number, copy.items) ∷ chains_of back ≡ chains_of entries =
-    ap (λ rules. chains_of so_far ++ (number, rules) ∷ chains_of back) same ∙ ap (λ es. chains_of so_far ++ chains_of es) (sym next) ∙ split in
+    ap (λ rules. chains_of so_far ++ (number, rules) ∷ chains_of back) same ∙ ap (λ es. chains_of so_far ++ chains_of es) (sym next)
+    ∙ split in
     let in_order : IsStrictlySortedBy int_cmp (keys_of (chains_of so_far ++ (number, copy.items) ∷ chains_of back)) =
     subst (IsStrictlySortedBy int_cmp) (sym (numbers_are_keys entries) ∙ ap keys_of (sym whole)) ascends in
     ap (λ chains. chains ++ chains_of back) (insert_last so_far number copy (chains_of back) in_order)
     ∙ append_assoc (chains_of so_far) ((number, copy.items) ∷ []) (chains_of back) ∙ whole
 
 -- What a map has under a call number is the chain there.
-pub found_chain : (entries : List (ℤ × Vec Rule Global)) (key : ℤ) (number : ℕ) (found : Option (Vec Rule Global)) → key ≡ pos number → found ≡ lookup (is_at (int_cmp key)) entries → chain_under (chains_of entries) number ≡ option_map (λ rules. rules.items) found
+pub found_chain : (entries : List (ℤ × Vec Rule Global)) (key : ℤ) (number : ℕ) (found : Option (Vec Rule Global))
+    → key ≡ pos number → found ≡ lookup (is_at (int_cmp key)) entries
+    → chain_under (chains_of entries) number ≡ option_map (λ rules. rules.items) found
 found_chain entries key number found same is =
     lookup-map_values (λ (rules : Vec Rule Global). rules.items) (is_at (int_cmp (pos number))) entries
     ∙ ap (λ z. option_map (λ (rules : Vec Rule Global). rules.items) (lookup (is_at (int_cmp z)) entries)) (sym same)
     ∙ ap (option_map (λ rules. rules.items)) (sym is)
 
 -- Where there is a chain under the call number, the policy matches exactly if the chain does.
-pub matches_by_chain : (f : Filter) (r : List ℕ) (chain : Chain) (b : Bool) → chain_under f.chains (word_at r 0) ≡ Some chain → (IsTrue b ↔ ChainMatches chain r) → IsTrue b ↔ Matches f r
+pub matches_by_chain : (f : Filter) (r : List ℕ) (chain : Chain) (b : Bool) → chain_under f.chains (word_at r 0) ≡ Some chain
+    → (IsTrue b ↔ ChainMatches chain r) → IsTrue b ↔ Matches f r
 matches_by_chain f r chain b there iff = (
   λ holds. record { chain = chain; there = there; matches = iff.0 holds },
   λ matches.

@@ -42,12 +42,15 @@ unrelated_decisions relation f g p q r of_f of_g rec answers = record {
 -- what a comparison says of the programs it says of the filters
 pub compares_filters : (calls : CallSet) (relation : Relation) (f g : Filter) (p q : List sock_filter) (answer : Comparison)
     → Decides f p → Decides g q → Compares calls relation p q answer → ComparesFilters calls relation f g answer
-compares_filters calls relation f g p q Holds of_f of_g known = λ r call. related_decisions relation f g p q r of_f of_g call.record_is (known r call)
-compares_filters calls relation f g p q (Fails r) of_f of_g known = (known.0, unrelated_decisions relation f g p q r of_f of_g known.0.record_is known.1)
+compares_filters calls relation f g p q Holds of_f of_g known =
+    λ r call. related_decisions relation f g p q r of_f of_g call.record_is (known r call)
+compares_filters calls relation f g p q (Fails r) of_f of_g known =
+    (known.0, unrelated_decisions relation f g p q r of_f of_g known.0.record_is known.1)
 compares_filters calls relation f g p q Undecided of_f of_g known = tt
 
 -- what a comparison says of two programs it says of the first and of the filter of the second
-pub compares_program : (calls : CallSet) (relation : Relation) (p : List sock_filter) (f : Filter) (q : List sock_filter) (answer : Comparison)
+pub compares_program : (calls : CallSet) (relation : Relation) (p : List sock_filter)
+    (f : Filter) (q : List sock_filter) (answer : Comparison)
     → Decides f q → Compares calls relation p q answer → ComparesProgram calls relation p f answer
 compares_program calls relation p f q Holds of_f known = λ r call.
     let answers = known r call in

@@ -8,7 +8,9 @@ use Rattle.seccompiler.specs.Policy.{Rule, Filter, chains_of}
 use Rattle.seccompiler.specs.Equality.{are_rules_equal, are_entries_equal, are_filters_equal}
 
 -- Maps are equal where their chains are.
-pub maps_equal : (xs ys : List (ℤ × Vec Rule Global)) → pointwise (λ x y. int_eq x.0 y.0 && pointwise are_rules_equal x.1.items y.1.items) xs ys ≡ pointwise are_entries_equal (chains_of xs) (chains_of ys)
+pub maps_equal : (xs ys : List (ℤ × Vec Rule Global))
+    → pointwise (λ x y. int_eq x.0 y.0 && pointwise are_rules_equal x.1.items y.1.items) xs ys
+    ≡ pointwise are_entries_equal (chains_of xs) (chains_of ys)
 maps_equal [] [] = refl
 maps_equal [] (y ∷ ys) = refl
 maps_equal (x ∷ xs) [] = refl
@@ -25,7 +27,8 @@ next_test first test value (inr (here, is)) = rw here is
 
 -- The tests of two filters' parts, one after the other, tell whether the filters are equal.
 pub filters_tested : (f g : Filter) (chains first second value : Bool) → chains ≡ pointwise are_entries_equal f.chains g.chains
-    → IsNextTest chains (action.ghosts.eq f.mismatch_action g.mismatch_action) first → IsNextTest first (action.ghosts.eq f.match_action g.match_action) second
+    → IsNextTest chains (action.ghosts.eq f.mismatch_action g.mismatch_action) first
+    → IsNextTest first (action.ghosts.eq f.match_action g.match_action) second
     → IsNextTest second (arch.ghosts.eq f.target_arch g.target_arch) value → value ≡ are_filters_equal f g
 filters_tested f g chains first second value is one two three =
     next_test second _ value three ∙ ap (λ t. t && arch.ghosts.eq f.target_arch g.target_arch)

@@ -13,7 +13,7 @@ use Rattle.seccompiler.specs.TreePlaces.{HasPlaces, HasProgramPlaces, IsTreePlac
 use Rattle.seccompiler.proofs.FoundChains.{MapEntry}
 use Rattle.seccompiler.proofs.RangesOf.{ranges_of_filter}
 use Rattle.seccompiler.proofs.Zipped.{all_zip_append}
-use Rattle.seccompiler.proofs.filter.WholeProgram.{Written}
+use Rattle.seccompiler.proofs.filter.Guarded.{Written}
 
 pub are_words : (f : Filter) (entries : List MapEntry) (mismatch matched : ℕ) → Written f entries mismatch matched
     → AreWords f mismatch matched

@@ -1,26 +1,32 @@
 -- For `SeccompFilter::decide`: what a decision does not depend on: the order of rules and conditions, and the
 -- instruction pointer.
-use Rattle.std.proofs.Common.{◌≡◌, ℕ, ℤ, zero, suc, pos, ◌+◌, ◌*◌, ◌<◌, ◌≤◌, List, [], ◌∷◌, length, get_or, Option, Some, Bool, true, false, cond, refl, sym, ap, ◌∙◌, subst, arith, inl, inr}
-use Rattle.std.specs.Prelude.{slice_index, Any}
+use Rattle.std.proofs.Common.{◌≡◌, ℕ, ℤ, zero, suc, pos, ◌+◌, ◌*◌, ◌<◌, ◌≤◌, List, [], ◌∷◌, length, Option, Some, Bool, true, false, cond}
+use Rattle.std.proofs.Common.{refl, sym, ap, ◌∙◌, subst, arith, inl, inr}
+use Rattle.std.specs.Prelude.{slice_index}
 use Rattle.std.specs.List.{AllZip}
 use Rattle.std.specs.List.Sorted.{IsPermutation}
 use Rattle.std.specs.Map.{lookup}
 use Rattle.std.specs.BTreeMap.{is_at}
 use Rattle.std.specs.Ordering.{int_cmp}
-use Rattle.std.proofs.lemmas.List.{get_or_default, nil_from_length}
-use Rattle.std.proofs.lemmas.List.Elements.{All-weaker, AllZip-get_or, length_all_zip}
-use Rattle.std.proofs.lemmas.List.Sorted.{All-permutation, Contains-permutation, IsPermutation-sym, length_permutation}
+use Rattle.std.proofs.lemmas.List.{nil_from_length}
+use Rattle.std.proofs.lemmas.List.Elements.{All-weaker, length_all_zip}
+use Rattle.std.proofs.lemmas.List.Sorted.{All-permutation, IsPermutation-sym, length_permutation}
 use Rattle.seccompiler.specs.Machine.{number_at, word_at, argument_at}
 use Rattle.seccompiler.specs.Architecture.{audit_word}
-use Rattle.seccompiler.specs.Policy.{word_of, Condition, part_of, operator_part, Compares, Holds, Rule, Chain, Filter, chain_under, RuleHolds, ChainMatches, Matches, IsDecision, other_architecture, policy_matches, policy_differs}
+use Rattle.seccompiler.specs.Policy.{word_of, Condition, part_of, operator_part, Compares, Holds, Rule, Chain, Filter, chain_under}
+use Rattle.seccompiler.specs.Policy.{RuleHolds, ChainMatches, Matches, IsDecision, other_architecture, policy_matches, policy_differs}
 use Rattle.seccompiler.specs.Reorder.{IsReorderedRule, IsReorderedChain, IsReorderedEntry, IsReordered, IsSameCall}
+use Rattle.seccompiler.proofs.Zipped.{Any-all_zip, all_zip_back}
+use Rattle.seccompiler.proofs.Searches.{Any-permutation}
 
 -- Records that agree in the bytes of a number agree in the number.
-same_number : (r s : List ℕ) (k n : ℕ) → ((j : ℕ) → k ≤ j → j < k + n → slice_index r j ≡ slice_index s j) → number_at r k n ≡ number_at s k n
+same_number : (r s : List ℕ) (k n : ℕ) → ((j : ℕ) → k ≤ j → j < k + n → slice_index r j ≡ slice_index s j)
+    → number_at r k n ≡ number_at s k n
 same_number r s k zero same = refl
 same_number r s k (suc n) same =
     let first : slice_index r k ≡ slice_index s k = same k (omega arith) (omega arith) in
-    let rest : number_at r (k + 1) n ≡ number_at s (k + 1) n = same_number r s (k + 1) n (λ j low high. same j (omega arith) (omega arith)) in
+    let rest : number_at r (k + 1) n ≡ number_at s (k + 1) n =
+    same_number r s (k + 1) n (λ j low high. same j (omega arith) (omega arith)) in
     cc
 
 -- Two records of one call have the same call number and architecture word.
@@ -49,28 +55,6 @@ same_rule q q' r s order same holds =
     All-permutation (λ c. Holds c s) q q' order
     (All-weaker (λ c. Holds c r) (λ c. Holds c s) (λ c. same_condition c r s same) q holds)
 
--- What some item of a list has, some item of each permutation has.
-Any-permutation : {X : Type 0} (P : X → Type 0) (xs ys : List X) → IsPermutation xs ys → Any P xs → Any P ys
-Any-permutation P xs ys order (k, x, within, is, has) =
-    let there = Contains-permutation xs ys x order (k, within, is) in
-    (there.0, x, there.1, there.2, has)
-
--- Where two lists are related place by place, what some item of the first has gives what some item of the second has.
-Any-all_zip : {X : Type 0} (R : X → X → Type 0) (P Q : X → Type 0) (xs ys : List X) → ((x y : X) → R x y → P x → Q y) → AllZip R xs ys → Any P xs → Any Q ys
-Any-all_zip R P Q xs ys leads pairs (k, x, within, is, has) =
-    let y = get_or ys k x in
-    let long : length xs ≡ length ys = length_all_zip R xs ys pairs in
-    let inside : k < length ys = omega arith in
-    let pair : R x y = subst (λ z. R z y) is (AllZip-get_or R xs ys k x x pairs within) in
-    (k, y, inside, get_or_default ys k y x inside, leads x y pair has)
-
--- Two lists that are related place by place are so the other way round, by the converse relation.
-all_zip_back : {X : Type 0} (R S : X → X → Type 0) (xs ys : List X) → ((x y : X) → R x y → S y x) → AllZip R xs ys → AllZip S ys xs
-all_zip_back R S [] [] turn pairs = pairs
-all_zip_back R S [] (y ∷ ys) turn pairs = absurd pairs
-all_zip_back R S (x ∷ xs) [] turn pairs = absurd pairs
-all_zip_back R S (x ∷ xs) (y ∷ ys) turn pairs = (turn x y pairs.0, all_zip_back R S xs ys turn pairs.1)
-
 -- A chain matches in any order of its rules.
 matches_in_order : (chain middle : Chain) (r : List ℕ) → IsPermutation chain middle → ChainMatches chain r → ChainMatches middle r
 matches_in_order chain middle r order (inl empty) =
@@ -78,33 +62,41 @@ matches_in_order chain middle r order (inl empty) =
 matches_in_order chain middle r order (inr any) = inr (Any-permutation (λ q. RuleHolds q r) chain middle order any)
 
 -- A chain matches in any order of the conditions in its rules, on any record of the call.
-matches_by_rules : (chain chain' : Chain) (r s : List ℕ) → AllZip IsReorderedRule chain chain' → IsSameCall r s → ChainMatches chain r → ChainMatches chain' s
+matches_by_rules : (chain chain' : Chain) (r s : List ℕ) → AllZip IsReorderedRule chain chain'
+    → IsSameCall r s → ChainMatches chain r → ChainMatches chain' s
 matches_by_rules chain chain' r s pairs same (inl empty) =
     inl (nil_from_length chain' (sym (length_all_zip IsReorderedRule chain chain' pairs) ∙ ap length empty))
 matches_by_rules chain chain' r s pairs same (inr any) =
-    inr (Any-all_zip IsReorderedRule (λ q. RuleHolds q r) (λ q. RuleHolds q s) chain chain' (λ q q' order. same_rule q q' r s order same) pairs any)
+    inr (Any-all_zip IsReorderedRule (λ q. RuleHolds q r) (λ q. RuleHolds q s) chain chain'
+    (λ q q' order. same_rule q q' r s order same) pairs any)
 
 -- A reordered chain matches where the first does.
-chain_matches : (chain chain' : Chain) (r s : List ℕ) → IsReorderedChain chain chain' → IsSameCall r s → ChainMatches chain r → ChainMatches chain' s
+chain_matches : (chain chain' : Chain) (r s : List ℕ) → IsReorderedChain chain chain'
+    → IsSameCall r s → ChainMatches chain r → ChainMatches chain' s
 chain_matches chain chain' r s order same matches =
     matches_by_rules order.middle chain' r s order.conditions same (matches_in_order chain order.middle r order.rules matches)
 
 -- The first chain matches where a reordered one does.
-chain_matches_back : (chain chain' : Chain) (r s : List ℕ) → IsReorderedChain chain chain' → IsSameCall r s → ChainMatches chain' s → ChainMatches chain r
+chain_matches_back : (chain chain' : Chain) (r s : List ℕ) → IsReorderedChain chain chain'
+    → IsSameCall r s → ChainMatches chain' s → ChainMatches chain r
 chain_matches_back chain chain' r s order same matches =
     let pairs = all_zip_back IsReorderedRule IsReorderedRule order.middle chain' IsPermutation-sym order.conditions in
     let rules = IsPermutation-sym chain order.middle order.rules in
     matches_in_order order.middle chain r rules (matches_by_rules chain' order.middle s r pairs (same_call_back r s same) matches)
 
 -- One step of a look-up among entries with one key each and related values.
-lookup_step : {X : Type 0} (S : X → X → Type 0) (b : Bool) (v v' : X) (rest rest' : Option X) (x : X) → S v v' → (rest ≡ Some x → (y : X) × (rest' ≡ Some y) × S x y) → cond b (Some v) rest ≡ Some x → (y : X) × (cond b (Some v') rest' ≡ Some y) × S x y
+lookup_step : {X : Type 0} (S : X → X → Type 0) (b : Bool) (v v' : X) (rest rest' : Option X) (x : X) → S v v'
+    → (rest ≡ Some x → (y : X) × (rest' ≡ Some y) × S x y) → cond b (Some v) rest ≡ Some x
+    → (y : X) × (cond b (Some v') rest' ≡ Some y) × S x y
 lookup_step S true v v' rest rest' x pair more found =
     let is : v ≡ x = cc in
     (v', refl, subst (λ z. S z v') is pair)
 lookup_step S false v v' rest rest' x pair more found = more found
 
 -- Where the entries of two lists, place by place, have one key and related values, look-ups find related values.
-lookup_all_zip : {K X : Type 0} (R : K × X → K × X → Type 0) (S : X → X → Type 0) (test : K → Bool) (es es' : List (K × X)) (x : X) → ((e e' : K × X) → R e e' → (e.0 ≡ e'.0) × S e.1 e'.1) → AllZip R es es' → lookup test es ≡ Some x → (y : X) × (lookup test es' ≡ Some y) × S x y
+lookup_all_zip : {K X : Type 0} (R : K × X → K × X → Type 0) (S : X → X → Type 0) (test : K → Bool) (es es' : List (K × X)) (x : X)
+    → ((e e' : K × X) → R e e' → (e.0 ≡ e'.0) × S e.1 e'.1) → AllZip R es es' → lookup test es ≡ Some x
+    → (y : X) × (lookup test es' ≡ Some y) × S x y
 lookup_all_zip R S test [] [] x parts pairs found = absurd (cc)
 lookup_all_zip R S test [] (e' ∷ es') x parts pairs found = absurd pairs
 lookup_all_zip R S test (e ∷ es) [] x parts pairs found = absurd pairs
@@ -116,10 +108,13 @@ lookup_all_zip {K} {X} R S test (e ∷ es) (e' ∷ es') x parts pairs found =
     (lookup_step S (test e.0) e.1 e'.1 (lookup test es) (lookup test es') x pair.1 (lookup_all_zip R S test es es' x parts pairs.1) found)
 
 -- A filter matches where another does whose chains, entry by entry, match where its own do.
-matches_by_entries : (R : ℤ × Chain → ℤ × Chain → Type 0) (f g : Filter) (r s : List ℕ) → ((e e' : ℤ × Chain) → R e e' → (e.0 ≡ e'.0) × (ChainMatches e.1 r → ChainMatches e'.1 s)) → AllZip R f.chains g.chains → IsSameCall r s → Matches f r → Matches g s
+matches_by_entries : (R : ℤ × Chain → ℤ × Chain → Type 0) (f g : Filter) (r s : List ℕ)
+    → ((e e' : ℤ × Chain) → R e e' → (e.0 ≡ e'.0) × (ChainMatches e.1 r → ChainMatches e'.1 s))
+    → AllZip R f.chains g.chains → IsSameCall r s → Matches f r → Matches g s
 matches_by_entries R f g r s parts pairs same matches =
     let number = word_at r 0 in
-    let found = lookup_all_zip R (λ chain chain'. ChainMatches chain r → ChainMatches chain' s) (is_at (int_cmp (pos number))) f.chains g.chains matches.chain parts pairs matches.there in
+    let found = lookup_all_zip R (λ chain chain'. ChainMatches chain r → ChainMatches chain' s)
+    (is_at (int_cmp (pos number))) f.chains g.chains matches.chain parts pairs matches.there in
     record {
       chain = found.0;
       there = subst (λ (n : ℕ). chain_under g.chains n ≡ Some found.0) (same_word r s 0 same (omega arith)) found.1;

@@ -1,6 +1,7 @@
 -- For `SeccompRule::code_len`: a rule's conditions have one cut into groups, the one that `groups_of` gives, and few
 -- relays.
-use Rattle.std.proofs.Common.{◌≡◌, ◌+◌, ◌-◌, ◌*◌, ◌<◌, ◌≤◌, List, [], ◌∷◌, ◌++◌, length, Bool, true, false, refl, sym, ap, ap₂, ◌∙◌, subst, append_assoc, length-append, nat_le, if◌then◌else◌, flat_map, arith}
+use Rattle.std.proofs.Common.{◌≡◌, ◌+◌, ◌-◌, ◌*◌, ◌<◌, ◌≤◌, List, [], ◌∷◌, ◌++◌, length, Bool, true, false, refl, sym, ap, ap₂, ◌∙◌, subst}
+use Rattle.std.proofs.Common.{append_assoc, length-append, nat_le, if◌then◌else◌, flat_map, arith}
 use Rattle.std.proofs.lemmas.Bool.Decides.{nat_tests}
 use Rattle.std.proofs.lemmas.List.{append_cancel_left}
 use Rattle.std.proofs.lemmas.List.Elements.{All-nil, All-cons, All-head, All-tail}
@@ -33,12 +34,21 @@ one_closes_late c [] back d e = omega arith
 one_closes_late c (x ∷ front) back d e = absurd (omega (arith, ap length e, length-append front (d ∷ back)))
 
 -- A group that is not full closes late with one condition more.
-more_closes_late : (group : List Condition) (c : Condition) → ClosesLate group → total_size group < greatest_offset → ClosesLate (group ++ c ∷ [])
+more_closes_late : (group : List Condition) (c : Condition) → ClosesLate group → total_size group < greatest_offset
+    → ClosesLate (group ++ c ∷ [])
 more_closes_late group c late few front back d e = by (two_fronts group front (c ∷ []) (d ∷ back) e)
   where
     by : Fronts group front → total_size front < greatest_offset
     by (same f) = subst (λ l. total_size l < greatest_offset) f few
-    by (shorter x rest f) = absurd (omega (arith, ap length e, ap length f, length-append group (c ∷ []), length-append front (d ∷ back), length-append group (x ∷ rest)))
+    by (shorter x rest f) =
+        absurd (omega (
+          arith,
+          ap length e,
+          ap length f,
+          length-append group (c ∷ []),
+          length-append front (d ∷ back),
+          length-append group (x ∷ rest),
+        ))
     by (longer x rest f) = late front rest x f
 
 -- A single group that closes late is a cut.
@@ -52,7 +62,8 @@ last_cut group some late = record {
 
 -- A full group before a cut makes a cut.
 full_cut : (group q : List Condition) (groups : List (List Condition))
-    → 1 ≤ length group → ClosesLate group → greatest_offset ≤ total_size group → IsCutIntoGroups q groups → IsCutIntoGroups (group ++ q) (group ∷ groups)
+    → 1 ≤ length group → ClosesLate group → greatest_offset ≤ total_size group → IsCutIntoGroups q groups
+    → IsCutIntoGroups (group ++ q) (group ∷ groups)
 full_cut group q groups some late many cut = record {
   joined = ap (λ l. group ++ l) cut.joined;
   some = All-cons (λ g. 1 ≤ length g) group groups some cut.some;
@@ -60,7 +71,8 @@ full_cut group q groups some late many cut = record {
   full = is_full;
 }
   where
-    is_full : (front back : List (List Condition)) (g next : List Condition) → group ∷ groups ≡ front ++ g ∷ next ∷ back → greatest_offset ≤ total_size g
+    is_full : (front back : List (List Condition)) (g next : List Condition) → group ∷ groups ≡ front ++ g ∷ next ∷ back
+        → greatest_offset ≤ total_size g
     is_full [] back g next e = let here : group ≡ g = cc in subst (λ l. greatest_offset ≤ total_size l) here many
     is_full (first ∷ front) back g next e = cut.full front back g next (cc)
 
@@ -77,7 +89,8 @@ begun_cut group (c ∷ q) some late =
         → (total_size group < greatest_offset → IsCutIntoGroups ((group ++ c ∷ []) ++ q) (groups_from (group ++ c ∷ []) q))
         → IsCutIntoGroups (group ++ c ∷ q) (if b then group ∷ groups_from (c ∷ []) q else groups_from (group ++ c ∷ []) q)
     by true e anew on = full_cut group (c ∷ q) (groups_from (c ∷ []) q) some late (grind (arith, nat_tests)) anew
-    by false e anew on = subst (λ l. IsCutIntoGroups l (groups_from (group ++ c ∷ []) q)) (append_assoc group (c ∷ []) q) (on (grind (arith, nat_tests)))
+    by false e anew on = subst (λ l. IsCutIntoGroups l (groups_from (group ++ c ∷ []) q))
+        (append_assoc group (c ∷ []) q) (on (grind (arith, nat_tests)))
 
 -- The groups of a rule's conditions are a cut of them.
 groups_of-cut : (q : List Condition) → IsCutIntoGroups q (groups_of q)
@@ -94,7 +107,8 @@ abbrev join : List (List Condition) → List Condition
 join groups = flat_map (λ group. group) groups
 
 -- The groups behind the first are a cut of their conditions.
-cut_rest : (q group : List Condition) (groups : List (List Condition)) → IsCutIntoGroups q (group ∷ groups) → IsCutIntoGroups (join groups) groups
+cut_rest : (q group : List Condition) (groups : List (List Condition)) → IsCutIntoGroups q (group ∷ groups)
+    → IsCutIntoGroups (join groups) groups
 cut_rest q group groups cut = record {
   joined = refl;
   some = All-tail (λ g. 1 ≤ length g) group groups cut.some;
@@ -106,7 +120,15 @@ cut_rest q group groups cut = record {
 not_shorter : (q group other : List Condition) (groups others : List (List Condition)) (c : Condition) (back : List Condition)
     → IsCutIntoGroups q (group ∷ groups) → IsCutIntoGroups q (other ∷ others) → other ≡ group ++ c ∷ back → ⊥
 not_shorter q group other [] others c back cut another e =
-    omega (arith, ap length cut.joined, ap length another.joined, ap length e, length-append group [], length-append other (join others), length-append group (c ∷ back))
+    omega (
+      arith,
+      ap length cut.joined,
+      ap length another.joined,
+      ap length e,
+      length-append group [],
+      length-append other (join others),
+      length-append group (c ∷ back),
+    )
 not_shorter q group other (next ∷ groups) others c back cut another e =
     let few : total_size group < greatest_offset = All-head ClosesLate other others another.late group back c e in
     let many : greatest_offset ≤ total_size group = cut.full [] groups group next refl in
@@ -115,15 +137,23 @@ not_shorter q group other (next ∷ groups) others c back cut another e =
 -- A cut into no groups and a cut into some are not of the same conditions.
 not_empty : (q group : List Condition) (groups : List (List Condition)) → IsCutIntoGroups q [] → IsCutIntoGroups q (group ∷ groups) → ⊥
 not_empty q group groups none cut =
-    omega (arith, ap length none.joined, ap length cut.joined, length-append group (join groups), All-head (λ g. 1 ≤ length g) group groups cut.some)
+    omega (
+      arith,
+      ap length none.joined,
+      ap length cut.joined,
+      length-append group (join groups),
+      All-head (λ g. 1 ≤ length g) group groups cut.some,
+    )
 
 -- Two cuts of the same conditions are equal.
-cuts_same : (q : List Condition) (groups others : List (List Condition)) → IsCutIntoGroups q groups → IsCutIntoGroups q others → groups ≡ others
+cuts_same : (q : List Condition) (groups others : List (List Condition)) → IsCutIntoGroups q groups
+    → IsCutIntoGroups q others → groups ≡ others
 cuts_same q [] [] cut another = refl
 cuts_same q [] (other ∷ others) cut another = absurd (not_empty q other others cut another)
 cuts_same q (group ∷ groups) [] cut another = absurd (not_empty q group groups another cut)
 cuts_same q (group ∷ groups) (other ∷ others) cut another =
-    by (two_fronts group other (join groups) (join others) (cut.joined ∙ sym another.joined)) (cuts_same (join groups) groups others (cut_rest q group groups cut))
+    by (two_fronts group other (join groups) (join others) (cut.joined ∙ sym another.joined))
+    (cuts_same (join groups) groups others (cut_rest q group groups cut))
   where
     by : Fronts group other → (IsCutIntoGroups (join groups) others → groups ≡ others) → group ∷ groups ≡ other ∷ others
     by (same e) rest_same =
@@ -141,13 +171,15 @@ groups_of-only q = record {
 }
 
 -- The groups of a cut but the last take as many instructions as the border or more each.
-cut_small : (q : List Condition) (groups : List (List Condition)) → IsCutIntoGroups q groups → greatest_offset * (length groups - 1) ≤ total_size q
+cut_small : (q : List Condition) (groups : List (List Condition)) → IsCutIntoGroups q groups
+    → greatest_offset * (length groups - 1) ≤ total_size q
 cut_small q [] cut = omega arith
 cut_small q (group ∷ []) cut = omega arith
 cut_small q (group ∷ next ∷ groups) cut =
     let many : greatest_offset ≤ total_size group = cut.full [] groups group next refl in
     let rest = cut_small (join (next ∷ groups)) (next ∷ groups) (cut_rest q group (next ∷ groups) cut) in
-    let total : total_size q ≡ total_size group + total_size (join (next ∷ groups)) = ap (λ l. total_size l) (sym cut.joined) ∙ sum_by-append size_of group (join (next ∷ groups)) in
+    let total : total_size q ≡ total_size group + total_size (join (next ∷ groups)) =
+    ap (λ l. total_size l) (sym cut.joined) ∙ sum_by-append size_of group (join (next ∷ groups)) in
     omega arith
 
 -- A rule's conditions take as many instructions as the border or more for each of its relays.

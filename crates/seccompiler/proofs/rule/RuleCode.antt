@@ -1,6 +1,7 @@
 -- For `SeccompRule::code_len` and `SeccompRule::write`: what the code of a rule does, from its last condition to its
 -- entry.
-use Rattle.std.proofs.Common.{◌≡◌, ℕ, suc, ◌+◌, ◌*◌, ◌<◌, ◌≤◌, ◌^◌, List, [], ◌∷◌, ◌++◌, length, refl, sym, subst, arith, length-append, ⊎_elim, inl, inr}
+use Rattle.std.proofs.Common.{◌≡◌, ℕ, suc, ◌+◌, ◌*◌, ◌<◌, ◌≤◌, ◌^◌, List, [], ◌∷◌, ◌++◌, length, refl, sym, subst, arith, length-append}
+use Rattle.std.proofs.Common.{⊎_elim, inl, inr}
 use Rattle.std.proofs.lemmas.List.Elements.{All-nil, All-push, All-pop}
 use Rattle.std.proofs.lemmas.List.Sums.{sum_by_push}
 use Rattle.std.specs.Prelude.{Some}
@@ -14,7 +15,8 @@ use Rattle.seccompiler.specs.Pieces.{inside_jump, IsClosed, Leads, Exits, IsCond
 use Rattle.seccompiler.specs.Policy.{Condition, Holds, size_by, size_of, RuleHolds}
 use Rattle.seccompiler.specs.Layout.{greatest_offset, total_size, relays}
 use Rattle.seccompiler.specs.Relay.{relay_code, entry_code}
-use Rattle.seccompiler.proofs.Runs.{goes_shift, goes_on, stands_second, leads_to, leads_from, leads_second, stays_small, leads_through, leads_both, via}
+use Rattle.seccompiler.proofs.Runs.{goes_shift, goes_on, stands_second, leads_to, leads_from, leads_second, stays_small, leads_through}
+use Rattle.seccompiler.proofs.Runs.{leads_both, via}
 use Rattle.seccompiler.proofs.Closed.{closed_join, closed_from, ranges_join, ranges_from, jump_in_range}
 use Rattle.seccompiler.proofs.Steps.{on_jump}
 
@@ -77,7 +79,8 @@ hold_last : (q : List Condition) (c : Condition) (r : List ℕ) → RuleHolds (q
 hold_last q c r h = (All-pop (λ x. Holds x r) (q ++ c ∷ []) q (Some c) refl h).1
 
 -- one condition more, in front
-pub body_more : (q : List Condition) (code own : List sock_filter) (o k : ℕ) (c : Condition) → o ≤ greatest_offset → IsConditionCode c o own → Body q code o k → Body (q ++ c ∷ []) (own ++ code) (o + size_of c) k
+pub body_more : (q : List Condition) (code own : List sock_filter) (o k : ℕ) (c : Condition)
+    → o ≤ greatest_offset → IsConditionCode c o own → Body q code o k → Body (q ++ c ∷ []) (own ++ code) (o + size_of c) k
 body_more q code own o k c room one body =
     let size : length own ≡ size_of c = one.long in
     let small_size : size_of c ≤ 6 = size_small c in
@@ -89,7 +92,8 @@ body_more q code own o k c room one body =
       near = omega (arith, body.near);
       long = omega (arith, body.long, total_more q c);
       ranges = ranges_join own code one.ranges body.ranges;
-      closed = closed_join own code (length own + o) (length code + 2) (length (own ++ code) + 2) one.closed body.closed (omega (arith, body.near)) (omega arith);
+      closed = closed_join own code (length own + o) (length code + 2) (length (own ++ code) + 2) one.closed body.closed
+          (omega (arith, body.near)) (omega arith);
       enters = λ r rec a small.
           ⊎_elim
           (λ t.
@@ -97,15 +101,27 @@ body_more q code own o k c room one body =
           let fits = stays_small own r small g.goes in
           ⊎_elim
           (λ u. inl (hold_more q c r u.0 t.0, leads_to (own ++ code) r 0 a _ _ (sym len) (leads_through own code r a (length code) g u.1)))
-          (λ u. inr (λ h. u.0 (hold_front q c r h), leads_to (own ++ code) r 0 a _ _ to_end (leads_through own code r a (length code + 1) g u.1)))
+          (λ u. inr (
+            λ h. u.0 (hold_front q c r h),
+            leads_to (own ++ code) r 0 a _ _ to_end
+                (leads_through own code r a (length code + 1) g u.1),
+          ))
           (body.enters r rec g.accumulator fits))
-          (λ t. inr (λ h. t.0 (hold_last q c r h), leads_to (own ++ code) r 0 a _ _ to_end (leads_both own code r a o (length code + 1) small t.1 (body.fails r))))
+          (λ t. inr (
+            λ h. t.0 (hold_last q c r h),
+            leads_to (own ++ code) r 0 a _ _ to_end
+                (leads_both own code r a o (length code + 1) small t.1 (body.fails r)),
+          ))
           (one.enters r rec a small);
-      fails = λ r a small. let e : length own + o ≡ o + size_of c = omega arith in leads_from (own ++ code) r _ _ a _ e (leads_to (own ++ code) r _ a _ _ to_end (leads_second own code r o a (length code + 1) (body.fails r a small)));
+      fails = λ r a small. let e : length own + o ≡ o + size_of c = omega arith in
+          leads_from (own ++ code) r _ _ a _ e
+          (leads_to (own ++ code) r _ a _ _ to_end (leads_second own code r o a (length code + 1) (body.fails r a small)));
       skips = λ r a small.
           let e : length own + (o + 1) ≡ o + size_of c + 1 = omega arith in
           let to_far : length own + (length code + 2) ≡ length (own ++ code) + 2 = omega arith in
-          subst (λ n. Goes (own ++ code) r n a k (length (own ++ code) + 2) a) e (subst (λ n. Goes (own ++ code) r (length own + (o + 1)) a k n a) to_far (goes_shift (own ++ code) code r (length own) (stands_second own code) (body.skips r a small)));
+          subst (λ n. Goes (own ++ code) r n a k (length (own ++ code) + 2) a) e
+          (subst (λ n. Goes (own ++ code) r (length own + (o + 1)) a k n a) to_far
+          (goes_shift (own ++ code) code r (length own) (stands_second own code) (body.skips r a small)));
     }
 
 -- a relay in front
@@ -121,23 +137,44 @@ body_relay q code o k body =
       high = omega arith;
       near = omega arith;
       long = omega (arith, body.long);
-      ranges = ranges_join (relay_code o) code (ranges_from (relay_code o) (jump_in_range 2 (omega arith), (jump_in_range (o + 1) (omega (arith, body.high)), (jump_in_range (o + 1) (omega (arith, body.high)), tt)))) body.ranges;
-      closed = closed_join (relay_code o) code (length p + 2) (length code + 2) (length p + 2) (closed_from (relay_code o) (length p + 2) (inside_jump refl (omega arith), (inside_jump refl (omega (arith, body.near)), (inside_jump refl (omega (arith, body.near)), tt)))) body.closed (omega arith) (omega arith);
+      ranges = ranges_join (relay_code o) code
+          (ranges_from (relay_code o) (
+            jump_in_range 2 (omega arith),
+            (jump_in_range (o + 1) (omega (arith, body.high)), (jump_in_range (o + 1) (omega (arith, body.high)), tt)),
+          )) body.ranges;
+      closed = closed_join (relay_code o) code (length p + 2) (length code + 2) (length p + 2)
+          (closed_from (relay_code o) (length p + 2) (
+            inside_jump refl (omega arith),
+            (inside_jump refl (omega (arith, body.near)), (inside_jump refl (omega (arith, body.near)), tt)),
+          )) body.closed
+          (omega arith) (omega arith);
       enters = λ r rec a small.
           ⊎_elim
-          (λ t. inl (t.0, leads_to p r 0 a _ _ to_end (via p r 0 a 3 _ (on_jump p r 0 a 2 refl small) (leads_second (relay_code o) code r 0 a (length code) t.1))))
-          (λ t. inr (t.0, leads_to p r 0 a _ _ to_next (via p r 0 a 3 _ (on_jump p r 0 a 2 refl small) (leads_second (relay_code o) code r 0 a (length code + 1) t.1))))
+          (λ t. inl (
+            t.0,
+            leads_to p r 0 a _ _ to_end
+                (via p r 0 a 3 _ (on_jump p r 0 a 2 refl small) (leads_second (relay_code o) code r 0 a (length code) t.1)),
+          ))
+          (λ t. inr (
+            t.0,
+            leads_to p r 0 a _ _ to_next
+                (via p r 0 a 3 _ (on_jump p r 0 a 2 refl small) (leads_second (relay_code o) code r 0 a (length code + 1) t.1)),
+          ))
           (body.enters r rec a small);
       fails = λ r a small.
           let e : 3 + o ≡ 1 + 1 + (o + 1) = omega arith in
-          leads_to p r 1 a _ _ to_next (via p r 1 a _ _ (on_jump p r 1 a (o + 1) refl small) (leads_from p r _ _ a _ e (leads_second (relay_code o) code r o a (length code + 1) (body.fails r a small))));
+          leads_to p r 1 a _ _ to_next (via p r 1 a _ _ (on_jump p r 1 a (o + 1) refl small)
+          (leads_from p r _ _ a _ e (leads_second (relay_code o) code r o a (length code + 1) (body.fails r a small))));
       skips = λ r a small.
           let one_more : 1 + k ≡ suc k = omega arith in
-          subst (λ n. Goes p r 2 a n (length p + 2) a) one_more (goes_on p r (then_step stays (on_jump p r 2 a (o + 1) refl small)) (subst (λ n. Goes p r (3 + (o + 1)) a k n a) to_far (goes_shift p code r 3 (stands_second (relay_code o) code) (body.skips r a small))));
+          subst (λ n. Goes p r 2 a n (length p + 2) a) one_more (goes_on p r (then_step stays (on_jump p r 2 a (o + 1) refl small))
+          (subst (λ n. Goes p r (3 + (o + 1)) a k n a) to_far
+          (goes_shift p code r 3 (stands_second (relay_code o) code) (body.skips r a small))));
     }
 
 -- the entry in front: the code of the rule
-pub rule_of : (q : List Condition) (code : List sock_filter) (o k : ℕ) → k ≡ relays q → Body q code o k → IsRuleCode q (entry_code o ++ code)
+pub rule_of : (q : List Condition) (code : List sock_filter) (o k : ℕ) → k ≡ relays q
+    → Body q code o k → IsRuleCode q (entry_code o ++ code)
 rule_of q code o k is_k body =
     let p = entry_code o ++ code in
     let len : length p ≡ 2 + length code = length-append (entry_code o) code in
@@ -146,12 +183,26 @@ rule_of q code o k is_k body =
     let to_far : 2 + (length code + 2) ≡ length p + 2 = omega arith in
     record {
       long = omega (arith, body.long);
-      ranges = ranges_join (entry_code o) code (ranges_from (entry_code o) (jump_in_range 1 (omega arith), (jump_in_range (o + 1) (omega (arith, body.high)), tt))) body.ranges;
-      closed = closed_join (entry_code o) code (length p + 2) (length code + 2) (length p + 2) (closed_from (entry_code o) (length p + 2) (inside_jump refl (omega arith), (inside_jump refl (omega (arith, body.near)), tt))) body.closed (omega arith) (omega arith);
+      ranges = ranges_join (entry_code o) code
+          (ranges_from (entry_code o) (jump_in_range 1 (omega arith), (jump_in_range (o + 1) (omega (arith, body.high)), tt))) body.ranges;
+      closed = closed_join (entry_code o) code (length p + 2) (length code + 2) (length p + 2)
+          (closed_from (entry_code o) (length p + 2) (inside_jump refl (omega arith), (inside_jump refl (omega (arith, body.near)), tt)))
+          body.closed (omega arith) (omega arith);
       enters = λ r rec a small.
           ⊎_elim
-          (λ t. inl (t.0, leads_to p r 0 a _ _ to_end (via p r 0 a 2 _ (on_jump p r 0 a 1 refl small) (leads_second (entry_code o) code r 0 a (length code) t.1))))
-          (λ t. inr (t.0, leads_to p r 0 a _ _ to_next (via p r 0 a 2 _ (on_jump p r 0 a 1 refl small) (leads_second (entry_code o) code r 0 a (length code + 1) t.1))))
+          (λ t. inl (
+            t.0,
+            leads_to p r 0 a _ _ to_end
+                (via p r 0 a 2 _ (on_jump p r 0 a 1 refl small) (leads_second (entry_code o) code r 0 a (length code) t.1)),
+          ))
+          (λ t. inr (
+            t.0,
+            leads_to p r 0 a _ _ to_next
+                (via p r 0 a 2 _ (on_jump p r 0 a 1 refl small) (leads_second (entry_code o) code r 0 a (length code + 1) t.1)),
+          ))
           (body.enters r rec a small);
-      skips = λ r a small. subst (λ n. Goes p r 1 a (1 + n) (length p + 2) a) is_k (goes_on p r (then_step stays (on_jump p r 1 a (o + 1) refl small)) (subst (λ n. Goes p r (2 + (o + 1)) a k n a) to_far (goes_shift p code r 2 (stands_second (entry_code o) code) (body.skips r a small))));
+      skips = λ r a small. subst (λ n. Goes p r 1 a (1 + n) (length p + 2) a) is_k
+          (goes_on p r (then_step stays (on_jump p r 1 a (o + 1) refl small))
+          (subst (λ n. Goes p r (2 + (o + 1)) a k n a) to_far
+          (goes_shift p code r 2 (stands_second (entry_code o) code) (body.skips r a small))));
     }

@@ -1,5 +1,6 @@
 -- For `SeccompRule::write`: what stands at the places of a rule's code.
-use Rattle.std.proofs.Common.{◌≡◌, ℕ, suc, ◌+◌, ◌*◌, ◌<◌, ◌≤◌, List, [], ◌∷◌, ◌++◌, length, refl, sym, ap, ◌∙◌, subst, arith, take, length-take, get_or, Bool, true, false, nat_lt, append_assoc, append-nil}
+use Rattle.std.proofs.Common.{◌≡◌, ℕ, suc, ◌+◌, ◌*◌, ◌<◌, ◌≤◌, List, [], ◌∷◌, ◌++◌, length, refl, sym, ap, ◌∙◌, subst, arith, take}
+use Rattle.std.proofs.Common.{length-take, get_or, Bool, true, false, nat_lt, append_assoc, append-nil}
 use Rattle.std.specs.Prelude.{if◌then◌else◌, Some, slice_get}
 use Rattle.std.specs.List.{AllZip}
 use Rattle.std.proofs.lemmas.List.{take_more, take_all}
@@ -20,13 +21,8 @@ use Rattle.seccompiler.proofs.Zipped.{all_zip_append, all_zip_map}
 
 -- what stands at the places of a condition
 comparison_stands : (a : ℕ) (len : SeccompCmpArgLen) (op : SeccompCmpOp) (v d : ℕ)
-    → AllZip (StandsInCondition (record {
-      arg_index = a;
-      arg_len = len;
-      operator = op;
-      value =
-          v;
-    })) (comparison_places len op) (comparison_code len op (16 + 8 * a) v d)
+    → AllZip (StandsInCondition (record { arg_index = a; arg_len = len; operator = op; value = v }))
+    (comparison_places len op) (comparison_code len op (16 + 8 * a) v d)
 comparison_stands a Dword Eq v d = ((refl, refl), ((refl, refl), tt))
 comparison_stands a Dword Ne v d = ((refl, refl), ((refl, refl), tt))
 comparison_stands a Dword Ge v d = ((refl, refl), ((refl, refl), tt))
@@ -53,8 +49,8 @@ condition_stands q k c d at =
 relay_stands : (q : Rule) (o : ℕ) → AllZip (StandsInRule q) (relay_places o) (relay_front o)
 relay_stands q o = go (nat_lt greatest_offset o)
   where
-    go : (far : Bool) → AllZip (StandsInRule q) (if far then RelayToConditions ∷ RelayToExit ∷ RelayPastRule ∷ [] else []) (if far then
-        relay_code o else [])
+    go : (far : Bool) → AllZip (StandsInRule q) (if far then RelayToConditions ∷ RelayToExit ∷ RelayPastRule ∷ [] else [])
+        (if far then relay_code o else [])
     go true = ((refl, refl), (refl, (refl, tt)))
     go false = tt
 
@@ -69,8 +65,8 @@ offset_push o (d ∷ q) c = offset_push (offset_behind o + size_of d) q c
 
 -- the places of one condition more
 places_push : (k o : ℕ) (q : List Condition) (c : Condition)
-    → conditions_places k o (q ++ c ∷ []) ≡ condition_places (k + length q) c ++ (relay_places (offset_after o q) ++ conditions_places k o
-    q)
+    → conditions_places k o (q ++ c ∷ []) ≡ condition_places (k + length q) c
+    ++ (relay_places (offset_after o q) ++ conditions_places k o q)
 places_push k o [] c =
     let here : k ≡ k + 0 = omega arith in
     ap (λ l. condition_places k c ++ l) (sym (append-nil (relay_places o))) ∙ ap (λ n. condition_places n c ++ (relay_places o ++ [])) here

@@ -1,5 +1,7 @@
 -- For `SyscallTable::lookup`: what one comparison with the middle of a part of a table tells of the look-up in it.
-use Rattle.std.proofs.Common.{◌≡◌, ◌≢◌, ℕ, zero, suc, ◌+◌, ◌-◌, ◌*◌, ◌/◌, ◌^◌, ◌<◌, ◌≤◌, ℤ, pos, List, [], ◌∷◌, true, false, Option, Some, None, Ordering, Less, Equal, Greater, nat_cmp, length, ◌++◌, ◌⊎◌, take, drop, get_or, AllPairs, bytes_eq, if◌then◌else◌, inl, inr, refl, sym, ap, ◌∙◌, subst, arith}
+use Rattle.std.proofs.Common.{◌≡◌, ◌≢◌, ℕ, zero, suc, ◌+◌, ◌-◌, ◌*◌, ◌/◌, ◌^◌, ◌<◌, ◌≤◌, ℤ, pos, List, [], ◌∷◌, true, false, Option, Some}
+use Rattle.std.proofs.Common.{None, Ordering, Less, Equal, Greater, nat_cmp, length, ◌++◌, ◌⊎◌, take, drop, get_or, AllPairs, bytes_eq}
+use Rattle.std.proofs.Common.{if◌then◌else◌, inl, inr, refl, sym, ap, ◌∙◌, subst, arith}
 use Rattle.std.specs.Borrow.{Bor}
 use Rattle.std.specs.Cmp.Lexicographic.{slice_cmp}
 use Rattle.std.specs.Ordering.{is_eq}
@@ -7,11 +9,13 @@ use Rattle.std.proofs.Math.Nat.{pow-succ'}
 use Rattle.std.proofs.Math.Seq.{drop-cons}
 use Rattle.std.proofs.lemmas.Bool.{cases_lt}
 use Rattle.std.proofs.lemmas.Cmp.{nat_list_cmp_total, tied_itself}
-use Rattle.std.proofs.lemmas.List.{take-append-drop, get_or-take, get_or-drop, get_or-map, take-map, drop-map, length-take-le, length-drop, length-map}
+use Rattle.std.proofs.lemmas.List.{take-append-drop, get_or-take, get_or-drop, get_or-map, take-map, drop-map, length-take-le, length-drop}
+use Rattle.std.proofs.lemmas.List.{length-map}
 use Rattle.std.proofs.lemmas.Map.Text.{is_eq-slice_cmp}
 use Rattle.std.proofs.lemmas.Nat.{pow_pos}
 use Rattle.std.proofs.lemmas.Slice.Eq.{bytes_eq-Decides}
-use Rattle.seccompiler.specs.SyscallTable.{Pair, IsCallTable, StandsBefore, number_of, pairs_of, IsMiddle, HalvingCompares, none_left, at_middle, before_middle, behind_middle}
+use Rattle.seccompiler.specs.SyscallTable.{Pair, IsCallTable, StandsBefore, number_of, pairs_of, IsMiddle, HalvingCompares, none_left}
+use Rattle.seccompiler.specs.SyscallTable.{at_middle, before_middle, behind_middle}
 
 -- These places of a table have other names.
 abbrev HasNot : List Pair → List ℕ → (ℕ → Type 0) → Type 0
@@ -27,24 +31,33 @@ apart pair name other = elim (bytes_eq pair.0 name) as (λ same. bytes_eq pair.0
 -- a table without the name has no number for it
 number_of-none : (table : List Pair) (name : List ℕ) → HasNot table name (λ k. 0 ≤ k) → number_of table name ≡ None
 number_of-none [] name none = refl
-number_of-none (pair ∷ table) name none = rw (apart pair name (none 0 pair (omega arith) (omega arith))) (number_of-none table name (λ k d at within. none (suc k) d (omega arith) (omega arith)))
+number_of-none (pair ∷ table) name none =
+    rw (apart pair name (none 0 pair (omega arith) (omega arith)))
+    (number_of-none table name (λ k d at within. none (suc k) d (omega arith) (omega arith)))
 
 -- pairs at the end with other names may be left out
-number_of-take : (table : List Pair) (name : List ℕ) (i : ℕ) → HasNot table name (λ k. i ≤ k) → number_of (take i table) name ≡ number_of table name
+number_of-take : (table : List Pair) (name : List ℕ) (i : ℕ) → HasNot table name (λ k. i ≤ k)
+    → number_of (take i table) name ≡ number_of table name
 number_of-take [] name zero none = refl
 number_of-take [] name (suc i) none = refl
 number_of-take (pair ∷ table) name zero none = sym (number_of-none (pair ∷ table) name (λ k d at within. none k d (omega arith) within))
-number_of-take (pair ∷ table) name (suc i) none = ap (λ (rest : Option ℤ). if bytes_eq pair.0 name then Some pair.1 else rest) (number_of-take table name i (λ k d at within. none (suc k) d (omega arith) (omega arith)))
+number_of-take (pair ∷ table) name (suc i) none =
+    ap (λ (rest : Option ℤ). if bytes_eq pair.0 name then Some pair.1 else rest)
+    (number_of-take table name i (λ k d at within. none (suc k) d (omega arith) (omega arith)))
 
 -- pairs at the front with other names may be left out
-number_of-drop : (table : List Pair) (name : List ℕ) (i : ℕ) → HasNot table name (λ k. k < i) → number_of (drop i table) name ≡ number_of table name
+number_of-drop : (table : List Pair) (name : List ℕ) (i : ℕ) → HasNot table name (λ k. k < i)
+    → number_of (drop i table) name ≡ number_of table name
 number_of-drop [] name zero none = refl
 number_of-drop [] name (suc i) none = refl
 number_of-drop (pair ∷ table) name zero none = refl
-number_of-drop (pair ∷ table) name (suc i) none = rw (apart pair name (none 0 pair (omega arith) (omega arith))) (number_of-drop table name i (λ k d at within. none (suc k) d (omega arith) (omega arith)))
+number_of-drop (pair ∷ table) name (suc i) none =
+    rw (apart pair name (none 0 pair (omega arith) (omega arith)))
+    (number_of-drop table name i (λ k d at within. none (suc k) d (omega arith) (omega arith)))
 
 -- the number of a name that stands at a place, where no earlier one is it
-number_of-at : (table : List Pair) (name : List ℕ) (i : ℕ) (d : Pair) → i < length table → HasNot table name (λ k. k < i) → (get_or table i d).0 ≡ name → number_of table name ≡ Some (get_or table i d).1
+number_of-at : (table : List Pair) (name : List ℕ) (i : ℕ) (d : Pair) → i < length table
+    → HasNot table name (λ k. k < i) → (get_or table i d).0 ≡ name → number_of table name ≡ Some (get_or table i d).1
 number_of-at table name i d within none here =
     let cut : drop i table ≡ get_or table i d ∷ drop (suc i) table = drop-cons table i d within in
     let same : bytes_eq (get_or table i d).0 name ≡ true = (bytes_eq-Decides (get_or table i d).0 name).1 here in
@@ -75,7 +88,8 @@ tied first second equal =
     (bytes_eq-Decides first second).0 same
 
 -- behind a name that the asked one comes before, and at it, no name is the asked one
-none_from : (table : List Pair) (name : List ℕ) (i : ℕ) → AllPairs StandsBefore table → ((d : Pair) → Before name (get_or table i d).0) → i < length table → HasNot table name (λ k. i ≤ k)
+none_from : (table : List Pair) (name : List ℕ) (i : ℕ) → AllPairs StandsBefore table
+    → ((d : Pair) → Before name (get_or table i d).0) → i < length table → HasNot table name (λ k. i ≤ k)
 none_from table name i ascends before inside k d at within same =
     let later : Before name (get_or table k d).0 = elim (cases_lt i k) [
       | inl behind ↦ nat_list_cmp_total.trans name (get_or table i d).0 (get_or table k d).0 (before d) (ascends i k d behind within)
@@ -84,7 +98,8 @@ none_from table name i ascends before inside k d at within same =
     differs name (get_or table k d).0 later (sym same)
 
 -- up to a name that comes before the asked one, and at it, no name is the asked one
-none_to : (table : List Pair) (name : List ℕ) (i : ℕ) → AllPairs StandsBefore table → ((d : Pair) → Before (get_or table i d).0 name) → i < length table → HasNot table name (λ k. k < suc i)
+none_to : (table : List Pair) (name : List ℕ) (i : ℕ) → AllPairs StandsBefore table → ((d : Pair) → Before (get_or table i d).0 name)
+    → i < length table → HasNot table name (λ k. k < suc i)
 none_to table name i ascends before inside k d at within same =
     let earlier : Before (get_or table k d).0 name = elim (cases_lt k i) [
       | inl ahead ↦ nat_list_cmp_total.trans (get_or table k d).0 (get_or table i d).0 name (ascends k i d ahead inside) (before d)
@@ -139,14 +154,18 @@ below_nine compared n few some most = elim (cases_lt compared 9) [
 ]
 
 -- one more comparison leaves this half of the part
-pub halved : (table : List Pair) (name : List ℕ) (compared : ℕ) (part half : List Pair) → IsHalf table name compared part → 0 < length part → number_of half name ≡ number_of part name → AllPairs StandsBefore half → length half ≤ length part / 2 → (length part + 1) / 2 ≤ length half + 1
+pub halved : (table : List Pair) (name : List ℕ) (compared : ℕ) (part half : List Pair) → IsHalf table name compared part → 0 < length part
+    → number_of half name ≡ number_of part name → AllPairs StandsBefore half → length half ≤ length part / 2
+    → (length part + 1) / 2 ≤ length half + 1
     → ((n : ℕ) → HalvingCompares name half n → HalvingCompares name part (suc n)) → IsHalf table name (compared + 1) half
 halved table name compared part half is some same ascends most least counts = record {
   same = same ∙ is.same;
   ascending = ascends;
   few = omega (arith, below_nine compared (length part) is.few some is.most);
-  most = let next : 9 - (compared + 1) ≡ 9 - compared - 1 = omega arith in rw next (fewer (9 - compared) (length part) (length half) some is.most most);
-  least = let next : 8 - (compared + 1) ≡ 8 - compared - 1 = omega arith in rw next (enough (8 - compared) (length part) (length half) is.least least);
+  most = let next : 9 - (compared + 1) ≡ 9 - compared - 1 = omega arith in
+      rw next (fewer (9 - compared) (length part) (length half) some is.most most);
+  least = let next : 8 - (compared + 1) ≡ 8 - compared - 1 = omega arith in
+      rw next (enough (8 - compared) (length part) (length half) is.least least);
   counted = λ n compares.
       let one_more : compared + suc n ≡ compared + 1 + n = omega arith in
       subst (HalvingCompares name table) one_more (is.counted (suc n) (counts n compares));
@@ -173,7 +192,9 @@ pub record IsCompared (part : Slice) (name : List ℕ) (middle : ℕ) (answer : 
   pub order : (d : Pair) → slice_cmp nat_cmp name (get_or (pairs_of part) middle d).0 ≡ answer
 
 -- the comparison, of a pair of the program
-pub compared_with : (part : Slice) (name : List ℕ) (e : Bor (List ℕ) × ℤ) (order : Ordering) → 0 < length part → slice_cmp nat_cmp name (get_or part (length part / 2) e).0.now ≡ order → IsCompared part name (length part / 2) order
+pub compared_with : (part : Slice) (name : List ℕ) (e : Bor (List ℕ) × ℤ) (order : Ordering)
+    → 0 < length part → slice_cmp nat_cmp name (get_or part (length part / 2) e).0.now ≡ order
+    → IsCompared part name (length part / 2) order
 compared_with part name e order some is =
     let same : length (pairs_of part) ≡ length part = length-map part _ in
     let inside : length part / 2 < length part = omega arith in
@@ -205,14 +226,17 @@ middle_of pairs middle d here half =
     }
 
 -- what is left where the asked name comes before the middle one
-pub lower : (table : List Pair) (name : List ℕ) (compared middle : ℕ) (part : Slice) → IsHalf table name compared (pairs_of part) → IsCompared part name middle Less → IsHalf table name (compared + 1) (pairs_of (take middle part))
+pub lower : (table : List Pair) (name : List ℕ) (compared middle : ℕ) (part : Slice)
+    → IsHalf table name compared (pairs_of part) → IsCompared part name middle Less
+    → IsHalf table name (compared + 1) (pairs_of (take middle part))
 lower table name compared middle part is less =
     let pairs : List Pair = pairs_of part in
     let cut : take middle pairs ≡ pairs_of (take middle part) = take-map _ middle part in
     let long : length (take middle pairs) ≡ middle = length-take-le middle pairs (omega (arith, less.here)) in
     let same = number_of-take pairs name middle (none_from pairs name middle is.ascending less.order less.here) in
     let ascending : AllPairs StandsBefore (take middle pairs) = λ i j d i<j inside.
-    rw (get_or-take middle pairs i d (omega arith), get_or-take middle pairs j d (omega arith)) (is.ascending i j d i<j (omega (arith, less.here))) in
+    rw (get_or-take middle pairs i d (omega arith), get_or-take middle pairs j d (omega arith))
+    (is.ascending i j d i<j (omega (arith, less.here))) in
     let d : Pair = ([], pos 0) in
     let counts : (n : ℕ) → HalvingCompares name (take middle pairs) n → HalvingCompares name pairs (suc n) = λ n compares.
     before_middle (middle_of pairs middle d less.here less.half) (less.order d) compares in
@@ -220,39 +244,51 @@ lower table name compared middle part is less =
     same ascending (omega (arith, less.half)) (omega (arith, less.half)) counts)
 
 -- what is left where the asked name comes after the middle one
-pub upper : (table : List Pair) (name : List ℕ) (compared middle : ℕ) (part : Slice) → IsHalf table name compared (pairs_of part) → IsCompared part name middle Greater → IsHalf table name (compared + 1) (pairs_of (drop (middle + 1) part))
+pub upper : (table : List Pair) (name : List ℕ) (compared middle : ℕ) (part : Slice)
+    → IsHalf table name compared (pairs_of part) → IsCompared part name middle Greater
+    → IsHalf table name (compared + 1) (pairs_of (drop (middle + 1) part))
 upper table name compared middle part is greater =
     let pairs : List Pair = pairs_of part in
     let cut : drop (middle + 1) pairs ≡ pairs_of (drop (middle + 1) part) = drop-map _ (middle + 1) part in
     let long : length (drop (middle + 1) pairs) ≡ length pairs - (middle + 1) = length-drop (middle + 1) pairs in
-    let passed : HasNot pairs name (λ k. k < suc middle) = none_to pairs name middle is.ascending (λ d. turned name (get_or pairs middle d).0 (greater.order d)) greater.here in
+    let passed : HasNot pairs name (λ k. k < suc middle) =
+    none_to pairs name middle is.ascending (λ d. turned name (get_or pairs middle d).0 (greater.order d)) greater.here in
     let same = number_of-drop pairs name (middle + 1) (λ k d before inside. passed k d (omega arith) inside) in
     let ascending : AllPairs StandsBefore (drop (middle + 1) pairs) = λ i j d i<j inside.
-    rw (get_or-drop (middle + 1) pairs i d, get_or-drop (middle + 1) pairs j d) (is.ascending (middle + 1 + i) (middle + 1 + j) d (omega arith) (omega arith)) in
+    rw (get_or-drop (middle + 1) pairs i d, get_or-drop (middle + 1) pairs j d)
+    (is.ascending (middle + 1 + i) (middle + 1 + j) d (omega arith) (omega arith)) in
     let d : Pair = ([], pos 0) in
     let after = turned name (get_or pairs middle d).0 (greater.order d) in
     let counts : (n : ℕ) → HalvingCompares name (drop (middle + 1) pairs) n → HalvingCompares name pairs (suc n) = λ n compares.
     behind_middle (middle_of pairs middle d greater.here greater.half) after compares in
-    subst (IsHalf table name (compared + 1)) cut (halved table name compared pairs (drop (middle + 1) pairs) is (omega (arith, greater.here))
+    subst (IsHalf table name (compared + 1)) cut
+    (halved table name compared pairs (drop (middle + 1) pairs) is (omega (arith, greater.here))
     same ascending (omega (arith, greater.half)) (omega (arith, greater.half)) counts)
 
 -- the number where the asked name is the middle one
-pub found : (table : List Pair) (name : List ℕ) (compared middle : ℕ) (part : Slice) (e : Bor (List ℕ) × ℤ) → IsHalf table name compared (pairs_of part) → middle < length part → IsCompared part name middle Equal → number_of table name ≡ Some (get_or part middle e).1
+pub found : (table : List Pair) (name : List ℕ) (compared middle : ℕ) (part : Slice) (e : Bor (List ℕ) × ℤ)
+    → IsHalf table name compared (pairs_of part) → middle < length part → IsCompared part name middle Equal
+    → number_of table name ≡ Some (get_or part middle e).1
 found table name compared middle part e is inside equal =
     let pairs : List Pair = pairs_of part in
     let d : Pair = ([], (get_or part middle e).1) in
-    let read : get_or pairs middle d ≡ ((get_or part middle e).0.now, (get_or part middle e).1) = get_or-map (λ (pair : Bor (List ℕ) × ℤ). (pair.0.now, pair.1)) part middle e d inside in
+    let read : get_or pairs middle d ≡ ((get_or part middle e).0.now, (get_or part middle e).1) =
+    get_or-map (λ (pair : Bor (List ℕ) × ℤ). (pair.0.now, pair.1)) part middle e d inside in
     let before : HasNot pairs name (λ k. k < middle) = λ k f ahead within same.
-    differs (get_or pairs k f).0 (get_or pairs middle f).0 (is.ascending k middle f ahead equal.here) (same ∙ tied name (get_or pairs middle f).0 (equal.order f)) in
-    sym is.same ∙ number_of-at pairs name middle d equal.here before (sym (tied name (get_or pairs middle d).0 (equal.order d))) ∙ ap (λ (pair : Pair). Some pair.1) read
+    differs (get_or pairs k f).0 (get_or pairs middle f).0 (is.ascending k middle f ahead equal.here)
+    (same ∙ tied name (get_or pairs middle f).0 (equal.order f)) in
+    sym is.same ∙ number_of-at pairs name middle d equal.here before (sym (tied name (get_or pairs middle d).0 (equal.order d)))
+    ∙ ap (λ (pair : Pair). Some pair.1) read
 
 -- an empty part is left where the table has no such name
-pub absent : (table : List Pair) (name : List ℕ) (compared : ℕ) (part : Slice) → IsHalf table name compared (pairs_of part) → length part ≡ 0 → None ≡ number_of table name
+pub absent : (table : List Pair) (name : List ℕ) (compared : ℕ) (part : Slice) → IsHalf table name compared (pairs_of part)
+    → length part ≡ 0 → None ≡ number_of table name
 absent table name compared [] is none = is.same
 absent table name compared (pair ∷ part) is none = absurd (omega arith)
 
 -- an empty part is left by eight comparisons at least
-pub missed : (table : List Pair) (name : List ℕ) (compared : ℕ) (part : Slice) → IsHalf table name compared (pairs_of part) → length part ≡ 0 → 8 ≤ compared
+pub missed : (table : List Pair) (name : List ℕ) (compared : ℕ) (part : Slice) → IsHalf table name compared (pairs_of part)
+    → length part ≡ 0 → 8 ≤ compared
 missed table name compared part is none = elim (cases_lt compared 8) [
   | inl below ↦
       let same : length (pairs_of part) ≡ length part = length-map part _ in

@@ -1,16 +1,19 @@
 -- For `write_halved`, `write_own` and `write_row`: what the code of ranges in a block does.
-use Rattle.std.proofs.Common.{◌≡◌, ℕ, suc, ◌+◌, ◌*◌, ◌<◌, ◌≤◌, ◌^◌, List, [], ◌∷◌, ◌++◌, length, Option, Some, None, refl, sym, ap, ap₂, zero, ◌∙◌, subst, length-append, arith, max, inr, ⊎_elim}
+use Rattle.std.proofs.Common.{◌≡◌, ℕ, suc, ◌+◌, ◌*◌, ◌<◌, ◌≤◌, ◌^◌, List, [], ◌∷◌, ◌++◌, length, Option, Some, None, refl, sym, ap, ap₂}
+use Rattle.std.proofs.Common.{zero, ◌∙◌, subst, length-append, arith, max, inr, ⊎_elim}
 use Rattle.seccompiler.specs.declared.bpf.sock_filter.{sock_filter}
 use Rattle.seccompiler.specs.Machine.{IsRecord, Goes, Step, stays, then_step}
 use Rattle.seccompiler.specs.Code.{give}
 use Rattle.seccompiler.specs.Policy.{Rule, Chain}
-use Rattle.seccompiler.specs.ChainCode.{Returns, IsRulesCode}
+use Rattle.seccompiler.specs.ChainCode.{IsRulesCode}
 use Rattle.seccompiler.specs.Ranges.{Range, found_in, HasNoRules}
 use Rattle.seccompiler.specs.Tree.{own_length, row, most}
-use Rattle.seccompiler.specs.TreeCode.{Names, found_matches, found_differs, ReturnsAfter, entry_of, entry, IsFork, Leaves, answers, leaves, IsPartCode, IsOwnCode, IsHalvedCode, AreHalves}
+use Rattle.seccompiler.specs.TreeCode.{Names, found_matches, found_differs, ReturnsAfter, entry_of, entry, IsFork, Leaves, answers, leaves}
+use Rattle.seccompiler.specs.TreeCode.{IsPartCode, IsOwnCode, IsHalvedCode, AreHalves}
 use Rattle.seccompiler.proofs.Runs.{Stands, stands_second, get_before, goes_shift, goes_on}
 use Rattle.seccompiler.proofs.Closed.{ranges_join, ranges_from}
-use Rattle.seccompiler.proofs.Blocks.{returns_front, returns_after, returns_here, leads_front, block_join, block_give, block_one, give_in_range}
+use Rattle.seccompiler.proofs.Blocks.{returns_front, returns_after, returns_here, leads_front, block_join, block_give, block_one, counted}
+use Rattle.seccompiler.proofs.Blocks.{give_in_range}
 use Rattle.seccompiler.proofs.tree.RangesFound.{halves_of, halves_long}
 use Rattle.seccompiler.proofs.tree.Rows.{row_few}
 
@@ -67,15 +70,14 @@ leaves_shift found mismatch matched whole piece base end end' most most' r place
 
 -- one step more in front
 leaves_step : (found : Option Chain) (mismatch matched : ℕ) (code : List sock_filter) (end most : ℕ) (r : List ℕ) (place a : ℕ)
-    → Step code r 0 a place a → Leaves found mismatch matched code end most r place a → Leaves found mismatch matched code end (most + 1)
-    r 0 a
+    → Step code r 0 a place a → Leaves found mismatch matched code end most r place a
+    → Leaves found mismatch matched code end (most + 1) r 0 a
 leaves_step found mismatch matched code end most r place a step (answers word count ruled names h) =
     answers word (1 + count) ruled names record {
       to = h.to;
       accumulator = h.accumulator;
       instruction = h.instruction;
-      goes =
-          goes_on code r (then_step stays step) h.goes;
+      goes = goes_on code r (then_step stays step) h.goes;
       here = h.here;
       returns = h.returns;
       value = h.value;
@@ -168,20 +170,6 @@ module _ (ranges first second : List Range) (mismatch matched after : ℕ) (i : 
             (fork.sends whole r a refl fits));
       }
 
--- a run with its steps counted
-pub counted : (p : List sock_filter) (r : List ℕ) (a w : ℕ) (h : Returns p r 0 a w) → ReturnsAfter p r 0 a h.count w
-counted p r a w h =
-    record {
-      to = h.to;
-      accumulator = h.accumulator;
-      instruction = h.instruction;
-      goes =
-          h.goes;
-      here = h.here;
-      returns = h.returns;
-      value = h.value;
-    }
-
 -- a range whose numbers have no chain, or one without rules, has no code
 pub own_none : (x : Range) (mismatch matched : ℕ) (code : List sock_filter) → HasNoRules x.chain → length code ≡ 0
     → IsOwnCode x mismatch matched code
@@ -206,12 +194,12 @@ rules_answer q chain mismatch matched rules r a h rec fits =
     ⊎_elim
     (λ t.
     let back = returns_front rules (give mismatch ∷ []) r 0 a matched t.1 in
-    (matched, back.count, found_matches (q ∷ chain) refl (inr t.0) refl, counted p r a matched back))
+    (matched, back.count, found_matches (q ∷ chain) refl (inr t.0) refl, counted p r 0 a matched back))
     (λ t.
     let back =
     returns_after p r 0 a (length rules) mismatch (leads_front rules (give mismatch ∷ []) r 0 a (length rules) t.1)
     (returns_here rules mismatch [] r _) in
-    (mismatch, back.count, found_differs (q ∷ chain) refl (λ m. ⊎_elim (λ none. absurd (cc)) t.0 m) refl, counted p r a mismatch back))
+    (mismatch, back.count, found_differs (q ∷ chain) refl (λ m. ⊎_elim (λ none. absurd (cc)) t.0 m) refl, counted p r 0 a mismatch back))
     (h.enters r rec a fits)
 
 own_of_rules : (start : ℕ) (q : Rule) (chain : Chain) (mismatch matched : ℕ) (rules : List sock_filter) → mismatch < 2 ^ 32
@@ -234,8 +222,8 @@ own_of_rules start q chain mismatch matched rules fits_mismatch h =
 
 -- the same of a range of which it is known that its chain has rules
 pub own_rules : (x : Range) (chain : Chain) (mismatch matched : ℕ) (rules code : List sock_filter) → x.chain ≡ Some chain
-    → 0 < length chain → mismatch < 2 ^ 32 → IsRulesCode chain matched rules → code ≡ rules ++ give mismatch ∷ [] → IsOwnCode x mismatch
-    matched code
+    → 0 < length chain → mismatch < 2 ^ 32 → IsRulesCode chain matched rules → code ≡ rules ++ give mismatch ∷ []
+    → IsOwnCode x mismatch matched code
 own_rules x [] mismatch matched rules code has some fits h written = absurd (omega arith)
 own_rules x (q ∷ chain) mismatch matched rules code has some fits h written =
     subst (λ (p : List sock_filter). IsOwnCode x mismatch matched p) (sym written)
@@ -256,11 +244,10 @@ own_gap x mismatch matched code has long = own_none x mismatch matched code (sub
 -- the same of code as it was written: a test, and the code of two lists of ranges
 pub fork_joined : (ranges first second : List Range) (mismatch matched after k n most to_first to_second start end behind : ℕ)
     (i : sock_filter) (test front back : List sock_filter) → 2 ≤ length ranges → IsFork ranges first second to_first to_second i
-    → test ≡ i ∷ []
-    → to_first ≡ entry first 0 end → to_second ≡ entry second start end → start ≡ length front → behind ≡ length back → end ≡ length
-    front + length back + after
-    → IsPartCode first mismatch matched (behind + after) k front → IsPartCode second mismatch matched after n back → k + 1 ≤ most
-    → n + 1 ≤ most → IsPartCode ranges mismatch matched after most (test ++ (front ++ back))
+    → test ≡ i ∷ [] → to_first ≡ entry first 0 end → to_second ≡ entry second start end → start ≡ length front → behind ≡ length back
+    → end ≡ length front + length back + after → IsPartCode first mismatch matched (behind + after) k front
+    → IsPartCode second mismatch matched after n back → k + 1 ≤ most → n + 1 ≤ most
+    → IsPartCode ranges mismatch matched after most (test ++ (front ++ back))
 fork_joined ranges first second mismatch matched after k n most to_first to_second start goal behind i test front back some fork written
     is_first is_second is_start is_behind is_goal f g le_k le_n =
     let one : to_first ≡ entry first 0 (length front + length back + after) = is_first ∙ ap (λ m. entry first 0 m) is_goal in
@@ -291,9 +278,9 @@ halved_row ranges mismatch matched after code some short h =
     record { most = row ranges; part = h; few = λ k le. row_bound (length ranges) (row ranges) k short (row_few ranges some) le }
 
 -- one halving more
-halved_bound : (ranges low high : List Range) (m n k : ℕ) → 2 ≤ length ranges → AreHalves ranges low high
-    → ((j : ℕ) → length low ≤ 2 ^ j → m ≤ 2 * j) → ((j : ℕ) → length high ≤ 2 ^ j → n ≤ 2 * j) → length ranges ≤ 2 ^ k → 1 + max m
-    n ≤ 2 * k
+halved_bound : (ranges low high : List Range) (m n k : ℕ) → 2 ≤ length ranges
+    → AreHalves ranges low high → ((j : ℕ) → length low ≤ 2 ^ j → m ≤ 2 * j) → ((j : ℕ) → length high ≤ 2 ^ j → n ≤ 2 * j)
+    → length ranges ≤ 2 ^ k → 1 + max m n ≤ 2 * k
 halved_bound ranges low high m n k some h few_low few_high le =
     let both = halves_long ranges low high h in
     let j = halves_of (length ranges) (length low) k some le (omega (arith, h.half)) in
@@ -304,11 +291,9 @@ halved_bound ranges low high m n k some h few_low few_high le =
 
 pub halves_joined : (ranges low high : List Range) (mismatch matched after to_low to_high start end behind : ℕ) (i : sock_filter)
     (test front back : List sock_filter) → 2 ≤ length ranges → AreHalves ranges low high → IsFork (low ++ high) low high to_low to_high i
-    → test ≡ i ∷ []
-    → to_low ≡ entry low 0 end → to_high ≡ entry high start end → start ≡ length front → behind ≡ length back → end ≡ length
-    front + length back + after
-    → IsHalvedCode low mismatch matched (behind + after) front → IsHalvedCode high mismatch matched after back → IsHalvedCode ranges
-    mismatch matched after (test ++ (front ++ back))
+    → test ≡ i ∷ [] → to_low ≡ entry low 0 end → to_high ≡ entry high start end → start ≡ length front → behind ≡ length back
+    → end ≡ length front + length back + after → IsHalvedCode low mismatch matched (behind + after) front
+    → IsHalvedCode high mismatch matched after back → IsHalvedCode ranges mismatch matched after (test ++ (front ++ back))
 halves_joined ranges low high mismatch matched after to_low to_high start end behind i test front back some h fork written is_low is_high
     is_start is_behind is_end f g = record {
       most = 1 + max f.most g.most;

@@ -1,6 +1,8 @@
 -- For `border_test`, `halves`, `ranges_of`, `write_tree` and others: the chains that ranges have for numbers, where the
 -- ranges are cut in two.
-use Rattle.std.proofs.Common.{◌≡◌, ℕ, zero, suc, ◌+◌, ◌-◌, ◌*◌, ◌/◌, ◌^◌, ◌<◌, ◌≤◌, List, [], ◌∷◌, ◌++◌, length, Option, true, false, refl, sym, ap, ap₂, ◌∙◌, subst, take, drop, get_or, take-append-drop, length-drop, length-append, nat_le, if◌then◌else◌, arith}
+use Rattle.std.proofs.Common.{◌≡◌, ℕ, zero, suc, ◌+◌, ◌-◌, ◌*◌, ◌/◌, ◌^◌, ◌<◌, ◌≤◌, List, [], ◌∷◌, ◌++◌, length, Option, true, false, refl}
+use Rattle.std.proofs.Common.{sym, ap, ap₂, ◌∙◌, subst, take, drop, take-append-drop, length-drop, length-append, nat_le, if◌then◌else◌}
+use Rattle.std.proofs.Common.{arith}
 use Rattle.std.proofs.lemmas.Bool.Decides.{nat_tests}
 use Rattle.std.proofs.Math.Nat.{pow-succ'}
 use Rattle.std.proofs.Math.Seq.{take-append_seam, drop-append_seam}
@@ -43,7 +45,7 @@ from_front : (start : ℕ) (low high : List Range) → AscendsFrom start (low ++
 from_front start [] high h = tt
 from_front start (x ∷ low) high h = (h.0, from_front x.start low high h.1)
 
-ascends_low : (low high : List Range) → 1 ≤ length low → Ascends (low ++ high) → Ascends low
+pub ascends_low : (low high : List Range) → 1 ≤ length low → Ascends (low ++ high) → Ascends low
 ascends_low [] high some h = absurd (omega arith)
 ascends_low (x ∷ low) high some h = from_front x.start low high h
 
@@ -66,16 +68,6 @@ half_high ranges = length-drop (length ranges / 2) ranges
 pub halves_of : (n m k : ℕ) → 2 ≤ n → n ≤ 2 ^ k → m ≤ n - n / 2 → (j : ℕ) × (k ≡ suc j) × (m ≤ 2 ^ j)
 halves_of n m zero some le half = absurd (omega arith)
 halves_of n m (suc k) some le half = let two : 2 ^ suc k ≡ 2 * 2 ^ k = pow-succ' 2 k in (k, refl, omega arith)
-
--- a list of one element, and the first element of a list
-pub only_one : (ranges : List Range) (x : Range) → length ranges ≡ 1 → x ≡ get_or ranges 0 x → ranges ≡ x ∷ []
-only_one [] x one is = absurd (omega arith)
-only_one (y ∷ []) x one is = ap (λ (z : Range). z ∷ []) (sym is)
-only_one (y ∷ z ∷ ranges) x one is = absurd (omega arith)
-
-pub first_of : (ranges : List Range) (x : Range) → 0 < length ranges → x ≡ get_or ranges 0 x → ranges ≡ x ∷ drop 1 ranges
-first_of [] x some is = absurd (omega arith)
-first_of (y ∷ ranges) x some is = ap (λ (z : Range). z ∷ ranges) (sym is)
 
 -- both halves of ranges ascend
 pub halves_ascend : (ranges low high : List Range) → Ascends ranges → 2 ≤ length ranges → AreHalves ranges low high

@@ -1,12 +1,13 @@
 -- For `row_len`, `settle` and `write_row`: what the first test of a row leaves to the others.
-use Rattle.std.proofs.Common.{◌≡◌, ℕ, ◌+◌, ◌-◌, ◌<◌, ◌≤◌, List, [], ◌∷◌, length, Option, Some, None, Bool, true, false, refl, sym, ap, ◌∙◌, subst, drop, get_or, if◌then◌else◌, arith, nat_eq, take, length-drop}
+use Rattle.std.proofs.Common.{◌≡◌, ℕ, ◌+◌, ◌-◌, ◌<◌, ◌≤◌, List, [], ◌∷◌, length, Option, Some, None, Bool, true, false, refl, sym, ap, ◌∙◌}
+use Rattle.std.proofs.Common.{drop, get_or, if◌then◌else◌, arith, nat_eq, take, length-drop}
 use Rattle.std.proofs.lemmas.List.{take_all}
 use Rattle.std.proofs.lemmas.List.Sums.{sum_by-cons}
 use lib.Seq.{drop-drop}
 use Rattle.std.specs.Prelude.{sum_by}
 use Rattle.std.proofs.lemmas.Bool.{and_parts}
 use Rattle.seccompiler.specs.Policy.{Chain}
-use Rattle.seccompiler.specs.Ranges.{Range, Ascends}
+use Rattle.seccompiler.specs.Ranges.{Range}
 use Rattle.seccompiler.specs.Tree.{own_length, alike, stands_out, row}
 use Rattle.seccompiler.specs.TreeCode.{second_stands_out, settled, row_length, Settles, stands, is_first}
 
@@ -48,9 +49,6 @@ owned ranges = sum_by (λ (x : Range). own_length x.chain) ranges
 owned_first : (x : Range) (ranges : List Range) → owned (x ∷ ranges) ≡ own_length x.chain + owned ranges
 owned_first x ranges = sum_by-cons (λ (y : Range). own_length y.chain) x ranges
 
-pub owned_one : (x : Range) → owned (x ∷ []) ≡ own_length x.chain
-owned_one x = omega arith
-
 pub settles_row : (ranges : List Range) (one : Range) (rest : List Range) → Settles ranges one rest → row ranges ≡ 1 + row rest
 settles_row ranges one rest (stands x z behind is left e) = ap row is ∙ row_stands x one z behind e ∙ ap (λ l. 1 + row l) (sym left)
 settles_row ranges one rest (is_first is some e) = ap row is ∙ row_first one rest some (ap second_stands_out (sym is) ∙ e)
@@ -70,17 +68,6 @@ settles_fewer ranges one rest (stands x z behind is left e) =
     let some = ap length left in
     (omega (arith, all, some), omega (arith, some))
 settles_fewer ranges one rest (is_first is some e) = let all = ap length is in (omega (arith, all), some)
-
--- what is left ascends
-ascends_rest : (x : Range) (rest : List Range) → 1 ≤ length rest → Ascends (x ∷ rest) → Ascends rest
-ascends_rest x [] some h = absurd (omega arith)
-ascends_rest x (y ∷ rest) some h = h.1
-
-pub settles_ascend : (ranges : List Range) (one : Range) (rest : List Range) → Settles ranges one rest → Ascends ranges → Ascends rest
-settles_ascend ranges one rest (stands x z behind is left e) h =
-    let all : Ascends (x ∷ one ∷ z ∷ behind) = subst Ascends is h in
-    subst Ascends (sym left) all.1.1
-settles_ascend ranges one rest (is_first is some e) h = ascends_rest one rest some (subst Ascends is h)
 
 -- the range and the rest are those at these places
 settle_at : (ranges : List Range) (one : Range) (rest : List Range) → 2 ≤ length ranges → one ≡ get_or ranges (settled ranges - 1) one
@@ -169,6 +156,3 @@ row_room ranges one rest h =
     let tests = settles_row ranges one rest h in
     let own = settles_owned ranges one rest h in
     omega (arith, tests, own)
-
-pub row_room_one : (ranges : List Range) (x : Range) → ranges ≡ x ∷ [] → row_length ranges ≡ own_length x.chain
-row_room_one ranges x is = ap row_length is ∙ omega (arith, owned_one x)

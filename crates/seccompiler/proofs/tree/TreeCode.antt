@@ -1,11 +1,10 @@
 -- For `CallRange::write_alone`, `write_block`, `write_test` and `write_tree`: what the code of ranges does: one range, a
 -- block, and a test with the code of two halves behind it.
-use Rattle.std.proofs.Common.{◌≡◌, ℕ, suc, ◌+◌, ◌/◌, ◌^◌, ◌<◌, ◌≤◌, List, [], ◌∷◌, ◌++◌, length, Option, Some, None, Bool, true, false, set, refl, sym, ap, ◌∙◌, subst, take, drop, get_or, length-append, append_assoc, append-nil, nat_le, if◌then◌else◌, inl, inr, ⊎_elim, arith}
+use Rattle.std.proofs.Common.{◌≡◌, ℕ, suc, ◌+◌, ◌/◌, ◌^◌, ◌<◌, ◌≤◌, List, [], ◌∷◌, ◌++◌, length, Option, Some, None, Bool, true, false}
+use Rattle.std.proofs.Common.{refl, sym, ap, ◌∙◌, subst, drop, get_or, length-append, append_assoc, append-nil, nat_le, if◌then◌else◌, inl}
+use Rattle.std.proofs.Common.{inr, ⊎_elim, arith}
 use Rattle.std.specs.Prelude.{slice_get}
 use Rattle.std.proofs.lemmas.Bool.Decides.{nat_tests}
-use Rattle.std.proofs.lemmas.List.{take_all}
-use Rattle.std.proofs.Math.ListN.{length-set}
-use Rattle.std.proofs.Math.Seq.{take-suc-set}
 use Rattle.seccompiler.specs.declared.bpf.sock_filter.{sock_filter}
 use Rattle.seccompiler.specs.Code.{give, jump, jump_at_least}
 use Rattle.seccompiler.specs.Machine.{Goes, stays, then_step, IsInRange, AreInRange}
@@ -15,24 +14,21 @@ use Rattle.seccompiler.specs.Layout.{rules_length}
 use Rattle.seccompiler.specs.ChainCode.{IsBlock}
 use Rattle.seccompiler.specs.Ranges.{Range, found_in, Ascends, HasNoRules}
 use Rattle.seccompiler.specs.Tree.{own_length, block_length, test_length, tree_length}
-use Rattle.seccompiler.specs.TreeCode.{Names, found_matches, not_found, ReturnsAfter, Tests, IsTestCode, Leaves, answers, leaves, IsOwnCode, IsHalvedCode, Answers, IsTreeCode, AreHalves}
+use Rattle.seccompiler.specs.TreeCode.{Names, found_matches, not_found, ReturnsAfter, Tests, IsTestCode, Leaves, answers, leaves, IsOwnCode}
+use Rattle.seccompiler.specs.TreeCode.{IsHalvedCode, Answers, IsTreeCode, AreHalves}
 use Rattle.seccompiler.proofs.Runs.{goes_front, get_behind}
 use Rattle.seccompiler.proofs.Closed.{ranges_join, ranges_from, jump_in_range}
 use Rattle.seccompiler.proofs.Steps.{on_jump, on_at_least}
 use Rattle.seccompiler.proofs.Blocks.{block_join, block_give, block_one, give_in_range, front_returns, back_returns}
-use Rattle.seccompiler.proofs.tree.RangesFound.{found_low, found_high, first_of, halves_of}
+use Rattle.seccompiler.proofs.tree.RangesFound.{found_low, found_high, halves_of}
 use Rattle.seccompiler.proofs.tree.TreeLengths.{length_one, tree_block}
 use Rattle.seccompiler.proofs.tree.PartCode.{entry_start}
+use Rattle.seccompiler.proofs.Parts.{around}
 
 -- a range with rules is one instruction longer than they are
 pub own_some : (chain : Chain) → 0 < length chain → own_length (Some chain) ≡ rules_length chain + 1
 own_some [] some = absurd (omega arith)
 own_some (q ∷ chain) some = refl
-
--- a list whose last element was set
-pub last_written : {X : Type 0} (n : ℕ) (xs : List X) (z : X) → length xs ≡ n + 1 → set xs n z ≡ take n xs ++ z ∷ []
-last_written n xs z long =
-    sym (take_all (suc n) (set xs n z) (omega (arith, length-set xs n z))) ∙ take-suc-set xs n z (omega arith)
 
 -- one range whose numbers have no chain, or one without rules
 plain_alone : (start : ℕ) (found : Option Chain) (mismatch matched w : ℕ) → ((r : List ℕ) → Names found mismatch matched r w)
@@ -81,8 +77,7 @@ rules_alone start q chain mismatch matched own fits long h =
           word = word;
           count = count;
           names = names;
-          returns =
-              front_returns own (give mismatch ∷ []) r 0 a count word ret;
+          returns = front_returns own (give mismatch ∷ []) r 0 a count word ret;
           few = λ k le plain. absurd plain;
         }
     closed r a (leaves count plain few g) = absurd plain
@@ -98,8 +93,8 @@ alone_of start (Some (q ∷ chain)) mismatch matched own fits other long h = rul
 
 -- one range: its own code and a return of mismatches; or the return of matches
 pub alone_rest : (x : Range) (mismatch matched : ℕ) (own code : List sock_filter) → mismatch < 2 ^ 32 → (x.chain ≡ Some [] → ⊥)
-    → length own ≡ own_length x.chain → IsOwnCode x mismatch matched own → code ≡ own ++ give mismatch ∷ [] → IsTreeCode (x ∷ [])
-    mismatch matched code
+    → length own ≡ own_length x.chain → IsOwnCode x mismatch matched own → code ≡ own ++ give mismatch ∷ []
+    → IsTreeCode (x ∷ []) mismatch matched code
 alone_rest x mismatch matched own code fits other long h written =
     subst (λ (p : List sock_filter). IsTreeCode (x ∷ []) mismatch matched p) (sym written)
     (alone_of x.start x.chain mismatch matched own fits other long h)
@@ -115,10 +110,10 @@ module _ (ranges : List Range) (mismatch matched : ℕ) (code : List sock_filter
   abbrev returns_behind : List sock_filter
   returns_behind = give matched ∷ give mismatch ∷ []
 
-  at_return : (place w : ℕ) (found : Option Chain) (r : List ℕ) (a count most : ℕ)
-      → slice_get (code ++ returns_behind) place ≡ Some (give w) → Names found mismatch matched r w → Goes code r 0 a count place a
-      → count ≤ most → (w' : ℕ) × (n : ℕ) × Names found mismatch matched r w' × ReturnsAfter (code ++ returns_behind) r 0 a n
-      w' × (n ≤ most)
+  at_return : (place w : ℕ) (found : Option Chain) (r : List ℕ) (a count most : ℕ) → slice_get (code ++ returns_behind) place
+      ≡ Some (give w) → Names found mismatch matched r w → Goes code r 0 a count place a
+      → count ≤ most → (w' : ℕ) × (n : ℕ) × Names found mismatch matched r w' × ReturnsAfter (code ++ returns_behind) r 0 a n w'
+      × (n ≤ most)
   at_return place w found r a count most here names g few = (
     w,
     count,
@@ -127,8 +122,7 @@ module _ (ranges : List Range) (mismatch matched : ℕ) (code : List sock_filter
       to = place;
       accumulator = a;
       instruction = give w;
-      goes =
-          goes_front code returns_behind r g;
+      goes = goes_front code returns_behind r g;
       here = here;
       returns = refl;
       value = refl;
@@ -138,8 +132,8 @@ module _ (ranges : List Range) (mismatch matched : ℕ) (code : List sock_filter
 
   -- what a number's chain without rules leads to
   closed : (found : Option Chain) (r : List ℕ) (a most : ℕ) → Leaves found mismatch matched code (length code + 0) most r 0 a
-      → (w : ℕ) × (n : ℕ) × Names found mismatch matched r w × ReturnsAfter (code ++ returns_behind) r 0 a n
-      w × (HasNoRules found → n ≤ most)
+      → (w : ℕ) × (n : ℕ) × Names found mismatch matched r w × ReturnsAfter (code ++ returns_behind) r 0 a n w
+      × (HasNoRules found → n ≤ most)
   closed found r a most (answers word count ruled names ret) =
       (word, count, names, front_returns code returns_behind r 0 a count word ret, λ plain. absurd (ruled plain))
   closed None r a most (leaves count plain few g) =
@@ -264,8 +258,8 @@ module _ (mismatch matched : ℕ) (low high : List Range) (y : Range) (test cl c
 
   -- a number from the border on
   answers_high : (r : List ℕ) (a : ℕ) → Ascends whole → 1 ≤ length low → length low ≡ length whole / 2 → y.start ≤ a
-      → (t : Tests y.start (length cl) test r a) → Goes test r 0 a t.steps (length test + length cl) a → Answers (y ∷ high) mismatch
-      matched ch r a → Answers whole mismatch matched code r a
+      → (t : Tests y.start (length cl) test r a) → Goes test r 0 a t.steps (length test + length cl) a
+      → Answers (y ∷ high) mismatch matched ch r a → Answers whole mismatch matched code r a
   answers_high r a ascends some half above t g h =
       let front = test ++ cl in
       let same = found_high low high y a ascends above in
@@ -288,9 +282,9 @@ module _ (mismatch matched : ℕ) (low high : List Range) (y : Range) (test cl c
       }
 
   tree_joined : Ascends whole → 1 ≤ length low → length low ≡ length whole / 2
-      → tree_length whole ≡ test_length (tree_length low) + tree_length low + tree_length (y ∷ high) → IsTestCode y.start (length cl)
-      test → IsTreeCode low mismatch matched cl
-      → IsTreeCode (y ∷ high) mismatch matched ch → IsTreeCode whole mismatch matched code
+      → tree_length whole ≡ test_length (tree_length low) + tree_length low + tree_length (y ∷ high)
+      → IsTestCode y.start (length cl) test → IsTreeCode low mismatch matched cl → IsTreeCode (y ∷ high) mismatch matched ch
+      → IsTreeCode whole mismatch matched code
   tree_joined ascends some half long_whole is l h =
       let len_both : length (cl ++ ch) ≡ length cl + length ch = length-append cl ch in
       let len : length code ≡ length test + length (cl ++ ch) = length-append test (cl ++ ch) in
@@ -329,7 +323,7 @@ pub tree_cut : (mismatch matched : ℕ) (ranges low high : List Range) (y : Rang
 tree_cut mismatch matched ranges low high y border distance test cl ch ascends some long_whole cut first eb ed written l h =
     let long : length (low ++ high) ≡ length low + length high = length-append low high in
     let same_length = ap length cut.whole in
-    let has : high ≡ y ∷ drop 1 high = first_of high y (omega (arith, cut.half)) first in
+    let has : high ≡ y ∷ drop 1 high = around high 0 y (omega (arith, cut.half)) first in
     let all : low ++ y ∷ drop 1 high ≡ ranges = ap (λ (b : List Range). low ++ b) (sym has) ∙ cut.whole in
     let made : IsTestCode y.start (length cl) test =
     subst (λ n. IsTestCode n (length cl) test) eb (subst (λ n. IsTestCode border n test) (ed ∙ sym l.long) written) in

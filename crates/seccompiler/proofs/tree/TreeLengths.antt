@@ -1,6 +1,7 @@
 -- For `block_len`, `tests_len`, `tree_len`, `write_halved`, `write_tree` and others: how many instructions ranges take, where
 -- they are halved and where not.
-use Rattle.std.proofs.Common.{◌≡◌, ℕ, zero, suc, ◌+◌, ◌/◌, ◌<◌, ◌≤◌, List, [], ◌∷◌, length, take, drop, Bool, true, false, nat_le, if◌then◌else◌, ◌⊎◌, inl, inr, ⊎_elim, min, refl, sym, ap, ap₂, ◌∙◌, arith}
+use Rattle.std.proofs.Common.{◌≡◌, ℕ, zero, suc, ◌+◌, ◌/◌, ◌<◌, ◌≤◌, List, [], ◌∷◌, length, take, drop, Bool, true, false, nat_le}
+use Rattle.std.proofs.Common.{if◌then◌else◌, ◌⊎◌, inl, inr, ⊎_elim, min, refl, sym, ap, ap₂, ◌∙◌, arith}
 use Rattle.std.proofs.lemmas.Bool.Decides.{nat_tests}
 use Rattle.std.proofs.lemmas.Bool.{cases_lt}
 use Rattle.std.proofs.lemmas.List.Sums.{sum_by-append}

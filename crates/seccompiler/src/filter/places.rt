@@ -6,7 +6,7 @@ use crate::bpf::{BpfProgram, return_word};
 use crate::chain::places::push_chains;
 use crate::layout::places::Place;
 use crate::tree::places::tree_places;
-use crate::tree::ranges_of;
+use crate::tree::ranges::ranges_of;
 use std::alloc::{AllocError, Global};
 
 impl SeccompFilter {

@@ -10,7 +10,8 @@ use crate::bpf::{
     BPF_MAX_LEN, BpfProgram, BpfProgramRef, SECCOMP_DATA_NR_OFFSET, load_word, return_word,
     sock_filter,
 };
-use crate::tree::{CallRange, ranges_of, tree_len, write_tree};
+use crate::tree::ranges::ranges_of;
+use crate::tree::{CallRange, tree_len, write_tree};
 use std::alloc::Global;
 
 impl SeccompFilter {

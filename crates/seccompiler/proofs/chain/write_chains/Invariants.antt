@@ -12,6 +12,7 @@ invariant-loop-number l = record {
   done : List MapEntry;
   rest : done ++ l.number-iterator ≡ l.rules.entries;
   made : IsChainsCode (chains_of done) l.mismatch l.matched (take l.start l.part);
-  places : (f : Filter) → f.chains ≡ chains_of l.rules.entries → AreWords f l.mismatch l.matched → AllZip (Stands f) (chains_places (chains_of done)) (take l.start l.part);
+  places : (f : Filter) → f.chains ≡ chains_of l.rules.entries → AreWords f l.mismatch l.matched
+      → AllZip (Stands f) (chains_places (chains_of done)) (take l.start l.part);
   within : l.start ≤ length l.part;
 }

@@ -24,15 +24,26 @@ loop-rule-init c = record { code = rules_empty c.args.matched; places = λ f n h
 pub loop-rule-preserved : goal.loop-rule-preserved
 loop-rule-preserved c =
     let l = c.loop-rule in
-    let fits = room c.args.chain.now l.rule-index l.start c.args.matched l.part c.rule-item.result c.loop-rule-test.true c.rule-item.is l.invariant.code l.invariant.within (omega (arith, c.requires.room, l.auto.part)) in
+    let fits = room c.args.chain.now l.rule-index l.start c.args.matched l.part
+    c.rule-item.result c.loop-rule-test.true c.rule-item.is l.invariant.code l.invariant.within
+    (omega (arith, c.requires.room, l.auto.part)) in
     let lent = length-part l.start (length l.part) l.part l.invariant.within (omega arith) in
     let long : length c.write_rule-start.new.part ≡ length l.part - l.start = omega (arith, c.write_rule-start.auto.part, lent) in
-    let written = take-front l.start c.write_rule-start.result l.part c.write_rule-start.new.part l.invariant.within (omega (arith, fits, c.write_rule-start.ensures.length, long)) in
+    let written = take-front l.start c.write_rule-start.result l.part c.write_rule-start.new.part l.invariant.within
+    (omega (arith, fits, c.write_rule-start.ensures.length, long)) in
     record {
-      code = rules_step c.args.chain.now l.rule-index c.args.matched c.rule-item.result (take l.start l.part) (take c.write_rule-start.result c.write_rule-start.new.part) _ c.loop-rule-test.true c.rule-item.is c.write_rule-start.ensures.code written l.invariant.code;
-      places = λ f n has is. rules_stand f n l.rule-index c.args.chain.now c.rule-item.result (take l.start l.part) (take c.write_rule-start.result c.write_rule-start.new.part) _ c.loop-rule-test.true c.rule-item.is
+      code = rules_step c.args.chain.now l.rule-index c.args.matched c.rule-item.result (take l.start l.part)
+          (take c.write_rule-start.result c.write_rule-start.new.part) _ c.loop-rule-test.true
+          c.rule-item.is c.write_rule-start.ensures.code written l.invariant.code;
+      places = λ f n has is. rules_stand f n l.rule-index c.args.chain.now c.rule-item.result
+          (take l.start l.part) (take c.write_rule-start.result c.write_rule-start.new.part) _ c.loop-rule-test.true c.rule-item.is
           (λ here. c.write_rule-start.ensures.places f n l.rule-index here is) written has (l.invariant.places f n has is);
-      within = omega (arith, fits, c.write_rule-start.ensures.length, same_len_mid l.start (length l.part - l.start) l.part c.write_rule-start.new.part (long ∙ sym lent));
+      within = omega (
+        arith,
+        fits,
+        c.write_rule-start.ensures.length,
+        same_len_mid l.start (length l.part - l.start) l.part c.write_rule-start.new.part (long ∙ sym lent),
+      );
     }
 
 pub returns : goal.returns
@@ -42,5 +53,6 @@ returns c =
     record {
       length = sym (length-take-le l.start l.part l.invariant.within) ∙ all.long;
       code = all;
-      places = λ f n has is. all_rules_stand f n l.rule-index c.args.chain.now (take l.start l.part) c.loop-rule-test.false (l.invariant.places f n has is);
+      places = λ f n has is. all_rules_stand f n l.rule-index c.args.chain.now (take l.start l.part) c.loop-rule-test.false
+          (l.invariant.places f n has is);
     }

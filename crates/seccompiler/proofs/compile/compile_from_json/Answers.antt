@@ -14,7 +14,9 @@ returns-clause-programs g c =
     let m = c.in_ok-collect.field-0 in
     let made : IsFromIterResult string_eq found.entries m = search rules in
     let same = rehashed found m c.into_iter.ensures.into_iter_gives.5 made in
-    subst (λ (find : List ℕ → Option (Vec sock_filter Global)). Reads (g.R.Read.remaining c.args.reader) (λ text. OfValue text (AreProgramsOf c.args.arch find))) (λ i name. sym (same name) i) c.in_ok-programs.ensures.programs
+    subst (λ (find : List ℕ → Option (Vec sock_filter Global)). Reads
+    (g.R.Read.remaining c.args.reader) (λ text. OfValue text (AreProgramsOf c.args.arch find)))
+    (λ i name. sym (same name) i) c.in_ok-programs.ensures.programs
 
 pub returns-clause-checked : goal.returns-clause-checked
 returns-clause-checked g c = λ name.

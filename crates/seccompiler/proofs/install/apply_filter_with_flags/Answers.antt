@@ -8,15 +8,18 @@ returns-then-code-ne0-clause-applied g c =
 
 pub returns-then-code-lt0-clause-applied : goal.returns-then-code-lt0-clause-applied
 returns-then-code-lt0-clause-applied g c =
-    filter_asked_for (search rules) c.set_no_new_privs-code.result.1 c.set_no_new_privs-code.new.self (search rules) _ _ c.set_mode_filter-code.ensures
+    filter_asked_for (search rules) c.set_no_new_privs-code.result.1 c.set_no_new_privs-code.new.self
+    (search rules) _ _ c.set_mode_filter-code.ensures
     (call_failed (search rules) (search rules))
 
 pub returns-then-code-gt0-clause-applied : goal.returns-then-code-gt0-clause-applied
 returns-then-code-gt0-clause-applied g c =
-    filter_asked_for (search rules) c.set_no_new_privs-code.result.1 c.set_no_new_privs-code.new.self (search rules) _ _ c.set_mode_filter-code.ensures
+    filter_asked_for (search rules) c.set_no_new_privs-code.result.1 c.set_no_new_privs-code.new.self
+    (search rules) _ _ c.set_mode_filter-code.ensures
     (thread_failed (search rules) (search rules))
 
 pub returns-else-code-gt0-clause-applied : goal.returns-else-code-gt0-clause-applied
 returns-else-code-gt0-clause-applied g c =
-    filter_asked_for (search rules) c.set_no_new_privs-code.result.1 c.set_no_new_privs-code.new.self (search rules) _ _ c.set_mode_filter-code.ensures
+    filter_asked_for (search rules) c.set_no_new_privs-code.result.1 c.set_no_new_privs-code.new.self
+    (search rules) _ _ c.set_mode_filter-code.ensures
     (installed (search rules) (search rules))

@@ -1,5 +1,5 @@
 -- For `JsonCompiler::make_with_origins`: a policy has a chain where there are origins, and nowhere else.
-use Rattle.std.proofs.Common.{◌≡◌, ◌↔◌, ℕ, ℤ, Bool, true, false, Vec, Global, IsSome, Decides, refl, sym}
+use Rattle.std.proofs.Common.{◌↔◌, ℕ, ℤ, Bool, true, false, Vec, Global, IsSome, Decides, refl, sym}
 use Rattle.std.specs.Prelude.{Any}
 use Rattle.std.specs.BTreeMap.{BTreeMap}
 use Rattle.std.specs.List.{list_any}

@@ -1,6 +1,7 @@
 -- For `filters_under`: the map of the filters that an object's members are, as it grows, and its least name that is no
 -- filter's.
-use Rattle.std.proofs.Common.{◌≡◌, ℕ, List, [], ◌∷◌, ◌++◌, Option, Some, None, option_map, String, BTreeMap, Global, string_bytes, string_cmp, bytes_eq, refl, sym, ap, ◌∙◌, subst, ◌⊎◌, inl, inr}
+use Rattle.std.proofs.Common.{◌≡◌, ℕ, List, [], ◌∷◌, ◌++◌, Option, Some, None, option_map, String, BTreeMap, Global, string_bytes}
+use Rattle.std.proofs.Common.{string_cmp, bytes_eq, refl, sym, ap, ◌∙◌, subst, ◌⊎◌, inl, inr}
 use Rattle.std.specs.BTreeMap.{get_by_text, IsEmpty}
 use Rattle.std.specs.List.Sorted.{IsStrictlySortedBy}
 use Rattle.std.specs.Map.{keys_of, update}
@@ -29,29 +30,44 @@ HasFilters entries m = AreFilters (object (members_view entries)) (record { 0 = 
 pub begins : (m : Map) → IsEmpty m → HasFilters [] m
 begins m empty = record { is_object = (no_members, refl); each = λ name v there. cc; no_other = λ name lacks. rw empty }
 
-module _ (done : List Entry) (e : Entry) (more : List Entry) (m n : Map) (key : List ℕ) (f : JsonFilter) (sorted : IsStrictlySortedBy string_cmp (keys_of (done ++ e ∷ more))) (same : key ≡ string_bytes e.0) (updates : (name : List ℕ) → get_by_text n name ≡ update bytes_eq (get_by_text m) key (Some f) name) where
-  -- With one entry and one filter more a name is the new one's in both, or has in both what it had.
-  one_of_two : (name : List ℕ) → ((get_member name (members_view (done ++ e ∷ [])) ≡ Some (view e.1)) × (get_by_text n name ≡ Some f))
-      ⊎ ((get_member name (members_view (done ++ e ∷ [])) ≡ get_member name (members_view done)) × (get_by_text n name ≡ get_by_text m name))
-  one_of_two name =
-      let last = ap (get_member name) (sym (put_last done e more sorted)) in
-      elim (cases_Bool (bytes_eq key name)) [
-        | inl own ↦ inl (last ∙ rw (sym ((bytes_eq-Decides key name).0 own) ∙ same) (get_member-put (string_bytes e.0) (view e.1) (members_view done)), updates name ∙ rw own refl)
-        | inr differs ↦ inr (last ∙ get_member-put_other name (string_bytes e.0) (view e.1) (members_view done) (λ own. true≢false (sym ((bytes_eq-Decides key name).1 (same ∙ sym own)) ∙ differs)), updates name ∙ rw differs refl)
-      ]
+module _ (done : List Entry) (e : Entry) (more : List Entry) (m n : Map) (key : List ℕ) (f : JsonFilter)
+    (sorted : IsStrictlySortedBy string_cmp (keys_of (done ++ e ∷ more)))
+    (same : key ≡ string_bytes e.0) (updates : (name : List ℕ) → get_by_text n name ≡ update bytes_eq (get_by_text m) key (Some f) name)
+  where
+    -- With one entry and one filter more a name is the new one's in both, or has in both what it had.
+    one_of_two : (name : List ℕ) → ((get_member name (members_view (done ++ e ∷ [])) ≡ Some (view e.1)) × (get_by_text n name ≡ Some f))
+        ⊎ ((get_member name (members_view (done ++ e ∷ [])) ≡ get_member name (members_view done))
+        × (get_by_text n name ≡ get_by_text m name))
+    one_of_two name =
+        let last = ap (get_member name) (sym (put_last done e more sorted)) in
+        elim (cases_Bool (bytes_eq key name)) [
+          | inl own ↦ inl (
+            last ∙ rw (sym ((bytes_eq-Decides key name).0 own) ∙ same)
+                (get_member-put (string_bytes e.0) (view e.1) (members_view done)),
+            updates name ∙ rw own refl,
+          )
+          | inr differs ↦ inr (
+            last ∙ get_member-put_other name (string_bytes e.0) (view e.1)
+                (members_view done) (λ own. true≢false (sym ((bytes_eq-Decides key name).1 (same ∙ sym own)) ∙ differs)),
+            updates name
+                ∙ rw differs refl,
+          )
+        ]
 
-  pub one_more : HasFilters done m → IsFilter (view e.1) f → HasFilters (done ++ e ∷ []) n
-  one_more so_far is = record {
-    is_object = (members_view (done ++ e ∷ []), refl);
-    each = λ name v there. elim (one_of_two name) [
-      | inl own ↦ let value : view e.1 ≡ v = let h = sym own.0 ∙ there in cc in record { found = f; there = own.1; own = subst (λ d. IsFilter d f) value is }
-      | inr other ↦ let before = so_far.each name v (sym other.0 ∙ there) in record { found = before.found; there = other.1 ∙ before.there; own = before.own }
-    ];
-    no_other = λ name lacks. elim (one_of_two name) [
-      | inl own ↦ let h = sym own.0 ∙ lacks in cc
-      | inr other ↦ other.1 ∙ so_far.no_other name (sym other.0 ∙ lacks)
-    ];
-  }
+    pub one_more : HasFilters done m → IsFilter (view e.1) f → HasFilters (done ++ e ∷ []) n
+    one_more so_far is = record {
+      is_object = (members_view (done ++ e ∷ []), refl);
+      each = λ name v there. elim (one_of_two name) [
+        | inl own ↦ let value : view e.1 ≡ v = let h = sym own.0 ∙ there in cc in
+            record { found = f; there = own.1; own = subst (λ d. IsFilter d f) value is }
+        | inr other ↦ let before = so_far.each name v (sym other.0 ∙ there) in
+            record { found = before.found; there = other.1 ∙ before.there; own = before.own }
+      ];
+      no_other = λ name lacks. elim (one_of_two name) [
+        | inl own ↦ let h = sym own.0 ∙ lacks in cc
+        | inr other ↦ other.1 ∙ so_far.no_other name (sym other.0 ∙ lacks)
+      ];
+    }
 
 -- What an object has under a name is what stands under it among its members.
 has : (name : List ℕ) (entries : List Entry) → get_member name (members_view entries) ≡ option_map view (under entries name)
@@ -71,5 +87,6 @@ least_fault done e more sorted so_far none = record {
   own = none;
   below = λ other d there below.
       let found = viewed (under (done ++ e ∷ more) other) d (sym (has other (done ++ e ∷ more)) ∙ there) in
-      so_far other d (has other done ∙ ap (option_map view) (found_in_front done e more sorted other found.0 found.1 below) ∙ ap Some found.2);
+      so_far other d (has other done ∙ ap (option_map view) (found_in_front done e more sorted other found.0 found.1 below)
+      ∙ ap Some found.2);
 }

@@ -13,7 +13,8 @@ use Rattle.seccompiler.specs.declared.backend.SeccompCmpOp.TheVariants.{Eq, Ge, 
 use Rattle.seccompiler.specs.declared.backend.SeccompCmpArgLen.TheVariants.{Dword, Qword}
 use Rattle.seccompiler.specs.declared.json.types.JsonCondition.{JsonCondition}
 use Rattle.seccompiler.specs.JsonTypes.{JsonFilter}
-use Rattle.seccompiler.specs.JsonShape.{IsWhole, IsNumbered, Under, IsAction, IsOperator, IsArgLen, IsCondition, OneByOne, IsListOf, IsArgs, IsEntry, IsOneAction, IsFilter}
+use Rattle.seccompiler.specs.JsonShape.{IsWhole, IsNumbered, Under, IsAction, IsOperator, IsArgLen, IsCondition, OneByOne, IsListOf, IsArgs}
+use Rattle.seccompiler.specs.JsonShape.{IsEntry, IsOneAction, IsFilter}
 
 -- The value is at most one thing of the kind.
 abbrev AtMostOne : {X : Type 0} → (Data → X → Type 0) → Type 0
@@ -33,15 +34,18 @@ two_words : (d : Data) (s t : List ℕ) → bytes_eq s t ≡ false → d ≡ str
 two_words d s t differs h k = true≢false (sym ((bytes_eq-Decides s t).1 (let e = sym h ∙ k in cc)) ∙ differs)
 
 -- An object of one name has no other.
-no_second : (most : ℕ) (name other : List ℕ) (d : Data) (x y : ℕ) → bytes_eq other name ≡ false → IsNumbered most name d x → IsNumbered most other d y → ⊥
+no_second : (most : ℕ) (name other : List ℕ) (d : Data) (x y : ℕ) → bytes_eq other name ≡ false
+    → IsNumbered most name d x → IsNumbered most other d y → ⊥
 no_second most name other d x y differs h k =
     let among = list_any-from_Contains {eq = bytes_eq} nat_list_eq_equiv other (name ∷ []) (h.names.no_other other k.count.0 k.count.1) in
     let apart : list_any (bytes_eq other) (name ∷ []) ≡ false = rw differs refl in
     true≢false (sym among ∙ apart)
 
 one_action : AtMostOne IsAction
-one_action d (Errno x) (Errno y) h k = ap Errno (one_under (IsWhole (2 ^ 32 - 1)) (one_whole (2 ^ 32 - 1)) (codes "errno") d x y h.count k.count)
-one_action d (Trace x) (Trace y) h k = ap Trace (one_under (IsWhole (2 ^ 32 - 1)) (one_whole (2 ^ 32 - 1)) (codes "trace") d x y h.count k.count)
+one_action d (Errno x) (Errno y) h k =
+    ap Errno (one_under (IsWhole (2 ^ 32 - 1)) (one_whole (2 ^ 32 - 1)) (codes "errno") d x y h.count k.count)
+one_action d (Trace x) (Trace y) h k =
+    ap Trace (one_under (IsWhole (2 ^ 32 - 1)) (one_whole (2 ^ 32 - 1)) (codes "trace") d x y h.count k.count)
 one_action d (Errno x) (Trace y) h k = absurd (no_second (2 ^ 32 - 1) (codes "errno") (codes "trace") d x y refl h k)
 one_action d (Trace x) (Errno y) h k = absurd (no_second (2 ^ 32 - 1) (codes "trace") (codes "errno") d x y refl h k)
 one_action d (Errno x) a h k = let e = sym h.names.is_object.1 ∙ k in cc
@@ -56,7 +60,8 @@ one_action d Trap Trap h k = refl
 one_action d a b h k = absurd (two_words d _ _ refl h k)
 
 one_operator : AtMostOne IsOperator
-one_operator d (MaskedEq x) (MaskedEq y) h k = ap MaskedEq (one_under (IsWhole (2 ^ 64 - 1)) (one_whole (2 ^ 64 - 1)) (codes "masked_eq") d x y h.count k.count)
+one_operator d (MaskedEq x) (MaskedEq y) h k =
+    ap MaskedEq (one_under (IsWhole (2 ^ 64 - 1)) (one_whole (2 ^ 64 - 1)) (codes "masked_eq") d x y h.count k.count)
 one_operator d (MaskedEq x) o h k = let e = sym h.names.is_object.1 ∙ k in cc
 one_operator d o (MaskedEq x) h k = let e = sym k.names.is_object.1 ∙ h in cc
 one_operator d Eq Eq h k = refl
@@ -81,13 +86,15 @@ one_condition d c e h k =
     λ t. record { arg_index = i t; arg_len = l t; operator = o t; value = v t }
 
 -- Items are at most one list of things, if each value is at most one.
-one_by_one : {X : Type 0} (P : Data → X → Type 0) → AtMostOne P → (items : Items) (xs ys : List X) → OneByOne P items xs → OneByOne P items ys → xs ≡ ys
+one_by_one : {X : Type 0} (P : Data → X → Type 0) → AtMostOne P → (items : Items) (xs ys : List X)
+    → OneByOne P items xs → OneByOne P items ys → xs ≡ ys
 one_by_one P one no_items [] [] h k = refl
 one_by_one P one no_items (x ∷ xs) ys h k = absurd h
 one_by_one P one no_items [] (y ∷ ys) h k = absurd k
 one_by_one P one (item d items) [] ys h k = absurd h
 one_by_one P one (item d items) (x ∷ xs) [] h k = absurd k
-one_by_one P one (item d items) (x ∷ xs) (y ∷ ys) h k = let first = one d x y h.0 k.0 in let rest = one_by_one P one items xs ys h.1 k.1 in cc
+one_by_one P one (item d items) (x ∷ xs) (y ∷ ys) h k = let first = one d x y h.0 k.0 in
+    let rest = one_by_one P one items xs ys h.1 k.1 in cc
 
 one_list : {X : Type 0} (P : Data → X → Type 0) → AtMostOne P → AtMostOne (IsListOf P)
 one_list P one (array items) xs ys h k = one_by_one P one items xs ys h k

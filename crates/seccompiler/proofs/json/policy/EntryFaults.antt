@@ -1,6 +1,7 @@
 -- For `JsonCompiler::make_seccomp_filter`, `JsonCompiler::widened`, `add_entry`, `seccomp_filter` and
 -- `widened_numbers`: the entries of a JSON filter: nothing is wrong with any, or one fault is the first.
-use Rattle.std.proofs.Common.{◌≡◌, ℕ, ◌+◌, ◌<◌, ℤ, length, get_or, take, drop, List, [], ◌∷◌, ◌++◌, Option, Some, None, All, refl, sym, ap, ◌∙◌, subst, ◌⊎◌, inl, inr, arith}
+use Rattle.std.proofs.Common.{◌≡◌, ℕ, ◌+◌, ◌<◌, ℤ, length, get_or, take, drop, List, [], ◌∷◌, ◌++◌, Option, Some, None, All, refl, sym, ap}
+use Rattle.std.proofs.Common.{◌∙◌, subst, ◌⊎◌, inl, inr, arith}
 use Rattle.std.proofs.lemmas.List.{take-append-drop, drop_more}
 use Rattle.std.proofs.lemmas.List.Elements.{All-nil, All-cons, All-head, All-tail, All-contains, Contains-append_right}
 use Rattle.seccompiler.specs.declared.backend.TargetArch.{TargetArch}
@@ -10,12 +11,14 @@ use Rattle.seccompiler.specs.declared.json.types.JsonCondition.{JsonCondition}
 use Rattle.seccompiler.specs.JsonTypes.{JsonRule}
 use Rattle.seccompiler.specs.Architecture.{table_of}
 use Rattle.seccompiler.specs.SyscallTable.{number_of}
-use Rattle.seccompiler.specs.JsonPolicyOf.{Fault, unknown_call, IsFaultIn, IsFor, IsFineEntry, IsFaultOf, unknown_name, wrong_args, IsFirstOf}
+use Rattle.seccompiler.specs.JsonPolicyOf.{Fault, unknown_call, IsFaultIn, IsFor, IsFineEntry, IsFaultOf, unknown_name, wrong_args}
+use Rattle.seccompiler.specs.JsonPolicyOf.{IsFirstOf}
 use Rattle.seccompiler.specs.JsonSteps.{Tells}
 use Rattle.seccompiler.proofs.json.policy.EntryRules.{fine_or_fault_in, not_both_in, one_fault_in}
 
 -- An error that tells a fault tells one of which more is known.
-pub tells_more : (P Q : Fault → Type 0) → ((fault : Fault) → P fault → Q fault) → (error : JsonFrontendError) → Tells P error → Tells Q error
+pub tells_more : (P Q : Fault → Type 0) → ((fault : Fault) → P fault → Q fault) → (error : JsonFrontendError)
+    → Tells P error → Tells Q error
 tells_more P Q more (e.Backend cause) told = (more _ told.0, told.1)
 tells_more P Q more (e.SyscallName name arch) told = more _ told
 tells_more P Q more e.OutOfMemory told = told
@@ -23,15 +26,18 @@ tells_more P Q more error told = absurd told
 
 module _ (arch : TargetArch) where
   -- What is wrong with the conditions of a known call is wrong with the entry.
-  pub wrong_entry : (entry : JsonRule) (number : ℤ) (conditions : List JsonCondition) (error : JsonFrontendError) → IsFor arch number entry → entry.conditions ≡ Some conditions
+  pub wrong_entry : (entry : JsonRule) (number : ℤ) (conditions : List JsonCondition) (error : JsonFrontendError)
+      → IsFor arch number entry → entry.conditions ≡ Some conditions
       → Tells (IsFaultIn conditions) error → Tells (IsFaultOf arch entry) error
-  wrong_entry entry number conditions error known are told = tells_more (IsFaultIn conditions) (IsFaultOf arch entry) (λ fault wrong. wrong_args number conditions known are wrong) error told
+  wrong_entry entry number conditions error known are told =
+      tells_more (IsFaultIn conditions) (IsFaultOf arch entry) (λ fault wrong. wrong_args number conditions known are wrong) error told
 
   -- Nothing is wrong with an entry, or some fault is its first.
   fine_or_fault : (entry : JsonRule) → IsFineEntry arch entry ⊎ ((fault : Fault) × IsFaultOf arch entry fault)
   fine_or_fault entry = by (number_of (table_of arch) entry.syscall) entry.conditions refl refl
     where
-      by : (o : Option ℤ) (cs : Option (List JsonCondition)) → number_of (table_of arch) entry.syscall ≡ o → entry.conditions ≡ cs → IsFineEntry arch entry ⊎ ((fault : Fault) × IsFaultOf arch entry fault)
+      by : (o : Option ℤ) (cs : Option (List JsonCondition)) → number_of (table_of arch) entry.syscall ≡ o
+          → entry.conditions ≡ cs → IsFineEntry arch entry ⊎ ((fault : Fault) × IsFaultOf arch entry fault)
       by None cs unknown are = inr (unknown_call entry.syscall arch, unknown_name unknown refl)
       by (Some number) None known are = inl (record { number = number; is_for = known; conditions = rw are tt })
       by (Some number) (Some conditions) known are = elim (fine_or_fault_in conditions) [
@@ -57,29 +63,61 @@ module _ (arch : TargetArch) where
   pub all_fine_or_fault : (entries : List JsonRule) → All (IsFineEntry arch) entries ⊎ ((fault : Fault) × IsFirstOf arch entries fault)
   all_fine_or_fault [] = inl (All-nil (IsFineEntry arch))
   all_fine_or_fault (entry ∷ entries) = elim (fine_or_fault entry) [
-    | inr wrong ↦ inr (wrong.0, record { front = []; entry = entry; back = entries; whole = refl; fine = All-nil (IsFineEntry arch); wrong = wrong.1 })
+    | inr wrong ↦ inr (
+      wrong.0,
+      record {
+        front = [];
+        entry = entry;
+        back = entries;
+        whole = refl;
+        fine = All-nil (IsFineEntry arch);
+        wrong = wrong.1;
+      },
+    )
     | inl fine ↦ elim (all_fine_or_fault entries) [
       | inl all ↦ inl (All-cons (IsFineEntry arch) entry entries fine all)
-      | inr (fault, later) ↦ inr (fault, record { front = entry ∷ later.front; entry = later.entry; back = later.back; whole = ap (λ es. entry ∷ es) later.whole; fine = All-cons (IsFineEntry arch) entry later.front fine later.fine; wrong = later.wrong })
+      | inr (fault, later) ↦ inr (
+        fault,
+        record {
+          front = entry ∷ later.front;
+          entry = later.entry;
+          back = later.back;
+          whole = ap (λ es. entry ∷ es) later.whole;
+          fine = All-cons (IsFineEntry arch) entry later.front fine later.fine;
+          wrong = later.wrong;
+        },
+      )
     ]
   ]
 
   -- What is wrong with an entry behind others with which nothing is wrong is the first fault of them all.
-  pub first_wrong : (entries : List JsonRule) (place : ℕ) (entry : JsonRule) (error : JsonFrontendError) → place < length entries → entry ≡ get_or entries place entry → All (IsFineEntry arch) (take place entries)
+  pub first_wrong : (entries : List JsonRule) (place : ℕ) (entry : JsonRule) (error : JsonFrontendError)
+      → place < length entries → entry ≡ get_or entries place entry → All (IsFineEntry arch) (take place entries)
       → Tells (IsFaultOf arch entry) error → Tells (IsFirstOf arch entries) error
   first_wrong entries place entry error within is fine told =
       let whole : entries ≡ take place entries ++ entry ∷ drop (place + 1) entries =
-      sym (take-append-drop place entries) ∙ ap (λ rest. take place entries ++ rest) (drop_more entries place entry within ∙ ap (λ first. first ∷ drop (place + 1) entries) (sym is)) in
-      tells_more (IsFaultOf arch entry) (IsFirstOf arch entries) (λ fault wrong. record { front = take place entries; entry = entry; back = drop (place + 1) entries; whole = whole; fine = fine; wrong = wrong }) error told
+      sym (take-append-drop place entries) ∙ ap (λ rest. take place entries ++ rest)
+      (drop_more entries place entry within ∙ ap (λ first. first ∷ drop (place + 1) entries) (sym is)) in
+      tells_more (IsFaultOf arch entry) (IsFirstOf arch entries)
+      (λ fault wrong. record {
+        front = take place entries;
+        entry = entry;
+        back = drop (place + 1) entries;
+        whole = whole;
+        fine = fine;
+        wrong = wrong;
+      }) error told
 
   -- Entries with which nothing is wrong have no fault.
   pub none_wrong : (entries : List JsonRule) (fault : Fault) → All (IsFineEntry arch) entries → IsFirstOf arch entries fault → ⊥
   none_wrong entries fault fine first =
       let all = subst (All (IsFineEntry arch)) first.whole fine in
-      not_both first.entry fault (All-contains (IsFineEntry arch) _ first.entry all (Contains-append_right first.front (first.entry ∷ first.back) first.entry (0, omega arith, refl))) first.wrong
+      not_both first.entry fault (All-contains (IsFineEntry arch) _ first.entry all
+      (Contains-append_right first.front (first.entry ∷ first.back) first.entry (0, omega arith, refl))) first.wrong
 
   -- Where entries are cut in two ways at a first fault, it is the same fault.
-  same_first : (front other_front : List JsonRule) (entry other : JsonRule) (back other_back : List JsonRule) (a b : Fault) → front ++ entry ∷ back ≡ other_front ++ other ∷ other_back
+  same_first : (front other_front : List JsonRule) (entry other : JsonRule) (back other_back : List JsonRule) (a b : Fault)
+      → front ++ entry ∷ back ≡ other_front ++ other ∷ other_back
       → All (IsFineEntry arch) front → All (IsFineEntry arch) other_front → IsFaultOf arch entry a → IsFaultOf arch other b → a ≡ b
   same_first [] [] entry other back other_back a b same fine others wrong wrong_too =
       let here : entry ≡ other = cc in
@@ -92,9 +130,11 @@ module _ (arch : TargetArch) where
       absurd (not_both other b (subst (IsFineEntry arch) here (All-head (IsFineEntry arch) x xs fine)) wrong_too)
   same_first (x ∷ xs) (y ∷ ys) entry other back other_back a b same fine others wrong wrong_too =
       let rest : xs ++ entry ∷ back ≡ ys ++ other ∷ other_back = cc in
-      same_first xs ys entry other back other_back a b rest (All-tail (IsFineEntry arch) x xs fine) (All-tail (IsFineEntry arch) y ys others) wrong wrong_too
+      same_first xs ys entry other back other_back a b rest (All-tail (IsFineEntry arch) x xs fine)
+      (All-tail (IsFineEntry arch) y ys others) wrong wrong_too
 
   -- Entries have one first fault.
   pub one_first : (entries : List JsonRule) (a b : Fault) → IsFirstOf arch entries a → IsFirstOf arch entries b → a ≡ b
   one_first entries a b first second =
-      same_first first.front second.front first.entry second.entry first.back second.back a b (sym first.whole ∙ second.whole) first.fine second.fine first.wrong second.wrong
+      same_first first.front second.front first.entry second.entry first.back second.back a b
+      (sym first.whole ∙ second.whole) first.fine second.fine first.wrong second.wrong

@@ -1,37 +1,28 @@
 -- For `JsonCompiler::make_seccomp_filter`, `JsonCompiler::widened`, `add_entry`, `seccomp_filter` and
 -- `widened_numbers`: the conditions of an entry: nothing is wrong with them, or one fault is their first.
-use Rattle.std.proofs.Common.{◌≡◌, suc, ◌≤◌, ◌<◌, List, [], ◌∷◌, All, Any, refl, sym, ◌∙◌, ◌⊎◌, inl, inr, arith}
+use Rattle.std.proofs.Common.{◌≡◌, ◌≤◌, ◌<◌, List, [], ◌∷◌, Any, refl, sym, ◌∙◌, ◌⊎◌, inl, inr, arith}
 use Rattle.std.proofs.lemmas.Bool.{cases_lt}
-use Rattle.std.proofs.lemmas.List.Elements.{All-nil, All-cons, All-weaker}
+use Rattle.std.proofs.lemmas.List.Elements.{All-weaker}
 use Rattle.seccompiler.specs.declared.backend.BackendError.TheVariants.{EmptyRule, InvalidArgumentNumber}
 use Rattle.seccompiler.specs.declared.json.types.JsonCondition.{JsonCondition}
 use Rattle.seccompiler.specs.JsonPolicyOf.{Fault, refused, AreFineArgs, IsFaultIn, index_above, empty_args}
-use Rattle.seccompiler.proofs.Searches.{none_is_any}
-
--- Each item of a list has one property, or some item has the other.
-all_or_any : {X : Type 0} (P Q : X → Type 0) → ((x : X) → P x ⊎ Q x) → (xs : List X) → All P xs ⊎ Any Q xs
-all_or_any P Q either [] = inl (All-nil P)
-all_or_any P Q either (x ∷ xs) = elim (either x) [
-  | inr here ↦ inr (0, x, omega arith, refl, here)
-  | inl first ↦ elim (all_or_any P Q either xs) [
-    | inl rest ↦ inl (All-cons P x xs first rest)
-    | inr (k, y, within, is, later) ↦ inr (suc k, y, omega arith, is, later)
-  ]
-]
+use Rattle.seccompiler.proofs.Searches.{none_is_any, all_or_any}
 
 -- Nothing is wrong with conditions, or some fault is their first.
 pub fine_or_fault_in : (cs : List JsonCondition) → AreFineArgs cs ⊎ ((fault : Fault) × IsFaultIn cs fault)
 fine_or_fault_in [] = inr (refused EmptyRule, empty_args refl refl)
-fine_or_fault_in (c ∷ cs) = elim (all_or_any (λ (c : JsonCondition). c.arg_index ≤ 5) (λ c. 5 < c.arg_index) (λ c. elim (cases_lt 5 c.arg_index) [ inl above ↦ inr above | inr small ↦ inl small ]) (c ∷ cs)) [
-  | inl within ↦ inl (record { indices = within; some = λ e. cc })
-  | inr above ↦ inr (refused InvalidArgumentNumber, index_above above refl)
-]
+fine_or_fault_in (c ∷ cs) = elim (all_or_any (λ (c : JsonCondition). c.arg_index ≤ 5)
+    (λ c. 5 < c.arg_index) (λ c. elim (cases_lt 5 c.arg_index) [ inl above ↦ inr above | inr small ↦ inl small ]) (c ∷ cs)) [
+      | inl within ↦ inl (record { indices = within; some = λ e. cc })
+      | inr above ↦ inr (refused InvalidArgumentNumber, index_above above refl)
+    ]
 
 -- No fault is in conditions with which nothing is wrong.
 pub not_both_in : (cs : List JsonCondition) (fault : Fault) → AreFineArgs cs → IsFaultIn cs fault → ⊥
 not_both_in cs fault fine (index_above above is) =
     let not_above : (c : JsonCondition) → c.arg_index ≤ 5 → 5 < c.arg_index → ⊥ = λ c small large. omega arith in
-    none_is_any (λ (c : JsonCondition). 5 < c.arg_index) cs (All-weaker (λ (c : JsonCondition). c.arg_index ≤ 5) (λ c. 5 < c.arg_index → ⊥) not_above cs fine.indices) above
+    none_is_any (λ (c : JsonCondition). 5 < c.arg_index) cs
+    (All-weaker (λ (c : JsonCondition). c.arg_index ≤ 5) (λ c. 5 < c.arg_index → ⊥) not_above cs fine.indices) above
 not_both_in cs fault fine (empty_args empty is) = fine.some empty
 
 -- An empty list of conditions has no index that is too large.

@@ -1,6 +1,7 @@
 -- For `JsonCompiler::make_seccomp_filter`, `JsonCompiler::widened`, `seccomp_filter` and `widened_numbers`: chains
 -- under ascending numbers: there are some for any numbers, and what is found under each tells them.
-use Rattle.std.proofs.Common.{◌≡◌, ℤ, List, [], ◌∷◌, map, Bool, true, false, ◌||◌, cond, Some, None, Ordering, Less, Equal, Greater, is_lt, ◌&&◌, ◌↔◌, refl, sym, ap, ◌∙◌}
+use Rattle.std.proofs.Common.{◌≡◌, ℤ, List, [], ◌∷◌, map, Bool, true, false, ◌||◌, cond, Some, None, Ordering, Less, Equal, Greater, is_lt}
+use Rattle.std.proofs.Common.{◌&&◌, ◌↔◌, refl, sym, ap, ◌∙◌}
 use Rattle.std.specs.Prelude.{T}
 use Rattle.std.specs.FinMap.{FinMap, entries, from_entries, entries_sorted, get-entries, get-from_entries}
 use Rattle.std.specs.FinMap.Entries.{below_all, find, is_sorted, same_entries}
@@ -40,18 +41,23 @@ ascends : (chains : List (ℤ × Chain)) → T (is_sorted int_cmp chains) ↔ Is
 unfolding IsStrictlySortedBy
 ascends [] = (λ h. tt, λ h. tt)
 ascends (e ∷ chains) =
-    let parts = both (below_all int_cmp e.0 chains) (is_sorted int_cmp chains) in
-    (λ h. ((above e.0 chains).0 (parts.0 h).0, (ascends chains).0 (parts.0 h).1), λ h. parts.1 ((above e.0 chains).1 h.0, (ascends chains).1 h.1))
+    let parts = both (below_all int_cmp e.0 chains) (is_sorted int_cmp chains) in (
+      λ h. ((above e.0 chains).0 (parts.0 h).0, (ascends chains).0 (parts.0 h).1),
+      λ h. parts.1 ((above e.0 chains).1 h.0, (ascends chains).1 h.1),
+    )
 
 -- What is meant for some numbers, as a list and as a finite map.
 abbrev meant : (ℤ → Chain) → List ℤ → List (ℤ × Chain)
 meant chain_for numbers = map (λ number. (number, chain_for number)) numbers
 
-found_meant : (chain_for : ℤ → Chain) (q : ℤ) (numbers : List ℤ) → find int_cmp q (meant chain_for numbers) ≡ cond (list_any (int_eq q) numbers) (Some (chain_for q)) None
+found_meant : (chain_for : ℤ → Chain) (q : ℤ) (numbers : List ℤ)
+    → find int_cmp q (meant chain_for numbers) ≡ cond (list_any (int_eq q) numbers) (Some (chain_for q)) None
 found_meant chain_for q [] = refl
-found_meant chain_for q (k ∷ numbers) = ap (cond (int_eq q k) (Some (chain_for k))) (found_meant chain_for q numbers) ∙ either (int_eq q k) refl
+found_meant chain_for q (k ∷ numbers) = ap (cond (int_eq q k) (Some (chain_for k))) (found_meant chain_for q numbers)
+    ∙ either (int_eq q k) refl
   where
-    either : (b : Bool) → int_eq q k ≡ b → cond b (Some (chain_for k)) (cond (list_any (int_eq q) numbers) (Some (chain_for q)) None) ≡ cond (b || list_any (int_eq q) numbers) (Some (chain_for q)) None
+    either : (b : Bool) → int_eq q k ≡ b → cond b (Some (chain_for k)) (cond (list_any (int_eq q) numbers) (Some (chain_for q)) None)
+        ≡ cond (b || list_any (int_eq q) numbers) (Some (chain_for q)) None
     either true is = ap (λ n. Some (chain_for n)) (sym ((Decides-int_eq q k).0 is))
     either false is = refl
 
@@ -66,11 +72,14 @@ numbered chain_for numbers =
     let all : FinMap int_cmp Chain = from_entries (meant chain_for numbers) in
     record {
       chains = entries all;
-      each = λ q. as_found q (entries all) ∙ sym (get-entries all q) ∙ get-from_entries int_cmp_total (meant chain_for numbers) q ∙ found_meant chain_for q numbers;
+      each = λ q. as_found q (entries all) ∙ sym (get-entries all q) ∙ get-from_entries int_cmp_total (meant chain_for numbers) q
+          ∙ found_meant chain_for q numbers;
       ascending = (ascends (entries all)).0 (entries_sorted all);
     }
 
 -- Chains in ascending order of their numbers are the same where each number has the same.
-pub same_chains : (xs ys : List (ℤ × Chain)) → IsStrictlySortedBy int_cmp (keys_of xs) → IsStrictlySortedBy int_cmp (keys_of ys) → ((q : ℤ) → chain_at xs q ≡ chain_at ys q) → xs ≡ ys
+pub same_chains : (xs ys : List (ℤ × Chain)) → IsStrictlySortedBy int_cmp (keys_of xs)
+    → IsStrictlySortedBy int_cmp (keys_of ys) → ((q : ℤ) → chain_at xs q ≡ chain_at ys q) → xs ≡ ys
 same_chains xs ys first second same =
-    same_entries int_cmp int_cmp_total exact_signed xs ys ((ascends xs).1 first) ((ascends ys).1 second) (λ q. sym (as_found q xs) ∙ same q ∙ as_found q ys)
+    same_entries int_cmp int_cmp_total exact_signed xs ys ((ascends xs).1 first) ((ascends ys).1 second)
+    (λ q. sym (as_found q xs) ∙ same q ∙ as_found q ys)

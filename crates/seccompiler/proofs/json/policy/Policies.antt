@@ -1,6 +1,7 @@
 -- For `JsonCompiler::make_seccomp_filter`, `JsonCompiler::widened`, `seccomp_filter` and `widened_numbers`: a JSON
 -- filter has one policy or one first fault.
-use Rattle.std.proofs.Common.{◌≡◌, ◌≢◌, ℤ, List, [], ◌∷◌, ◌++◌, Bool, true, false, ◌||◌, ◌&&◌, cond, Option, Some, None, IsSome, All, Any, refl, sym, ap, ◌∙◌, subst, ◌⊎◌, inl, inr, rules, Decides}
+use Rattle.std.proofs.Common.{◌≡◌, ◌≢◌, ℤ, List, [], ◌∷◌, ◌++◌, Bool, true, false, ◌||◌, ◌&&◌, cond, Option, Some, None, IsSome, All, Any}
+use Rattle.std.proofs.Common.{refl, sym, ap, ◌∙◌, subst, ◌⊎◌, inl, inr, rules, Decides}
 use Rattle.std.specs.BTreeMap.{BTreeMap}
 use Rattle.std.specs.List.{flat_map, list_any}
 use Rattle.std.specs.List.Sorted.{IsStrictlySortedBy}
@@ -21,7 +22,8 @@ use Rattle.seccompiler.specs.declared.backend.TargetArch.{TargetArch}
 use Rattle.seccompiler.specs.declared.backend.BackendError.TheVariants.{IdenticalActions}
 use Rattle.seccompiler.specs.declared.json.policy.Gathered.{Gathered}
 use Rattle.seccompiler.specs.declared.json.types.JsonCondition.{JsonCondition}
-use Rattle.seccompiler.specs.JsonPolicyOf.{Fault, refused, all_rules, chain_for, rules_of, chain_at, is_for, is_always, is_number, IsFor, IsFineEntry, IsMadeOf, IsPolicyOf, IsFirstFault, in_entries, in_actions}
+use Rattle.seccompiler.specs.JsonPolicyOf.{Fault, refused, all_rules, chain_for, rules_of, chain_at, is_for, is_always, is_number, IsFor}
+use Rattle.seccompiler.specs.JsonPolicyOf.{IsFineEntry, IsMadeOf, IsPolicyOf, IsFirstFault, in_entries, in_actions}
 use Rattle.seccompiler.specs.JsonGathered.{added, chain_of, rules_at, AreGathered, HasChains}
 use Rattle.seccompiler.specs.JsonWidened.{IsPolicyBefore}
 use Rattle.seccompiler.specs.JsonTypes.{JsonRule, JsonFilter}
@@ -35,7 +37,8 @@ use Rattle.seccompiler.proofs.TableFacts.{is_call_table}
 use Rattle.seccompiler.proofs.TableNames.{number_of-all}
 
 -- A test that decides for each item decides for any.
-pub any_decides : {X : Type 0} (test : X → Bool) (P : X → Type 0) → ((x : X) → Decides (test x) (P x)) → (xs : List X) → Decides (list_any test xs) (Any P xs)
+pub any_decides : {X : Type 0} (test : X → Bool) (P : X → Type 0) → ((x : X) → Decides (test x) (P x))
+    → (xs : List X) → Decides (list_any test xs) (Any P xs)
 any_decides test P each xs = (
   λ h. let some = Any-from_list_any test xs h in (some.0, some.1, some.2, some.3, (each some.1).0 some.4),
   λ some. list_any-from_Any test xs (some.0, some.1, some.2, some.3, (each some.1).1 some.4),
@@ -45,7 +48,10 @@ module _ (arch : TargetArch) where
   -- Whether an entry is for a number.
   is_decides : (number : ℤ) (o : Option ℤ) → Decides (is_number number o) (o ≡ Some number)
   is_decides number None = (λ h. absurd (true≢false (sym h)), λ e. cc)
-  is_decides number (Some other) = (λ h. ap Some (sym ((Decides-int_eq number other).0 h)), λ e. (Decides-int_eq number other).1 (let same : other ≡ number = cc in sym same))
+  is_decides number (Some other) = (
+    λ h. ap Some (sym ((Decides-int_eq number other).0 h)),
+    λ e. (Decides-int_eq number other).1 (let same : other ≡ number = cc in sym same),
+  )
 
   pub for_decides : (number : ℤ) (entry : JsonRule) → Decides (is_for arch number entry) (IsFor arch number entry)
   for_decides number entry = is_decides number (number_of (table_of arch) entry.syscall)
@@ -57,10 +63,13 @@ module _ (arch : TargetArch) where
   abbrev numbers_of_entries : List JsonRule → List ℤ
   numbers_of_entries entries = flat_map (λ (entry : JsonRule). option_to_list (number_of (table_of arch) entry.syscall)) entries
 
-  any_number : (number : ℤ) (entries : List JsonRule) → list_any (int_eq number) (numbers_of_entries entries) ≡ list_any (is_for arch number) entries
+  any_number : (number : ℤ) (entries : List JsonRule) → list_any (int_eq number) (numbers_of_entries entries)
+      ≡ list_any (is_for arch number) entries
   any_number number [] = refl
   any_number number (entry ∷ entries) =
-      elim (number_of (table_of arch) entry.syscall) as (λ o. list_any (int_eq number) (option_to_list o ++ numbers_of_entries entries) ≡ (is_number number o || list_any (is_for arch number) entries)) [
+      elim (number_of (table_of arch) entry.syscall) as
+      (λ o. list_any (int_eq number) (option_to_list o ++ numbers_of_entries entries)
+      ≡ (is_number number o || list_any (is_for arch number) entries)) [
         | None ↦ any_number number entries
         | Some other ↦ ap (λ b. int_eq number other || b) (any_number number entries)
       ]
@@ -71,19 +80,25 @@ module _ (arch : TargetArch) where
   some_rules (rule ∷ rules) = true
 
   -- An entry for a number has no conditions, or adds a rule.
-  pub for_either : (number : ℤ) (entries : List JsonRule) → list_any (is_for arch number) entries ≡ (list_any (is_always arch number) entries || some_rules (all_rules arch entries number))
+  pub for_either : (number : ℤ) (entries : List JsonRule) → list_any (is_for arch number) entries
+      ≡ (list_any (is_always arch number) entries || some_rules (all_rules arch entries number))
   for_either number [] = refl
-  for_either number (entry ∷ entries) = both (is_for arch number entry) entry.conditions (list_any (is_always arch number) entries) (all_rules arch entries number) (for_either number entries)
+  for_either number (entry ∷ entries) =
+      both (is_for arch number entry) entry.conditions (list_any (is_always arch number) entries)
+      (all_rules arch entries number) (for_either number entries)
     where
-      both : (b : Bool) (conditions : Option (List JsonCondition)) (always : Bool) (rules : List Rule) → list_any (is_for arch number) entries ≡ (always || some_rules rules)
-          → (b || list_any (is_for arch number) entries) ≡ (((b && is_none conditions) || always) || some_rules (cond b (rules_of conditions) [] ++ rules))
+      both : (b : Bool) (conditions : Option (List JsonCondition)) (always : Bool) (rules : List Rule)
+          → list_any (is_for arch number) entries ≡ (always || some_rules rules)
+          → (b || list_any (is_for arch number) entries)
+          ≡ (((b && is_none conditions) || always) || some_rules (cond b (rules_of conditions) [] ++ rules))
       both false conditions always rules rest = rest
       both true None always rules rest = refl
       both true (Some conditions) always rules rest = sym (or-true always)
 
   -- The number of an entry's call is one of the table.
   in_range : (number : ℤ) (entry : JsonRule) → IsFor arch number entry → IsTableNumber number
-  in_range number entry is = let named = number_of-all IsTableNumber (table_of arch) entry.syscall (is_call_table arch).in_range in rw is at named
+  in_range number entry is = let named = number_of-all IsTableNumber (table_of arch) entry.syscall (is_call_table arch).in_range in
+      rw is at named
 
   module _ (j : JsonFilter) where
     -- The filter of some chains.
@@ -95,18 +110,21 @@ module _ (arch : TargetArch) where
     at_number meant number = cond (list_any (is_for arch number) j.rules) (Some (meant number)) None
 
     -- What was gathered of the entries gives the policy's chains.
-    gathered_chain : (number : ℤ) → chain_of (list_any (is_always arch number) j.rules) (added (all_rules arch j.rules number) None) ≡ at_number (chain_for arch j.rules) number
+    gathered_chain : (number : ℤ) → chain_of (list_any (is_always arch number) j.rules) (added (all_rules arch j.rules number) None)
+        ≡ at_number (chain_for arch j.rules) number
     gathered_chain number =
         by_case (list_any (is_always arch number) j.rules) (all_rules arch j.rules number)
         ∙ ap (λ b. cond b (Some (chain_for arch j.rules number)) None) (sym (for_either number j.rules))
       where
-        by_case : (always : Bool) (rules : List Rule) → chain_of always (added rules None) ≡ cond (always || some_rules rules) (Some (cond always [] rules)) None
+        by_case : (always : Bool) (rules : List Rule) → chain_of always (added rules None)
+            ≡ cond (always || some_rules rules) (Some (cond always [] rules)) None
         by_case true rules = refl
         by_case false [] = refl
         by_case false (rule ∷ rules) = refl
 
     -- Chains that have under each number what is meant for it, in ascending order, make the filter.
-    made : (meant : ℤ → Chain) (chains : List (ℤ × Chain)) → ((number : ℤ) → chain_at chains number ≡ at_number meant number) → IsStrictlySortedBy int_cmp (numbers_of chains)
+    made : (meant : ℤ → Chain) (chains : List (ℤ × Chain)) → ((number : ℤ) → chain_at chains number ≡ at_number meant number)
+        → IsStrictlySortedBy int_cmp (numbers_of chains)
         → All (IsFineEntry arch) j.rules → j.mismatch_action ≢ j.match_action → IsMadeOf meant arch j (filter_of chains)
     made meant chains each ascending fine apart = record {
       mismatch_action = refl;
@@ -115,32 +133,45 @@ module _ (arch : TargetArch) where
       different = apart;
       entries = fine;
       chain = λ number some. each number ∙ ap (λ b. cond b (Some (meant number)) None) ((any_for number j.rules).1 some);
-      no_other = λ number none. each number ∙ ap (λ b. cond b (Some (meant number)) None) (false_from_ne_true (list_any (is_for arch number) j.rules) (λ t. none ((any_for number j.rules).0 t)));
+      no_other = λ number none. each number ∙ ap (λ b. cond b (Some (meant number)) None)
+          (false_from_ne_true (list_any (is_for arch number) j.rules) (λ t. none ((any_for number j.rules).0 t)));
       ascending = ascending;
     }
 
     -- There is such a filter, whatever is meant.
-    pub some_made : (meant : ℤ → Chain) → All (IsFineEntry arch) j.rules → j.mismatch_action ≢ j.match_action → (f : Filter) × IsMadeOf meant arch j f
+    pub some_made : (meant : ℤ → Chain) → All (IsFineEntry arch) j.rules → j.mismatch_action ≢ j.match_action
+        → (f : Filter) × IsMadeOf meant arch j f
     some_made meant fine apart =
-        let all = numbered meant (numbers_of_entries j.rules) in
-        (filter_of all.chains, made meant all.chains (λ number. all.each number ∙ ap (λ b. cond b (Some (meant number)) None) (any_number number j.rules)) all.ascending fine apart)
+        let all = numbered meant (numbers_of_entries j.rules) in (
+          filter_of all.chains,
+          made meant all.chains (λ number. all.each number
+              ∙ ap (λ b. cond b (Some (meant number)) None) (any_number number j.rules)) all.ascending fine apart,
+        )
 
     -- There are both policies.
-    pub both_made : All (IsFineEntry arch) j.rules × (j.mismatch_action ≢ j.match_action) → ((before : Filter) × IsPolicyBefore arch j before) × ((now : Filter) × IsPolicyOf arch j now)
-    both_made faultless = (some_made (all_rules arch j.rules) faultless.0 faultless.1, some_made (chain_for arch j.rules) faultless.0 faultless.1)
+    pub both_made : All (IsFineEntry arch) j.rules × (j.mismatch_action ≢ j.match_action)
+        → ((before : Filter) × IsPolicyBefore arch j before) × ((now : Filter) × IsPolicyOf arch j now)
+    both_made faultless = (
+      some_made (all_rules arch j.rules) faultless.0 faultless.1,
+      some_made (chain_for arch j.rules) faultless.0 faultless.1,
+    )
 
     -- What was gathered of the entries makes the policy, where the actions differ.
-    pub policy_made : (entries : List JsonRule) (gathered : Gathered) (chains : BTreeMap ℤ (Vec Rule Global)) → entries ≡ j.rules → All (IsFineEntry arch) entries → AreGathered arch entries gathered → HasChains gathered chains
+    pub policy_made : (entries : List JsonRule) (gathered : Gathered) (chains : BTreeMap ℤ (Vec Rule Global))
+        → entries ≡ j.rules → All (IsFineEntry arch) entries → AreGathered arch entries gathered → HasChains gathered chains
         → j.mismatch_action ≢ j.match_action → IsPolicyOf arch j (filter_of (chains_of chains.entries))
     policy_made entries gathered chains these fine is has apart =
         let all = subst (λ (es : List JsonRule). AreGathered arch es gathered) these is in
         made (chain_for arch j.rules) (chains_of chains.entries)
-        (λ number. has.each number ∙ ap (λ b. chain_of b (rules_at gathered number)) (all.always number) ∙ ap (chain_of (list_any (is_always arch number) j.rules)) (all.rules number) ∙ gathered_chain number)
-        (subst (IsStrictlySortedBy int_cmp) (sym (keys_of-map_values (λ (v : Vec Rule Global). v.items) chains.entries)) (has.ordered all.ordered))
+        (λ number. has.each number ∙ ap (λ b. chain_of b (rules_at gathered number)) (all.always number)
+        ∙ ap (chain_of (list_any (is_always arch number) j.rules)) (all.rules number) ∙ gathered_chain number)
+        (subst (IsStrictlySortedBy int_cmp) (sym (keys_of-map_values (λ (v : Vec Rule Global). v.items) chains.entries))
+        (has.ordered all.ordered))
         (subst (All (IsFineEntry arch)) these fine) apart
 
     -- What each number has in such a filter.
-    pub found_in : (meant : ℤ → Chain) (f : Filter) → IsMadeOf meant arch j f → (number : ℤ) → chain_at f.chains number ≡ at_number meant number
+    pub found_in : (meant : ℤ → Chain) (f : Filter) → IsMadeOf meant arch j f → (number : ℤ)
+        → chain_at f.chains number ≡ at_number meant number
     found_in meant f is number = elim (cases_Bool (list_any (is_for arch number) j.rules)) [
       | inl some ↦ rw some (is.chain number ((any_for number j.rules).0 some))
       | inr none ↦ rw none (is.no_other number (λ some. true≢false (sym ((any_for number j.rules).1 some) ∙ none)))
@@ -150,7 +181,8 @@ module _ (arch : TargetArch) where
     pub one_policy : (f g : Filter) → IsPolicyOf arch j f → IsPolicyOf arch j g → f ≡ g
     one_policy f g first second =
         let chains : f.chains ≡ g.chains =
-        same_chains f.chains g.chains first.ascending second.ascending (λ q. found_in (chain_for arch j.rules) f first q ∙ sym (found_in (chain_for arch j.rules) g second q)) in
+        same_chains f.chains g.chains first.ascending second.ascending
+        (λ q. found_in (chain_for arch j.rules) f first q ∙ sym (found_in (chain_for arch j.rules) g second q)) in
         let mismatches : f.mismatch_action ≡ g.mismatch_action = first.mismatch_action ∙ sym second.mismatch_action in
         let matches : f.match_action ≡ g.match_action = first.match_action ∙ sym second.match_action in
         let archs : f.target_arch ≡ g.target_arch = first.target_arch ∙ sym second.target_arch in
@@ -174,7 +206,8 @@ module _ (arch : TargetArch) where
       | inr (fault, wrong) ↦ inr (fault, in_entries wrong)
       | inl fine ↦ elim (cases_Bool (action.ghosts.eq j.mismatch_action j.match_action)) [
         | inl is ↦ inr (refused IdenticalActions, in_actions fine ((laws.decides-law j.mismatch_action j.match_action).0 is) refl)
-        | inr is ↦ inl (some_made (chain_for arch j.rules) fine (λ same. true≢false (sym ((laws.decides-law j.mismatch_action j.match_action).1 same) ∙ is)))
+        | inr is ↦ inl (some_made (chain_for arch j.rules) fine
+            (λ same. true≢false (sym ((laws.decides-law j.mismatch_action j.match_action).1 same) ∙ is)))
       ]
     ]
 
@@ -183,6 +216,7 @@ module _ (arch : TargetArch) where
     numbers_in_range f is = All-keys_from_lookup int_eq_equiv IsTableNumber f.chains (λ number there.
         by_case number (list_any (is_for arch number) j.rules) refl (subst IsSome (found_in (chain_for arch j.rules) f is number) there))
       where
-        by_case : (number : ℤ) (b : Bool) → list_any (is_for arch number) j.rules ≡ b → IsSome (cond b (Some (chain_for arch j.rules number)) None) → IsTableNumber number
+        by_case : (number : ℤ) (b : Bool) → list_any (is_for arch number) j.rules ≡ b
+            → IsSome (cond b (Some (chain_for arch j.rules number)) None) → IsTableNumber number
         by_case number true some there = let any = (any_for number j.rules).0 some in in_range number any.1 any.4
         by_case number false none there = absurd (true≢false (sym there))

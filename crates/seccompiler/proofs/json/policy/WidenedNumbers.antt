@@ -1,6 +1,7 @@
 -- For `JsonCompiler::widened` and `widened_numbers`: the numbers that have entries of both kinds, and what two policies
 -- decide on and off them.
-use Rattle.std.proofs.Common.{◌≡◌, ◌≢◌, ◌↔◌, ℕ, ℤ, pos, List, [], ◌∷◌, ◌++◌, Bool, true, false, ◌||◌, ◌&&◌, cond, Option, Some, None, Any, refl, sym, ap, ◌∙◌, subst, inl, inr, Decides}
+use Rattle.std.proofs.Common.{◌≡◌, ◌≢◌, ◌↔◌, ℕ, ℤ, pos, List, [], ◌∷◌, ◌++◌, Bool, true, false, ◌||◌, ◌&&◌, cond, Option, Some, None, Any}
+use Rattle.std.proofs.Common.{refl, sym, ap, ◌∙◌, subst, inl, inr, Decides}
 use Rattle.std.specs.List.{list_any, Contains}
 use Rattle.std.specs.Option.{is_none, is_some}
 use Rattle.std.proofs.lemmas.Bool.{true≢false, cases_Bool}
@@ -32,21 +33,27 @@ module _ (arch : TargetArch) where
   abbrev has_conditions : ℤ → JsonRule → Bool
   has_conditions number entry = is_for arch number entry && is_some entry.conditions
 
-  always_decides : (number : ℤ) (entries : List JsonRule) → Decides (list_any (is_always arch number) entries) (Any (λ entry. IsFor arch number entry × (entry.conditions ≡ None)) entries)
+  always_decides : (number : ℤ) (entries : List JsonRule)
+      → Decides (list_any (is_always arch number) entries) (Any (λ entry. IsFor arch number entry × (entry.conditions ≡ None)) entries)
   always_decides number = any_decides (is_always arch number) (λ entry. IsFor arch number entry × (entry.conditions ≡ None))
-      (λ entry. Decides-and (is_for arch number entry) (is_none entry.conditions) (for_decides arch number entry) (none_decides entry.conditions))
+      (λ entry. Decides-and (is_for arch number entry) (is_none entry.conditions) (for_decides arch number entry)
+      (none_decides entry.conditions))
 
-  conditions_decide : (number : ℤ) (entries : List JsonRule) → Decides (list_any (has_conditions number) entries) (Any (λ entry. IsFor arch number entry × (entry.conditions ≢ None)) entries)
+  conditions_decide : (number : ℤ) (entries : List JsonRule)
+      → Decides (list_any (has_conditions number) entries) (Any (λ entry. IsFor arch number entry × (entry.conditions ≢ None)) entries)
   conditions_decide number = any_decides (has_conditions number) (λ entry. IsFor arch number entry × (entry.conditions ≢ None))
-      (λ entry. Decides-and (is_for arch number entry) (is_some entry.conditions) (for_decides arch number entry) (some_decides entry.conditions))
+      (λ entry. Decides-and (is_for arch number entry) (is_some entry.conditions) (for_decides arch number entry)
+      (some_decides entry.conditions))
 
   -- A number has rules where some entry for it has conditions.
-  rules_from_conditions : (number : ℤ) (entries : List JsonRule) → some_rules arch (all_rules arch entries number) ≡ list_any (has_conditions number) entries
+  rules_from_conditions : (number : ℤ) (entries : List JsonRule) → some_rules arch (all_rules arch entries number)
+      ≡ list_any (has_conditions number) entries
   rules_from_conditions number [] = refl
   rules_from_conditions number (entry ∷ entries) = both (is_for arch number entry) entry.conditions (rules_from_conditions number entries)
     where
-      both : (b : Bool) (conditions : Option (List JsonCondition)) → some_rules arch (all_rules arch entries number) ≡ list_any (has_conditions number) entries
-          → some_rules arch (cond b (rules_of conditions) [] ++ all_rules arch entries number) ≡ ((b && is_some conditions) || list_any (has_conditions number) entries)
+      both : (b : Bool) (conditions : Option (List JsonCondition)) → some_rules arch (all_rules arch entries number)
+          ≡ list_any (has_conditions number) entries → some_rules arch (cond b (rules_of conditions) [] ++ all_rules arch entries number)
+          ≡ ((b && is_some conditions) || list_any (has_conditions number) entries)
       both false conditions rest = rest
       both true None rest = rest
       both true (Some conditions) rest = refl
@@ -58,18 +65,23 @@ module _ (arch : TargetArch) where
   module _ (j : JsonFilter) where
     widened_decides : (number : ℤ) → Decides (of_both j.rules number) (IsWidened arch j number)
     widened_decides number =
-        let parts = Decides-and (list_any (is_always arch number) j.rules) (some_rules arch (all_rules arch j.rules number)) (always_decides number j.rules)
+        let parts = Decides-and (list_any (is_always arch number) j.rules) (some_rules arch (all_rules arch j.rules number))
+        (always_decides number j.rules)
         (Decides-at _ _ (rules_from_conditions number j.rules) (conditions_decide number j.rules)) in
         (λ h. record { without = (parts.0 h).0; with_conditions = (parts.0 h).1 }, λ is. parts.1 (is.without, is.with_conditions))
 
     -- The numbers that were gathered of both kinds are those.
-    pub both_gathered : (entries : List JsonRule) (gathered : Gathered) → entries ≡ j.rules → AreGathered arch entries gathered → (number : ℤ) → Contains (numbers_of_both gathered) number ↔ IsWidened arch j number
+    pub both_gathered : (entries : List JsonRule) (gathered : Gathered)
+        → entries ≡ j.rules → AreGathered arch entries gathered → (number : ℤ)
+        → Contains (numbers_of_both gathered) number ↔ IsWidened arch j number
     both_gathered entries gathered these is number =
         let all = subst (λ (es : List JsonRule). AreGathered arch es gathered) these is in
         let listed = is_member-Decides Decides-int_eq (numbers_of_both gathered) number in
-        let kept = is_member-filter int_eq_equiv (λ n. is_some (rules_at gathered n)) number (λ n same. ap (λ m. is_some (rules_at gathered m)) ((Decides-int_eq number n).0 same)) gathered.always.keys in
+        let kept = is_member-filter int_eq_equiv (λ n. is_some (rules_at gathered n)) number
+        (λ n same. ap (λ m. is_some (rules_at gathered m)) ((Decides-int_eq number n).0 same)) gathered.always.keys in
         let same = kept ∙ ap (λ b. b && is_some (rules_at gathered number)) (all.always number)
-        ∙ ap (λ b. list_any (is_always arch number) j.rules && b) (ap is_some (all.rules number) ∙ some_added (all_rules arch j.rules number)) in
+        ∙ ap (λ b. list_any (is_always arch number) j.rules && b) (ap is_some (all.rules number)
+        ∙ some_added (all_rules arch j.rules number)) in
         let widened = widened_decides number in
         (λ there. widened.0 (sym same ∙ listed.1 there), λ both. listed.0 (same ∙ widened.1 both))
       where
@@ -78,10 +90,12 @@ module _ (arch : TargetArch) where
         some_added (rule ∷ rules) = refl
 
     -- On a number that matches always, the policy matches.
-    matches_always : (now : Filter) → IsPolicyOf arch j now → (r : List ℕ) → list_any (is_always arch (pos (word_at r 0))) j.rules ≡ true → Matches now r
+    matches_always : (now : Filter) → IsPolicyOf arch j now → (r : List ℕ) → list_any (is_always arch (pos (word_at r 0))) j.rules ≡ true
+        → Matches now r
     matches_always now new r always = record {
       chain = [];
-      there = found_in arch j (chain_for arch j.rules) now new (pos (word_at r 0)) ∙ rw (for_either arch (pos (word_at r 0)) j.rules, always) refl;
+      there = found_in arch j (chain_for arch j.rules) now new (pos (word_at r 0))
+          ∙ rw (for_either arch (pos (word_at r 0)) j.rules, always) refl;
       matches = inl refl;
     }
 
@@ -90,7 +104,9 @@ module _ (arch : TargetArch) where
       same_chain : (number : ℤ) → (IsWidened arch j number → ⊥) → chain_at before.chains number ≡ chain_at now.chains number
       same_chain number apart =
           found_in arch j (all_rules arch j.rules) before old number
-          ∙ ap (λ chain. cond (list_any (is_for arch number) j.rules) (Some chain) None) (by_case (list_any (is_always arch number) j.rules) (all_rules arch j.rules number) (λ both. apart ((widened_decides number).0 both)))
+          ∙ ap (λ chain. cond (list_any (is_for arch number) j.rules) (Some chain) None)
+          (by_case (list_any (is_always arch number) j.rules) (all_rules arch j.rules number)
+          (λ both. apart ((widened_decides number).0 both)))
           ∙ sym (found_in arch j (chain_for arch j.rules) now new number)
         where
           by_case : (always : Bool) (rules : List Rule) → ((always && some_rules arch rules) ≡ true → ⊥) → rules ≡ cond always [] rules
@@ -99,7 +115,8 @@ module _ (arch : TargetArch) where
           by_case true (rule ∷ rules) apart = absurd (apart refl)
 
       -- What matches in one matches in the other, where the number has the same chain.
-      matches_alike : (f g : Filter) (r : List ℕ) → chain_at f.chains (pos (word_at r 0)) ≡ chain_at g.chains (pos (word_at r 0)) → Matches f r → Matches g r
+      matches_alike : (f g : Filter) (r : List ℕ) → chain_at f.chains (pos (word_at r 0)) ≡ chain_at g.chains (pos (word_at r 0))
+          → Matches f r → Matches g r
       matches_alike f g r same m = record { chain = m.chain; there = sym same ∙ m.there; matches = m.matches }
 
       same_decision : (r : List ℕ) → (IsWidened arch j (pos (word_at r 0)) → ⊥) → (w : ℕ) → IsDecision before r w ↔ IsDecision now r w
@@ -107,25 +124,36 @@ module _ (arch : TargetArch) where
           let same = same_chain (pos (word_at r 0)) apart in
           let archs : before.target_arch ≡ now.target_arch = old.target_arch ∙ sym new.target_arch in
           let matches : before.match_action ≡ now.match_action = old.match_action ∙ sym new.match_action in
-          let mismatches : before.mismatch_action ≡ now.mismatch_action = old.mismatch_action ∙ sym new.mismatch_action in
-          (decided before now r w same archs matches mismatches, decided now before r w (sym same) (sym archs) (sym matches) (sym mismatches))
+          let mismatches : before.mismatch_action ≡ now.mismatch_action = old.mismatch_action ∙ sym new.mismatch_action in (
+            decided before now r w same archs matches mismatches,
+            decided now before r w (sym same)
+                (sym archs) (sym matches) (sym mismatches),
+          )
         where
-          decided : (f g : Filter) (r : List ℕ) (w : ℕ) → chain_at f.chains (pos (word_at r 0)) ≡ chain_at g.chains (pos (word_at r 0)) → f.target_arch ≡ g.target_arch → f.match_action ≡ g.match_action → f.mismatch_action ≡ g.mismatch_action
+          decided : (f g : Filter) (r : List ℕ) (w : ℕ) → chain_at f.chains (pos (word_at r 0)) ≡ chain_at g.chains (pos (word_at r 0))
+              → f.target_arch ≡ g.target_arch → f.match_action ≡ g.match_action → f.mismatch_action ≡ g.mismatch_action
               → IsDecision f r w → IsDecision g r w
-          decided f g r w same archs matches mismatches (other_architecture other is) = other_architecture (λ e. other (e ∙ ap audit_word (sym archs))) is
-          decided f g r w same archs matches mismatches (policy_matches ours m is) = policy_matches (ours ∙ ap audit_word archs) (matches_alike f g r same m) (is ∙ ap word_of matches)
-          decided f g r w same archs matches mismatches (policy_differs ours none is) = policy_differs (ours ∙ ap audit_word archs) (λ m. none (matches_alike g f r (sym same) m)) (is ∙ ap word_of mismatches)
+          decided f g r w same archs matches mismatches (other_architecture other is) =
+              other_architecture (λ e. other (e ∙ ap audit_word (sym archs))) is
+          decided f g r w same archs matches mismatches (policy_matches ours m is) =
+              policy_matches (ours ∙ ap audit_word archs) (matches_alike f g r same m) (is ∙ ap word_of matches)
+          decided f g r w same archs matches mismatches (policy_differs ours none is) =
+              policy_differs (ours ∙ ap audit_word archs) (λ m. none (matches_alike g f r (sym same) m)) (is ∙ ap word_of mismatches)
 
       -- What the Rust crate's filter matches is matched.
       pub keeps_matches : (r : List ℕ) → Matches before r → Matches now r
       keeps_matches r m = elim (cases_Bool (list_any (is_always arch (pos (word_at r 0))) j.rules)) [
         | inl always ↦ matches_always now new r always
-        | inr not ↦ matches_alike before now r (same_chain (pos (word_at r 0)) (λ both. true≢false (sym ((always_decides (pos (word_at r 0)) j.rules).1 both.without) ∙ not))) m
+        | inr not ↦ matches_alike before now r
+            (same_chain (pos (word_at r 0)) (λ both. true≢false (sym ((always_decides (pos (word_at r 0)) j.rules).1 both.without) ∙ not)))
+            m
       ]
 
     -- The same of a list of exactly those numbers.
     pub alike_off : (numbers : List ℤ) → ((number : ℤ) → Contains numbers number ↔ IsWidened arch j number) → DecideAlikeOff numbers arch j
-    alike_off numbers exactly before now old new r off w = same_decision before now old new r (λ both. off ((exactly (pos (word_at r 0))).1 both)) w
+    alike_off numbers exactly before now old new r off w =
+        same_decision before now old new r (λ both. off ((exactly (pos (word_at r 0))).1 both)) w
 
     pub matches_on : (numbers : List ℤ) → ((number : ℤ) → Contains numbers number ↔ IsWidened arch j number) → MatchesOn numbers arch j
-    matches_on numbers exactly now new r on = matches_always now new r ((always_decides (pos (word_at r 0)) j.rules).1 ((exactly (pos (word_at r 0))).0 on).without)
+    matches_on numbers exactly now new r on =
+        matches_always now new r ((always_decides (pos (word_at r 0)) j.rules).1 ((exactly (pos (word_at r 0))).0 on).without)

@@ -6,7 +6,8 @@ use Rattle.seccompiler.proofs.machine.check.Goals as goal
 
 pub loop-place-preserved : goal.loop-place-preserved
 loop-place-preserved c =
-    one_more (λ place i. IsFine i place (length c.args.prog.now) × IsInRange i) c.args.prog.now c.loop-place.place _ c.loop-place.invariant (c.if-not-is_fine.ensures.fine.0 refl, c.if-not-is_fine.ensures.range)
+    one_more (λ place i. IsFine i place (length c.args.prog.now) × IsInRange i) c.args.prog.now c.loop-place.place _ c.loop-place.invariant
+    (c.if-not-is_fine.ensures.fine.0 refl, c.if-not-is_fine.ensures.range)
 
 pub returns : goal.returns
 returns c =

@@ -6,4 +6,5 @@ use Rattle.seccompiler.proofs.machine.check.Given as goal
 
 -- each instruction so far is fine, and within its fields' ranges
 abbrev pub invariant-loop-place : goal.invariant-loop-place
-invariant-loop-place l = (place : ℕ) → place < l.place → (i : sock_filter) → slice_get l.prog place ≡ Some i → IsFine i place (length l.prog) × IsInRange i
+invariant-loop-place l = (place : ℕ) → place < l.place → (i : sock_filter) → slice_get l.prog place ≡ Some i
+    → IsFine i place (length l.prog) × IsInRange i

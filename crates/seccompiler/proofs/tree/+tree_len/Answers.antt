@@ -1,8 +1,8 @@
 use Rattle.std.proofs.Common.{◌≡◌, ◌-◌, ◌+◌, ◌^◌, ◌<◌, ◌≤◌, ℕ, length, min, subst, ap, ◌∙◌, arith}
 use Rattle.std.proofs.lemmas.Bool.Decides.{nat_tests}
 use Rattle.seccompiler.specs.Tree.{own_length, block_length, tree_length}
-use Rattle.seccompiler.proofs.tree.RangesFound.{only_one}
 use Rattle.seccompiler.proofs.tree.TreeLengths.{length_one, tree_block, capped_cut, capped_exact, capped_more}
+use Rattle.seccompiler.proofs.Parts.{only_one}
 use Rattle.seccompiler.proofs.tree.+tree_len.Goals as goal
 
 small_sum : (n block tree : ℕ) → n ≡ block → n ≤ 255 → tree ≡ block + 2 → n + 2 ≡ min tree (2 ^ 64 - 1)

@@ -16,7 +16,8 @@ pub returns-then-row_len-le-MOST : goal.returns-then-row_len-le-MOST
 returns-then-row_len-le-MOST t c =
     let short : row c.args.ranges.now ≤ 6 = grind (arith, nat_tests) in
     record {
-      code = halved_row c.args.ranges.now c.args.mismatch c.args.matched c.args.after c.write_row.new.part c.requires.some short c.write_row.ensures.code;
+      code = halved_row c.args.ranges.now c.args.mismatch c.args.matched c.args.after c.write_row.new.part
+          c.requires.some short c.write_row.ensures.code;
       places = block_of_row c.args.ranges.now c.args.mismatch c.args.matched c.write_row.new.part short c.write_row.ensures.places;
     }
 
@@ -101,9 +102,11 @@ returns t c =
     c.block_len-start.result end (length c.split_at_mut-front.result.1.now) c.border_test.result c.copy_from_slice.new.self front
     back some c.halves.ensures
     c.border_test.ensures.fork c.copy_from_slice.ensures.after c.entry_to.ensures c.entry_to-2.ensures is_front is_back
-    (omega (arith, cut, whole, is_front, is_back, back_len, exact, c.requires.room)) c.write_halved.ensures.code c.write_halved-2.ensures.code in
+    (omega (arith, cut, whole, is_front, is_back, back_len, exact, c.requires.room)) c.write_halved.ensures.code
+    c.write_halved-2.ensures.code in
     record {
       code = code;
-      places = block_of_halves c.args.ranges.now low high c.args.mismatch c.args.matched c.border_test.result c.copy_from_slice.new.self front back long c.halves.ensures
+      places = block_of_halves c.args.ranges.now low high c.args.mismatch c.args.matched
+          c.border_test.result c.copy_from_slice.new.self front back long c.halves.ensures
           c.copy_from_slice.ensures.after c.border_test.ensures.place c.write_halved.ensures.places c.write_halved-2.ensures.places;
     }

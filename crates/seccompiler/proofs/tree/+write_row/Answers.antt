@@ -1,10 +1,10 @@
 use Rattle.std.proofs.Common.{◌≡◌, ◌+◌, ◌-◌, ◌≤◌, ◌∷◌, [], length, sym, ◌∙◌, arith}
 use Rattle.std.proofs.lemmas.Bool.Decides.{nat_tests}
 use Rattle.seccompiler.specs.Tree.{own_length, row}
-use Rattle.seccompiler.proofs.tree.RangesFound.{only_one}
 use Rattle.seccompiler.proofs.tree.Rows.{settles_row, row_room}
 use Rattle.seccompiler.proofs.tree.PartCode.{row_alone, fork_joined}
-use Rattle.seccompiler.proofs.tree.TreePlaces.{settled_of, row_one_stands, row_stands}
+use Rattle.seccompiler.proofs.tree.RowPlaces.{settled_of, row_one_stands, row_stands}
+use Rattle.seccompiler.proofs.Parts.{only_one}
 use Rattle.seccompiler.proofs.tree.+write_row.Goals as goal
 
 pub returns-then-ranges-eq1 : goal.returns-then-ranges-eq1
@@ -12,8 +12,10 @@ returns-then-ranges-eq1 t c =
     let one : length c.args.ranges.now ≡ 1 = grind (arith, nat_tests) in
     let is = only_one c.args.ranges.now c.index-ranges-0.result one c.index-ranges-0.is in
     record {
-      code = row_alone c.args.ranges.now c.index-ranges-0.result c.args.mismatch c.args.matched c.args.after c.write_own.new.part is c.write_own.ensures.code;
-      places = λ f all words. row_one_stands f c.args.ranges.now c.index-ranges-0.result c.write_own.new.part is all (λ of. c.write_own.ensures.places f of words);
+      code = row_alone c.args.ranges.now c.index-ranges-0.result c.args.mismatch c.args.matched
+          c.args.after c.write_own.new.part is c.write_own.ensures.code;
+      places = λ f all words. row_one_stands f c.args.ranges.now c.index-ranges-0.result c.write_own.new.part is all
+          (λ of. c.write_own.ensures.places f of words);
     }
 
 pub returns : goal.returns
@@ -46,6 +48,7 @@ returns t c =
       code = code;
       places = λ f all words.
           let of = settled_of f ranges one rest c.settle.ensures all in
-          row_stands f ranges one rest c.row_test.result c.copy_from_slice.new.self front back c.settle.ensures c.copy_from_slice.ensures.after (c.row_test.ensures.place f)
+          row_stands f ranges one rest c.row_test.result c.copy_from_slice.new.self front
+          back c.settle.ensures c.copy_from_slice.ensures.after (c.row_test.ensures.place f)
           (c.write_own-2.ensures.places f of.0 words) (c.write_row.ensures.places f of.1 words);
     }

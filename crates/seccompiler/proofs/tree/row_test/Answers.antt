@@ -1,7 +1,7 @@
 use Rattle.std.proofs.Common.{◌∷◌, [], sym, ◌∙◌, subst, arith}
 use Rattle.seccompiler.specs.TreeCode.{IsFork}
 use Rattle.seccompiler.proofs.tree.Forks.{equal_fork, least_fork}
-use Rattle.seccompiler.proofs.tree.TreePlaces.{row_equal_stands, row_least_stands}
+use Rattle.seccompiler.proofs.tree.RowPlaces.{row_equal_stands, row_least_stands}
 use Rattle.seccompiler.proofs.tree.row_test.Goals as goal
 
 pub returns-then-stands_out-clause-fork : goal.returns-then-stands_out-clause-fork

@@ -17,7 +17,8 @@ returns-then-distance-le255 c =
 pub returns : goal.returns
 returns c =
     let far : 255 < c.args.distance = grind (arith, nat_tests) in
-    let written = c.copy_from_slice-2.ensures.after ∙ ap₂ (λ (i j : sock_filter). i ∷ j ∷ []) c.jump_if_at_least-2.ensures.instruction c.jump_over.ensures.instruction in
+    let written = c.copy_from_slice-2.ensures.after
+    ∙ ap₂ (λ (i j : sock_filter). i ∷ j ∷ []) c.jump_if_at_least-2.ensures.instruction c.jump_over.ensures.instruction in
     record {
       code = far_test c.args.border c.args.distance _ (omega arith) far (omega arith) written;
       places = λ f. far_places f c.args.border c.args.distance _ far written;

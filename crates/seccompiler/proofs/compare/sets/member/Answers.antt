@@ -24,7 +24,8 @@ loop-word-preserved c =
           ⊎_elim
           (λ same.
           let here : slice_get part c.loop-word.word ≡ Some s = subst (λ n. slice_get part n ≡ Some s) same found in
-          ap (λ n. word_at c.write_word.new.call (4 * n)) same ∙ c.write_word.ensures.here ∙ ap (λ (t : Values). bit_or t.least t.value) (get_or_from_slice_get part c.loop-word.word s blank here))
+          ap (λ n. word_at c.write_word.new.call (4 * n)) same ∙ c.write_word.ensures.here
+          ∙ ap (λ (t : Values). bit_or t.least t.value) (get_or_from_slice_get part c.loop-word.word s blank here))
           (λ other.
           let earlier : w < c.loop-word.word = omega (arith, before, other) in
           c.write_word.ensures.others w other ∙ c.loop-word.invariant.words w earlier s found)
@@ -36,5 +37,6 @@ returns-clause-within c = record {
   each = λ w s found.
       let within = slice_get_within c.args.part.now w s found in
       let before : w < c.loop-word.word = omega (arith, within, c.told-part, c.loop-word-test.false) in
-      subst (HasValue s) (sym (c.loop-word.invariant.words w before s found)) (c.requires.tight.each w s found (c.requires.some.each w s found));
+      subst (HasValue s) (sym (c.loop-word.invariant.words w before s found))
+      (c.requires.tight.each w s found (c.requires.some.each w s found));
 }

@@ -22,8 +22,10 @@ returns-clause-cover c = λ r rec inside.
 
 pub returns-clause-from_low : goal.returns-clause-from_low
 returns-clause-from_low c = c.narrowed.ensures.back (λ x fits has s found.
-    subst (λ t. HasValue t x) (get_or_from_slice_get c.args.part.now c.args.at.word s _ found) (c.halves.ensures.halves.from_low x fits has))
+    subst (λ t. HasValue t x) (get_or_from_slice_get c.args.part.now c.args.at.word s _ found)
+    (c.halves.ensures.halves.from_low x fits has))
 
 pub returns-clause-from_high : goal.returns-clause-from_high
 returns-clause-from_high c = c.narrowed-2.ensures.back (λ x fits has s found.
-    subst (λ t. HasValue t x) (get_or_from_slice_get c.args.part.now c.args.at.word s _ found) (c.halves.ensures.halves.from_high x fits has))
+    subst (λ t. HasValue t x) (get_or_from_slice_get c.args.part.now c.args.at.word s _ found)
+    (c.halves.ensures.halves.from_high x fits has))

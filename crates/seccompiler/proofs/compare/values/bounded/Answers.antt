@@ -7,9 +7,14 @@ pub returns-clause-same : goal.returns-clause-same
 returns-clause-same c =
     let s = c.args.values in
     record {
-      to = λ x fits has. let small = and_le_l x c.args.mask in record { bits = has.bits; least = omega arith; most = omega (arith, small, fits) };
+      to = λ x fits has. let small = and_le_l x c.args.mask in
+          record { bits = has.bits; least = omega arith; most = omega (arith, small, fits) };
       back = λ x fits has.
           let below = known_below x s.known s.value s.mask has.bits in
           let above = c.most_by_bits.ensures x fits has.bits in
-          record { bits = has.bits; least = omega (arith, below, c.if-values.false); most = omega (arith, above, c.if-values-most_by_bits.false) };
+          record {
+            bits = has.bits;
+            least = omega (arith, below, c.if-values.false);
+            most = omega (arith, above, c.if-values-most_by_bits.false);
+          };
     }

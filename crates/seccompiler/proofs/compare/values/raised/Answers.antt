@@ -9,7 +9,8 @@ use Rattle.seccompiler.proofs.compare.values.raised.Goals as goal
 
 -- a sum that all of them reach, if it is a word
 next_of : (k v least sum : ℕ) (o : Option ℕ) → SomeIff o (sum < 2 ^ 32) sum → ((u : ℕ) → bit_and u k ≡ v → least ≤ u → sum ≤ u)
-    → MatchOption o ((u : ℕ) → u < 2 ^ 32 → bit_and u k ≡ v → least ≤ u → ⊥) (λ next. (u : ℕ) → u < 2 ^ 32 → bit_and u k ≡ v → least ≤ u → next ≤ u)
+    → MatchOption o ((u : ℕ) → u < 2 ^ 32 → bit_and u k ≡ v → least ≤ u → ⊥)
+    (λ next. (u : ℕ) → u < 2 ^ 32 → bit_and u k ≡ v → least ≤ u → next ≤ u)
 next_of k v least sum None made all = λ u fits has le. let h = all u has le in absurd (made (omega (arith, h, fits)))
 next_of k v least sum (Some next) made all = λ u fits has le. let h = all u has le in omega (arith, h, made.1)
 
@@ -25,7 +26,8 @@ behind k v least j known other u has le = raise_past u least j le (λ e. other (
 
 -- the place of the highest bit that is wrong
 wrong_at : (k v least : ℕ) → least < 2 ^ 32 → v < 2 ^ 32 → bit_and v k ≡ v → (bit_and least k ≡ v → ⊥)
-    → let j = 31 - count_leading_zeros 32 (bit_xor (bit_and least k) v) in (bit_and k (2 ^ j) ≡ 2 ^ j) × (bit_and least (2 ^ j) ≡ bit_and v (2 ^ j) → ⊥)
+    → let j = 31 - count_leading_zeros 32 (bit_xor (bit_and least k) v) in
+    (bit_and k (2 ^ j) ≡ 2 ^ j) × (bit_and least (2 ^ j) ≡ bit_and v (2 ^ j) → ⊥)
 wrong_at k v least fits value_fits kept wrong =
     let w = bit_xor (bit_and least k) v in
     let small : bit_and least k < 2 ^ 32 = omega (arith, and_le_l least k, fits) in

@@ -49,11 +49,13 @@ from-requires-clause-within c =
     let s = c.args.values in
     let mask_fits : s.mask < 2 ^ 32 = search rules in
     let value_fits : s.value < 2 ^ 32 = search rules in
-    (under_parts c.loop-least.least s.known s.value s.mask c.loop-least.invariant.fits mask_fits value_fits c.requires c.loop-least-test.false).0
+    (under_parts c.loop-least.least s.known s.value s.mask c.loop-least.invariant.fits
+    mask_fits value_fits c.requires c.loop-least-test.false).0
 
 pub from-requires-clause-bits : goal.from-requires-clause-bits
 from-requires-clause-bits c =
     let s = c.args.values in
     let mask_fits : s.mask < 2 ^ 32 = search rules in
     let value_fits : s.value < 2 ^ 32 = search rules in
-    (under_parts c.loop-least.least s.known s.value s.mask c.loop-least.invariant.fits mask_fits value_fits c.requires c.loop-least-test.false).1
+    (under_parts c.loop-least.least s.known s.value s.mask c.loop-least.invariant.fits
+    mask_fits value_fits c.requires c.loop-least-test.false).1

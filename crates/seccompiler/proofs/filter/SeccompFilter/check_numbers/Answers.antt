@@ -13,7 +13,13 @@ keys_are : (c : After-unfit_number) → keys_of c.self.inside.rules.entries ≡ 
 keys_are c = sym (numbers_are_keys c.self.inside.rules.entries) ∙ ap (λ (f : Filter). numbers_of f.chains) c.self.view_is
 
 pub returns-in-Some-clause-unfit : goal.returns-in-Some-clause-unfit
-returns-in-Some-clause-unfit c = (c.in-Some.number, ap InvalidSyscallNumber (to_z-of_z w64 c.in-Some.number (search (rules, ints))), subst (λ numbers. IsLeastUnfit numbers c.in-Some.number) (keys_are c.before) c.in-Some.ensures.unfit)
+returns-in-Some-clause-unfit c = (
+  c.in-Some.number,
+  ap InvalidSyscallNumber
+      (to_z-of_z w64 c.in-Some.number (search (rules, ints))),
+  subst (λ numbers. IsLeastUnfit numbers c.in-Some.number)
+      (keys_are c.before) c.in-Some.ensures.unfit,
+)
 
 pub returns-clause-fit : goal.returns-clause-fit
 returns-clause-fit c = subst (λ numbers. All IsCallNumber numbers) (keys_are c.before) (c.in_default.ensures.fit.0 refl)

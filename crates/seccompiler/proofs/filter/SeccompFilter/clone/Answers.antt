@@ -22,10 +22,13 @@ loop-number-preserved c =
     let fits : SFits w64 number = search rules in
     let same : copy.items ≡ c.in-Some.chain.now.items = c.in_ok-clone_chain.ensures.same ∙ c.deref.ensures.value in
     let added : c.insert.new.self.entries ≡ insert_entry int_cmp so_far number copy = simp to_z-of_z at c.in_ok-insert.ensures.entries in
-    rw added (insert_next entries so_far c.loop-number.number-iterator c.next.new.self number c.in-Some.chain.now copy c.into_iter-number-iterator.ensures.into_iter_gives.5 c.loop-number.invariant c.in-Some.ensures.steps same)
+    rw added (insert_next entries so_far c.loop-number.number-iterator c.next.new.self
+    number c.in-Some.chain.now copy c.into_iter-number-iterator.ensures.into_iter_gives.5
+    c.loop-number.invariant c.in-Some.ensures.steps same)
 
 pub returns-clause-same : goal.returns-clause-same
 returns-clause-same c =
     let none : c.loop-number.number-iterator ≡ [] = c.in-None.ensures.steps.0 in
-    let all : chains_of c.loop-number.rules.entries ≡ chains_of c.self.inside.rules.entries = sym (append-nil _) ∙ ap (λ es. chains_of c.loop-number.rules.entries ++ chains_of es) (sym none) ∙ c.loop-number.invariant in
+    let all : chains_of c.loop-number.rules.entries ≡ chains_of c.self.inside.rules.entries =
+    sym (append-nil _) ∙ ap (λ es. chains_of c.loop-number.rules.entries ++ chains_of es) (sym none) ∙ c.loop-number.invariant in
     rw all c.self.view_is

@@ -10,7 +10,8 @@ use Rattle.seccompiler.proofs.filter.ComparedDecisions.{compares_program}
 use Rattle.seccompiler.proofs.filter.SeccompFilter.compare_program.Goals as goal
 
 -- what an answer says of the programs it says of the first and of the filter
-of_answer : (calls : CallSet) (relation : Relation) (p : List sock_filter) (f : Filter) (q : List sock_filter) (answer : Result Comparison BackendError)
+of_answer : (calls : CallSet) (relation : Relation) (p : List sock_filter) (f : Filter)
+    (q : List sock_filter) (answer : Result Comparison BackendError)
     → Decides f q → IfOk answer (λ a. Compares calls relation p q a) → IfOk answer (λ a. ComparesProgram calls relation p f a)
 of_answer calls relation p f q (Ok answer) of_f known = compares_program calls relation p f q answer of_f known
 of_answer calls relation p f q (Err e) of_f known = tt

@@ -15,8 +15,10 @@ returns-in-Some c =
     let fits : SFits w64 c.from.result = search rules in
     let key = to_z-of_z w64 c.from.result fits ∙ c.from.ensures ∙ ap pos c.word_at-number.ensures in
     let there : chain_under f.chains number ≡ Some c.in-Some.chain.now.items =
-    ap (λ (g : Filter). chain_under g.chains number) (sym c.self.view_is) ∙ found_chain c.self.inside.rules.entries _ number (Some c.in-Some.chain.now) key c.in-Some.ensures.value in
-    let iff : IsTrue c.chain_matches.result ↔ ChainMatches c.in-Some.chain.now.items r = subst (λ rules. IsTrue c.chain_matches.result ↔ ChainMatches rules r) c.deref.ensures.value c.chain_matches.ensures in
+    ap (λ (g : Filter). chain_under g.chains number) (sym c.self.view_is)
+    ∙ found_chain c.self.inside.rules.entries _ number (Some c.in-Some.chain.now) key c.in-Some.ensures.value in
+    let iff : IsTrue c.chain_matches.result ↔ ChainMatches c.in-Some.chain.now.items r =
+    subst (λ rules. IsTrue c.chain_matches.result ↔ ChainMatches rules r) c.deref.ensures.value c.chain_matches.ensures in
     matches_by_chain f r c.in-Some.chain.now.items c.chain_matches.result there iff
 
 pub returns-in-None : goal.returns-in-None
@@ -26,5 +28,6 @@ returns-in-None c =
     let fits : SFits w64 c.from.result = search rules in
     let key = to_z-of_z w64 c.from.result fits ∙ c.from.ensures ∙ ap pos c.word_at-number.ensures in
     let none : chain_under f.chains number ≡ None =
-    ap (λ (g : Filter). chain_under g.chains number) (sym c.self.view_is) ∙ found_chain c.self.inside.rules.entries _ number None key c.in-None.ensures.value in
+    ap (λ (g : Filter). chain_under g.chains number) (sym c.self.view_is)
+    ∙ found_chain c.self.inside.rules.entries _ number None key c.in-None.ensures.value in
     differs_without_chain f c.args.call.now none

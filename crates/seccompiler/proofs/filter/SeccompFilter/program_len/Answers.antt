@@ -18,15 +18,20 @@ returns-then-is_empty c =
 
 pub loop-chain-preserved : goal.loop-chain-preserved
 loop-chain-preserved c =
-    capped_chain_more (2 ^ 64 - 1) c.loop-chain.yielded c.in-Some.chain c.deref.result.now c.loop-chain.length c.chain_len.result c.saturating_add-length.result c.deref.ensures.value c.loop-chain.invariant c.chain_len.ensures c.saturating_add-length.ensures
+    capped_chain_more (2 ^ 64 - 1) c.loop-chain.yielded c.in-Some.chain c.deref.result.now c.loop-chain.length
+    c.chain_len.result c.saturating_add-length.result c.deref.ensures.value c.loop-chain.invariant
+    c.chain_len.ensures c.saturating_add-length.ensures
 
 pub returns : goal.returns
 returns c =
     let f = c.args.self.now in
     let entries = c.self.inside.rules.entries in
     let chains = ap (λ (g : Filter). g.chains) c.self.view_is in
-    let whole = iter_end deref (values_of entries) c.loop-chain.yielded _ _ _ _ (c.into_iter-chain-iterator.ensures.into_iter_gives ∙ c.values-chain-items.ensures.rest) c.loop-chain.yielded_by c.in-None.is c.next.ensures.steps in
+    let whole = iter_end deref (values_of entries) c.loop-chain.yielded _ _ _ _
+    (c.into_iter-chain-iterator.ensures.into_iter_gives ∙ c.values-chain-items.ensures.rest)
+    c.loop-chain.yielded_by c.in-None.is c.next.ensures.steps in
     record {
-      length = capped_filter (2 ^ 64 - 1) f entries c.loop-chain.yielded c.loop-chain.length chains (λ none. false≢true (c.if-is_empty.ensures.1 none)) whole.0 c.loop-chain.invariant;
+      length = capped_filter (2 ^ 64 - 1) f entries c.loop-chain.yielded c.loop-chain.length chains
+          (λ none. false≢true (c.if-is_empty.ensures.1 none)) whole.0 c.loop-chain.invariant;
       ordered = numbers_ascend f entries chains c.values-chain-items.ensures.ordered;
     }

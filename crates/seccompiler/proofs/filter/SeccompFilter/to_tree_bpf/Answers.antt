@@ -6,7 +6,8 @@ use Rattle.seccompiler.proofs.filter.Chains.{numbers_are_keys}
 use Rattle.seccompiler.proofs.filter.SeccompFilter.to_tree_bpf.Goals as goal
 
 pub returns-in_err-check_numbers-clause-ranges : goal.returns-in_err-check_numbers-clause-ranges
-returns-in_err-check_numbers-clause-ranges c = λ numbers. let unfit = c.in_err-check_numbers.ensures.unfit in absurd (unfit.2.unfit (All-contains IsCallNumber (numbers_of c.args.self.now.chains) unfit.0 numbers unfit.2.among))
+returns-in_err-check_numbers-clause-ranges c = λ numbers. let unfit = c.in_err-check_numbers.ensures.unfit in
+    absurd (unfit.2.unfit (All-contains IsCallNumber (numbers_of c.args.self.now.chains) unfit.0 numbers unfit.2.among))
 
 pub ranges_of-requires : goal.ranges_of-requires
 ranges_of-requires c =

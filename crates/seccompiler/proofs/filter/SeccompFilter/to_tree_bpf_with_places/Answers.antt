@@ -4,7 +4,7 @@ use Rattle.seccompiler.specs.Policy.{Filter, IsCallNumber}
 use Rattle.seccompiler.specs.Places.{ArePlaces}
 use Rattle.seccompiler.specs.Ranges.{Range, AreRanges}
 use Rattle.seccompiler.specs.Compiled.{numbers_of}
-use Rattle.seccompiler.specs.TreePlaces.{AreProgramPlaces, AreTreePlaces}
+use Rattle.seccompiler.specs.TreePlaces.{AreProgramPlaces}
 use Rattle.seccompiler.proofs.filter.Chains.{numbers_are_keys}
 use Rattle.seccompiler.proofs.filter.SeccompFilter.to_tree_bpf_with_places.Goals as goal
 
@@ -22,9 +22,11 @@ returns-clause-places c =
 
 pub returns-clause-order : goal.returns-clause-order
 returns-clause-order c =
-    let are = subst (λ chains. AreRanges chains c.in_ok-ranges.ranges.items) (ap (λ (f : Filter). f.chains) c.self.view_is) c.in_ok-ranges.ensures.ranges in
+    let are = subst (λ chains. AreRanges chains c.in_ok-ranges.ranges.items)
+    (ap (λ (f : Filter). f.chains) c.self.view_is) c.in_ok-ranges.ensures.ranges in
     record {
       ranges = c.in_ok-ranges.ranges.items;
       are_ranges = are;
-      are_places = subst (λ (l : List Range). AreProgramPlaces l c.in_ok-places.places.items) c.deref-2.ensures.value c.in_ok-places.ensures.are;
+      are_places = subst (λ (l : List Range). AreProgramPlaces l c.in_ok-places.places.items)
+          c.deref-2.ensures.value c.in_ok-places.ensures.are;
     }

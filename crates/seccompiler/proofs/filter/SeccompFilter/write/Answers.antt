@@ -6,18 +6,27 @@ use Rattle.seccompiler.specs.Policy.{Filter, IsCallNumber}
 use Rattle.seccompiler.specs.Compiled.{numbers_of}
 use Rattle.seccompiler.proofs.Parts.{four-written, headed}
 use Rattle.seccompiler.proofs.filter.Chains.{numbers_are_keys}
-use Rattle.seccompiler.proofs.filter.WholeProgram.{words_of, written_full, written_empty, counted_full, counted_empty}
+use Rattle.seccompiler.proofs.filter.Guarded.{words_of}
+use Rattle.seccompiler.proofs.filter.WholeProgram.{written_full, written_empty, counted_full, counted_empty}
 use Rattle.seccompiler.proofs.filter.FilterPlaces.{are_words, places_empty, places_full}
 use Rattle.seccompiler.proofs.filter.SeccompFilter.write.Goals as goal
 
 pub returns-then-is_empty : goal.returns-then-is_empty
 returns-then-is_empty c =
     let none : length c.self.inside.rules.entries ≡ 0 = grind (arith, nat_tests) in
-    let long : length c.args.program.now ≡ 4 = c.requires.room ∙ counted_empty c.self.inside.rules.entries _ (ap (λ (f : Filter). f.chains) c.self.view_is) none in
-    let written = four-written c.copy_from_slice.new.self c.args.program.now _ (jump_equal (audit_word c.args.self.now.target_arch) 1 0) _ c.return_word.result (c.copy_from_slice.ensures.after ∙ c.arch_guard.ensures ∙ ap (λ (f : Filter). guard_code (audit_word f.target_arch)) c.self.view_is) long in
-    let words = words_of c.args.self.now c.self.inside.rules.entries c.self.inside.mismatch_action c.self.inside.match_action c.self.inside.target_arch c.from-mismatch.result _ c.self.view_is c.from-mismatch.ensures refl in
-    let compiled = written_empty c.args.self.now c.self.inside.rules.entries c.from-mismatch.result _ _ words none (written ∙ cc (c.return_word.ensures.instruction)) in
-    let places = places_empty c.args.self.now c.self.inside.rules.entries c.from-mismatch.result _ _ words none (written ∙ cc (c.return_word.ensures.instruction)) in
+    let long : length c.args.program.now ≡ 4 =
+    c.requires.room ∙ counted_empty c.self.inside.rules.entries _ (ap (λ (f : Filter). f.chains) c.self.view_is) none in
+    let written = four-written c.copy_from_slice.new.self c.args.program.now _
+    (jump_equal (audit_word c.args.self.now.target_arch) 1 0) _ c.return_word.result
+    (c.copy_from_slice.ensures.after ∙ c.arch_guard.ensures ∙ ap
+    (λ (f : Filter). guard_code (audit_word f.target_arch)) c.self.view_is) long in
+    let words = words_of c.args.self.now c.self.inside.rules.entries
+    c.self.inside.mismatch_action c.self.inside.match_action c.self.inside.target_arch
+    c.from-mismatch.result _ c.self.view_is c.from-mismatch.ensures refl in
+    let compiled = written_empty c.args.self.now c.self.inside.rules.entries c.from-mismatch.result _ _ words none
+    (written ∙ cc (c.return_word.ensures.instruction)) in
+    let places = places_empty c.args.self.now c.self.inside.rules.entries c.from-mismatch.result _ _ words none
+    (written ∙ cc (c.return_word.ensures.instruction)) in
     record { compiled = compiled; places = places }
 
 pub write_chains-requires-clause-numbers : goal.write_chains-requires-clause-numbers
@@ -28,11 +37,26 @@ write_chains-requires-clause-numbers c =
 pub returns : goal.returns
 returns c =
     let some : 0 < length c.self.inside.rules.entries = grind (arith, nat_tests) in
-    let long : length c.write_chains.new.part + 5 ≡ length c.args.program.now = omega (arith, c.write_chains.ensures.code.long, c.requires.room, counted_full c.self.inside.rules.entries c.args.self.now.chains (ap (λ (f : Filter). f.chains) c.self.view_is) some) in
-    let written = headed c.copy_from_slice.new.self c.args.program.now c.write_chains.new.part _ (jump_equal (audit_word c.args.self.now.target_arch) 1 0) _ c.load_word.result c.return_word-2.result (c.copy_from_slice.ensures.after ∙ c.arch_guard.ensures ∙ ap (λ (f : Filter). guard_code (audit_word f.target_arch)) c.self.view_is) long in
-    let words = words_of c.args.self.now c.self.inside.rules.entries c.self.inside.mismatch_action c.self.inside.match_action c.self.inside.target_arch c.from-mismatch.result c.into.result c.self.view_is c.from-mismatch.ensures c.into.ensures in
-    let compiled = written_full c.args.self.now c.self.inside.rules.entries c.from-mismatch.result c.into.result c.write_chains.new.part _ words some c.requires.compilable.short c.write_chains.ensures.code (written ∙ cc (c.load_word.ensures.instruction, c.from.ensures, c.return_word-2.ensures.instruction)) in
-    let stand = c.write_chains.ensures.places c.args.self.now (sym words.chains) (are_words c.args.self.now c.self.inside.rules.entries c.from-mismatch.result c.into.result words) in
-    let places = places_full c.args.self.now c.self.inside.rules.entries c.from-mismatch.result c.into.result c.write_chains.new.part _ words some stand
+    let long : length c.write_chains.new.part + 5 ≡ length c.args.program.now =
+    omega (
+      arith,
+      c.write_chains.ensures.code.long,
+      c.requires.room,
+      counted_full c.self.inside.rules.entries c.args.self.now.chains (ap (λ (f : Filter). f.chains) c.self.view_is) some,
+    ) in
+    let written = headed c.copy_from_slice.new.self c.args.program.now c.write_chains.new.part _
+    (jump_equal (audit_word c.args.self.now.target_arch) 1 0) _ c.load_word.result c.return_word-2.result
+    (c.copy_from_slice.ensures.after ∙ c.arch_guard.ensures ∙ ap
+    (λ (f : Filter). guard_code (audit_word f.target_arch)) c.self.view_is) long in
+    let words = words_of c.args.self.now c.self.inside.rules.entries c.self.inside.mismatch_action
+    c.self.inside.match_action c.self.inside.target_arch c.from-mismatch.result c.into.result
+    c.self.view_is c.from-mismatch.ensures c.into.ensures in
+    let compiled = written_full c.args.self.now c.self.inside.rules.entries c.from-mismatch.result c.into.result c.write_chains.new.part
+    _ words some c.requires.compilable.short c.write_chains.ensures.code
+    (written ∙ cc (c.load_word.ensures.instruction, c.from.ensures, c.return_word-2.ensures.instruction)) in
+    let stand = c.write_chains.ensures.places c.args.self.now (sym words.chains)
+    (are_words c.args.self.now c.self.inside.rules.entries c.from-mismatch.result c.into.result words) in
+    let places = places_full c.args.self.now c.self.inside.rules.entries c.from-mismatch.result
+    c.into.result c.write_chains.new.part _ words some stand
     (written ∙ cc (c.load_word.ensures.instruction, c.from.ensures, c.return_word-2.ensures.instruction)) in
     record { compiled = compiled; places = places }

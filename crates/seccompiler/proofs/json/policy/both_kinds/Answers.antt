@@ -20,7 +20,8 @@ loop-number-preserved-in-Continue-1 c =
     let some = some_held c.args.gathered.now.rules.entries number ∙ sym c.contains_key.ensures ∙ c.if-contains_key.true in (
       done ++ number ∷ [],
       so_far.1 ∙ ap (λ (rest : List ℤ). done ++ rest) c.in-Some.ensures.steps ∙ sym (append_assoc done (number ∷ []) _),
-      pushed ∙ ap (λ (numbers : List ℤ). numbers ++ number ∷ []) so_far.2 ∙ sym (filter_more (λ n. is_some (rules_at c.args.gathered.now n)) done number true some),
+      pushed ∙ ap (λ (numbers : List ℤ). numbers ++ number ∷ []) so_far.2
+          ∙ sym (filter_more (λ n. is_some (rules_at c.args.gathered.now n)) done number true some),
     )
 
 pub loop-number-preserved : goal.loop-number-preserved
@@ -40,4 +41,5 @@ returns-clause-ascending c =
     let all = sym (so_far.1 ∙ ap (λ (rest : List ℤ). so_far.0 ++ rest) c.in-None.ensures.steps.0 ∙ append-nil so_far.0) in
     let given = c.into_iter-number-iterator.ensures.into_iter_gives in
     let kept : ℤ → Bool = λ n. is_some (rules_at c.args.gathered.now n) in
-    subst (IsStrictlySortedBy int_cmp) (sym (so_far.2 ∙ ap (filter kept) all)) (IsStrictlySortedBy-filter int_cmp kept c.args.gathered.now.always.keys given.4)
+    subst (IsStrictlySortedBy int_cmp) (sym (so_far.2 ∙ ap (filter kept) all))
+    (IsStrictlySortedBy-filter int_cmp kept c.args.gathered.now.always.keys given.4)

@@ -5,6 +5,9 @@ use Rattle.seccompiler.proofs.json.policy.gather.Goals as goal
 
 pub loop-entry-preserved : goal.loop-entry-preserved
 loop-entry-preserved c = record {
-  fine = All-one_more (IsFineEntry c.args.arch) c.args.entries.now c.loop-entry.entry-index c.entry-item.result c.loop-entry-test.true c.entry-item.is c.loop-entry.invariant.fine c.in_ok-add_entry.ensures.fine;
-  gathered = gathered_more c.args.arch c.args.entries.now c.loop-entry.entry-index c.entry-item.result _ _ c.loop-entry-test.true c.entry-item.is c.loop-entry.invariant.gathered c.in_ok-add_entry.ensures.added;
+  fine = All-one_more (IsFineEntry c.args.arch) c.args.entries.now
+      c.loop-entry.entry-index c.entry-item.result c.loop-entry-test.true c.entry-item.is
+      c.loop-entry.invariant.fine c.in_ok-add_entry.ensures.fine;
+  gathered = gathered_more c.args.arch c.args.entries.now c.loop-entry.entry-index c.entry-item.result
+      _ _ c.loop-entry-test.true c.entry-item.is c.loop-entry.invariant.gathered c.in_ok-add_entry.ensures.added;
 }

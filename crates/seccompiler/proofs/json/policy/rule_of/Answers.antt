@@ -14,5 +14,6 @@ loop-condition-preserved c =
     record {
       made = c.in_ok-push.ensures.items ∙ ap (λ conditions. conditions ++ c.in_ok-condition_of.field-0 ∷ []) c.loop-condition.invariant.made
           ∙ ap (λ condition. done ++ condition ∷ []) of.1 ∙ sym (map_more condition_of given place _ c.loop-condition-test.true);
-      indices = All-more (λ (c : JsonCondition). c.arg_index ≤ 5) given place _ c.loop-condition-test.true c.loop-condition.invariant.indices of.0;
+      indices = All-more (λ (c : JsonCondition). c.arg_index ≤ 5) given place _ c.loop-condition-test.true
+          c.loop-condition.invariant.indices of.0;
     }

@@ -5,4 +5,5 @@ use Rattle.seccompiler.proofs.json.policy.widened_numbers.Goals as goal
 pub returns-clause-numbers : goal.returns-clause-numbers
 returns-clause-numbers c = λ number.
     rw c.in_ok-both_kinds.ensures.numbers
-    (both_gathered c.args.arch c.args.filter.now c.as_slice.result.now c.in_ok-gathered.gathered (search rules) c.in_ok-gathered.ensures.gathered number)
+    (both_gathered c.args.arch c.args.filter.now c.as_slice.result.now c.in_ok-gathered.gathered
+    (search rules) c.in_ok-gathered.ensures.gathered number)

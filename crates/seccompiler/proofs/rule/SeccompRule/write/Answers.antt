@@ -25,28 +25,35 @@ loop-condition-init c =
     }
 
 pub relay_if_far-front-requires-clause-within : goal.relay_if_far-front-requires-clause-within
-relay_if_far-front-requires-clause-within c = end_within c.loop-condition.end c.loop-condition.part c.deref-condition-items.result.now (omega (arith, c.requires.room, ap rule_length (c.deref-condition-items.ensures.value ∙ c.self.view_is))) c.loop-condition.invariant.free
+relay_if_far-front-requires-clause-within c = end_within c.loop-condition.end c.loop-condition.part c.deref-condition-items.result.now
+    (omega (arith, c.requires.room, ap rule_length (c.deref-condition-items.ensures.value ∙ c.self.view_is)))
+    c.loop-condition.invariant.free
 
 pub relay_if_far-front-requires-clause-room : goal.relay_if_far-front-requires-clause-room
 relay_if_far-front-requires-clause-room c =
     let l = c.loop-condition in
-    let room = room_at c.deref-condition-items.result.now l.condition-index _ l.offset l.end c.condition-item.result c.loop-condition-test.true c.condition-item.is l.invariant.built l.invariant.free in
+    let room = room_at c.deref-condition-items.result.now l.condition-index _ l.offset
+    l.end c.condition-item.result c.loop-condition-test.true c.condition-item.is l.invariant.built l.invariant.free in
     omega arith
 
 pub overflow_sub-front : goal.overflow_sub-front
 overflow_sub-front c =
     let l = c.loop-condition in
-    let room = room_at c.deref-condition-items.result.now l.condition-index _ l.offset l.end c.condition-item.result c.loop-condition-test.true c.condition-item.is l.invariant.built l.invariant.free in
+    let room = room_at c.deref-condition-items.result.now l.condition-index _ l.offset
+    l.end c.condition-item.result c.loop-condition-test.true c.condition-item.is l.invariant.built l.invariant.free in
     omega (arith, c.relay_if_far-front.ensures.front, c.code_len-size.ensures)
 
 pub write-requires-clause-room : goal.write-requires-clause-room
 write-requires-clause-room c =
     let l = c.loop-condition in
-    let room = room_at c.deref-condition-items.result.now l.condition-index _ l.offset l.end c.condition-item.result c.loop-condition-test.true c.condition-item.is l.invariant.built l.invariant.free in
-    let within = end_within l.end l.part c.deref-condition-items.result.now (omega (arith, c.requires.room, ap rule_length (c.deref-condition-items.ensures.value ∙ c.self.view_is))) l.invariant.free in
+    let room = room_at c.deref-condition-items.result.now l.condition-index _ l.offset
+    l.end c.condition-item.result c.loop-condition-test.true c.condition-item.is l.invariant.built l.invariant.free in
+    let within = end_within l.end l.part c.deref-condition-items.result.now
+    (omega (arith, c.requires.room, ap rule_length (c.deref-condition-items.ensures.value ∙ c.self.view_is))) l.invariant.free in
     let front = c.relay_if_far-front.ensures.front in
     let size = c.code_len-size.ensures in
-    length-part (c.relay_if_far-front.result.0 - c.code_len-size.result) c.relay_if_far-front.result.0 c.relay_if_far-front.new.part (omega arith) (omega arith) ∙ omega arith
+    length-part (c.relay_if_far-front.result.0 - c.code_len-size.result) c.relay_if_far-front.result.0 c.relay_if_far-front.new.part
+    (omega arith) (omega arith) ∙ omega arith
 
 pub loop-condition-preserved : goal.loop-condition-preserved
 loop-condition-preserved c =
@@ -54,20 +61,38 @@ loop-condition-preserved c =
     let q = c.deref-condition-items.result.now in
     let front = c.relay_if_far-front.result.0 in
     let start = front - c.code_len-size.result in
-    let room = room_at q l.condition-index _ l.offset l.end c.condition-item.result c.loop-condition-test.true c.condition-item.is l.invariant.built l.invariant.free in
-    let within = end_within l.end l.part q (omega (arith, c.requires.room, ap rule_length (c.deref-condition-items.ensures.value ∙ c.self.view_is))) l.invariant.free in
+    let room = room_at q l.condition-index _ l.offset l.end c.condition-item.result c.loop-condition-test.true
+    c.condition-item.is l.invariant.built l.invariant.free in
+    let within = end_within l.end l.part q
+    (omega (arith, c.requires.room, ap rule_length (c.deref-condition-items.ensures.value ∙ c.self.view_is))) l.invariant.free in
     let relay = c.relay_if_far-front.ensures in
     let size = c.code_len-size.ensures in
-    let written = drop-written start front c.relay_if_far-front.new.part c.write.new.part (omega arith) (omega arith) ∙ ap (λ code. c.write.new.part ++ code) relay.code in
+    let written = drop-written start front c.relay_if_far-front.new.part c.write.new.part (omega arith) (omega arith)
+    ∙ ap (λ code. c.write.new.part ++ code) relay.code in
     let own = subst (λ d. IsConditionCode c.condition-item.result d c.write.new.part) relay.offset c.write.ensures.meets in
-    let built : Built (take (l.condition-index + 1) q) (drop start (put_mid start (front - start) c.relay_if_far-front.new.part c.write.new.part)) (c.relay_if_far-front.result.1 + c.code_len-size.result) = built_step q l.condition-index c.condition-item.result (drop l.end l.part) c.write.new.part _ l.offset _ c.loop-condition-test.true c.condition-item.is own written (omega (arith, relay.offset, size)) l.invariant.built in
-    let stand = more_stand q l.condition-index c.condition-item.result (drop l.end l.part) c.write.new.part _ l.offset c.relay_if_far-front.result.1
-    (c.relay_if_far-front.result.1 + c.code_len-size.result) c.loop-condition-test.true c.condition-item.is relay.offset c.write.ensures.code written
+    let built : Built (take (l.condition-index + 1) q)
+    (drop start (put_mid start (front - start) c.relay_if_far-front.new.part c.write.new.part))
+    (c.relay_if_far-front.result.1 + c.code_len-size.result) =
+    built_step q l.condition-index c.condition-item.result (drop l.end l.part) c.write.new.part
+    _ l.offset _ c.loop-condition-test.true c.condition-item.is own written
+    (omega (arith, relay.offset, size)) l.invariant.built in
+    let stand = more_stand q l.condition-index c.condition-item.result
+    (drop l.end l.part) c.write.new.part _ l.offset c.relay_if_far-front.result.1
+    (c.relay_if_far-front.result.1 + c.code_len-size.result) c.loop-condition-test.true
+    c.condition-item.is relay.offset c.write.ensures.code written
     (omega (arith, relay.offset, size)) l.invariant.stand in
     record {
       built = built;
       stand = stand;
-      free = omega (arith, ap length written, length-append c.write.new.part (relay_front l.offset ++ drop l.end l.part), length-append (relay_front l.offset) (drop l.end l.part), own.long, l.invariant.free);
+      free = omega (
+        arith,
+        ap length written,
+        length-append c.write.new.part
+            (relay_front l.offset ++ drop l.end l.part),
+        length-append (relay_front l.offset) (drop l.end l.part),
+        own.long,
+        l.invariant.free,
+      );
     }
 
 pub write_entry-requires : goal.write_entry-requires
@@ -77,7 +102,8 @@ write_entry-requires c =
     let some : 1 ≤ length q = omega (arith, ap length c.deref-condition-items.ensures.value, c.self.invariant) in
     let all = built_all q l.condition-index (drop l.end l.part) l.offset c.loop-condition-test.false l.invariant.built in
     let two : l.end ≡ 2 = entry_room q (drop l.end l.part) l.offset l.end some all l.invariant.free in
-    let within = end_within l.end l.part q (omega (arith, c.requires.room, ap rule_length (c.deref-condition-items.ensures.value ∙ c.self.view_is))) l.invariant.free in
+    let within = end_within l.end l.part q
+    (omega (arith, c.requires.room, ap rule_length (c.deref-condition-items.ensures.value ∙ c.self.view_is))) l.invariant.free in
     record { room = length-take-le l.end l.part within ∙ two }
 
 pub returns : goal.returns
@@ -86,10 +112,12 @@ returns c =
     let q = c.deref-condition-items.result.now in
     let some : 1 ≤ length q = omega (arith, ap length c.deref-condition-items.ensures.value, c.self.invariant) in
     let all = built_all q l.condition-index (drop l.end l.part) l.offset c.loop-condition-test.false l.invariant.built in
-    let code = built_rule q (drop l.end l.part) (c.write_entry.new.part ++ drop l.end l.part) l.offset some all (ap (λ e. e ++ drop l.end l.part) c.write_entry.ensures.code) in
+    let code = built_rule q (drop l.end l.part) (c.write_entry.new.part ++ drop l.end l.part) l.offset some all
+    (ap (λ e. e ++ drop l.end l.part) c.write_entry.ensures.code) in
     let whole = c.write_entry.new.part ++ drop l.end l.part in
     let same = c.deref-condition-items.ensures.value ∙ c.self.view_is in
-    let places = rule_stands q l.condition-index (drop l.end l.part) whole l.offset c.loop-condition-test.false l.invariant.stand (ap (λ e. e ++ drop l.end l.part) c.write_entry.ensures.code) in
+    let places = rule_stands q l.condition-index (drop l.end l.part) whole l.offset c.loop-condition-test.false l.invariant.stand
+    (ap (λ e. e ++ drop l.end l.part) c.write_entry.ensures.code) in
     record {
       code = subst (λ (r : Rule). IsRuleCode r whole) same code;
       places = subst (λ (r : Rule). AllZip (StandsInRule r) (rule_places r) whole) same places;

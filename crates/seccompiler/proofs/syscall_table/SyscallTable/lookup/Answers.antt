@@ -1,4 +1,5 @@
-use Rattle.std.proofs.Common.{◌≡◌, ℕ, ◌+◌, ◌-◌, ◌/◌, ◌<◌, length, take, drop, get_or, Less, Equal, Greater, nat_cmp, refl, sym, ap, subst, arith}
+use Rattle.std.proofs.Common.{◌≡◌, ℕ, ◌+◌, ◌-◌, ◌/◌, ◌<◌, length, take, drop, get_or, Less, Equal, Greater, nat_cmp, refl, sym, ap, subst}
+use Rattle.std.proofs.Common.{arith}
 use Rattle.std.proofs.lemmas.Grind.{common_steps}
 use Rattle.std.proofs.lemmas.List.{take_all, length-take, length-drop}
 use Rattle.std.specs.Cmp.Lexicographic.{slice_cmp}
@@ -6,7 +7,8 @@ use Rattle.seccompiler.specs.Architecture.{table_of}
 use Rattle.seccompiler.specs.SyscallTable.{IsTableNumber, pairs_of}
 use Rattle.seccompiler.proofs.TableFacts.{is_call_table}
 use Rattle.seccompiler.proofs.TableNames.{found_first, found_among, found_nowhere}
-use Rattle.seccompiler.proofs.syscall_table.Halving.{IsHalf, lower, upper, found, missed, absent, whole, as_short, compared_with, counted_here, counted_all, nothing}
+use Rattle.seccompiler.proofs.syscall_table.Halving.{IsHalf, lower, upper, found, missed, absent, whole, as_short, compared_with}
+use Rattle.seccompiler.proofs.syscall_table.Halving.{counted_here, counted_all, nothing}
 use Rattle.seccompiler.proofs.syscall_table.HalvingOnly.{compares_only}
 use Rattle.seccompiler.proofs.syscall_table.SyscallTable.lookup.Goals as goal
 
@@ -25,7 +27,9 @@ returns-in-Equal-clause-number c =
     let some : 0 < length c.loop-part.part.now = grind (arith, common_steps) in
     let is : slice_cmp nat_cmp c.args.name.now (get_or c.loop-part.part.now (length c.loop-part.part.now / 2) nothing).0.now ≡ Equal = cc in
     let middle : ℕ = length c.loop-part.part.now / 2 in
-    let number = found (table_of c.args.self.now) c.args.name.now c.loop-part.compared middle c.loop-part.part.now nothing c.loop-part.invariant.half (omega arith) (compared_with c.loop-part.part.now c.args.name.now nothing Equal some is) in
+    let number = found (table_of c.args.self.now) c.args.name.now c.loop-part.compared middle
+    c.loop-part.part.now nothing c.loop-part.invariant.half (omega arith)
+    (compared_with c.loop-part.part.now c.args.name.now nothing Equal some is) in
     grind (arith, common_steps, number)
 
 pub returns-in-Equal-clause-found : goal.returns-in-Equal-clause-found
@@ -54,27 +58,36 @@ loop-part-preserved-in-Less c =
     let is : slice_cmp nat_cmp c.args.name.now (get_or c.loop-part.part.now (length c.loop-part.part.now / 2) nothing).0.now ≡ Less = cc in
     let middle : ℕ = length c.loop-part.part.now / 2 in
     record {
-      half = lower (table_of c.args.self.now) c.args.name.now c.loop-part.compared middle c.loop-part.part.now c.loop-part.invariant.half (compared_with c.loop-part.part.now c.args.name.now nothing Less some is);
+      half = lower (table_of c.args.self.now) c.args.name.now c.loop-part.compared middle c.loop-part.part.now c.loop-part.invariant.half
+          (compared_with c.loop-part.part.now c.args.name.now nothing Less some is);
       short = simp length-take (omega arith);
     }
 
 pub loop-part-preserved : goal.loop-part-preserved
 loop-part-preserved c =
     let some : 0 < length c.loop-part.part.now = grind (arith, common_steps) in
-    let is : slice_cmp nat_cmp c.args.name.now (get_or c.loop-part.part.now (length c.loop-part.part.now / 2) nothing).0.now ≡ Greater = cc in
+    let is : slice_cmp nat_cmp c.args.name.now (get_or c.loop-part.part.now (length c.loop-part.part.now / 2) nothing).0.now ≡ Greater =
+    cc in
     let middle : ℕ = length c.loop-part.part.now / 2 in
-    let upper_half = upper (table_of c.args.self.now) c.args.name.now c.loop-part.compared middle c.loop-part.part.now c.loop-part.invariant.half (compared_with c.loop-part.part.now c.args.name.now nothing Greater some is) in
-    let whole : take (length c.loop-part.part.now - (middle + 1)) (drop (middle + 1) c.loop-part.part.now) ≡ drop (middle + 1) c.loop-part.part.now = take_all _ _ (omega (arith, length-drop (middle + 1) c.loop-part.part.now)) in
+    let upper_half = upper (table_of c.args.self.now) c.args.name.now c.loop-part.compared
+    middle c.loop-part.part.now c.loop-part.invariant.half
+    (compared_with c.loop-part.part.now c.args.name.now nothing Greater some is) in
+    let whole : take (length c.loop-part.part.now - (middle + 1)) (drop (middle + 1) c.loop-part.part.now)
+    ≡ drop (middle + 1) c.loop-part.part.now = take_all _ _ (omega (arith, length-drop (middle + 1) c.loop-part.part.now)) in
     record {
-      half = subst (λ part. IsHalf (table_of c.args.self.now) c.args.name.now (c.loop-part.compared + 1) (pairs_of part)) (sym whole) upper_half;
+      half = subst (λ part. IsHalf (table_of c.args.self.now) c.args.name.now (c.loop-part.compared + 1) (pairs_of part))
+          (sym whole) upper_half;
       short = omega (arith, length-drop (middle + 1) c.loop-part.part.now, ap length whole);
     }
 
 pub returns-clause-not_found : goal.returns-clause-not_found
-returns-clause-not_found c = found_nowhere (table_of c.args.self.now) c.args.name.now (absent (table_of c.args.self.now) c.args.name.now c.loop-part.compared c.loop-part.part.now c.loop-part.invariant.half (grind (arith, common_steps)))
+returns-clause-not_found c = found_nowhere (table_of c.args.self.now) c.args.name.now
+    (absent (table_of c.args.self.now) c.args.name.now c.loop-part.compared c.loop-part.part.now c.loop-part.invariant.half
+    (grind (arith, common_steps)))
 
 pub returns-clause-missed : goal.returns-clause-missed
-returns-clause-missed c = missed (table_of c.args.self.now) c.args.name.now c.loop-part.compared c.loop-part.part.now c.loop-part.invariant.half (grind (arith, common_steps))
+returns-clause-missed c = missed (table_of c.args.self.now) c.args.name.now c.loop-part.compared
+    c.loop-part.part.now c.loop-part.invariant.half (grind (arith, common_steps))
 
 pub returns-clause-compared : goal.returns-clause-compared
 returns-clause-compared c =

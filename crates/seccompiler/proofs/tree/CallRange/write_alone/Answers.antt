@@ -2,7 +2,7 @@ use Rattle.std.proofs.Common.{◌≡◌, ◌∷◌, [], ◌++◌, length, ap, sy
 use Rattle.seccompiler.specs.declared.bpf.sock_filter.{sock_filter}
 use Rattle.seccompiler.specs.Tree.{own_length}
 use Rattle.seccompiler.proofs.tree.TreeCode.{alone_rest, alone_matched}
-use Rattle.seccompiler.proofs.tree.TreePlaces.{alone_match, alone_stand}
+use Rattle.seccompiler.proofs.tree.RowPlaces.{alone_match, alone_stand}
 use Rattle.seccompiler.proofs.tree.CallRange.write_alone.Goals as goal
 
 pub returns-then-is_matched : goal.returns-then-is_matched

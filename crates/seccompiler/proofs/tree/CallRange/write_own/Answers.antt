@@ -3,9 +3,10 @@ use Rattle.std.proofs.lemmas.Bool.Decides.{nat_tests}
 use Rattle.seccompiler.specs.Policy.{Chain}
 use Rattle.seccompiler.specs.Ranges.{Range}
 use Rattle.seccompiler.specs.Tree.{own_length}
-use Rattle.seccompiler.proofs.tree.TreeCode.{last_written, own_some}
+use Rattle.seccompiler.proofs.tree.TreeCode.{own_some}
 use Rattle.seccompiler.proofs.tree.PartCode.{own_empty, own_gap, own_rules}
-use Rattle.seccompiler.proofs.tree.TreePlaces.{own_stand, own_empty_stands, own_gap_stands, range_chain}
+use Rattle.seccompiler.proofs.tree.RowPlaces.{own_stand, own_empty_stands, own_gap_stands, range_chain}
+use Rattle.seccompiler.proofs.Parts.{last-written}
 use Rattle.seccompiler.proofs.tree.CallRange.write_own.Goals as goal
 
 pub returns-then-is_empty : goal.returns-then-is_empty
@@ -34,14 +35,15 @@ returns-else-is_empty c =
       own_some
           c.in-Some.chain.now some,
     ) in
-    let written = last_written c.write_rules-end.result c.write_rules-end.new.part c.return_word.result long in
+    let written = last-written c.write_rules-end.result c.write_rules-end.new.part c.return_word.result long in
     record {
       code =
           own_rules c.args.self.now c.in-Some.chain.now c.args.mismatch c.args.matched rules _ has some (omega arith)
           c.write_rules-end.ensures.code (written ∙ ap (λ x. rules ++ x ∷ []) c.return_word.ensures.instruction);
       places = λ f of words.
           own_stand f c.args.self.now c.in-Some.chain.now c.args.mismatch c.args.matched rules _ has some of words
-          (c.write_rules-end.ensures.places f c.args.self.now.start (range_chain f c.args.self.now c.in-Some.chain.now has some of) words.matched_is)
+          (c.write_rules-end.ensures.places f c.args.self.now.start
+          (range_chain f c.args.self.now c.in-Some.chain.now has some of) words.matched_is)
           (written ∙ ap (λ x. rules ++ x ∷ []) c.return_word.ensures.instruction);
     }
 

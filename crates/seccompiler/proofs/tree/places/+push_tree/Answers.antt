@@ -2,9 +2,10 @@ use Rattle.std.proofs.Common.{◌≡◌, ◌<◌, ◌≤◌, ◌-◌, ◌^◌, l
 use Rattle.std.proofs.lemmas.Bool.Decides.{nat_tests}
 use Rattle.std.proofs.lemmas.Result.{on_ok_weaker}
 use Rattle.seccompiler.specs.Tree.{block_length}
-use Rattle.seccompiler.proofs.tree.RangesFound.{only_one, shorter, halves_long}
+use Rattle.seccompiler.proofs.tree.RangesFound.{shorter, halves_long}
 use Rattle.seccompiler.proofs.tree.TreeLengths.{capped_exact, capped_more}
 use Rattle.seccompiler.proofs.tree.TreePlaces.{starts_at, one_added, block_added, cut_added}
+use Rattle.seccompiler.proofs.Parts.{only_one}
 use Rattle.seccompiler.proofs.tree.places.+push_tree.Goals as goal
 
 pub push_tree-requires : goal.push_tree-requires

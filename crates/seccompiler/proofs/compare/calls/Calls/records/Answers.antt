@@ -9,7 +9,8 @@ returns-clause-to c = λ r known.
     let call = subst (λ calls. IsCallOf calls r) (sym c.self.view_is) known in
     let rec = call.record_is in
     c.narrowed.ensures.to r
-    (c.narrowed-numbered.ensures.to r (c.whole.ensures.all r rec) ((c.between.ensures.words (word_at r 0) (word_fits r 0 rec)).1 (call.least, call.greatest)))
+    (c.narrowed-numbered.ensures.to r (c.whole.ensures.all r rec)
+    ((c.between.ensures.words (word_at r 0) (word_fits r 0 rec)).1 (call.least, call.greatest)))
     ((c.between-2.ensures.words (word_at r 4) (word_fits r 4 rec)).1 (call.least_arch, call.greatest_arch))
 
 pub returns-clause-back : goal.returns-clause-back

@@ -15,7 +15,8 @@ returns-clause-policies g c =
     let m = c.in_ok-collect.field-0 in
     let made : IsFromIterResult string_eq found.entries m = search rules in
     let same = rehashed found m c.into_iter.ensures.into_iter_gives.5 made in
-    subst (λ (find : List ℕ → _). Reads (g.R.Read.remaining c.args.reader) (λ text. OfValue text (ArePoliciesOf c.args.self.now find))) (λ i name. sym (same name) i) c.in_ok-policies.ensures.policies
+    subst (λ (find : List ℕ → _). Reads (g.R.Read.remaining c.args.reader) (λ text. OfValue text (ArePoliciesOf c.args.self.now find)))
+    (λ i name. sym (same name) i) c.in_ok-policies.ensures.policies
 
 pub returns-clause-numbers : goal.returns-clause-numbers
 returns-clause-numbers g c = λ name.

@@ -50,7 +50,8 @@ returns-clause-policies c =
     let l = c.loop-name in
     let arch = c.args.self.now in
     let m = c.in_ok-collect.field-0 in
-    let all : c.args.filters.0.entries ≡ l.yielded = l.invariant.all ∙ ap (λ es. l.yielded ++ es) c.in-None.ensures.steps.0 ∙ append-nil l.yielded in
+    let all : c.args.filters.0.entries ≡ l.yielded = l.invariant.all ∙ ap (λ es. l.yielded ++ es) c.in-None.ensures.steps.0
+    ∙ append-nil l.yielded in
     let made : AreMade (IsPolicyOf arch) c.args.filters.0.entries l.found.items =
     subst (λ es. AreMade (IsPolicyOf arch) es l.found.items) (sym all) l.invariant.made in
     let order : AreInOrder l.found.items = made_in_order (IsPolicyOf arch) _ _ made c.into_iter-name-iterator.ensures.into_iter_gives.5 in

@@ -69,8 +69,10 @@
  *     returned. It is UTF-8 and ends in a NUL byte; where no code is returned it is empty. Where the buffer
  *     is too short, the message is cut after the last whole character that fits with the NUL byte. Bytes
  *     after the NUL byte are left as they were, and a buffer of 0 bytes is left alone. 256 bytes are enough
- *     for each message that has no name of the policy. A name is printed as the policy has it, line feeds
- *     and U+0000 included. Where memory runs out for the message, it is that of seccompiler_strerror.
+ *     for each message that has no name and no value of the policy. In a path, names have their control
+ *     characters as \x and two digits for each byte, and values are printed as JSON; so such a message is one
+ *     line. Where memory runs out for the path, the message has none, and a name in it is as the policy has
+ *     it, line feeds and U+0000 included. Where it runs out for that too, it is that of seccompiler_strerror.
  *
  * Where a function takes a pointer and a length, the pointer isn't null, even for a length of 0. The functions
  * are proved over references of Rust, which are never null, so the proofs say nothing of a null pointer. A
@@ -211,9 +213,13 @@ struct seccompiler_condition {
  * any but the first two. All filters of the policy are read, so an error in another filter is REJECTED too.
  * Whether another filter's program is too large doesn't matter.
  *
- * The message of REJECTED says what is wrong with the policy, and where that is known. Where the policy isn't
- * JSON in UTF-8, or nests too deep, it begins with "Error parsing Json: ". What follows names the error and its
- * place, and isn't proved. The message of NO_ROOM has the program's length.
+ * The message of REJECTED says what is wrong with the policy, behind the path of the place:
+ *
+ *     main_thread.filter[1].syscall: unknown system call "fnctl" on x86_64; did you mean "fcntl"?
+ *
+ * Where the policy isn't JSON in UTF-8, or nests too deep, it begins with "Error parsing Json: ". What follows
+ * names the error and its place, and isn't proved. Of a repeated key it has no place. The message of NO_ROOM has
+ * the program's length.
  */
 int64_t seccompiler_compile(const char *policy, size_t policy_length, uint32_t architecture,
                             const char *name, size_t name_length, uint32_t layout,

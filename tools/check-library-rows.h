@@ -20,9 +20,14 @@ static const char README[] =
     "{\"index\":1,\"type\":\"dword\",\"op\":\"eq\",\"val\":1,\"comment\":\"F_GETFD\"}]}]}}";
 static const char NAME[] = "main_thread";
 
-/* A filter without actions, whose name has two bytes, and what is said of it. */
+/* A filter without actions, whose name has two bytes, what is said of it, and what the library alone says. */
 static const char SHAPELESS[] = "{\"\xc2\xb5\":{}}";
-static const char SHAPELESS_SAID[] = "Json filter has a wrong shape: \xc2\xb5.";
+static const char SHAPELESS_SAID[] = "\xc2\xb5: missing \"mismatch_action\" or \"default_action\"";
+static const char WITHOUT_PLACE[] = "Json filter has a wrong shape: \xc2\xb5.";
+
+/* The filter `a` of one entry. */
+#define OF_ENTRY(entry) \
+    "{\"a\":{\"mismatch_action\":\"trap\",\"match_action\":\"allow\",\"filter\":[" entry "]}}"
 
 /* The filter `a` names a call that no architecture has, and the filter `b` is fine. */
 static const char UNKNOWN[] =
@@ -181,14 +186,26 @@ static const struct {
     {"", "b", AUDIT_ARCH_I386, 0, 0, SECCOMPILER_UNKNOWN_ARCHITECTURE, "Unknown architecture."},
     {"", "b", 0xc000003f, 0, 0, SECCOMPILER_UNKNOWN_ARCHITECTURE, "Unknown architecture."},
     {"", "b", AUDIT_ARCH_X86_64, 2, 0, SECCOMPILER_UNKNOWN_LAYOUT, "Unknown layout."},
-    {"[]", "b", AUDIT_ARCH_X86_64, 0, 0, SECCOMPILER_REJECTED, "Json is not an object of filters."},
+    {"[]", "b", AUDIT_ARCH_X86_64, 0, 0, SECCOMPILER_REJECTED,
+     "the policy: expected an object of filters, found an empty array"},
     {"{\"a\":{\"x\":1,\"x\":1}}", "b", AUDIT_ARCH_X86_64, 0, 0, SECCOMPILER_REJECTED, "Repeated key in Json."},
-    {SHAPELESS, "b", AUDIT_ARCH_X86_64, 1, 0, SECCOMPILER_REJECTED, "Json filter has a wrong shape: \xc2\xb5."},
-    {"{\"a\":{\"mismatch_action\":\"trap\",\"match_action\":\"allow\",\"filter\":[{\"syscall\":\"nosyscall\"}]}}",
-     "b", AUDIT_ARCH_AARCH64, 0, 0, SECCOMPILER_REJECTED,
-     "Invalid syscall name: nosyscall for given arch: aarch64."},
+    {SHAPELESS, "b", AUDIT_ARCH_X86_64, 1, 0, SECCOMPILER_REJECTED, SHAPELESS_SAID},
+    {OF_ENTRY("{\"syscall\":\"nosyscall\"}"), "b", AUDIT_ARCH_AARCH64, 0, 0, SECCOMPILER_REJECTED,
+     "a.filter[0].syscall: unknown system call \"nosyscall\" on aarch64"},
     {UNKNOWN, "b", AUDIT_ARCH_X86_64, 0, 0, SECCOMPILER_REJECTED,
-     "Invalid syscall name: nosyscall for given arch: x86_64."},
+     "a.filter[0].syscall: unknown system call \"nosyscall\" on x86_64"},
+    {OF_ENTRY("{\"syscall\":\"read\"},{\"syscall\":\"fnctl\"}"), "b", AUDIT_ARCH_X86_64, 0, 0, SECCOMPILER_REJECTED,
+     "a.filter[1].syscall: unknown system call \"fnctl\" on x86_64; did you mean \"fcntl\"?"},
+    {OF_ENTRY("{\"syscall\":\"open\"}"), "b", AUDIT_ARCH_RISCV64, 0, 0, SECCOMPILER_REJECTED,
+     "a.filter[0].syscall: unknown system call \"open\" on riscv64"},
+    {OF_ENTRY("{\"syscall\":\"read\",\"args\":[{\"index\":6,\"type\":\"dword\",\"op\":\"eq\",\"val\":0}]}"), "b",
+     AUDIT_ARCH_X86_64, 0, 0, SECCOMPILER_REJECTED, "a.filter[0].args[0].index: expected 0 to 5, found 6"},
+    {OF_ENTRY("{\"syscall\":\"read\",\"args\":[]}"), "b", AUDIT_ARCH_X86_64, 0, 0, SECCOMPILER_REJECTED,
+     "a.filter[0].args: expected null or at least one condition, found an empty array"},
+    {OF_ENTRY("{\"syscall\":\"read\",\"note\":1}"), "b", AUDIT_ARCH_X86_64, 0, 0, SECCOMPILER_REJECTED,
+     "a.filter[0]: \"note\": unknown key; expected syscall, args or comment"},
+    {"{\"a\":{\"mismatch_action\":\"trap\",\"match_action\":\"trap\",\"filter\":[]}}", "b", AUDIT_ARCH_X86_64, 0, 0,
+     SECCOMPILER_REJECTED, "a: expected two actions that differ, found the same one twice"},
     {README, "b", AUDIT_ARCH_X86_64, 0, 0, SECCOMPILER_NO_FILTER, "No filter has this name."},
     {README, "main", AUDIT_ARCH_X86_64, 0, 0, SECCOMPILER_NO_FILTER, "No filter has this name."},
     {README, "\xff", AUDIT_ARCH_X86_64, 0, 0, SECCOMPILER_NO_FILTER, "No filter has this name."},
@@ -208,7 +225,7 @@ static const char TOO_LARGE[] =
 /* How many bytes a message has, and how many are written of SHAPELESS_SAID, besides the byte 0. */
 static const struct {
     size_t capacity, bytes;
-} CUTS[] = {{0, 0}, {1, 0}, {2, 1}, {32, 31}, {33, 31}, {34, 33}, {35, 34}, {36, 34}};
+} CUTS[] = {{0, 0}, {1, 0}, {2, 0}, {3, 2}, {4, 3}, {49, 48}, {50, 49}, {51, 49}};
 
 /* Two filters, which stand in the other order in the text; their names, one with a byte 0, and the lengths. Both
  * have faults that only a compilation finds, which play no part. */
@@ -232,7 +249,7 @@ static const struct {
     {NAMED, 2, SECCOMPILER_NO_FILTER, "No filter has this index."},
     {NAMED, SIZE_MAX, SECCOMPILER_NO_FILTER, "No filter has this index."},
     {"{}", 0, SECCOMPILER_NO_FILTER, "No filter has this index."},
-    {"[]", 0, SECCOMPILER_REJECTED, "Json is not an object of filters."},
+    {"[]", 0, SECCOMPILER_REJECTED, "the policy: expected an object of filters, found an empty array"},
     {SHAPELESS, 7, SECCOMPILER_REJECTED, SHAPELESS_SAID},
 };
 
@@ -301,9 +318,9 @@ static const struct {
     const char *said;
 } UNDECIDED[] = {
     {"[]", "b", 0, SECCOMPILER_UNKNOWN_ARCHITECTURE, "Unknown architecture."},
-    {"[]", "b", AUDIT_ARCH_X86_64, SECCOMPILER_REJECTED, "Json is not an object of filters."},
+    {"[]", "b", AUDIT_ARCH_X86_64, SECCOMPILER_REJECTED, "the policy: expected an object of filters, found an empty array"},
     {UNKNOWN, "c", AUDIT_ARCH_X86_64, SECCOMPILER_REJECTED,
-     "Invalid syscall name: nosyscall for given arch: x86_64."},
+     "a.filter[0].syscall: unknown system call \"nosyscall\" on x86_64"},
     {"{}", "b", AUDIT_ARCH_X86_64, SECCOMPILER_NO_FILTER, "No filter has this name."},
     {README, "b", AUDIT_ARCH_X86_64, SECCOMPILER_NO_FILTER, "No filter has this name."},
     {README, "\xc2", AUDIT_ARCH_X86_64, SECCOMPILER_NO_FILTER, "No filter has this name."},

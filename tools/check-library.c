@@ -431,6 +431,12 @@ static void check_refusals(void)
               REFUSED[i].code, said);
         check(is_marked(0), "an array after a refusal");
         check(is_told(said), said);
+        /* What isn't about the program is refused of a decision alike. */
+        if (REFUSED[i].code != SECCOMPILER_UNKNOWN_LAYOUT && REFUSED[i].code != SECCOMPILER_NO_ROOM) {
+            struct seccomp_data call = call_of(REFUSED[i].arch, 0, 0, 0, 0);
+            equal(decide(text, name, REFUSED[i].arch, &call), REFUSED[i].code, "a decision that is refused");
+            check(is_told(said), "the message of a decision that is refused");
+        }
     }
     equal(compile("", 0, AUDIT_ARCH_X86_64, "b", 1, 0, 0), SECCOMPILER_REJECTED, "no text");
     check(is_marked(0), "an array after no text");
@@ -706,14 +712,30 @@ static int64_t compared(void)
     return answer;
 }
 
-/* A refusal of a shape: where memory is refused for its text, the message is what the code means. */
+/* A refusal of a shape: where memory is refused for its place, the message has none; where it is refused for all of
+ * its text, the message is what the code means. */
 static int64_t shape(void)
 {
     int64_t answer = compile(SHAPELESS, strlen(SHAPELESS), AUDIT_ARCH_X86_64, "b", 1, 0, 0);
-    check(answer == SECCOMPILER_REJECTED ? is_told(SHAPELESS_SAID) || is_told("The policy is rejected.")
+    check(answer == SECCOMPILER_REJECTED ? is_told(SHAPELESS_SAID) || is_told(WITHOUT_PLACE)
+                                               || is_told("The policy is rejected.")
                                          : is_told("Out of memory."),
           "a text with a refused request");
     return answer;
+}
+
+/* Nothing is requested for a message for which there is no room: where all that is then requested is granted, and
+ * nothing more, a refusal has its code, and what the code means for its message. */
+static void without_room(void)
+{
+    refuse(1, 0);
+    equal(seccompiler_compile(SHAPELESS, strlen(SHAPELESS), AUDIT_ARCH_X86_64, "b", 1, 0, program, 0, message, 0),
+          SECCOMPILER_REJECTED, "a refusal without room for a message");
+    refuse(requests + 1, LONG_MAX);
+    equal(compile(SHAPELESS, strlen(SHAPELESS), AUDIT_ARCH_X86_64, "b", 1, 0, 0), SECCOMPILER_REJECTED,
+          "a refusal without memory for a message");
+    check(is_told("The policy is rejected."), "a message without memory");
+    refuse(1, 0);
 }
 
 /* The functions that take no memory make no request for any, and answer where none is granted. */
@@ -778,6 +800,7 @@ int main(void)
     sweep(named, FILTERS[0].bytes, SECCOMPILER_OUT_OF_MEMORY);
     sweep(compared, 0, SECCOMPILER_OUT_OF_MEMORY);
     sweep(shape, SECCOMPILER_REJECTED, SECCOMPILER_OUT_OF_MEMORY);
+    without_room();
     without_memory();
     printf("%d passed, %d failed\n", passed, failed);
     return failed != 0;

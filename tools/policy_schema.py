@@ -30,7 +30,7 @@ SCHEMA = TOP / "docs/policy.schema.json"
 # seccomptool that read a policy, and their options that have a value behind them, and that ask for help.
 READING, GIVEN_A_FILE = "list", "run"
 OF_TOOL = ("compile", "show", "check", "explain", "stats", "diff", "compat")
-WITH_VALUES = ("-a", "--arch", "-f", "--filter", "-o", "--output", "--layout", "--most", "--records")
+WITH_VALUES = ("-a", "--arch", "-f", "--filter", "-o", "--output", "--layout", "--format", "--most", "--records")
 HELP = ("-h", "--help")
 
 # What stands in front of what seccomptool reports: its name, and a file's where it is about one.
@@ -54,7 +54,8 @@ WRONG_AT = re.compile(
     r'|expected one of "\w+" and "\w+", found both)\n'
 )
 UNSAID_AT = re.compile(
-    r'(unknown system call ".*" on \w+(; did you mean "\w+"\?)?|needs \d+ instructions in the linear layout; 4096 fit'
+    r'(unknown system call ".*" on \w+(; did you mean "\w+"\?)?'
+    r"|needs \d+ instructions in the (linear|tree) layout; 4096 fit(; \d+ in the (linear|tree) layout)?"
     r"|expected two actions that differ, found the same one twice)\n"
 )
 
@@ -101,7 +102,7 @@ def policy_of(case, files):
         name = words[2]
     elif words[:1] == [READING]:
         name = "-"
-    elif words and words[0] in OF_TOOL and not any(it in HELP for it in words):
+    elif words and words[0] in OF_TOOL and not any(it in HELP or it.startswith("--program") for it in words):
         name = policy_named(words[1:])
     if name == "-" and "<" in words:
         name = words[words.index("<") + 1]
@@ -114,7 +115,7 @@ def is_valid(case):
     """Returns whether a case has its policy's shape right; None where it doesn't say that, and the message that says
     something else where it is unknown."""
     message = IN_FRONT.sub("", case.errors, count=1)
-    at_place = message.partition(": ")[2] if case.words.startswith("check") else ""
+    at_place = message.partition(": ")[2] if case.words.startswith(("check", "compile")) else ""
     if case.status == 0 or (case.words.startswith("diff") and not case.errors):
         return True
     if UNSAID.match(message) or UNSAID_AT.fullmatch(at_place):

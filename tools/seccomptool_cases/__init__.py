@@ -5,9 +5,11 @@ Expected values come from the definitions in crates/seccomptool/specs, arithmeti
 from the program's output.
 """
 
-from . import check, compat, compile, diff, explain, record, run, show, stats, words
+from . import check, compat, compile, diff, explain, record, run, show, stats, verify, warnings, words
 
-FILES = {**explain.FILES, **compile.FILES, **diff.FILES, **run.FILES}
+FILES = {**explain.FILES, **compile.FILES, **diff.FILES, **run.FILES, **verify.FILES}
 CASES = [
-    case for it in (compile, show, check, explain, run, stats, record, diff, compat, words) for case in it.CASES
+    case
+    for it in (compile, show, check, warnings, explain, run, stats, record, diff, verify, compat, words)
+    for case in it.CASES
 ]

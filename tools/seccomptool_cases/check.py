@@ -3,6 +3,8 @@
 from program_cases import FRONTEND
 
 from .forms import FOLDER, RESET, TOOL, Failing, rejects, writes
+from .long_filters import of_rules
+from .warnings import line, lines_of
 
 FINE = (
     '{"b":{"mismatch_action":{"errno":1},"match_action":"allow","filter":['
@@ -173,8 +175,8 @@ FIRST_FAULTS = [
 
 # The same of the files that the cases of both programs share, and files that can't be read.
 OF_FILES = [
-    writes("check logs.json", "", ""),
-    ("check < logs.json", 0, "", ""),
+    writes("check logs.json", "", line("a.mismatch_action", "allows-by-default")),
+    ("check < logs.json", 0, line("a.mismatch_action", "allows-by-default"), ""),
     rejects("check list.json", "",
             "the policy: expected an object of filters, found an empty array\n", TOOL + "list.json: "),
     rejects("check no-filter.json", "",
@@ -197,8 +199,8 @@ OF_FILES = [
 ]
 
 CASES = [
-    # `check` says nothing of a policy without faults.
-    writes("check", FINE, ""),
+    # Of a policy without faults `check` tells its warnings alone.
+    writes("check", FINE, lines_of(FINE)),
     writes("check", "{}", ""),
     # `check` tells faults without a place as the library.
     rejects("check", '{"a":{"filter":1,"filter":2}}', REPEATED),
@@ -211,6 +213,10 @@ CASES = [
     *FIRST_FAULTS,
     # `check` tells the filter that is too long.
     told(entries(TOO_LONG), "a", "needs 10130 instructions in the linear layout; 4096 fit"),
+    # Where its tree fits, `check` tells how long that is: rules of 4079 instructions, and calls 1 to 4.
+    told("{" + of_rules("a", 813, ("write", "open", "close", "stat")) + "}", "a",
+         "needs 4106 instructions in the linear layout; 4096 fit; 4090 in the tree layout"),
+    told("{" + of_rules("a", 816) + "}", "a", "needs 4101 instructions in the linear layout; 4096 fit"),
     # `check` answers faults of its reader.
     rejects("check", Failing(FINE), RESET),
     *OF_FILES,

@@ -1,6 +1,10 @@
-"""What `compile` has to do: programs as bytes, and the faults."""
+"""What `compile` has to do: programs as bytes, as listings and for C, and the faults. What C makes of a program is
+tried where the compilers cc and c++ are installed."""
 
-from program_cases import FRONTEND, LARGE
+import shutil
+import struct
+
+from program_cases import FRONTEND
 
 from .forms import (
     CLOSED, FOLDER, FULL, INPUT, LAYOUTS, LOGS, MISSING, NO_OBJECT, OUTPUT, TOOL, fails_to_read_and_write, rejects,
@@ -21,6 +25,23 @@ TREE = bytes.fromhex("""
 # The same for the architecture words of aarch64 and riscv64 (linux/audit.h).
 WORDS = {"aarch64": "b7 00 00 c0", "arm64": "b7 00 00 c0", "riscv64": "f3 00 00 c0", "amd64": "3e 00 00 c0"}
 
+EXAMPLE = "examples/readme-policy.json"
+
+# A C file that writes the array whose initializer is in a file, as the machine has it. It compiles as C and as C++.
+INCLUDES = """#include <linux/filter.h>
+#include <stdio.h>
+
+static const struct sock_filter program[] = {
+#include INITIALIZER
+};
+
+int main(void)
+{
+    return fwrite(program, sizeof program, 1, stdout) != 1;
+}
+"""
+COMPILERS = {"cc": "-x c -std=c11", "c++": "-x c++ -std=c++17"}
+
 NO_FILTER = "No filter has this name: b.\n"
 UNKNOWN_CALL = FRONTEND + "Invalid syscall name: nosyscall for given arch: x86_64.\n"
 
@@ -28,12 +49,43 @@ UNKNOWN_CALL = FRONTEND + "Invalid syscall name: nosyscall for given arch: x86_6
 TWO = LOGS[:-1] + r',"b\u009b":{"mismatch_action":"trap","match_action":"allow","filter":[]}}'
 WHICH = "Name one of its filters by --filter: {}.\n"
 
-FILES = {"-": LOGS, "two-filters.json": TWO}
+# Filters that fit in one layout alone: of rules of 4089 instructions; and of rules of 4079, and calls 1 to 4.
+NARROW = "{" + of_rules("a", 815) + "}"
+WIDE = "{" + of_rules("a", 813, ("write", "open", "close", "stat")) + "}"
+IN_LINEAR = "instructions in the linear layout; 4096 fit"
+IN_TREE = "instructions in the tree layout; 4096 fit"
+
+FILES = {"-": LOGS, "two-filters.json": TWO, "includes.c": INCLUDES}
 
 
 def of_word(word):
     """Returns the tree's program with another architecture's word."""
     return TREE[:12] + bytes.fromhex(word) + TREE[16:]
+
+
+def instructions(program):
+    """Returns the code, jt, jf and k of each instruction of a program in bytes."""
+    return list(struct.iter_unpack("<HBBI", program))
+
+
+def listed(name, program):
+    """Returns a program as `seccompc list` writes it."""
+    lines = ["%04x %02x %02x %08x\n" % it for it in instructions(program)]
+    return f"filter {len(lines)} {name}\n" + "".join(lines)
+
+
+def in_c(program):
+    """Returns a program as `tcpdump -dd` writes it."""
+    return "".join("{ 0x%x, %d, %d, 0x%08x },\n" % it for it in instructions(program))
+
+
+def included(layout, compiler, flags):
+    """Returns the case of a program for C, of which a compiler makes the bytes that `compile` writes otherwise."""
+    made = f"included-{layout}.{compiler}"
+    words = f"compile --layout {layout} {EXAMPLE}"
+    build = f"{compiler} {flags} -Wall -Wextra -Wpedantic -Werror -D INITIALIZER='\"{made}.inc\"' includes.c -o {made}"
+    return writes(f"{words} --format c -o {made}.inc && ./seccomptool {words} -o {made}.raw && {build} &&"
+                  f" ./{made} | cmp - {made}.raw; status=$?; rm -f {made}*; (exit $status)", "", "")
 
 
 CASES = [
@@ -46,6 +98,20 @@ CASES = [
     writes("compile logs.json", "", TREE),
     writes("compile logs.json -fa --layout linear", "", LINEAR),
     writes("compile -f \"$(printf 'a\\n\\\\')\" names.json", "", TREE),
+    # `compile` writes the forms that are asked for, bytes where none is.
+    writes("compile --format raw logs.json", "", TREE),
+    writes("compile logs.json --format=listing", "", listed("a", TREE)),
+    writes("compile --format listing --layout linear", LOGS, listed("a", LINEAR)),
+    writes("compile --format c logs.json", "", in_c(TREE)),
+    writes("compile --format=c --layout=linear -", LOGS, in_c(LINEAR)),
+    writes("compile --format c logs.json -o written.inc && cat written.inc && rm written.inc", "", in_c(TREE)),
+    # A listing is that of `seccompc list`, which leaves the bytes 80 and above of a name as they are.
+    writes("compile two-filters.json -f \"$(printf 'b\\302\\233')\" --format listing | head -n 1", "",
+           "filter 5 b\x9b\n"),
+    writes("compile -f \"$(printf 'a\\n\\\\')\" names.json --format listing", "", listed(r"a\x0a\x5c", TREE)),
+    writes(f"compile {EXAMPLE} --format listing --layout linear > listed.txt &&"
+           f" ./seccompc list x86_64 < {EXAMPLE} | cmp - listed.txt; status=$?; rm listed.txt; (exit $status)", "", ""),
+    *[included(layout, *it) for layout in ("linear", "tree") for it in COMPILERS.items() if shutil.which(it[0])],
     # The architecture is x86_64 where none is named.
     *[writes(f"compile -a {arch} logs.json", "", of_word(word)) for arch, word in WORDS.items()],
     # The policy's only filter is taken where none is named.
@@ -66,11 +132,17 @@ CASES = [
     rejects("compile -f b no-json.json", "", FRONTEND + "Error parsing Json: ..", TOOL + "no-json.json: "),
     rejects("compile -f b unknown-call.json", "", UNKNOWN_CALL, TOOL + "unknown-call.json: "),
     rejects("compile -f b logs.json", "", NO_FILTER, TOOL + "logs.json: "),
+    *[rejects(f"compile --format {it} -f b", LOGS, NO_FILTER) for it in ("listing", "c")],
     # The length of the filter's own program is asked for, and of no other.
     writes("compile -f a", LOGS[:-1] + "," + of_rules("b", 816) + "}", TREE),
     rejects("compile -f b too-large.json", "", NO_FILTER, TOOL + "too-large.json: "),
-    rejects("compile --layout linear too-large.json", "", LARGE, TOOL + "too-large.json: "),
-    rejects("compile too-large.json", "", "Backend error: The seccomp filter ..", TOOL + "too-large.json: "),
+    # Of a program that is too large the length in the other layout is told where it fits there.
+    rejects("compile --layout linear too-large.json", "", f"a: needs 10130 {IN_LINEAR}\n", TOOL + "too-large.json: "),
+    rejects("compile", NARROW, f"a: needs 4098 {IN_TREE}; 4096 in the linear layout\n"),
+    rejects("compile -f a --layout linear", WIDE, f"a: needs 4106 {IN_LINEAR}; 4090 in the tree layout\n"),
+    rejects("compile --format c --layout linear", WIDE.replace('"a"', r'"a\u009b"'),
+            f"a\\xc2\\x9b: needs 4106 {IN_LINEAR}; 4090 in the tree layout\n"),
+    rejects("compile", "{" + of_rules("a", 816) + "}", f"a: needs 4103 {IN_TREE}\n"),
     # `compile` answers faults of files, of its reader and its writer.
     rejects("compile missing.json", "", MISSING, TOOL + "missing.json: "),
     rejects("compile \"$(printf 'missing\\nfile')\"", "", MISSING, TOOL + "missing\\x0afile: "),
@@ -79,4 +151,5 @@ CASES = [
     ("compile < examples", 1, "", INPUT + FOLDER),
     ("compile <&-", 1, "", INPUT + CLOSED),
     ("compile < logs.json > /dev/full", 1, "", OUTPUT + FULL),
+    *[rejects(f"compile --format {it} > /dev/full", LOGS, FULL, OUTPUT) for it in ("listing", "c")],
 ]

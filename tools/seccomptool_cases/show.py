@@ -3,8 +3,10 @@
 from program_cases import FRONTEND, LARGE
 
 from .forms import (
-    FULL, INPUT, LAYOUTS, NO_OBJECT, OUTPUT, STEERS, fails_to_read_and_write, rejects_in_both, writes
+    CLOSED, FOLDER, FULL, INPUT, LAYOUTS, MISSING, NO_OBJECT, OUTPUT, RESET, STEERS, TOOL, Failing,
+    fails_to_read_and_write, rejects, rejects_in_both, writes
 )
+from .run import JUMP, JUMP_AT_LEAST, LOAD, MASK, OF_BIT, OF_READ, UNFIT, program, returns
 
 # Two filters without entries; the second one's name has a byte that steers a terminal.
 LOGS = r'''{"b\n":{"mismatch_action":{"errno":65537},"match_action":"allow","filter":[]},
@@ -82,6 +84,37 @@ LOGS_SHOWN = """filter 4 a
    3  ret #0x7ffc0000             ; log
 """
 
+# Programs in bytes, of whichever compiler.
+READ_SHOWN = """   0  ld [0]                      ; the call number
+   1  jeq #0x0, 2, 3
+   2  ret #0x7fff0000             ; allow
+   3  ret #0x50001                ; errno 1
+"""
+
+BIT_SHOWN = """   0  ld [24]                     ; the low half of argument 1
+   1  and #0x2
+   2  jgt #0x1, 3, 4
+   3  ret #0x7fff0000             ; allow
+   4  ret #0x50001                ; errno 1
+"""
+
+# Each load of a record, the other jumps, and what the words of seccomp(2) stand for that no policy has.
+OF_LOADS = program(
+    *[(LOAD, 0, 0, byte) for byte in range(0, 64, 4)], (JUMP, 0, 0, 1), returns(0x7FC00000),
+    (JUMP_AT_LEAST, 1, 0, 2**32 - 1), returns(0x30001), (MASK, 0, 0, 0), returns(0))
+
+LOADED = ["the call number", "the architecture", "the instruction pointer", "the instruction pointer"]
+LOADED += [f"the {half} half of argument {index}" for index in range(6) for half in ("low", "high")]
+
+LOADS_SHOWN = "".join(f"{place:4}  {f'ld [{4 * place}]':28}; {it}\n" for place, it in enumerate(LOADED)) + """\
+  16  ja 18
+  17  ret #0x7fc00000             ; notify the supervisor
+  18  jge #0xffffffff, 20, 19
+  19  ret #0x30001
+  20  and #0x0
+  21  ret #0x0                    ; kill the thread
+"""
+
 # Both filters of this policy are at fault: `a` is none, and the actions of `b` are equal.
 BOTH_FAULTY = '{"b":{"mismatch_action":"log","match_action":"log","filter":[]},"a":{}}'
 
@@ -102,4 +135,18 @@ CASES = [
     # `show` answers faults of its reader and its writer.
     *[case for it in LAYOUTS for case in fails_to_read_and_write("show" + it, LOGS, LOGS)],
     ("show < logs.json > /dev/full", 1, "", OUTPUT + FULL),
+    # `show` writes programs in bytes, of whichever compiler.
+    writes("show --program read.bpf", "", READ_SHOWN),
+    writes("show --program=- < bit.bpf", "", BIT_SHOWN),
+    writes("show --program -", OF_LOADS, LOADS_SHOWN),
+    writes("show --program longest.bpf | tail -n 1", "", "4095  ret #0x7fff0000             ; allow\n"),
+    writes("compile logs.json -o shown.bpf --layout linear && ./seccomptool show --program shown.bpf; rm shown.bpf", "",
+           LOGS_SHOWN.replace("filter 4 a\n", "").replace("; x86_64", "").replace("3, 2       ", "3, 2")),
+    # Those that aren't taken, and faults of files, of the reader and the writer.
+    *[rejects("show --program -", given, told + "\n") for given, told in UNFIT],
+    rejects("show --program missing.bpf", "", MISSING, TOOL + "missing.bpf: "),
+    rejects("show --program examples", "", FOLDER, TOOL + "examples: "),
+    rejects("show --program -", Failing(OF_READ), RESET),
+    rejects("show --program read.bpf > /dev/full", "", FULL, OUTPUT),
+    rejects("show --program read.bpf >&-", "", CLOSED, OUTPUT),
 ]

@@ -12,7 +12,7 @@ NAMED = (
     '"":{"mismatch_action":"log","match_action":"allow","filter":[]}}'
 )
 
-COMMANDS = ("compile", "show", "check", "explain", "run", "stats", "record", "diff", "compat")
+COMMANDS = ("compile", "show", "check", "explain", "run", "stats", "record", "diff", "verify", "compat")
 
 NO_NUMBER = (
     "error: an ARG is no number from -9223372036854775808 to 18446744073709551615, "
@@ -57,12 +57,25 @@ CASES = [
     misused("compile -f a -f b logs.json"),
     misused("compile -o"),
     misused("compile \"$(printf 'a\\377')\" < logs.json", "seccomptool: the arguments aren't UTF-8\n"),
+    misused("compile --format elf logs.json", "error: invalid value 'elf' for '--format <FORMAT>'\n"
+            "  [possible values: raw, listing, c]\n.."),
     misused("show -f a logs.json"),
+    misused("show logs.json --program 63-bytes", "error: either POLICY or --program is given, not both\n.."),
+    misused("show - --program -", "error: either POLICY or --program is given, not both\n.."),
+    misused("show --program"),
+    misused("check --deny logs.json"),
+    misused("check --deny-warnings=yes logs.json"),
     misused("explain < empty"),
     misused("explain logs.json read --records 63-bytes", "error: either CALL or --records is given, not both\n.."),
     misused("explain -",
             "error: policy and records can't both be read from standard input: give CALL or --records\n.."),
     misused("explain - --records -"),
+    misused("verify logs.json"),
+    misused("verify - -", "error: POLICY and PROGRAM can't both be read from standard input\n.."),
+    misused("verify --most ten logs.json 63-bytes",
+            "error: the value of --most is no number from 0 to 18446744073709551615, "
+            "decimal or hexadecimal behind 0x\n.."),
+    misused("verify --layout tree logs.json 63-bytes"),
     misused("record"),
     misused("record read 1 2 3 4 5 6 7"),
     misused("record read -1", "error: unexpected argument '-1' found\n.."),

@@ -1,7 +1,8 @@
--- The definitions that the contracts cite, and those that the programs' definitions are built of: names and numbers as
--- they are written; what goes wrong; what is told of records, and what of a policy; and what an engine answers.
+-- The definitions that the contracts cite, and those that the programs' definitions are built of: names, programs and numbers
+-- as they are written; what goes wrong; what is told of records, and what of a policy; and what an engine answers.
 pub mod Hexadecimal
 pub mod Names
+pub mod Listing
 pub mod Numbers
 pub mod Errors
 pub mod Records

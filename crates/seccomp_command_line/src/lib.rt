@@ -9,6 +9,7 @@ pub mod architecture;
 pub mod arguments;
 pub mod error;
 pub mod hexadecimal;
+pub mod listing;
 pub mod names;
 pub mod numbers;
 pub mod record_texts;

@@ -20,7 +20,8 @@ use Rattle.seccomp_command_line.specs.Policies.{OfPolicy}
 use Rattle.seccomp_command_line.proofs.ByName.{names_ordered}
 use Rattle.seccomp_command_line.proofs.Found.{there, nowhere, all_values, each_there, complete}
 use Rattle.seccomp_command_line.proofs.Readings.{policy_shows}
-use Rattle.seccompc.specs.Listing.{NamedProgram, named_program, Listed, listing_of}
+use Rattle.seccomp_command_line.specs.Listing.{NamedProgram, listing_of}
+use Rattle.seccompc.specs.Listing.{named_program, Listed}
 use Rattle.seccompc.specs.Policies.{HasSomeProgram, IsFaultless, OfFilter, IsListing}
 
 -- A program with its name.

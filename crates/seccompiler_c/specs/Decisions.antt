@@ -4,9 +4,9 @@ use Rattle.seccompiler.specs.Machine.{IsChecked, Ends}
 use Rattle.seccompiler.specs.Policy.{Filter, IsDecision}
 use Rattle.seccompiler.specs.Reorder.{IsReordered, IsSameCall}
 use Rattle.seccompiler.specs.declared.bpf.sock_filter.{sock_filter}
-use Rattle.seccompiler_c.specs.Arguments.{IsNoArchitecture, OfArchitecture}
+use Rattle.seccompiler_c.specs.Arguments.{IsArchitecture, IsNoArchitecture, OfArchitecture}
 use Rattle.seccompiler_c.specs.Codes.{code_of, code_number}
-use Rattle.seccompiler_c.specs.Messages.{HoldsMessage, TellsFault}
+use Rattle.seccompiler_c.specs.Messages.{HoldsMessage, TellsPolicyFault}
 use Rattle.seccompiler_c.specs.Policies.{NamesPolicy, IsPolicyFault}
 use Rattle.seccompiler_c.specs.declared.fault.Fault.{Fault}
 use Rattle.seccompiler_c.specs.declared.fault.Fault.TheVariants.{OutOfMemory, UnknownArchitecture}
@@ -41,12 +41,12 @@ IsUndecided text architecture name UnknownArchitecture = IsNoArchitecture archit
 IsUndecided text architecture name f = OfArchitecture architecture (λ target. IsPolicyFault target text name f)
 
 -- What seccompiler_decide answers, and what the message then holds: the word, and an empty sentence; or the code of why
--- there is none, and a sentence that tells it.
+-- there is none, and a sentence that tells it, by its place on that architecture or without one.
 pub data AnswersDecide (text : List ℕ) (architecture : ℕ) (name call : List ℕ) (answer : ℤ)
     (message_old message_new : List ℕ) : Type 0 where
   decided : OfArchitecture architecture (λ target. NamesPolicy target text name (Decides call answer))
       → HoldsMessage [] message_old message_new
       → AnswersDecide text architecture name call answer message_old message_new
   undecided : (fault : Fault) → IsUndecided text architecture name fault → answer ≡ code_of fault
-      → TellsFault fault message_old message_new
+      → TellsPolicyFault (IsArchitecture architecture) text fault message_old message_new
       → AnswersDecide text architecture name call answer message_old message_new

@@ -1,7 +1,12 @@
 -- The sentences that tell refusals, and what is written of them into a caller's buffer.
-use Rattle.std.specs.Prelude.{◌≡◌, ℕ, ◌+◌, ℤ, pos, ◌<◌, ◌⊎◌, List, ◌++◌, ◌∷◌, take, drop, length, Option, Some, codes, decimal}
+use Rattle.std.specs.Prelude.{◌≡◌, ℕ, ◌+◌, ℤ, pos, ◌<◌, ◌⊎◌, List, ◌++◌, ◌∷◌, take, drop, length, Option, Some, None, codes, decimal}
 use Rattle.std.specs.Str.{IsUtf8, IsCharBoundary}
+use Rattle.serde_json.specs.Data.{Data}
+use Rattle.seccompiler.specs.JsonAnswers.{IsReadAs}
 use Rattle.seccompiler.specs.Texts.{json_text, backend_text, IsJsonText}
+use Rattle.seccompiler.specs.declared.backend.TargetArch.{TargetArch}
+use Rattle.seccomp_check.specs.Checks.{TellsFaultOf, frontend_cause}
+use Rattle.seccomp_check.specs.declared.fault.Cause.{Cause}
 use Rattle.seccompiler_c.specs.Codes.{fault_code, code_text, IsSentence}
 use Rattle.seccompiler_c.specs.declared.fault.Fault.{Fault}
 use Rattle.seccompiler_c.specs.declared.fault.Fault.TheVariants.{OutOfMemory, UnknownArchitecture, UnknownLayout, Text, NoFilter, NoIndex, Filter, NoRoom}
@@ -45,6 +50,31 @@ pub record TellsFault (fault : Fault) (old new : List ℕ) : Type 0 where
   pub said : List ℕ
   pub utf8 : IsUtf8 said
   pub told : IsTold fault said
+  pub holds : HoldsMessage said old new
+
+-- The kind of a fault on an architecture, where it has a place in the policy.
+abbrev pub fault_cause : TargetArch → Fault → Option Cause
+fault_cause target (Text e) = frontend_cause target e
+fault_cause target fault = None
+
+-- The sentence tells the fault by its place: the fault is of a kind that has one, and the sentence is the text of a fault
+-- of this kind that the policy's value has, with the path that leads to it in front.
+pub record IsPlaced (target : TargetArch) (text : List ℕ) (fault : Fault) (said : List ℕ) : Type 0 where
+  pub cause : Cause
+  pub kind : fault_cause target fault ≡ Some cause
+  pub placed : (d : Data) → IsReadAs text d → TellsFaultOf cause d said
+
+-- The sentence tells the fault of a policy's text: by its place, on an architecture of which P holds; or else as any fault
+-- is told.
+pub data IsToldOf (P : TargetArch → Type 0) (text : List ℕ) (fault : Fault) (said : List ℕ) : Type 0 where
+  by_place : (target : TargetArch) → P target → IsPlaced target text fault said → IsToldOf P text fault said
+  without_place : IsTold fault said → IsToldOf P text fault said
+
+-- The buffer holds a sentence that tells the fault so.
+pub record TellsPolicyFault (P : TargetArch → Type 0) (text : List ℕ) (fault : Fault) (old new : List ℕ) : Type 0 where
+  pub said : List ℕ
+  pub utf8 : IsUtf8 said
+  pub told : IsToldOf P text fault said
   pub holds : HoldsMessage said old new
 
 -- What seccompiler_strerror answers, and what the buffer then holds: the sentence of the number, and its length.

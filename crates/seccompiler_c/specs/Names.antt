@@ -12,7 +12,7 @@ use Rattle.seccompiler.specs.declared.backend.TargetArch.{TargetArch}
 use Rattle.seccompiler.specs.declared.json.error.JsonFrontendError.{JsonFrontendError}
 use Rattle.seccompiler.specs.declared.json.error.JsonFrontendError.TheVariants as frontend
 use Rattle.seccompiler_c.specs.Codes.{code_of}
-use Rattle.seccompiler_c.specs.Messages.{HoldsMessage, TellsFault}
+use Rattle.seccompiler_c.specs.Messages.{HoldsMessage, TellsPolicyFault}
 use Rattle.seccompiler_c.specs.declared.fault.Fault.{Fault}
 use Rattle.seccompiler_c.specs.declared.fault.Fault.TheVariants.{OutOfMemory, Text, NoIndex}
 
@@ -42,12 +42,13 @@ IsUnnamed text index NoIndex = OfNames text (λ names. length names ≤ index)
 IsUnnamed text index f = ⊥
 
 -- What seccompiler_filter_names answers, and what the buffer of the name and the message then hold: the name, its length,
--- and an empty sentence; or the code of why there is none, and a sentence that tells it, and the buffer is as it was.
+-- and an empty sentence; or the code of why there is none, and a sentence that tells it, by its place or without one, and the
+-- buffer is as it was. The kinds of faults that come here are the same on all architectures.
 pub data AnswersNames (text : List ℕ) (index : ℕ) (name_old name_new : List ℕ) (answer : ℤ)
     (message_old message_new : List ℕ) : Type 0 where
   named : (name : List ℕ) → OfNames text (λ names. slice_get names index ≡ Some name) → answer ≡ pos (length name)
       → HoldsMessage name name_old name_new → HoldsMessage [] message_old message_new
       → AnswersNames text index name_old name_new answer message_old message_new
   unnamed : (fault : Fault) → IsUnnamed text index fault → answer ≡ code_of fault → name_new ≡ name_old
-      → TellsFault fault message_old message_new
+      → TellsPolicyFault (λ target. ⊤) text fault message_old message_new
       → AnswersNames text index name_old name_new answer message_old message_new

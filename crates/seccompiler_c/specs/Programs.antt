@@ -7,9 +7,9 @@ use Rattle.seccompiler.specs.declared.backend.BackendError.TheVariants.{FilterTo
 use Rattle.seccompiler.specs.declared.backend.TargetArch.{TargetArch}
 use Rattle.seccompiler.specs.declared.bpf.sock_filter.{sock_filter}
 use Rattle.seccompiler.specs.declared.layout.Layout.{Layout}
-use Rattle.seccompiler_c.specs.Arguments.{IsNoArchitecture, OfArchitecture, IsNoLayout, OfLayout}
+use Rattle.seccompiler_c.specs.Arguments.{IsArchitecture, IsNoArchitecture, OfArchitecture, IsNoLayout, OfLayout}
 use Rattle.seccompiler_c.specs.Codes.{code_of}
-use Rattle.seccompiler_c.specs.Messages.{HoldsMessage, TellsFault}
+use Rattle.seccompiler_c.specs.Messages.{HoldsMessage, TellsPolicyFault}
 use Rattle.seccompiler_c.specs.Policies.{NamesPolicy, NamesNone, TellsTextFault}
 use Rattle.seccompiler_c.specs.declared.fault.Fault.{Fault}
 use Rattle.seccompiler_c.specs.declared.fault.Fault.TheVariants.{OutOfMemory, UnknownArchitecture, UnknownLayout, Text, NoFilter, Filter as TooLarge, NoRoom}
@@ -65,9 +65,11 @@ pub record Holds (old new : List sock_filter) (answer : ℤ) (program : List soc
   pub told : answer ≡ pos (length program)
 
 -- What seccompiler_compile answers, what the array then holds, and what the message: the program, and an empty sentence;
--- or what the array held before, where the request is refused; the answer is the refusal's code, and the sentence tells it.
+-- or what the array held before, where the request is refused; the answer is the refusal's code, and the sentence tells it,
+-- by its place on the architecture that was asked for or without one.
 pub data AnswersCompile (r : Request) (old new : List sock_filter) (answer : ℤ) (message_old message_new : List ℕ) : Type 0 where
   compiled : OfProgram r (Holds old new answer) → HoldsMessage [] message_old message_new
       → AnswersCompile r old new answer message_old message_new
-  refused : (fault : Fault) → IsRefusal r fault → answer ≡ code_of fault → new ≡ old → TellsFault fault message_old message_new
+  refused : (fault : Fault) → IsRefusal r fault → answer ≡ code_of fault → new ≡ old
+      → TellsPolicyFault (IsArchitecture r.architecture) r.text fault message_old message_new
       → AnswersCompile r old new answer message_old message_new

@@ -1,9 +1,14 @@
 // Texts, into a caller's buffer.
 
-ghost use Rattle.std.specs.Prelude.{◌≡◌, [], pos, length, IfOk, string_bytes};
-ghost use Rattle.seccompiler_c.specs.Messages.{HoldsMessage, IsFaultText, TellsFault};
+ghost use Rattle.std.specs.Prelude.{◌≡◌, [], pos, length, IfOk, IfSome, string_bytes};
+ghost use Rattle.seccompiler.specs.declared.backend.TargetArch.{TargetArch};
+ghost use Rattle.seccompiler_c.specs.Arguments.{IsArchitecture};
+ghost use Rattle.seccompiler_c.specs.Messages.{HoldsMessage, IsFaultText, TellsFault, fault_cause, IsPlaced, TellsPolicyFault};
 
+use crate::arguments::architecture_of;
 use crate::fault::Fault;
+use seccomp_check::{Cause, cause_of_frontend, place};
+use seccompiler::TargetArch;
 use std::alloc::Global;
 use std::fmt;
 use std::fmt::Display;
@@ -39,12 +44,73 @@ fn text_of(alloc: Global, fault: &Fault) -> Result<String, fmt::Error>
     Ok(f.into_inner())
 }
 
-// Writes the text of a fault, or what its code means where there is no memory for the text.
+// Writes the text of a fault, or what its code means where there is no memory for the text. Where there is
+// no room for it, no memory is asked for.
 pub(crate) fn tell(alloc: Global, fault: &Fault, message: &mut [u8])
     ensures { TellsFault fault.now message.old message.new }
 {
+    if message.is_empty() {
+        return write_message(fault.code().text(), message);
+    }
     match text_of(alloc, fault) {
         Ok(text) => write_message(text.as_str(), message),
         Err(_) => write_message(fault.code().text(), message),
+    }
+}
+
+// The kind of a fault, where it has a place in the policy.
+fn cause_of(target: TargetArch, fault: &Fault) -> Option<Cause>
+    ensures { result ≡ fault_cause target fault.now }
+{
+    match fault {
+        Fault::Text(refusal) => cause_of_frontend(target, refusal),
+        _ => None,
+    }
+}
+
+// The text of a policy's fault with the path of its place, where it has one and there is memory for it.
+fn placed(alloc: Global, policy: &[u8], target: TargetArch, fault: &Fault) -> Option<String>
+    ensures { IfSome result (λ said. IsPlaced target policy.now fault.now (string_bytes said)) }
+{
+    let cause = cause_of(target, fault)?;
+    match place(alloc, cause, policy) {
+        Ok(found) => found,
+        Err(_) => None,
+    }
+}
+
+// Writes the text of a policy's fault on an architecture: with the path of its place where it has one, and
+// else as `tell` does.
+pub(crate) fn tell_place(
+    alloc: Global,
+    policy: &[u8],
+    target: TargetArch,
+    fault: &Fault,
+    message: &mut [u8],
+)
+    ensures { TellsPolicyFault (λ t. t ≡ target) policy.now fault.now message.old message.new }
+{
+    if message.is_empty() {
+        return tell(alloc, fault, message);
+    }
+    match placed(alloc, policy, target, fault) {
+        Some(said) => write_message(said.as_str(), message),
+        None => tell(alloc, fault, message),
+    }
+}
+
+// The same on the architecture of a word.
+pub(crate) fn tell_policy(
+    alloc: Global,
+    policy: &[u8],
+    architecture: u32,
+    fault: &Fault,
+    message: &mut [u8],
+)
+    ensures { TellsPolicyFault (IsArchitecture architecture) policy.now fault.now message.old message.new }
+{
+    match architecture_of(architecture) {
+        Some(target) => tell_place(alloc, policy, target, fault, message),
+        None => tell(alloc, fault, message),
     }
 }

@@ -14,7 +14,7 @@ use Rattle.seccompiler.specs.declared.backend.TargetArch.{TargetArch}
 use Rattle.seccompiler.specs.declared.bpf.sock_filter.{sock_filter}
 use Rattle.seccompiler.specs.declared.layout.Layout.TheVariants.{Linear}
 use Rattle.seccomp_command_line.proofs.ByName.{each_found, found_name, found_there, holds_below}
-use Rattle.seccomptool.specs.Raw.{HasProgram}
+use Rattle.seccomptool.specs.Compile.{HasProgram}
 use Rattle.seccomptool.specs.StepsParts.{IsFirst}
 
 -- The program that is made of a value is its program in the layout of chains.

@@ -1,3 +1,2 @@
 -- Lemmas for the functions of `lint`.
-pub mod Values
 pub mod Judgements

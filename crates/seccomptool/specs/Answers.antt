@@ -26,7 +26,7 @@ pub record AsksForHelp (words : List Text) : Type 0 where
   pub choices : Choices
   pub kind : ErrorKind
   pub is_shown : IsShown kind
-  pub asked : IsAmong kind (fault_of (program_app choices.archs choices.layouts) words)
+  pub asked : IsAmong kind (fault_of (program_app choices.archs choices.layouts choices.formats) words)
 
 -- The words' command is carried out, and finds no difference where it compares; or they ask for help or the version.
 abbrev pub IsAnswered : List Text → Type 0

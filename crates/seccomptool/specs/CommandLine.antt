@@ -33,6 +33,15 @@ layout_rule layouts = record (new_rule (codes "layout")) {
   defaults = codes "tree" ∷ [];
 }
 
+-- `--format FORMAT`: raw where it isn't given.
+abbrev pub format_rule : NameList → Rule
+format_rule formats = record (new_rule (codes "format")) {
+  value_names = 1;
+  long = Some (codes "format");
+  parser = Some (Names formats);
+  defaults = codes "raw" ∷ [];
+}
+
 -- `-o FILE`, `--output FILE`.
 abbrev pub output_rule : Rule
 output_rule = record (new_rule (codes "output")) { value_names = 1; short = Some 111; long = Some (codes "output") }
@@ -45,6 +54,14 @@ records_rule = record (new_rule (codes "records")) { value_names = 1; long = Som
 abbrev pub at_most_rule : Rule
 at_most_rule = record (new_rule (codes "at-most")) { long = Some (codes "at-most"); action = Some SetTrue }
 
+-- `--all`.
+abbrev pub all_rule : Rule
+all_rule = record (new_rule (codes "all")) { long = Some (codes "all"); action = Some SetTrue }
+
+-- `--deny-warnings`.
+abbrev pub deny_warnings_rule : Rule
+deny_warnings_rule = record (new_rule (codes "deny-warnings")) { long = Some (codes "deny-warnings"); action = Some SetTrue }
+
 -- `--most N`: a million where it isn't given.
 abbrev pub most_rule : Rule
 most_rule = record (new_rule (codes "most")) { value_names = 1; long = Some (codes "most"); defaults = codes "1000000" ∷ [] }
@@ -56,6 +73,13 @@ policy_rule = record (new_rule (codes "policy")) { value_names = 1; defaults = c
 -- POLICY, which has to be given.
 abbrev pub given_policy_rule : Rule
 given_policy_rule = record (new_rule (codes "policy")) { value_names = 1; required = true }
+
+-- POLICY or `--program FILE`, of which at most one is given.
+abbrev pub shown_policy_rule : Rule
+shown_policy_rule = record (new_rule (codes "policy")) { value_names = 1 }
+
+abbrev pub shown_program_rule : Rule
+shown_program_rule = record (new_rule (codes "program")) { value_names = 1; long = Some (codes "program") }
 
 -- OLD and NEW, which have to be given.
 abbrev pub old_rule : Rule
@@ -80,12 +104,17 @@ given_call_rule = record (new_rule (codes "call")) { value_names = 1; required =
 abbrev pub arguments_rule : Rule
 arguments_rule = record (new_rule (codes "arguments")) { value_names = 1; range = Some (record { start_inclusive = 0; end_inclusive = 6 }) }
 
-abbrev pub compile_app : NameList → NameList → App
-compile_app archs layouts =
-    with_rule (with_rule (with_rule (with_rule (with_rule (new_app (codes "compile")) (arch_rule archs)) filter_rule) (layout_rule layouts)) output_rule) policy_rule
+abbrev pub compile_app : NameList → NameList → NameList → App
+compile_app archs layouts formats =
+    with_rule (with_rule (with_rule (with_rule (with_rule (with_rule (new_app (codes "compile"))
+    (arch_rule archs)) filter_rule) (layout_rule layouts)) (format_rule formats)) output_rule) policy_rule
 
 abbrev pub show_app : NameList → NameList → App
-show_app archs layouts = with_rule (with_rule (with_rule (new_app (codes "show")) (arch_rule archs)) (layout_rule layouts)) policy_rule
+show_app archs layouts =
+    with_rule (with_rule (with_rule (with_rule (new_app (codes "show")) (arch_rule archs)) (layout_rule layouts)) shown_program_rule) shown_policy_rule
+
+abbrev pub check_app : NameList → App
+check_app archs = with_rule (with_rule (with_rule (new_app (codes "check")) (arch_rule archs)) deny_warnings_rule) policy_rule
 
 -- A subcommand of this name with an architecture and a policy.
 abbrev pub policy_app : Text → NameList → App
@@ -106,6 +135,11 @@ abbrev pub diff_app : NameList → App
 diff_app archs =
     with_rule (with_rule (with_rule (with_rule (with_rule (with_rule (new_app (codes "diff")) (arch_rule archs)) filter_rule) at_most_rule) most_rule) old_rule) new_policy_rule
 
+abbrev pub verify_app : NameList → App
+verify_app archs =
+    with_rule (with_rule (with_rule (with_rule (with_rule (with_rule (with_rule (new_app (codes "verify"))
+    (arch_rule archs)) filter_rule) at_most_rule) all_rule) most_rule) given_policy_rule) program_rule
+
 -- The program itself, which has to be given a subcommand. Its own name is none of the words.
 abbrev pub top_app : App
 top_app = on_top (λ s. record s {
@@ -116,20 +150,21 @@ top_app = on_top (λ s. record s {
 }) (new_app (codes "seccomptool"))
 
 -- The program with the commands that are of what a policy decides.
-abbrev pub deciding_app : NameList → NameList → App
-deciding_app archs layouts =
+abbrev pub deciding_app : NameList → NameList → NameList → App
+deciding_app archs layouts formats =
     with_subcommand (with_subcommand (with_subcommand (with_subcommand (with_subcommand top_app
-    (compile_app archs layouts).top)
+    (compile_app archs layouts formats).top)
     (show_app archs layouts).top)
-    (policy_app (codes "check") archs).top)
+    (check_app archs).top)
     (explain_app archs).top)
     (run_app archs).top
 
 -- The program with all commands.
-abbrev pub program_app : NameList → NameList → App
-program_app archs layouts =
-    with_subcommand (with_subcommand (with_subcommand (with_subcommand (deciding_app archs layouts)
+abbrev pub program_app : NameList → NameList → NameList → App
+program_app archs layouts formats =
+    with_subcommand (with_subcommand (with_subcommand (with_subcommand (with_subcommand (deciding_app archs layouts formats)
     (policy_app (codes "stats") archs).top)
     (record_app archs).top)
     (diff_app archs).top)
+    (verify_app archs).top)
     (policy_app (codes "compat") archs).top

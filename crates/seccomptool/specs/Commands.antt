@@ -1,24 +1,30 @@
 -- What each command answers and writes.
 use Rattle.std.specs.Prelude.{◌≡◌, ℕ, Bool, true, false, List, Option, Some, None, Result, Ok, Err, IfOk, IsErrAnd, ⊤}
 use Rattle.seccompiler.specs.declared.backend.TargetArch.{TargetArch}
+use Rattle.seccompiler.specs.declared.layout.Layout.{Layout}
 use Rattle.seccompiler.specs.Architecture.{arch_text}
+use Rattle.seccomptool.specs.declared.compile.format.ProgramFormat.TheVariants as program_format
 use Rattle.seccomptool.specs.declared.error.ToolError.{ToolError}
 use Rattle.seccomptool.specs.declared.explain.format.LineFormat.TheVariants.{Path}
 use Rattle.seccomptool.specs.declared.findings.Verdict.{Verdict}
 use Rattle.seccomptool.specs.declared.findings.Verdict.TheVariants.{Same, Different, Undecided}
 use Rattle.seccomptool.specs.declared.words.Command.{Command}
-use Rattle.seccomptool.specs.declared.words.Command.TheVariants.{Compile, Show, Check, Explain, Run, Stats, Record, Diff, Compat}
+use Rattle.seccomptool.specs.declared.words.Command.TheVariants.{Compile, Show, Check, Explain, Run, Stats, Record, Diff, Verify, Compat}
 use Rattle.seccomptool.specs.declared.words.Records.{Records}
 use Rattle.seccomptool.specs.declared.words.Records.TheVariants as records
+use Rattle.seccomptool.specs.declared.words.Shown.{Shown}
+use Rattle.seccomptool.specs.declared.words.Shown.TheVariants as shown
+use Rattle.seccomptool.specs.Check.{AnswersCheck}
 use Rattle.seccomptool.specs.Chosen.{AnswersChosen}
+use Rattle.seccomptool.specs.Compile.{AnswersCompile}
 use Rattle.seccomptool.specs.Diff.{AnswersDiff}
 use Rattle.seccomptool.specs.Explain.{AnswersExplain}
-use Rattle.seccomptool.specs.Lint.{AnswersLint}
-use Rattle.seccomptool.specs.Raw.{AnswersRaw}
 use Rattle.seccomptool.specs.Record.{AnswersRecord, IsRecordOf, IsUncalled}
 use Rattle.seccomptool.specs.Run.{AnswersRun}
 use Rattle.seccomptool.specs.Show.{AnswersShow}
+use Rattle.seccomptool.specs.ShowProgram.{AnswersShowProgram}
 use Rattle.seccomptool.specs.Steps.{AnswersSteps}
+use Rattle.seccomptool.specs.Verify.{AnswersVerify}
 use Rattle.seccomptool.specs.Widened.{AnswersWidened}
 use Rattle.seccomptool.specs.Words.{text_of}
 
@@ -44,6 +50,11 @@ AnswersRunOn (records.Call call arguments) arch program known answer old new =
     AnswersCall arch call.now arguments (λ bytes. AnswersRun program (Some bytes) answer old new) answer
 AnswersRunOn (records.In path) arch program known answer old new = AnswersRun program known answer old new
 
+-- The answer of `show` for what it is to print: the programs of a policy, or a program.
+abbrev pub AnswersShown : Shown → TargetArch → Layout → (given : Option (List ℕ)) → Result ⊤ ToolError → (old new : Option (List ℕ)) → Type 0
+AnswersShown (shown.Policy path) arch layout policy answer old new = AnswersShow (arch_text arch) policy layout answer old new
+AnswersShown (shown.Program path) arch layout program answer old new = AnswersShowProgram program answer old new
+
 -- An answer without its verdict.
 abbrev pub plain_of : Result Verdict ToolError → Result ⊤ ToolError
 plain_of (Ok verdict) = Ok tt
@@ -53,12 +64,14 @@ plain_of (Err e) = Err e
 abbrev pub AnswersPlain : (Result ⊤ ToolError → Type 0) → Result Verdict ToolError → Type 0
 AnswersPlain P answer = P (plain_of answer) × IfOk answer (λ verdict. verdict ≡ Same)
 
--- The answer of a command, where its policy or its program has these bytes, and its records or its new policy those.
+-- The answer of a command, where its policy, or the program that it runs or shows, has these bytes, and its records, its new
+-- policy or the program that it verifies those.
 abbrev pub AnswersCommand : Command → (policy records : Option (List ℕ)) → Result Verdict ToolError → (old new : Option (List ℕ)) → Type 0
-AnswersCommand (Compile arch filter layout output path) policy records answer old new =
-    AnswersPlain (λ plain. AnswersChosen policy (text_of filter) (λ text name. AnswersRaw (arch_text arch) (Some text) name layout plain old new) plain) answer
-AnswersCommand (Show arch layout path) policy records answer old new = AnswersPlain (λ plain. AnswersShow (arch_text arch) policy layout plain old new) answer
-AnswersCommand (Check arch path) policy records answer old new = AnswersPlain (λ plain. AnswersLint (arch_text arch) policy plain) answer
+AnswersCommand (Compile arch filter layout format output path) policy records answer old new =
+    AnswersPlain (λ plain. AnswersChosen policy (text_of filter)
+    (λ text name. AnswersCompile format (arch_text arch) (Some text) name layout plain old new) plain) answer
+AnswersCommand (Show arch layout shown) policy records answer old new = AnswersPlain (λ plain. AnswersShown shown arch layout policy plain old new) answer
+AnswersCommand (Check arch denied path) policy records answer old new = AnswersCheck (arch_text arch) denied policy answer old new
 AnswersCommand (Explain arch filter asked path) policy records answer old new =
     AnswersPlain (λ plain. AnswersExplainedOn asked arch (text_of filter) policy records plain old new) answer
 AnswersCommand (Run arch asked path) policy records answer old new = AnswersPlain (λ plain. AnswersRunOn asked arch policy records plain old new) answer
@@ -67,46 +80,53 @@ AnswersCommand (Record arch call arguments) policy records answer old new =
     AnswersPlain (λ plain. AnswersRecord (arch_text arch) call.now arguments plain old new) answer
 AnswersCommand (Diff arch filter relation most first second) policy records answer old new =
     AnswersDiff (arch_text arch) (text_of filter) relation policy records answer old new
+AnswersCommand (Verify arch filter relation scope most path program) policy records answer old new =
+    AnswersVerify (arch_text arch) (text_of filter) relation scope policy records answer old new
 AnswersCommand (Compat arch path) policy records answer old new = AnswersPlain (λ plain. AnswersWidened (arch_text arch) policy plain old new) answer
 
 -- The path of the policy or program that a command reads, that of the old policy where it compares two.
 abbrev pub policy_of : Command → Option (List ℕ)
-policy_of (Compile arch filter layout output path) = Some path.now
-policy_of (Show arch layout path) = Some path.now
-policy_of (Check arch path) = Some path.now
+policy_of (Compile arch filter layout format output path) = Some path.now
+policy_of (Show arch layout (shown.Policy path)) = Some path.now
+policy_of (Show arch layout (shown.Program path)) = Some path.now
+policy_of (Check arch denied path) = Some path.now
 policy_of (Explain arch filter asked path) = Some path.now
 policy_of (Run arch asked path) = Some path.now
 policy_of (Stats arch path) = Some path.now
 policy_of (Record arch call arguments) = None
 policy_of (Diff arch filter relation most first second) = Some first.now
+policy_of (Verify arch filter relation scope most path program) = Some path.now
 policy_of (Compat arch path) = Some path.now
 
--- The path of the records that a command reads, or of the new policy.
+-- The path of the records that a command reads, of the new policy, or of the program that is verified.
 abbrev pub records_of : Command → Option (List ℕ)
 records_of (Explain arch filter (records.In path) policy) = Some path.now
 records_of (Run arch (records.In path) program) = Some path.now
 records_of (Diff arch filter relation most first second) = Some second.now
+records_of (Verify arch filter relation scope most path program) = Some program.now
 records_of command = None
 
 -- The path of the file that a command writes.
 abbrev pub output_of : Command → Option (List ℕ)
-output_of (Compile arch filter layout output path) = text_of output
+output_of (Compile arch filter layout format output path) = text_of output
 output_of command = None
 
 -- What the command writes to standard output is no text: a program, or a record.
 abbrev pub writes_bytes : Command → Bool
-writes_bytes (Compile arch filter layout None path) = true
+writes_bytes (Compile arch filter layout program_format.Raw None path) = true
 writes_bytes (Record arch call arguments) = true
 writes_bytes command = false
 
--- A command compares two policies.
+-- A command compares: two policies, or a filter and a program.
 abbrev pub compares : Command → Bool
 compares (Diff arch filter relation most first second) = true
+compares (Verify arch filter relation scope most path program) = true
 compares command = false
 
 -- The exit status of a command that fails.
 abbrev pub trouble : Command → ℕ
 trouble (Diff arch filter relation most first second) = 2
+trouble (Verify arch filter relation scope most path program) = 2
 trouble command = 1
 
 -- The exit status of a command that is carried out, by what it finds.

@@ -8,21 +8,19 @@ use Rattle.std.specs.Ordering.{nat_cmp}
 use Rattle.seccompiler.specs.declared.backend.BackendError.{BackendError}
 use Rattle.seccompiler.specs.declared.backend.TargetArch.{TargetArch}
 use Rattle.seccompiler.specs.declared.compare.Relation.{Relation}
-use Rattle.seccompiler.specs.declared.compare.Relation.TheVariants.{Alike, AtMostAsPermissive}
 use Rattle.seccompiler.specs.declared.error.Error.{Error}
 use Rattle.seccompiler.specs.declared.error.Error.TheVariants as library
 use Rattle.seccompiler.specs.CompareFilters.{IsCompilableInSome, IsComparisonRefusal}
 use Rattle.seccompiler.specs.JsonAnswers.{OfValue, ArePoliciesOf}
 use Rattle.seccompiler.specs.Policy.{Filter, IsDecision}
 use Rattle.seccompiler.specs.Reads.{Reads}
-use Rattle.seccomp_command_line.specs.Names.{readable}
-use Rattle.seccomptool.specs.Findings.{AreFindings, HoldsThroughout, verdict_of, worse, lines_of}
+use Rattle.seccomptool.specs.Findings.{AreFindings, HoldsThroughout, heading, verdict_of, verdict_text, worse, lines_of}
 use Rattle.seccomptool.specs.Policies.{IsNameOf, IsTextFault}
 use Rattle.seccomptool.specs.declared.error.ToolError.{ToolError}
 use Rattle.seccomptool.specs.declared.error.ToolError.TheVariants.{Library, NewPolicy, NoFilter, Write, OutOfMemory}
 use Rattle.seccomptool.specs.declared.findings.Finding.{Finding}
 use Rattle.seccomptool.specs.declared.findings.Verdict.{Verdict}
-use Rattle.seccomptool.specs.declared.findings.Verdict.TheVariants.{Same, Different, Undecided}
+use Rattle.seccomptool.specs.declared.findings.Verdict.TheVariants.{Same, Different}
 
 -- The words are what the new and the old filter decide for the record.
 abbrev pub AreDecisions : Filter → Filter → List ℕ → ℕ → ℕ → Type 0
@@ -50,16 +48,6 @@ IsToldOf target relation old new told = ⊥
 abbrev pub verdict_told : Told → Verdict
 verdict_told (compared findings) = verdict_of findings
 verdict_told told = Different
-
-abbrev pub verdict_text : Relation → Verdict → List ℕ
-verdict_text Alike Same = codes "same\n"
-verdict_text Alike Different = codes "different\n"
-verdict_text AtMostAsPermissive Same = codes "nowhere more permissive\n"
-verdict_text AtMostAsPermissive Different = codes "more permissive\n"
-verdict_text relation Undecided = codes "undecided\n"
-
-abbrev pub heading : List ℕ → List ℕ
-heading name = codes "filter " ++ readable name ++ codes ": "
 
 abbrev pub told_text : TargetArch → Relation → Told → List ℕ
 told_text target relation only_old = codes "only in OLD\n"

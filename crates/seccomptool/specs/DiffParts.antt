@@ -10,7 +10,7 @@ use Rattle.seccompiler.specs.declared.error.Error.TheVariants as library
 use Rattle.seccompiler.specs.CompareFilters.{IsComparisonRefusal}
 use Rattle.seccompiler.specs.Policy.{Filter}
 use Rattle.seccomptool.specs.Diff.{Told, only_new, IsToldOf, verdict_told, NameReport, report_text, verdict_all, Policies, AreReportsOn, AreReports, AreRefused}
-use Rattle.seccomptool.specs.declared.diff.report.Report.{Report}
+use Rattle.seccomptool.specs.declared.findings.Report.{Report}
 use Rattle.seccomptool.specs.declared.error.ToolError.{ToolError}
 use Rattle.seccomptool.specs.declared.error.ToolError.TheVariants as tool
 use Rattle.seccomptool.specs.declared.findings.Verdict.{Verdict}

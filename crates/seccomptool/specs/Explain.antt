@@ -15,7 +15,7 @@ use Rattle.seccomptool.specs.declared.explain.format.LineFormat.{LineFormat}
 use Rattle.seccomptool.specs.Errors.{IsReadFault}
 use Rattle.seccomptool.specs.ExplainLines.{AreLines}
 use Rattle.seccomptool.specs.Policies.{HasCompilable, OfPolicy, IsPolicyFault}
-use Rattle.seccomptool.specs.Raw.{UnderName}
+use Rattle.seccomptool.specs.Compile.{UnderName}
 
 -- The text is the lines, in this format, of the filter of this name that the value is, and of its policy, on records.
 pub record AreLinesOf (format : LineFormat) (target : TargetArch) (name : List ℕ) (value : Data) (records : List (List ℕ))

@@ -5,10 +5,12 @@ use Rattle.std.specs.Ordering.{int_eq}
 use Rattle.std.specs.List.{concat}
 use Rattle.seccompiler.specs.declared.backend.TargetArch.{TargetArch}
 use Rattle.seccompiler.specs.declared.compare.Relation.{Relation}
+use Rattle.seccompiler.specs.declared.compare.Relation.TheVariants.{Alike, AtMostAsPermissive}
 use Rattle.seccompiler.specs.Architecture.{audit_word, table_of}
 use Rattle.seccompiler.specs.Compare.{Related, rank}
 use Rattle.seccompiler.specs.Machine.{IsRecord, word_at, argument_at}
 use Rattle.seccompiler.specs.SyscallTable.{Pair}
+use Rattle.seccomp_command_line.specs.Names.{readable}
 use Rattle.seccomptool.specs.declared.findings.Part.{Part}
 use Rattle.seccomptool.specs.declared.findings.Part.TheVariants.{Named, Unnamed, Elsewhere}
 use Rattle.seccomptool.specs.declared.findings.Answer.{Answer}
@@ -166,3 +168,15 @@ line_of target f = answer_line target f.part f.answer
 -- The lines of all that is found.
 abbrev pub lines_of : TargetArch → List Finding → List ℕ
 lines_of target findings = concat (map (line_of target) findings)
+
+-- A verdict in words, behind the name of what it is on.
+abbrev pub verdict_text : Relation → Verdict → List ℕ
+verdict_text Alike verdict.Same = codes "same\n"
+verdict_text Alike verdict.Different = codes "different\n"
+verdict_text AtMostAsPermissive verdict.Same = codes "nowhere more permissive\n"
+verdict_text AtMostAsPermissive verdict.Different = codes "more permissive\n"
+verdict_text relation verdict.Undecided = codes "undecided\n"
+
+-- What stands in front of what is found on a filter.
+abbrev pub heading : List ℕ → List ℕ
+heading name = codes "filter " ++ readable name ++ codes ": "

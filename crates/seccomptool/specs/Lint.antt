@@ -1,48 +1,18 @@
 -- What `lint` answers: the first fault of a policy, with its place where it has one.
-use Rattle.std.specs.Prelude.{◌≡◌, ◌≢◌, ℕ, List, Option, Some, None, Result, Ok, Err, string_bytes, ⊤}
+use Rattle.std.specs.Prelude.{◌≢◌, ℕ, List, Option, Result, Ok, Err, string_bytes, ⊤}
 use Rattle.serde_json.specs.Data.{Data}
-use Rattle.seccompiler.specs.declared.backend.BackendError.TheVariants as backend
 use Rattle.seccompiler.specs.declared.backend.TargetArch.{TargetArch}
-use Rattle.seccompiler.specs.declared.error.Error.{Error}
 use Rattle.seccompiler.specs.declared.error.Error.TheVariants as library
-use Rattle.seccompiler.specs.declared.json.error.JsonFrontendError.TheVariants as frontend
 use Rattle.seccompiler.specs.declared.layout.Layout.TheVariants.{Linear}
 use Rattle.seccompiler.specs.Errors.{IsNoMemoryInside}
-use Rattle.seccompiler.specs.JsonAnswers.{OfValue}
 use Rattle.seccompiler.specs.JsonFilters.{AreAll}
 use Rattle.seccompiler.specs.JsonPrograms.{TellsFirstFault}
 use Rattle.seccompiler.specs.Reads.{Reads}
+use Rattle.seccomp_check.specs.Checks.{IsPlaced}
 use Rattle.seccomptool.specs.declared.error.ToolError.{ToolError}
 use Rattle.seccomptool.specs.declared.error.ToolError.TheVariants.{Library, Fault, OutOfMemory}
-use Rattle.seccomptool.specs.declared.lint.fault.Cause.{Cause}
-use Rattle.seccomptool.specs.declared.lint.fault.Cause.TheVariants as cause
-use Rattle.seccomptool.specs.declared.lint.fault.Fault.{Fault as Place}
-use Rattle.seccomptool.specs.LintFaults.{IsFaultIn}
-use Rattle.seccomptool.specs.LintTexts.{fault_text}
 use Rattle.seccomptool.specs.Policies.{IsNameOf, OfPolicy, IsPolicyFault}
-use Rattle.seccomptool.specs.Raw.{HasSomeProgram}
-
--- The kind of fault that the library's refusal of a policy tells, where it has a place in the policy.
-abbrev pub cause_told : TargetArch → Error → Option Cause
-cause_told target (library.JsonFrontend frontend.NotAnObject) = Some cause.Top
-cause_told target (library.JsonFrontend (frontend.Shape name)) = Some cause.Shape
-cause_told target (library.JsonFrontend (frontend.SyscallName name known)) = Some (cause.Call target)
-cause_told target (library.JsonFrontend (frontend.Backend backend.InvalidArgumentNumber)) = Some cause.Argument
-cause_told target (library.JsonFrontend (frontend.Backend backend.EmptyRule)) = Some cause.Empty
-cause_told target (library.JsonFrontend (frontend.Backend backend.IdenticalActions)) = Some cause.Actions
-cause_told target (library.Backend (backend.FilterTooLarge n)) = Some (cause.Length target)
-cause_told target e = None
-
--- Of the text of a policy: the first fault is of this kind, and this is the text of a fault of its kind that its value
--- has.
-pub record IsPlaced (target : TargetArch) (text told : List ℕ) : Type 0 where
-  pub refusal : Error
-  pub first : TellsFirstFault target text refusal
-  pub cause : Cause
-  pub kind : cause_told target refusal ≡ Some cause
-  pub fault : Place
-  pub there : OfValue text (λ d. IsFaultIn cause d fault)
-  pub is_text : told ≡ fault_text fault
+use Rattle.seccomptool.specs.Compile.{HasSomeProgram}
 
 -- All filters of the value have programs.
 abbrev pub AreAllCompiled : TargetArch → Data → Type 0

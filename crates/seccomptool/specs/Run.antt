@@ -11,7 +11,7 @@ use Rattle.seccomptool.specs.declared.run.fault.ProgramFault.{ProgramFault}
 use Rattle.seccomptool.specs.declared.run.fault.ProgramFault.TheVariants as fault
 use Rattle.seccomptool.specs.Errors.{IsReadFault}
 use Rattle.seccomptool.specs.Findings.{word_text}
-use Rattle.seccomptool.specs.Raw.{program_bytes}
+use Rattle.seccomptool.specs.Compile.{program_bytes}
 use Rattle.seccomptool.specs.RunFaults.{IsUnfitAt}
 
 -- ---- programs

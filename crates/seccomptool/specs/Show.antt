@@ -23,7 +23,7 @@ use Rattle.seccompiler.specs.Places.{ArePlaces}
 use Rattle.seccomptool.specs.declared.error.ToolError.{ToolError}
 use Rattle.seccomptool.specs.declared.error.ToolError.TheVariants.{Library, Write, OutOfMemory}
 use Rattle.seccomptool.specs.Policies.{OfPolicy, IsTextFault}
-use Rattle.seccomptool.specs.Raw.{HasProgram, HasSomeProgram, HasNoProgram}
+use Rattle.seccomptool.specs.Compile.{HasProgram, HasSomeProgram, HasNoProgram}
 use Rattle.seccomptool.specs.ShowLabels.{place_label}
 use Rattle.seccomptool.specs.ShowText.{text_of}
 

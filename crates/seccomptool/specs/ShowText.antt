@@ -56,6 +56,7 @@ returned word =
     if word == 0x80000000 then codes "kill the process" else
     if word == 0x7ffc0000 then codes "log" else
     if word == 0x00030000 then codes "trap" else
+    if word == 0x7fc00000 then codes "notify the supervisor" else
     if word / 2 ^ 16 == 0x0005 then codes "errno " ++ decimal (word % 2 ^ 16) else
     if word / 2 ^ 16 == 0x7ff0 then codes "trace " ++ decimal (word % 2 ^ 16) else []
 

@@ -1,5 +1,5 @@
 -- The words that the program is called with, and the command that they mean.
-use Rattle.std.specs.Prelude.{◌≡◌, ◌⊎◌, ◌+◌, ◌^◌, ◌<◌, ◌≤◌, ℕ, List, [], ◌∷◌, ◌++◌, length, map, Option, Some, None, option_map, unwrap_or, slice_get, slice_index, codes}
+use Rattle.std.specs.Prelude.{◌≡◌, ◌⊎◌, Bool, true, false, ◌+◌, ◌^◌, ◌<◌, ◌≤◌, ℕ, List, [], ◌∷◌, ◌++◌, length, map, Option, Some, None, option_map, unwrap_or, slice_get, slice_index, codes}
 use Rattle.std.specs.Borrow.{Bor}
 use Rattle.clap.specs.Words.{Row, Text, all_of, fault_of, first_of, kind_of, subcommand_of, IsAmong}
 use Rattle.clap.specs.declared.error.Error.{Error}
@@ -12,10 +12,16 @@ use Rattle.seccompiler.specs.declared.layout.Layout.{Layout}
 use Rattle.seccompiler.specs.declared.layout.Layout.TheVariants.{Linear, Tree}
 use Rattle.seccomptool.specs.CommandLine.{NameList, program_app}
 use Rattle.seccomptool.specs.Numbers.{IsNumber}
+use Rattle.seccomptool.specs.declared.compile.format.ProgramFormat.{ProgramFormat}
+use Rattle.seccomptool.specs.declared.compile.format.ProgramFormat.TheVariants.{Raw, Listing, C}
+use Rattle.seccomptool.specs.declared.verify.scope.Scope.{Scope}
+use Rattle.seccomptool.specs.declared.verify.scope.Scope.TheVariants.{Named, All}
 use Rattle.seccomptool.specs.declared.words.Command.{Command}
-use Rattle.seccomptool.specs.declared.words.Command.TheVariants.{Compile, Show, Check, Explain, Run, Stats, Record, Diff, Compat}
+use Rattle.seccomptool.specs.declared.words.Command.TheVariants.{Compile, Show, Check, Explain, Run, Stats, Record, Diff, Verify, Compat}
 use Rattle.seccomptool.specs.declared.words.Records.{Records}
 use Rattle.seccomptool.specs.declared.words.Records.TheVariants as records
+use Rattle.seccomptool.specs.declared.words.Shown.{Shown}
+use Rattle.seccomptool.specs.declared.words.Shown.TheVariants as shown
 
 -- The value of `--arch` is a name of this architecture.
 abbrev pub IsArch : List Row → TargetArch → Type 0
@@ -27,6 +33,12 @@ IsArch rows riscv64 = first_of (codes "arch") rows ≡ Some (codes "riscv64")
 abbrev pub layout_text : Layout → Text
 layout_text Linear = codes "linear"
 layout_text Tree = codes "tree"
+
+-- The word that chooses how a program is written.
+abbrev pub format_text : ProgramFormat → Text
+format_text Raw = codes "raw"
+format_text Listing = codes "listing"
+format_text C = codes "c"
 
 -- The text is this argument of a call: a number, or a negative one behind `-`, from -1 to the least that 64 bits hold, in
 -- two's complement.
@@ -59,20 +71,40 @@ AreRecords rows policy (records.In path) =
     × (policy ≡ codes "-" → path.now ≡ codes "-" → ⊥)
 
 -- The values of `compile`: each field is the value under its name.
-pub record IsCompile (rows : List Row) (arch : TargetArch) (filter : Option Text) (layout : Layout) (output : Option Text) (policy : Text) : Type 0 where
+pub record IsCompile (rows : List Row) (arch : TargetArch) (filter : Option Text) (layout : Layout) (format : ProgramFormat)
+    (output : Option Text) (policy : Text) : Type 0 where
   pub arch_is : IsArch rows arch
   pub filter_is : first_of (codes "filter") rows ≡ filter
   pub layout_is : first_of (codes "layout") rows ≡ Some (layout_text layout)
+  pub format_is : first_of (codes "format") rows ≡ Some (format_text format)
   pub output_is : first_of (codes "output") rows ≡ output
   pub policy_is : first_of (codes "policy") rows ≡ Some policy
 
+-- What `show` prints: a policy, that of standard input where there is no POLICY; or the program of `--program`, beside which
+-- there is no POLICY.
+abbrev pub AreShown : List Row → Shown → Type 0
+AreShown rows (shown.Policy path) =
+    (first_of (codes "program") rows ≡ None) × (path.now ≡ unwrap_or (first_of (codes "policy") rows) (codes "-"))
+AreShown rows (shown.Program path) = (first_of (codes "program") rows ≡ Some path.now) × (first_of (codes "policy") rows ≡ None)
+
 -- The values of `show`.
-pub record IsShow (rows : List Row) (arch : TargetArch) (layout : Layout) (policy : Text) : Type 0 where
+pub record IsShow (rows : List Row) (arch : TargetArch) (layout : Layout) (shown : Shown) : Type 0 where
   pub arch_is : IsArch rows arch
   pub layout_is : first_of (codes "layout") rows ≡ Some (layout_text layout)
+  pub shown_is : AreShown rows shown
+
+-- Warnings are denied exactly where `--deny-warnings` is given.
+abbrev pub IsDenied : List Row → Bool → Type 0
+IsDenied rows true = first_of (codes "deny-warnings") rows ≡ Some (codes "true")
+IsDenied rows false = first_of (codes "deny-warnings") rows ≡ Some (codes "true") → ⊥
+
+-- The values of `check`.
+pub record IsCheck (rows : List Row) (arch : TargetArch) (denied : Bool) (policy : Text) : Type 0 where
+  pub arch_is : IsArch rows arch
+  pub denied_is : IsDenied rows denied
   pub policy_is : first_of (codes "policy") rows ≡ Some policy
 
--- The values of `check`, `stats` and `compat`.
+-- The values of `stats` and `compat`.
 pub record IsOfPolicy (rows : List Row) (arch : TargetArch) (policy : Text) : Type 0 where
   pub arch_is : IsArch rows arch
   pub policy_is : first_of (codes "policy") rows ≡ Some policy
@@ -114,35 +146,57 @@ pub record IsDiff (rows : List Row) (arch : TargetArch) (filter : Option Text) (
   pub new_is : first_of (codes "new") rows ≡ Some new
   pub apart : old ≡ codes "-" → new ≡ codes "-" → ⊥
 
+-- Other architectures count exactly where `--all` is given.
+abbrev pub IsScope : List Row → Scope → Type 0
+IsScope rows All = first_of (codes "all") rows ≡ Some (codes "true")
+IsScope rows Named = first_of (codes "all") rows ≡ Some (codes "true") → ⊥
+
+-- The values of `verify`. Standard input isn't both the policy and the program.
+pub record IsVerify (rows : List Row) (arch : TargetArch) (filter : Option Text) (relation : Relation) (scope : Scope) (most : ℕ)
+    (policy program : Text) : Type 0 where
+  pub arch_is : IsArch rows arch
+  pub filter_is : first_of (codes "filter") rows ≡ filter
+  pub relation_is : IsRelation rows relation
+  pub scope_is : IsScope rows scope
+  pub most_is : IsMost rows most
+  pub policy_is : first_of (codes "policy") rows ≡ Some policy
+  pub program_is : first_of (codes "program") rows ≡ Some program
+  pub apart : policy ≡ codes "-" → program ≡ codes "-" → ⊥
+
 -- The text behind a reference, if there is one.
 abbrev pub text_of : Option (Bor Text) → Option Text
 text_of = option_map (λ t. t.now)
 
 -- The subcommand of this name, with these values, is the command.
 abbrev pub IsCommand : Text → List Row → Command → Type 0
-IsCommand name rows (Compile arch filter layout output policy) = (name ≡ codes "compile") × IsCompile rows arch (text_of filter) layout (text_of output) policy.now
-IsCommand name rows (Show arch layout policy) = (name ≡ codes "show") × IsShow rows arch layout policy.now
-IsCommand name rows (Check arch policy) = (name ≡ codes "check") × IsOfPolicy rows arch policy.now
+IsCommand name rows (Compile arch filter layout format output policy) =
+    (name ≡ codes "compile") × IsCompile rows arch (text_of filter) layout format (text_of output) policy.now
+IsCommand name rows (Show arch layout shown) = (name ≡ codes "show") × IsShow rows arch layout shown
+IsCommand name rows (Check arch denied policy) = (name ≡ codes "check") × IsCheck rows arch denied policy.now
 IsCommand name rows (Explain arch filter records policy) = (name ≡ codes "explain") × IsExplain rows arch (text_of filter) records policy.now
 IsCommand name rows (Run arch records program) = (name ≡ codes "run") × IsRun rows arch records program.now
 IsCommand name rows (Stats arch policy) = (name ≡ codes "stats") × IsOfPolicy rows arch policy.now
 IsCommand name rows (Record arch call arguments) = (name ≡ codes "record") × IsRecord rows arch call.now arguments
 IsCommand name rows (Diff arch filter relation most old new) = (name ≡ codes "diff") × IsDiff rows arch (text_of filter) relation most old.now new.now
+IsCommand name rows (Verify arch filter relation scope most policy program) =
+    (name ≡ codes "verify") × IsVerify rows arch (text_of filter) relation scope most policy.now program.now
 IsCommand name rows (Compat arch policy) = (name ≡ codes "compat") × IsOfPolicy rows arch policy.now
 
--- The names that `--arch` and `--layout` take.
+-- The names that `--arch`, `--layout` and `--format` take.
 pub record Choices : Type 0 where
   pub archs : NameList
   pub layouts : NameList
+  pub formats : NameList
   pub archs_are : map (λ t. t.now) archs.now ≡ codes "x86_64" ∷ codes "aarch64" ∷ codes "riscv64" ∷ codes "amd64" ∷ codes "arm64" ∷ []
   pub layouts_are : map (λ t. t.now) layouts.now ≡ codes "linear" ∷ codes "tree" ∷ []
+  pub formats_are : map (λ t. t.now) formats.now ≡ codes "raw" ∷ codes "listing" ∷ codes "c" ∷ []
 
 -- `clap` finds no fault in the words, and they enter a subcommand whose values are the command.
 pub record Means (choices : Choices) (words : List Text) (command : Command) : Type 0 where
-  pub faultless : fault_of (program_app choices.archs choices.layouts) words ≡ []
+  pub faultless : fault_of (program_app choices.archs choices.layouts choices.formats) words ≡ []
   pub name : Text
   pub rows : List Row
-  pub entered : subcommand_of (program_app choices.archs choices.layouts) words ≡ Some (name, rows)
+  pub entered : subcommand_of (program_app choices.archs choices.layouts choices.formats) words ≡ Some (name, rows)
   pub is : IsCommand name rows command
 
 -- The error is made where `clap` finds no fault in words that mean no command; or memory is refused for it.
@@ -153,5 +207,5 @@ IsOwn error = (kind_of error ≡ ValueValidation) ⊎ (kind_of error ≡ OutOfMe
 -- mean no command.
 abbrev pub IsFault : Choices → List Text → Error → Type 0
 IsFault choices words error = (kind_of error ≡ OutOfMemory)
-    ⊎ (IsAmong (kind_of error) (fault_of (program_app choices.archs choices.layouts) words)
+    ⊎ (IsAmong (kind_of error) (fault_of (program_app choices.archs choices.layouts choices.formats) words)
     ⊎ ((kind_of error ≡ ValueValidation) × ((command : Command) → Means choices words command → ⊥)))

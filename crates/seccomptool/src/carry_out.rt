@@ -7,12 +7,13 @@ ghost use Rattle.seccomptool.specs.Commands.{IsPerformed, status_of, verdict_sta
 ghost use Rattle.seccomptool.specs.Words.{text_of};
 ghost use Rattle.seccomptool.specs.declared.findings.Verdict.{Verdict};
 
+use crate::compile::format::ProgramFormat;
 use crate::error::ToolError;
-use crate::failure::{Failure, tell};
+use crate::failure::{Failure, ToldFor, tell};
 use crate::findings::Verdict;
 use crate::perform::perform;
 use crate::source::{Source, open};
-use crate::words::{Command, Records};
+use crate::words::{Command, Records, Shown};
 use std::io::Read;
 use std::process::ExitCode;
 use std::rt::Files;
@@ -80,7 +81,11 @@ fn writes_bytes(command: Command<'_>) -> bool
     ensures { result ≡ spec.writes_bytes command.entry }
 {
     match command {
-        Command::Compile { output: None, .. } => true,
+        Command::Compile {
+            format: ProgramFormat::Raw,
+            output: None,
+            ..
+        } => true,
         Command::Record { .. } => true,
         _ => false,
     }
@@ -92,18 +97,26 @@ fn policy_of<'a>(command: Command<'a>) -> Option<&'a str>
 {
     match command {
         Command::Compile { policy, .. } => Some(policy),
-        Command::Show { policy, .. } => Some(policy),
+        Command::Show {
+            shown: Shown::Policy(path),
+            ..
+        } => Some(path),
+        Command::Show {
+            shown: Shown::Program(path),
+            ..
+        } => Some(path),
         Command::Check { policy, .. } => Some(policy),
         Command::Explain { policy, .. } => Some(policy),
         Command::Run { program, .. } => Some(program),
         Command::Stats { policy, .. } => Some(policy),
         Command::Record { .. } => None,
         Command::Diff { old, .. } => Some(old),
+        Command::Verify { policy, .. } => Some(policy),
         Command::Compat { policy, .. } => Some(policy),
     }
 }
 
-// The path of the records that a command reads, or of the new policy.
+// The path of the records that a command reads, of the new policy, or of the program that is verified.
 fn records_of<'a>(command: Command<'a>) -> Option<&'a str>
     ensures { text_of result ≡ spec.records_of command.entry }
 {
@@ -117,6 +130,7 @@ fn records_of<'a>(command: Command<'a>) -> Option<&'a str>
             ..
         } => Some(path),
         Command::Diff { new, .. } => Some(new),
+        Command::Verify { program, .. } => Some(program),
         _ => None,
     }
 }
@@ -147,16 +161,6 @@ fn answered(
     }
 }
 
-// Whether a command compares two policies.
-fn compares(command: Command<'_>) -> bool
-    ensures { result ≡ spec.compares command.entry }
-{
-    match command {
-        Command::Diff { .. } => true,
-        _ => false,
-    }
-}
-
 // The status of a failure, with what failed on standard error.
 fn failed(rt: &(impl Eprint + AllocGlobal), command: Command<'_>, failure: Failure) -> ExitCode
     ensures { exit_status result ≡ spec.trouble command.entry }
@@ -164,9 +168,19 @@ fn failed(rt: &(impl Eprint + AllocGlobal), command: Command<'_>, failure: Failu
     let policy = policy_of(command).unwrap_or("-");
     let records = records_of(command).unwrap_or("-");
     let output = output_of(command).unwrap_or("-");
-    tell(rt, &failure, compares(command), policy, records, output);
+    tell(rt, &failure, told_for(command), policy, records, output);
     match command {
         Command::Diff { .. } => ExitCode::from(2),
+        Command::Verify { .. } => ExitCode::from(2),
         _ => ExitCode::FAILURE,
+    }
+}
+
+// For what kind of command a failure is told.
+fn told_for(command: Command<'_>) -> ToldFor {
+    match command {
+        Command::Diff { .. } => ToldFor::Policies,
+        Command::Verify { .. } => ToldFor::PolicyAndProgram,
+        _ => ToldFor::Other,
     }
 }

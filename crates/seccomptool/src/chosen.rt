@@ -41,13 +41,16 @@ fn only_name(alloc: Global, filters: &JsonFilterMap) -> Result<String, ToolError
             return Ok(String::from_str(alloc, name.as_str())?);
         }
     }
-    Err(ToolError::Unchosen(names_of(alloc, filters)?))
+    Err(ToolError::Unchosen(names_of(alloc, &filters.0)?))
 }
 
 // The names of filters, in byte order.
-fn names_of(alloc: Global, filters: &JsonFilterMap) -> Result<String, AllocError> {
+pub(crate) fn names_of<V>(
+    alloc: Global,
+    filters: &BTreeMap<String, V>,
+) -> Result<String, AllocError> {
     let mut text = Vec::new(alloc);
-    for (name, _) in &filters.0 {
+    for (name, _) in filters {
         if !text.is_empty() {
             text.extend_from_slice(b", ")?;
         }

@@ -24,6 +24,17 @@ pub(crate) enum Failure {
     Engine(ToolError),
 }
 
+// The kind of command that fails: what stands in place of records.
+#[derive(Clone, Copy)]
+pub(crate) enum ToldFor {
+    // The new policy.
+    Policies,
+    // The program that is verified.
+    PolicyAndProgram,
+    // Nothing does.
+    Other,
+}
+
 // Where a failure is.
 #[derive(Clone, Copy)]
 enum Place {
@@ -33,18 +44,17 @@ enum Place {
     Output,
 }
 
-// Tells a failure on standard error: the program, the file that it is in, and the error, in one line. Of a
-// command that compares, the new policy stands for the records.
+// Tells a failure on standard error: the program, the file that it is in, and the error, in one line.
 pub(crate) fn tell(
     rt: &(impl Eprint + AllocGlobal),
     failure: &Failure,
-    compares: bool,
+    told_for: ToldFor,
     policy: &str,
     records: &str,
     output: &str,
 ) {
     let alloc = rt.alloc();
-    let text = match place_of(failure, compares) {
+    let text = match place_of(failure, told_for) {
         Place::Nowhere => front_of(alloc, "", ""),
         Place::Policy => front_of(alloc, policy, "standard input"),
         Place::Records => front_of(alloc, records, "standard input"),
@@ -75,22 +85,48 @@ fn front_of(alloc: Global, path: &str, standard: &str) -> Result<String, AllocEr
 }
 
 // Where a failure is: of a reader's and a writer's at what they read and write; other faults that aren't
-// of the words are the policy's, those of two filters that are compared aside.
-fn place_of(failure: &Failure, compares: bool) -> Place {
+// of the words are the policy's, those of two filters that are compared aside, and those of a program that is verified.
+fn place_of(failure: &Failure, told_for: ToldFor) -> Place {
     match failure {
-        Failure::Engine(ToolError::NoFilter(_)) if compares => Place::Nowhere,
-        Failure::Engine(ToolError::Library(Error::Backend(_))) if compares => Place::Nowhere,
-        Failure::Engine(ToolError::NewPolicy(_)) => Place::Records,
         Failure::Policy(_) => Place::Policy,
         Failure::Records(_) => Place::Records,
         Failure::Output(_) => Place::Output,
         Failure::Terminal => Place::Output,
-        Failure::Engine(ToolError::Read(_)) => Place::Records,
-        Failure::Engine(ToolError::ShortRecord(_)) => Place::Records,
-        Failure::Engine(ToolError::Write(_)) => Place::Output,
-        Failure::Engine(ToolError::UnknownCall(_, _)) => Place::Nowhere,
-        Failure::Engine(ToolError::OutOfMemory) => Place::Nowhere,
-        Failure::Engine(_) => Place::Policy,
+        Failure::Engine(error) => match told_for {
+            ToldFor::Policies => place_in_policies(error),
+            ToldFor::PolicyAndProgram => place_beside_program(error),
+            ToldFor::Other => place_in(error),
+        },
+    }
+}
+
+// Where an error of `diff` is.
+fn place_in_policies(error: &ToolError) -> Place {
+    match error {
+        ToolError::NoFilter(_) => Place::Nowhere,
+        ToolError::Library(Error::Backend(_)) => Place::Nowhere,
+        error => place_in(error),
+    }
+}
+
+// Where an error of `verify` is.
+fn place_beside_program(error: &ToolError) -> Place {
+    match error {
+        ToolError::Program(_) => Place::Records,
+        error => place_in(error),
+    }
+}
+
+// Where an error is.
+fn place_in(error: &ToolError) -> Place {
+    match error {
+        ToolError::NewPolicy(_) => Place::Records,
+        ToolError::Read(_) => Place::Records,
+        ToolError::ShortRecord(_) => Place::Records,
+        ToolError::Write(_) => Place::Output,
+        ToolError::UnknownCall(_, _) => Place::Nowhere,
+        ToolError::OutOfMemory => Place::Nowhere,
+        _ => Place::Policy,
     }
 }
 

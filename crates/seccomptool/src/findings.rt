@@ -1,5 +1,6 @@
 // Sets of calls, and what a comparison finds on each of them.
 
+pub(crate) mod heading;
 pub(crate) mod lines;
 pub(crate) mod parts;
 
@@ -81,6 +82,15 @@ pub enum Verdict {
     Different,
     /// None was found, and some part is undecided.
     Undecided,
+}
+
+/// What is told of two sides.
+#[derive(Drop)]
+pub(crate) struct Report {
+    /// The text.
+    pub text: Vec<u8>,
+    /// The verdict.
+    pub verdict: Verdict,
 }
 
 impl Verdict {

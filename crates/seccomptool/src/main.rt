@@ -3,7 +3,9 @@
 
 mod answer;
 mod carry_out;
+mod check;
 mod chosen;
+mod compile;
 mod diff;
 mod error;
 mod explain;
@@ -14,13 +16,14 @@ mod numbers;
 mod perform;
 mod policy;
 mod program;
-mod raw;
 mod record;
 mod run;
 mod send;
 mod show;
 mod source;
 mod steps;
+mod verify;
+mod warnings;
 mod widened;
 mod words;
 

@@ -3,38 +3,41 @@
 ghost use Rattle.std.specs.Prelude.{◌≡◌, IfErr, IfOk, Some};
 ghost use Rattle.seccompiler.specs.Architecture.{arch_text};
 ghost use Rattle.seccomptool.specs.Chosen.{AnswersChosen};
-ghost use Rattle.seccomptool.specs.Commands.{AnswersCommand, AnswersExplained, AnswersExplainedOn, AnswersRunOn, plain_of};
+ghost use Rattle.seccomptool.specs.Commands.{AnswersCommand, AnswersExplained, AnswersExplainedOn, AnswersRunOn, AnswersShown, plain_of};
+ghost use Rattle.seccomptool.specs.Compile.{AnswersCompile};
 ghost use Rattle.seccomptool.specs.Errors.{KeepsOutput};
-ghost use Rattle.seccomptool.specs.Raw.{AnswersRaw};
 ghost use Rattle.seccomptool.specs.Words.{text_of};
 ghost use Rattle.seccomptool.specs.declared.findings.Verdict.TheVariants as verdict;
 
+use crate::check::check;
 use crate::chosen::chosen_name;
+use crate::compile::compile;
+use crate::compile::format::ProgramFormat;
 use crate::diff::diff;
 use crate::error::ToolError;
 use crate::explain::explain;
 use crate::explain::format::LineFormat;
 use crate::findings::Verdict;
-use crate::lint::lint;
 use crate::policy::policy_text;
-use crate::raw::raw;
 use crate::record::{called_record, record};
 use crate::run::run;
-use crate::show::show;
+use crate::show::{show, show_program};
 use crate::steps::steps;
+use crate::verify::verify;
 use crate::widened::widened;
-use crate::words::{Command, Records};
+use crate::words::{Command, Records, Shown};
 use seccompiler::{Layout, TargetArch};
 use std::alloc::Global;
 use std::io::{Read, Write};
 
-/// Carries out a command on its policy, or `run` on its program, and `explain` and `run` on their records,
-/// those of a call aside; `diff` on the old policy and, in place of records, the new one. The verdict is that of `diff`, and else `Same`.
+/// Carries out a command on its policy, or `run` and `show` on their program, and `explain` and `run` on their records,
+/// those of a call aside; `diff` on the old policy and, in place of records, the new one, and `verify` on the policy and,
+/// in place of records, the program. The verdict is that of `diff`, `verify` and `check`, and else `Same`.
 ///
 /// # Errors
 ///
-/// Those of the engine: [`raw`] for `compile`, [`show`], [`lint`] for `check`, [`explain`], [`run`],
-/// [`steps`] for `stats`, [`record`], [`diff`] and [`widened`] for `compat`. In front of them, for `compile` and `explain`,
+/// Those of the engine: [`compile`], [`show`] or [`show_program`], [`check`], [`explain`], [`run`],
+/// [`steps`] for `stats`, [`record`], [`diff`], [`verify`] and [`widened`] for `compat`. In front of them, for `compile` and `explain`,
 /// where no filter is asked for: the policy's fault that keeps its names from being read, and `Unchosen`
 /// with the names where it hasn't one. In front of all, for `explain` and `run` on a call, `UnknownCall` where the
 /// architecture hasn't it.
@@ -54,10 +57,15 @@ pub fn perform<P: Read + Drop, R: Read + Drop, W: Write>(
             arch,
             filter,
             layout,
+            format,
             ..
-        } => same(compile(alloc, arch, filter, layout, policy, out)),
-        Command::Show { arch, layout, .. } => same(show(alloc, arch.name(), layout, policy, out)),
-        Command::Check { arch, .. } => same(lint(alloc, arch.name(), policy)),
+        } => same(compile_asked(alloc, arch, filter, layout, format, policy, out)),
+        Command::Show {
+            arch,
+            layout,
+            shown,
+        } => same(show_asked(alloc, arch, layout, shown, policy, out)),
+        Command::Check { arch, denied, .. } => check(alloc, arch.name(), denied, policy, out),
         Command::Explain {
             arch,
             filter,
@@ -91,11 +99,29 @@ pub fn perform<P: Read + Drop, R: Read + Drop, W: Write>(
             records,
             out,
         ),
+        Command::Verify {
+            arch,
+            filter,
+            relation,
+            scope,
+            most,
+            ..
+        } => verify(
+            alloc,
+            arch.name(),
+            filter,
+            relation,
+            scope,
+            most,
+            policy,
+            records,
+            out,
+        ),
         Command::Compat { arch, .. } => same(widened(alloc, arch.name(), policy, out)),
     }
 }
 
-// The answer of a command that compares nothing.
+// The answer of a command that finds nothing.
 fn same(answer: Result<(), ToolError>) -> Result<Verdict, ToolError>
     ensures plain { plain_of result ≡ answer }
     ensures same { IfOk result (λ found. found ≡ verdict.Same) }
@@ -107,27 +133,47 @@ fn same(answer: Result<(), ToolError>) -> Result<Verdict, ToolError>
 }
 
 // Writes the program of the filter that is asked for.
-fn compile<P: Read + Drop, W: Write>(
+fn compile_asked<P: Read + Drop, W: Write>(
     alloc: Global,
     arch: TargetArch,
     filter: Option<&str>,
     layout: Layout,
+    format: ProgramFormat,
     policy: P,
     out: &mut W,
 ) -> Result<(), ToolError>
-    ensures answers { AnswersChosen (P.remaining policy) (text_of filter.entry) (λ text name. AnswersRaw (arch_text arch) (Some text) name layout result (W.contents out.old) (W.contents out.new)) result }
+    ensures answers { AnswersChosen (P.remaining policy) (text_of filter.entry) (λ text name. AnswersCompile format (arch_text arch) (Some text) name layout result (W.contents out.old) (W.contents out.new)) result }
     ensures unwritten { IfErr result (λ e. KeepsOutput e out.old out.new) }
 {
     let text = policy_text(alloc, policy)?;
     let name = chosen_name(alloc, text.as_slice(), filter)?;
-    raw(
+    compile(
         alloc,
+        format,
         arch.name(),
         name.as_str(),
         layout,
         text.as_slice(),
         out,
     )
+}
+
+// Prints the programs of a policy, or a program.
+fn show_asked<P: Read + Drop, W: Write>(
+    alloc: Global,
+    arch: TargetArch,
+    layout: Layout,
+    shown: Shown<'_>,
+    given: P,
+    out: &mut W,
+) -> Result<(), ToolError>
+    ensures answers { AnswersShown shown.entry arch layout (P.remaining given) result (W.contents out.old) (W.contents out.new) }
+    ensures unwritten { IfErr result (λ e. KeepsOutput e out.old out.new) }
+{
+    match shown {
+        Shown::Policy(_) => show(alloc, arch.name(), layout, given, out),
+        Shown::Program(_) => show_program(alloc, given, out),
+    }
 }
 
 // Explains what the filter that is asked for decides on the records that are asked about.

@@ -1,11 +1,18 @@
 // What `clap` is told of the command line.
 
 ghost use Rattle.std.specs.Prelude.{◌≡◌, IfOk, false};
-ghost use Rattle.clap.specs.Words.{app_of, rule_of};
+ghost use Rattle.clap.specs.Words.{app_of};
 ghost use Rattle.clap.specs.declared.builder.command.Command.TheViews.{out-Command};
-ghost use Rattle.seccomptool.specs.CommandLine.{arch_rule, arguments_rule, at_most_rule, call_rule, compile_app, deciding_app, diff_app, explain_app, filter_rule, given_call_rule, given_policy_rule, layout_rule, most_rule, new_policy_rule, old_rule, output_rule, policy_app, policy_rule, program_app, program_rule, record_app, records_rule, run_app, show_app, top_app};
+ghost use Rattle.seccomptool.specs.CommandLine.{check_app, compile_app, deciding_app, diff_app, explain_app, policy_app, program_app, record_app, run_app, show_app, top_app, verify_app};
 
-use clap::{Arg, ArgAction, Command};
+mod options;
+
+use crate::program::options::{
+    all, arch, arguments, at_most, call, compared_filter, deny_warnings, filter, format,
+    given_call, given_policy, layout, most, new_policy, old, output, policy, program_file, records,
+    shown_policy, shown_program,
+};
+use clap::Command;
 use std::alloc::{AllocError, Global};
 
 const AFTER: &str = "\
@@ -15,14 +22,12 @@ Numbers are decimal, or hexadecimal behind 0x; an ARG may be negative, and then
 stands behind --, as in `seccomptool record lseek 3 -- -1`.
 
 Exit status: 0; 1 where the policy is rejected or a file or the output fails; 2
-where the arguments are no command. Of `diff`: 0 where the policies are the
-same, 1 where they differ, 2 on any failure, 3 where it wasn't decided.";
+where the arguments are no command. Of `diff` and `verify`: 0 where nothing
+differs, 1 where something does, 2 on any failure, 3 where it wasn't decided.";
 
-const CHECK: &str = "Tell the first fault of a policy, with its place";
+const STATS: &str = "Print how long the programs are, and how many steps they take";
 
-const STATS: &str = "Tell how long the programs are, and how many steps they take";
-
-const COMPAT: &str = "Name the calls that the Rust crate would decide otherwise";
+const COMPAT: &str = "Print the calls that the Rust crate would decide otherwise";
 
 /// The subcommands and their arguments, with the names of architectures and of layouts.
 ///
@@ -31,18 +36,21 @@ pub(crate) fn program<'a>(
     alloc: Global,
     archs: &'a [&'a str],
     layouts: &'a [&'a str],
+    formats: &'a [&'a str],
 ) -> Result<Command<'a>, AllocError>
-    ensures app { IfOk result (λ c. app_of c ≡ program_app archs.entry layouts.entry) }
+    ensures app { IfOk result (λ c. app_of c ≡ program_app archs.entry layouts.entry formats.entry) }
 {
     let stats = of_policy(alloc, "stats", STATS, archs)?;
     let of_call = record(alloc, archs)?;
     let diff = diff(alloc, archs)?;
+    let verify = verify(alloc, archs)?;
     let compat = of_policy(alloc, "compat", COMPAT, archs)?;
-    let deciding = deciding(alloc, archs, layouts)?;
+    let deciding = deciding(alloc, archs, layouts, formats)?;
     deciding
         .subcommand(stats)?
         .subcommand(of_call)?
         .subcommand(diff)?
+        .subcommand(verify)?
         .subcommand(compat)
 }
 
@@ -51,12 +59,13 @@ fn deciding<'a>(
     alloc: Global,
     archs: &'a [&'a str],
     layouts: &'a [&'a str],
+    formats: &'a [&'a str],
 ) -> Result<Command<'a>, AllocError>
-    ensures { IfOk result (λ c. app_of c ≡ deciding_app archs.entry layouts.entry) }
+    ensures { IfOk result (λ c. app_of c ≡ deciding_app archs.entry layouts.entry formats.entry) }
 {
-    let compile = compile(alloc, archs, layouts)?;
+    let compile = compile(alloc, archs, layouts, formats)?;
     let show = show(alloc, archs, layouts)?;
-    let check = of_policy(alloc, "check", CHECK, archs)?;
+    let check = check(alloc, archs)?;
     let explain = explain(alloc, archs)?;
     let of_program = run(alloc, archs)?;
     let top = top(alloc)?;
@@ -86,15 +95,17 @@ fn compile<'a>(
     alloc: Global,
     archs: &'a [&'a str],
     layouts: &'a [&'a str],
+    formats: &'a [&'a str],
 ) -> Result<Command<'a>, AllocError>
-    ensures app { IfOk result (λ c. app_of c ≡ compile_app archs.entry layouts.entry) }
+    ensures app { IfOk result (λ c. app_of c ≡ compile_app archs.entry layouts.entry formats.entry) }
     ensures local { IfOk result (λ c. (out-Command c).has_globals ≡ false) }
 {
     Command::new(alloc, "compile")
-        .about("Write the program of a filter as bytes")
+        .about("Write the program of a filter")
         .arg(arch(alloc, archs))?
         .arg(filter(alloc))?
         .arg(layout(alloc, layouts))?
+        .arg(format(alloc, formats))?
         .arg(output(alloc))?
         .arg(policy(alloc))
 }
@@ -108,9 +119,21 @@ fn show<'a>(
     ensures local { IfOk result (λ c. (out-Command c).has_globals ≡ false) }
 {
     Command::new(alloc, "show")
-        .about("Show the programs, and what their instructions are for")
+        .about("Print the programs, and what their instructions are for")
         .arg(arch(alloc, archs))?
         .arg(layout(alloc, layouts))?
+        .arg(shown_program(alloc))?
+        .arg(shown_policy(alloc))
+}
+
+fn check<'a>(alloc: Global, archs: &'a [&'a str]) -> Result<Command<'a>, AllocError>
+    ensures app { IfOk result (λ c. app_of c ≡ check_app archs.entry) }
+    ensures local { IfOk result (λ c. (out-Command c).has_globals ≡ false) }
+{
+    Command::new(alloc, "check")
+        .about("Print the first error of a policy with its place, or else its warnings")
+        .arg(arch(alloc, archs))?
+        .arg(deny_warnings(alloc))?
         .arg(policy(alloc))
 }
 
@@ -135,7 +158,7 @@ fn explain<'a>(alloc: Global, archs: &'a [&'a str]) -> Result<Command<'a>, Alloc
     ensures local { IfOk result (λ c. (out-Command c).has_globals ≡ false) }
 {
     Command::new(alloc, "explain")
-        .about("Tell what a filter decides on calls, and why")
+        .about("Print what a filter decides on calls, and why")
         .arg(arch(alloc, archs))?
         .arg(filter(alloc))?
         .arg(records(alloc))?
@@ -149,7 +172,7 @@ fn run<'a>(alloc: Global, archs: &'a [&'a str]) -> Result<Command<'a>, AllocErro
     ensures local { IfOk result (λ c. (out-Command c).has_globals ≡ false) }
 {
     Command::new(alloc, "run")
-        .about("Tell what a program returns for calls")
+        .about("Print what a program returns for calls")
         .arg(arch(alloc, archs))?
         .arg(records(alloc))?
         .arg(program_file(alloc))?
@@ -162,7 +185,7 @@ fn record<'a>(alloc: Global, archs: &'a [&'a str]) -> Result<Command<'a>, AllocE
     ensures local { IfOk result (λ c. (out-Command c).has_globals ≡ false) }
 {
     Command::new(alloc, "record")
-        .about("Write the record of a call, of 64 bytes")
+        .about("Write the struct seccomp_data of a call, 64 bytes")
         .arg(arch(alloc, archs))?
         .arg(given_call(alloc))?
         .arg(arguments(alloc))
@@ -173,168 +196,26 @@ fn diff<'a>(alloc: Global, archs: &'a [&'a str]) -> Result<Command<'a>, AllocErr
     ensures local { IfOk result (λ c. (out-Command c).has_globals ≡ false) }
 {
     Command::new(alloc, "diff")
-        .about("Tell on which calls two policies differ")
+        .about("Print the calls that two policies decide otherwise")
         .arg(arch(alloc, archs))?
-        .arg(filter(alloc))?
+        .arg(compared_filter(alloc))?
         .arg(at_most(alloc))?
         .arg(most(alloc))?
         .arg(old(alloc))?
         .arg(new_policy(alloc))
 }
 
-fn arch<'a>(alloc: Global, archs: &'a [&'a str]) -> Arg<'a>
-    ensures rule { rule_of result ≡ arch_rule archs.entry }
-    ensures local { result.global ≡ false }
+fn verify<'a>(alloc: Global, archs: &'a [&'a str]) -> Result<Command<'a>, AllocError>
+    ensures app { IfOk result (λ c. app_of c ≡ verify_app archs.entry) }
+    ensures local { IfOk result (λ c. (out-Command c).has_globals ≡ false) }
 {
-    Arg::new(alloc, "arch")
-        .short('a')
-        .long("arch")
-        .value_name("ARCH")
-        .value_parser(archs)
-        .default_value("x86_64")
-        .help("The architecture")
-}
-
-fn filter<'a>(alloc: Global) -> Arg<'a>
-    ensures rule { rule_of result ≡ filter_rule }
-    ensures local { result.global ≡ false }
-{
-    Arg::new(alloc, "filter")
-        .short('f')
-        .long("filter")
-        .value_name("FILTER")
-        .help("The filter's name; it may be left out where the policy has one filter")
-}
-
-fn layout<'a>(alloc: Global, layouts: &'a [&'a str]) -> Arg<'a>
-    ensures rule { rule_of result ≡ layout_rule layouts.entry }
-    ensures local { result.global ≡ false }
-{
-    Arg::new(alloc, "layout")
-        .long("layout")
-        .value_name("LAYOUT")
-        .value_parser(layouts)
-        .default_value("tree")
-        .help("How a program finds a call's rules: one call after the other, or by a tree of tests")
-}
-
-fn output<'a>(alloc: Global) -> Arg<'a>
-    ensures rule { rule_of result ≡ output_rule }
-    ensures local { result.global ≡ false }
-{
-    Arg::new(alloc, "output")
-        .short('o')
-        .long("output")
-        .value_name("FILE")
-        .help("Where the program goes, in place of standard output")
-}
-
-fn records<'a>(alloc: Global) -> Arg<'a>
-    ensures rule { rule_of result ≡ records_rule }
-    ensures local { result.global ≡ false }
-{
-    Arg::new(alloc, "records")
-        .long("records")
-        .value_name("FILE")
-        .help("Records of calls, in place of standard input, where no CALL is given")
-}
-
-fn at_most<'a>(alloc: Global) -> Arg<'a>
-    ensures rule { rule_of result ≡ at_most_rule }
-    ensures local { result.global ≡ false }
-{
-    Arg::new(alloc, "at-most")
-        .long("at-most")
-        .action(ArgAction::SetTrue)
-        .help("Ask only where NEW permits more than OLD")
-}
-
-fn most<'a>(alloc: Global) -> Arg<'a>
-    ensures rule { rule_of result ≡ most_rule }
-    ensures local { result.global ≡ false }
-{
-    Arg::new(alloc, "most")
-        .long("most")
-        .value_name("N")
-        .default_value("1000000")
-        .help("How many sets of arguments are looked at, at most, for each call")
-}
-
-fn old<'a>(alloc: Global) -> Arg<'a>
-    ensures rule { rule_of result ≡ old_rule }
-    ensures local { result.global ≡ false }
-{
-    Arg::new(alloc, "old")
-        .value_name("OLD")
-        .required(true)
-        .help("The old policy's file, or - for standard input")
-}
-
-fn new_policy<'a>(alloc: Global) -> Arg<'a>
-    ensures rule { rule_of result ≡ new_policy_rule }
-    ensures local { result.global ≡ false }
-{
-    Arg::new(alloc, "new")
-        .value_name("NEW")
-        .required(true)
-        .help("The new policy's file, or - for standard input")
-}
-
-fn policy<'a>(alloc: Global) -> Arg<'a>
-    ensures rule { rule_of result ≡ policy_rule }
-    ensures local { result.global ≡ false }
-{
-    Arg::new(alloc, "policy")
-        .value_name("POLICY")
-        .default_value("-")
-        .help("The policy's file, or - for standard input")
-}
-
-fn given_policy<'a>(alloc: Global) -> Arg<'a>
-    ensures rule { rule_of result ≡ given_policy_rule }
-    ensures local { result.global ≡ false }
-{
-    Arg::new(alloc, "policy")
-        .value_name("POLICY")
-        .required(true)
-        .help("The policy's file, or - for standard input")
-}
-
-fn program_file<'a>(alloc: Global) -> Arg<'a>
-    ensures rule { rule_of result ≡ program_rule }
-    ensures local { result.global ≡ false }
-{
-    Arg::new(alloc, "program")
-        .value_name("PROGRAM")
-        .required(true)
-        .help("The program's file, as compile writes it, or - for standard input")
-}
-
-fn call<'a>(alloc: Global) -> Arg<'a>
-    ensures rule { rule_of result ≡ call_rule }
-    ensures local { result.global ≡ false }
-{
-    Arg::new(alloc, "call")
-        .value_name("CALL")
-        .help("The call's name or number")
-}
-
-fn given_call<'a>(alloc: Global) -> Arg<'a>
-    ensures rule { rule_of result ≡ given_call_rule }
-    ensures local { result.global ≡ false }
-{
-    Arg::new(alloc, "call")
-        .value_name("CALL")
-        .required(true)
-        .help("The call's name or number")
-}
-
-fn arguments<'a>(alloc: Global) -> Arg<'a>
-    ensures rule { rule_of result ≡ arguments_rule }
-    ensures local { result.global ≡ false }
-{
-    Arg::new(alloc, "arguments")
-        .value_name("ARG")
-        .num_args(0..=6)
-        .help("The call's arguments, 0 where they aren't given")
+    Command::new(alloc, "verify")
+        .about("Print the calls that a program decides otherwise than a filter")
+        .arg(arch(alloc, archs))?
+        .arg(filter(alloc))?
+        .arg(at_most(alloc))?
+        .arg(all(alloc))?
+        .arg(most(alloc))?
+        .arg(given_policy(alloc))?
+        .arg(program_file(alloc))
 }

@@ -19,8 +19,8 @@ use std::io::{Read, Write};
 /// Runs a program on records: for each whole record of 64 bytes a line with the action that the program
 /// returns for it.
 ///
-/// The program's bytes are those that [`raw`](crate::raw::raw) writes: each instruction is a
-/// `struct sock_filter` of 8 bytes, its numbers with the low byte first: code in 2, jt in 1, jf in 1, k
+/// The program's bytes are those that [`compile`](crate::compile::compile) writes as `Raw`: each
+/// instruction is a `struct sock_filter` of 8 bytes, its numbers with the low byte first: code in 2, jt in 1, jf in 1, k
 /// in 4. It may be of any compiler, if `machine::check` passes it; that takes fewer instructions than a
 /// kernel does.
 ///

@@ -3,7 +3,7 @@
 pub(crate) mod instruction;
 mod labels;
 mod listing;
-pub(crate) mod program;
+mod program;
 mod text;
 
 ghost use Rattle.std.specs.Prelude.{IfOk, IfErr};
@@ -15,6 +15,7 @@ use crate::error::ToolError;
 use crate::policy::{filters, policy_text};
 use crate::send::send;
 use crate::show::listing::listing;
+pub use crate::show::program::show_program;
 use seccompiler::json::filters_from;
 use seccompiler::{Layout, TargetArch};
 use std::alloc::Global;

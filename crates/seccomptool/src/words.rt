@@ -5,8 +5,11 @@ ghost use Rattle.seccomptool.specs.Words.{Choices, Means, IsFault, IsOwn};
 
 mod arguments;
 mod matches;
+mod values;
 
+use crate::compile::format::ProgramFormat;
 use crate::program::program;
+use crate::verify::scope::Scope;
 use crate::words::matches::{command_in, misuse_in};
 use clap::error::ErrorKind;
 use seccompiler::{Layout, Relation, TargetArch};
@@ -16,10 +19,12 @@ static ARCHITECTURES: [&str; 5] = ["x86_64", "aarch64", "riscv64", "amd64", "arm
 
 static LAYOUTS: [&str; 2] = ["linear", "tree"];
 
+static FORMATS: [&str; 3] = ["raw", "listing", "c"];
+
 /// A command of the program. A policy and records are paths, or `-` for standard input.
 #[derive(Clone, Copy)]
 pub enum Command<'a> {
-    /// Write the program of a filter as bytes.
+    /// Write the program of a filter.
     Compile {
         /// The architecture.
         arch: TargetArch,
@@ -27,28 +32,32 @@ pub enum Command<'a> {
         filter: Option<&'a str>,
         /// The program's layout.
         layout: Layout,
+        /// How the program is written.
+        format: ProgramFormat,
         /// The path of the file that is written, in place of standard output.
         output: Option<&'a str>,
         /// The policy.
         policy: &'a str,
     },
-    /// Show the programs of a policy for people.
+    /// Print the programs of a policy, or a program, for people.
     Show {
         /// The architecture.
         arch: TargetArch,
         /// The programs' layout.
         layout: Layout,
-        /// The policy.
-        policy: &'a str,
+        /// The policy or the program.
+        shown: Shown<'a>,
     },
-    /// Tell the first fault of a policy, with its place.
+    /// Print the first error of a policy with its place, or else its warnings.
     Check {
         /// The architecture.
         arch: TargetArch,
+        /// Whether warnings count for the exit status.
+        denied: bool,
         /// The policy.
         policy: &'a str,
     },
-    /// Tell what a filter decides on calls, and why.
+    /// Print what a filter decides on calls, and why.
     Explain {
         /// The architecture.
         arch: TargetArch,
@@ -59,7 +68,7 @@ pub enum Command<'a> {
         /// The policy.
         policy: &'a str,
     },
-    /// Tell what a program returns for calls.
+    /// Print what a program returns for calls.
     Run {
         /// The architecture of a call.
         arch: TargetArch,
@@ -68,7 +77,7 @@ pub enum Command<'a> {
         /// The program's bytes.
         program: &'a str,
     },
-    /// Tell how long the programs of a policy are, and how many steps they take.
+    /// Print how long the programs of a policy are, and how many steps they take.
     Stats {
         /// The architecture.
         arch: TargetArch,
@@ -84,7 +93,7 @@ pub enum Command<'a> {
         /// The call's arguments, 0 where none is given.
         arguments: [u64; 6],
     },
-    /// Tell on which calls two policies differ.
+    /// Print the calls that two policies decide otherwise.
     Diff {
         /// The architecture.
         arch: TargetArch,
@@ -99,13 +108,39 @@ pub enum Command<'a> {
         /// The new policy.
         new: &'a str,
     },
-    /// Name the calls that the Rust crate would decide otherwise.
+    /// Print the calls that a program decides otherwise than a filter.
+    Verify {
+        /// The architecture.
+        arch: TargetArch,
+        /// The filter's name; the policy's only filter where there is none.
+        filter: Option<&'a str>,
+        /// What is asked of the program's actions beside the filter's.
+        relation: Relation,
+        /// Which calls count for the exit status.
+        scope: Scope,
+        /// How many sets of records are looked at, at most, for each call.
+        most: usize,
+        /// The policy.
+        policy: &'a str,
+        /// The program's bytes.
+        program: &'a str,
+    },
+    /// Print the calls that the Rust crate would decide otherwise.
     Compat {
         /// The architecture.
         arch: TargetArch,
         /// The policy.
         policy: &'a str,
     },
+}
+
+/// What `show` prints.
+#[derive(Clone, Copy)]
+pub enum Shown<'a> {
+    /// The programs of this policy.
+    Policy(&'a str),
+    /// The program of this file.
+    Program(&'a str),
 }
 
 /// The records of calls that a command is asked about.
@@ -128,16 +163,18 @@ pub enum Records<'a> {
 ///
 /// `clap`'s: help and the version where they are asked for, and its own error of words that are no
 /// command. `ValueValidation` where an ARG or the value of `--most` is no number, where `explain` or `run`
-/// is given both CALL and `--records`, and where two files would both be read from standard input: policy
-/// and records, program and records, or both policies of `diff`. `OutOfMemory` may come in place of any.
+/// is given both CALL and `--records`, or `show` both POLICY and `--program`, and where two files would both be read from
+/// standard input: policy and records, program and records, policy and program, or both policies of `diff`. `OutOfMemory` may
+/// come in place of any.
 pub(crate) fn read<'a>(alloc: Global, words: &'a [String]) -> Result<Command<'a>, clap::Error>
-    // With the names of architectures and layouts that the options take.
+    // With the names of architectures, layouts and formats that the options take.
     ensures { (choices : Choices) × IfOk result (Means choices (map string_bytes words.now))
         × IfErr result (IsFault choices (map string_bytes words.now)) }
 {
     let archs = ARCHITECTURES.as_slice();
     let layouts = LAYOUTS.as_slice();
-    let mut program = program(alloc, archs, layouts)?;
+    let formats = FORMATS.as_slice();
+    let mut program = program(alloc, archs, layouts, formats)?;
     let matches = match program.try_get_matches_from_mut(words) {
         Ok(matches) => matches,
         Err(error) => return Err(error),

@@ -9,8 +9,11 @@ use std::error;
 use std::fmt;
 use std::io::{self, Read};
 
-/// The most bytes of a message, but for the names of the policy that it tells.
+/// The most bytes of a message, but for what it tells of the policy.
 const MESSAGE: usize = 4096;
+
+/// The most bytes of a message for each byte of the policy: a name's control characters are written as `\x` and two digits.
+const MESSAGE_PER_BYTE: usize = 4;
 
 /// Why a text gives no filters: a sentence that tells the cause, or the error of its reader.
 ///
@@ -74,7 +77,8 @@ impl fmt::Display for JsonFrontendError {
 /// let programs = compile_from_json(policy.as_bytes(), TargetArch::x86_64)?;
 /// assert_eq!(programs["main_thread"].len(), 17);
 /// let error = compile_from_json("[]".as_bytes(), TargetArch::x86_64).unwrap_err();
-/// assert_eq!(error.to_string(), "Json Frontend error: Json is not an object of filters.");
+/// let place = "Json Frontend error: the policy: expected an object of filters";
+/// assert_eq!(error.to_string(), format!("{place}, found an empty array"));
 /// # Ok::<(), seccompiler::Error>(())
 /// ```
 pub fn compile_from_json<R: Read>(reader: R, arch: TargetArch) -> Result<BpfMap> {
@@ -117,14 +121,15 @@ pub fn compile_from_json_in<R: Read>(
 struct Policy<'a> {
     text: &'a [u8],
     arch: TargetArch,
-    /// Room for a message. What it tells of the policy are names, which are no longer than the policy.
+    /// Room for a message. What it tells of the policy are names and a value, which stand in the policy.
     message: Vec<u8>,
 }
 
 impl<'a> Policy<'a> {
     /// Returns the policy of a text.
     fn of(text: &'a [u8], arch: TargetArch) -> Result<Self> {
-        let message = filled(0, text.len().saturating_add(MESSAGE))?;
+        let told = text.len().saturating_mul(MESSAGE_PER_BYTE);
+        let message = filled(0, told.saturating_add(MESSAGE))?;
         Ok(Policy {
             text,
             arch,

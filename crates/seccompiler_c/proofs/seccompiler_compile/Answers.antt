@@ -29,4 +29,4 @@ pub returns-in-Err : goal.returns-in-Err
 returns-in-Err c =
     let code = c.number in
     rw (to_z-of_z w64 code.result (record { sfits = code.type_inv }))
-    (record { answers = refused c.in-Err.fault c.in-Err.ensures.refused code.ensures refl c.tell.ensures })
+    (record { answers = refused c.in-Err.fault c.in-Err.ensures.refused code.ensures refl c.tell_policy.ensures })

@@ -7,4 +7,4 @@ pub returns-in-Err : goal.returns-in-Err
 returns-in-Err c =
     let code = c.number in
     rw (to_z-of_z w64 code.result (record { sfits = code.type_inv }))
-    (record { answers = undecided c.in-Err.fault c.in-Err.ensures.undecided code.ensures c.tell.ensures })
+    (record { answers = undecided c.in-Err.fault c.in-Err.ensures.undecided code.ensures c.tell_policy.ensures })

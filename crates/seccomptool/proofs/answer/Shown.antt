@@ -11,7 +11,7 @@ use Rattle.seccomptool.specs.Words.{Choices, IsFault, Means}
 use Rattle.seccomptool.specs.declared.findings.Verdict.{Verdict}
 use Rattle.seccomptool.specs.declared.findings.Verdict.TheVariants.{Same, Different, Undecided}
 use Rattle.seccomptool.specs.declared.words.Command.{Command}
-use Rattle.seccomptool.specs.declared.words.Command.TheVariants.{Diff}
+use Rattle.seccomptool.specs.declared.words.Command.TheVariants.{Diff, Verify}
 
 -- Neither is want of memory, nor an error of our own.
 not_shown : (kind : ErrorKind) → IsShown kind → (kind ≡ OutOfMemory) ⊎ (kind ≡ ValueValidation) → ⊥
@@ -37,12 +37,17 @@ pub may_fail : (choices : Choices) (words : List Text) (command : Command) (stat
 may_fail choices words (Diff arch filter relation most old new) status means one performed =
     let done = performed Different one (λ two. let e : 1 ≡ 2 = sym one ∙ two in cc) in
     inl (record { choices = choices; command = Diff arch filter relation most old new; means = means; performed = done })
+may_fail choices words (Verify arch filter relation scope most policy program) status means one performed =
+    let done = performed Different one (λ two. let e : 1 ≡ 2 = sym one ∙ two in cc) in
+    inl (record { choices = choices; command = Verify arch filter relation scope most policy program; means = means; performed = done })
 may_fail choices words command status means one performed = inr (other choices command means refl)
 
 -- No command fails with 0 or with 3.
 pub no_trouble : (command : Command) (status : ℕ) (verdict : Verdict) → status ≡ verdict_status verdict → (verdict ≡ Different → ⊥) → status ≡ trouble command → ⊥
 no_trouble (Diff arch filter relation most old new) status Same is differs two = let e : 0 ≡ 2 = sym is ∙ two in cc
 no_trouble (Diff arch filter relation most old new) status Undecided is differs two = let e : 3 ≡ 2 = sym is ∙ two in cc
+no_trouble (Verify arch filter relation scope most policy program) status Same is differs two = let e : 0 ≡ 2 = sym is ∙ two in cc
+no_trouble (Verify arch filter relation scope most policy program) status Undecided is differs two = let e : 3 ≡ 2 = sym is ∙ two in cc
 no_trouble command status Different is differs two = differs refl
 no_trouble command status Same is differs one = let e : 0 ≡ 1 = sym is ∙ one in cc
 no_trouble command status Undecided is differs one = let e : 3 ≡ 1 = sym is ∙ one in cc

@@ -37,12 +37,12 @@ abbrev pub names_in : List Named → List (List ℕ)
 names_in = map (λ (e : Named). string_bytes e.0)
 
 -- The one item of a list is the one that it contains.
-one_item : {X : Type 0} (x y : X) → Contains (x ∷ []) y → y ≡ x
+pub one_item : {X : Type 0} (x y : X) → Contains (x ∷ []) y → y ≡ x
 one_item x y (zero, below, is) = sym is
 one_item x y (suc k, below, is) = absurd (omega (arith, below))
 
 -- No name is below itself.
-not_below_itself : (name : List ℕ) → slice_cmp nat_cmp name name ≡ Less → ⊥
+pub not_below_itself : (name : List ℕ) → slice_cmp nat_cmp name name ≡ Less → ⊥
 not_below_itself name less =
     let same : is_eq (slice_cmp nat_cmp name name) ≡ true = is_eq-slice_cmp name name ∙ (bytes_eq-Decides name name).1 refl in
     let other : is_eq (slice_cmp nat_cmp name name) ≡ false = ap is_eq less in

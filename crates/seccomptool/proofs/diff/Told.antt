@@ -9,7 +9,7 @@ use Rattle.seccomptool.specs.Diff.{Policies, OfPolicies, WritesReports, of_old, 
 use Rattle.seccomptool.specs.DiffParts.{IsReport, IsRefusedReport}
 use Rattle.seccomptool.specs.Errors.{IsWriteError, of_new_policy}
 use Rattle.seccomptool.specs.Policies.{IsNameOf, IsRefusedText}
-use Rattle.seccomptool.specs.declared.diff.report.Report.{Report}
+use Rattle.seccomptool.specs.declared.findings.Report.{Report}
 use Rattle.seccomptool.specs.declared.error.ToolError.{ToolError}
 use Rattle.seccomptool.specs.declared.error.ToolError.TheVariants as tool
 

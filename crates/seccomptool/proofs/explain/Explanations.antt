@@ -23,7 +23,7 @@ use Rattle.seccomp_command_line.specs.Records.{WritesLines}
 use Rattle.seccomptool.specs.ExplainLines.{AreLines, AnswersRecords}
 use Rattle.seccomptool.specs.ExplainSteps.{IsRecordsError, IsUsable, AreUsable}
 use Rattle.seccomptool.specs.Policies.{HasCompilable, IsNameOf, IsRefusedName, no_architecture}
-use Rattle.seccomptool.specs.Raw.{UnderName}
+use Rattle.seccomptool.specs.Compile.{UnderName}
 use Rattle.seccomptool.specs.declared.explain.format.LineFormat.{LineFormat}
 use Rattle.seccomptool.specs.declared.error.ToolError.{ToolError}
 use Rattle.seccomptool.specs.declared.error.ToolError.TheVariants as tool

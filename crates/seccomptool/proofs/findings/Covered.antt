@@ -81,14 +81,21 @@ number_fits r rec =
     let fourth = rec.bytes 3 0 (omega arith) in
     omega arith
 
--- Where the verdict is that nothing differs, the relation holds for each call of the architecture.
+-- Where the verdict is that nothing differs, the relation holds on each part.
+pub parts_hold : (target : TargetArch) (relation : Relation) (Words : List ℕ → ℕ → ℕ → Type 0) (findings : List Finding)
+    → All (λ (f : Finding). IsFound target relation Words f.part f.answer) findings → verdict_of findings ≡ Same
+    → All (λ part. IsFound target relation Words part answer.Holds) (map (λ (f : Finding). f.part) findings)
+parts_hold target relation Words findings each same =
+    let holds = all_hold findings same in
+    All-map (λ part. IsFound target relation Words part answer.Holds) (λ (f : Finding). f.part) findings
+    (λ k d room. subst (λ a. IsFound target relation Words (get_or findings k d).part a) (holds k d room) (each k d room))
+
+-- Then it holds for each call of the architecture, where the parts are of all.
 pub covered : (target : TargetArch) (relation : Relation) (Words : List ℕ → ℕ → ℕ → Type 0) (findings : List Finding)
     → AreFindings target relation Words findings
     → verdict_of findings ≡ Same → HoldsThroughout target relation Words
 covered target relation Words findings are same = λ r rec arch.
     let Holding = λ (part : Part). IsFound target relation Words part answer.Holds in
-    let holds = all_hold findings same in
-    let each = All-map Holding (λ (f : Finding). f.part) findings
-    (λ k d room. subst (λ a. IsFound target relation Words (get_or findings k d).part a) (holds k d room) (are.each k d room)) in
+    let each = parts_hold target relation Words findings are.each same in
     let own = part_of (table_of target) (map (λ (f : Finding). f.part) findings) (2 ^ 32) (word_at r 0) are.parts (number_fits r rec) in
     All-contains Holding (map (λ (f : Finding). f.part) findings) own.0 each own.1 r (in_part target own.0 r rec arch own.2)

@@ -4,7 +4,7 @@ use Rattle.clap.specs.Words.{AddsArg, AddsSubcommand, App, Rule, app_of, is_simp
 use Rattle.clap.specs.declared.builder.arg.Arg.{Arg}
 use Rattle.clap.specs.declared.builder.command.Command.{Command}
 use Rattle.clap.specs.declared.builder.command.Command.TheViews.{out-Command}
-use Rattle.seccomptool.specs.CommandLine.{NameList, compile_app, deciding_app, diff_app, explain_app, policy_app, program_app, record_app, run_app, show_app, top_app}
+use Rattle.seccomptool.specs.CommandLine.{NameList, check_app, compile_app, deciding_app, diff_app, explain_app, policy_app, program_app, record_app, run_app, show_app, top_app, verify_app}
 
 -- A command with one argument more.
 pub rule_added : (old : Command) (a : Arg) (new : Command) (app : App) (rule : Rule) → app_of old ≡ app → rule_of a ≡ rule → a.global ≡ false
@@ -22,21 +22,21 @@ pub subcommand_added : (old sub new : Command) (app inner : App) → app_of old 
 subcommand_added old sub new app inner is_app is_inner local h = h.shape local ∙ ap₂ with_subcommand is_app (ap (λ (a : App). a.top) is_inner)
 
 -- The contracts of `clap` are exact for this command line.
-pub program_free : (archs layouts : NameList) → is_simple_and_free (program_app archs layouts) ≡ true
-program_free archs layouts = refl
+pub program_free : (archs layouts formats : NameList) → is_simple_and_free (program_app archs layouts formats) ≡ true
+program_free archs layouts formats = refl
 
-pub program_simple : (archs layouts : NameList) → is_simple (program_app archs layouts) ≡ true
-program_simple archs layouts = refl
+pub program_simple : (archs layouts formats : NameList) → is_simple (program_app archs layouts formats) ≡ true
+program_simple archs layouts formats = refl
 
 -- The command line, subcommand by subcommand.
-module _ (archs layouts : NameList) (c0 c1 c2 c3 c4 : Command) where
+module _ (archs layouts formats : NameList) (c0 c1 c2 c3 c4 : Command) where
   pub deciding_added : (c5 compile show check explain run : Command) → app_of c0 ≡ top_app
-      → (app_of compile ≡ compile_app archs layouts) × ((out-Command compile).has_globals ≡ false) × AddsSubcommand c0 compile c1
+      → (app_of compile ≡ compile_app archs layouts formats) × ((out-Command compile).has_globals ≡ false) × AddsSubcommand c0 compile c1
       → (app_of show ≡ show_app archs layouts) × ((out-Command show).has_globals ≡ false) × AddsSubcommand c1 show c2
-      → (app_of check ≡ policy_app (codes "check") archs) × ((out-Command check).has_globals ≡ false) × AddsSubcommand c2 check c3
+      → (app_of check ≡ check_app archs) × ((out-Command check).has_globals ≡ false) × AddsSubcommand c2 check c3
       → (app_of explain ≡ explain_app archs) × ((out-Command explain).has_globals ≡ false) × AddsSubcommand c3 explain c4
       → (app_of run ≡ run_app archs) × ((out-Command run).has_globals ≡ false) × AddsSubcommand c4 run c5
-      → app_of c5 ≡ deciding_app archs layouts
+      → app_of c5 ≡ deciding_app archs layouts formats
   deciding_added c5 compile show check explain run e0 h1 h2 h3 h4 h5 =
       let e1 = subcommand_added c0 compile c1 _ _ e0 h1.0 h1.1 h1.2 in
       let e2 = subcommand_added c1 show c2 _ _ e1 h2.0 h2.1 h2.2 in
@@ -44,14 +44,16 @@ module _ (archs layouts : NameList) (c0 c1 c2 c3 c4 : Command) where
       let e4 = subcommand_added c3 explain c4 _ _ e3 h4.0 h4.1 h4.2 in
       subcommand_added c4 run c5 _ _ e4 h5.0 h5.1 h5.2
 
-  pub all_added : (stats record_of diff compat : Command) → app_of c0 ≡ deciding_app archs layouts
+  pub all_added : (c5 stats record_of diff verify compat : Command) → app_of c0 ≡ deciding_app archs layouts formats
       → (app_of stats ≡ policy_app (codes "stats") archs) × ((out-Command stats).has_globals ≡ false) × AddsSubcommand c0 stats c1
       → (app_of record_of ≡ record_app archs) × ((out-Command record_of).has_globals ≡ false) × AddsSubcommand c1 record_of c2
       → (app_of diff ≡ diff_app archs) × ((out-Command diff).has_globals ≡ false) × AddsSubcommand c2 diff c3
-      → (app_of compat ≡ policy_app (codes "compat") archs) × ((out-Command compat).has_globals ≡ false) × AddsSubcommand c3 compat c4
-      → app_of c4 ≡ program_app archs layouts
-  all_added stats record_of diff compat e0 h1 h2 h3 h4 =
+      → (app_of verify ≡ verify_app archs) × ((out-Command verify).has_globals ≡ false) × AddsSubcommand c3 verify c4
+      → (app_of compat ≡ policy_app (codes "compat") archs) × ((out-Command compat).has_globals ≡ false) × AddsSubcommand c4 compat c5
+      → app_of c5 ≡ program_app archs layouts formats
+  all_added c5 stats record_of diff verify compat e0 h1 h2 h3 h4 h5 =
       let e1 = subcommand_added c0 stats c1 _ _ e0 h1.0 h1.1 h1.2 in
       let e2 = subcommand_added c1 record_of c2 _ _ e1 h2.0 h2.1 h2.2 in
       let e3 = subcommand_added c2 diff c3 _ _ e2 h3.0 h3.1 h3.2 in
-      subcommand_added c3 compat c4 _ _ e3 h4.0 h4.1 h4.2
+      let e4 = subcommand_added c3 verify c4 _ _ e3 h4.0 h4.1 h4.2 in
+      subcommand_added c4 compat c5 _ _ e4 h5.0 h5.1 h5.2

@@ -20,7 +20,7 @@ use Rattle.seccompiler.specs.Layouts.{IsRefusalIn}
 use Rattle.seccompiler.specs.Policy.{Filter}
 use Rattle.seccomptool.specs.Errors.{from_library, IsWriteError}
 use Rattle.seccomptool.specs.Policies.{OfPolicy, IsNameOf, IsRefusedText, no_architecture, of_policy}
-use Rattle.seccomptool.specs.Raw.{HasProgram, HasSomeProgram, HasNoProgram}
+use Rattle.seccomptool.specs.Compile.{HasProgram, HasSomeProgram, HasNoProgram}
 use Rattle.seccomptool.specs.Show.{LabelledProgram, IsLabelledFor, IsShown, WritesPrograms, AreCompiled, IsLeastRefused, of_text, of_program, AnswersShow}
 use Rattle.seccomptool.specs.ShowParts.{NamedFilter, IsLabelled, AreLabelled, HasProgramIn, IsRefused}
 use Rattle.seccomptool.specs.StepsParts.{IsFirst, IsFirstRefusal}

@@ -24,12 +24,12 @@ pub none_of : {X Y : Type 0} (o : Option X) (f : X → Y) → false ≡ is_some 
 none_of None f e = refl
 none_of (Some x) f e = cc
 
-module _ (choices : Choices) (app : App) (words : List Text) (is_app : app ≡ program_app choices.archs choices.layouts) where
+module _ (choices : Choices) (app : App) (words : List Text) (is_app : app ≡ program_app choices.archs choices.layouts choices.formats) where
   free : is_simple_and_free app ≡ true
-  free = ap is_simple_and_free is_app ∙ program_free choices.archs choices.layouts
+  free = ap is_simple_and_free is_app ∙ program_free choices.archs choices.layouts choices.formats
 
   simple : is_simple app ≡ true
-  simple = ap is_simple is_app ∙ program_simple choices.archs choices.layouts
+  simple = ap is_simple is_app ∙ program_simple choices.archs choices.layouts choices.formats
 
   -- an error of our own, where the words mean no command
   own_fault : (error : Error) → IsOwn error → ((command : Command) → Means choices words command → ⊥) → IsFault choices words error
@@ -52,7 +52,7 @@ module _ (choices : Choices) (app : App) (words : List Text) (is_app : app ≡ p
         let same : Some (m.name, m.rows) ≡ None = sym m.entered ∙ ap (λ a. subcommand_of a words) (sym is_app) ∙ sym (h simple).1 ∙ none in cc)
 
     module _ (name : Text) (rows : List Row) (met : subcommand_rows_of matches ≡ Some (name, rows)) where
-      entered : subcommand_of (program_app choices.archs choices.layouts) words ≡ Some (name, rows)
+      entered : subcommand_of (program_app choices.archs choices.layouts choices.formats) words ≡ Some (name, rows)
       entered = ap (λ a. subcommand_of a words) (sym is_app) ∙ sym (h simple).1 ∙ met
 
       -- the command is the one that the words mean

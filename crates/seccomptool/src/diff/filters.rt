@@ -3,15 +3,15 @@
 ghost use Rattle.std.specs.Prelude.{◌≡◌, ◌++◌, IfOk, IfErr, OnOk, Some, option_map};
 ghost use Rattle.seccompiler.specs.CompareFilters.{IsCompilableInSome};
 ghost use Rattle.seccomptool.specs.Findings.{AreFindings, IsFound};
-ghost use Rattle.seccomptool.specs.Diff.{AreDecisions, heading, report_text, verdict_text};
+ghost use Rattle.seccomptool.specs.Diff.{AreDecisions, report_text};
 ghost use Rattle.seccomptool.specs.DiffParts.{AddsReport, IsPairRefusal, IsRefusalOf, lone};
 ghost use Rattle.seccomptool.specs.declared.findings.Verdict.TheVariants as spec;
 
+use crate::findings::heading::{push_heading, verdict_text};
 use crate::findings::lines::push_lines;
 use crate::findings::parts::parts;
 use crate::findings::{Answer, Finding, Part, Terms, Verdict, calls_of, verdict_of};
-use seccomp_command_line::names::push_readable;
-use seccompiler::{BackendError, Comparison, Relation, SeccompFilter};
+use seccompiler::{BackendError, Comparison, SeccompFilter};
 use std::alloc::{AllocError, Global};
 
 // Adds what is to be told of a filter of the old policy, where the new one has this under its name.
@@ -60,30 +60,6 @@ fn push_both(
     push_heading(text, name, verdict_text(terms.relation, verdict))?;
     push_lines(alloc, text, terms.target, &findings)?;
     Ok(verdict)
-}
-
-// Adds the heading of a name, and what follows it.
-fn push_heading(text: &mut Vec<u8>, name: &str, told: &str) -> Result<(), AllocError>
-    ensures { OnOk result (text.new.items ≡ text.old.items ++ heading name.now ++ told.now) }
-{
-    text.extend_from_slice(b"filter ")?;
-    push_readable(text, name)?;
-    text.extend_from_slice(b": ")?;
-    text.extend_from_slice(told.as_bytes())?;
-    Ok(())
-}
-
-// A verdict in words.
-fn verdict_text(relation: Relation, verdict: Verdict) -> &'static str
-    ensures { result.now ≡ verdict_text relation verdict }
-{
-    match (relation, verdict) {
-        (Relation::Alike, Verdict::Same) => "same\n",
-        (Relation::Alike, Verdict::Different) => "different\n",
-        (Relation::AtMostAsPermissive, Verdict::Same) => "nowhere more permissive\n",
-        (Relation::AtMostAsPermissive, Verdict::Different) => "more permissive\n",
-        (_, Verdict::Undecided) => "undecided\n",
-    }
 }
 
 // What is found on each part of the calls.

@@ -9,19 +9,10 @@ ghost use Rattle.seccomptool.specs.DiffParts.{AddsReports, IsReport, IsRefusedPa
 
 use crate::diff::filters::{push_new, push_old};
 use crate::error::ToolError;
-use crate::findings::{Terms, Verdict};
+use crate::findings::{Report, Terms, Verdict};
 use seccompiler::{BackendError, SeccompFilter};
 use std::alloc::{AllocError, Global};
 use std::collections::BTreeMap;
-
-/// What is told of two policies.
-#[derive(Drop)]
-pub(crate) struct Report {
-    /// The text.
-    pub text: Vec<u8>,
-    /// The verdict.
-    pub verdict: Verdict,
-}
 
 // What is told of the filter of a name, or of all.
 pub(crate) fn report_of(

@@ -161,7 +161,7 @@ impl fmt::Display for ExampleCall {
 }
 
 // Adds the line of what is found on a part.
-fn push_line(
+pub(crate) fn push_line(
     alloc: Global,
     text: &mut Vec<u8>,
     target: TargetArch,

@@ -4,7 +4,7 @@ ghost use Rattle.std.specs.Prelude.{◌≡◌, ◌≤◌, length, map, All, IfOk
 ghost use Rattle.std.specs.List.{concat};
 ghost use Rattle.seccompiler.specs.Machine.{IsChecked, IsInRange};
 ghost use Rattle.seccompiler.specs.Reads.{Reads};
-ghost use Rattle.seccomptool.specs.Raw.{instruction_bytes};
+ghost use Rattle.seccomptool.specs.Compile.{instruction_bytes};
 ghost use Rattle.seccomptool.specs.Run.{IsProgramOf, IsRefusedProgram};
 ghost use Rattle.seccomptool.specs.RunParts.{IsCutFault, IsReadRefusal};
 

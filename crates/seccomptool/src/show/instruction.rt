@@ -121,6 +121,7 @@ fn word_meaning(alloc: Global, word: u32) -> Result<String, AllocError>
         (0x8000, 0) => String::from_str(alloc, "kill the process"),
         (0x7ffc, 0) => String::from_str(alloc, "log"),
         (0x0003, 0) => String::from_str(alloc, "trap"),
+        (0x7fc0, 0) => String::from_str(alloc, "notify the supervisor"),
         (0x0005, _) => format!(in alloc; "errno {number}"),
         (0x7ff0, _) => format!(in alloc; "trace {number}"),
         _ => Ok(String::new(alloc)),

@@ -1,19 +1,16 @@
 // The command that clap's matches are.
 
-ghost use Rattle.std.specs.Prelude.{◌≡◌, ℕ, List, [], IfSome, IfNone, Some, codes, unwrap_or};
-ghost use Rattle.clap.specs.Words.{first_of, found_of, rows_of};
-ghost use Rattle.seccompiler.specs.declared.backend.TargetArch.{TargetArch};
-ghost use Rattle.seccompiler.specs.declared.layout.Layout.{Layout};
-ghost use Rattle.seccomptool.specs.Numbers.{IsNumber};
-ghost use Rattle.seccomptool.specs.Words.{AreArguments, AreRecords, IsArch, IsCommand, IsMost, IsRelation, given_arguments, layout_text, text_of};
+ghost use Rattle.std.specs.Prelude.{IfSome, IfNone, codes};
+ghost use Rattle.clap.specs.Words.{found_of, rows_of};
+ghost use Rattle.seccomptool.specs.Words.{IsCommand};
 ghost use Rattle.seccomptool.specs.declared.words.Command.{Command};
-ghost use Rattle.seccomptool.specs.declared.words.Records.{Records};
 
-use super::arguments::read_arguments;
-use super::{Command, Records};
-use crate::numbers::read_number;
+use super::Command;
+use super::values::{
+    arch_in, arguments_in, denied_in, format_in, layout_in, most_in, records_in, relation_in,
+    scope_in, shown_in, text_in,
+};
 use clap::ArgMatches;
-use seccompiler::{Layout, Relation, TargetArch};
 
 // The command that the matches of the subcommand of this name are.
 pub(crate) fn command_in<'a>(name: &str, found: &ArgMatches<'a>) -> Option<Command<'a>>
@@ -29,6 +26,7 @@ pub(crate) fn command_in<'a>(name: &str, found: &ArgMatches<'a>) -> Option<Comma
         "stats" => stats_in(found),
         "record" => record_in(found),
         "diff" => diff_in(found),
+        "verify" => verify_in(found),
         "compat" => compat_in(found),
         _ => None,
     }
@@ -37,7 +35,16 @@ pub(crate) fn command_in<'a>(name: &str, found: &ArgMatches<'a>) -> Option<Comma
 // What is wrong where the matches are no command.
 pub(crate) fn misuse_in(found: &ArgMatches<'_>) -> &'static str {
     if text_in(found, "new").is_some() {
-        return misuse_of_diff(found);
+        return misuse_of_comparison(found, "OLD and NEW can't both be read from standard input");
+    }
+    if text_in(found, "most").is_some() {
+        return misuse_of_comparison(
+            found,
+            "POLICY and PROGRAM can't both be read from standard input",
+        );
+    }
+    if text_in(found, "layout").is_some() {
+        return "either POLICY or --program is given, not both";
     }
     if arguments_in(found).is_none() {
         return "an ARG is no number from -9223372036854775808 to 18446744073709551615, decimal or hexadecimal behind 0x";
@@ -51,12 +58,12 @@ pub(crate) fn misuse_in(found: &ArgMatches<'_>) -> &'static str {
     "policy and records can't both be read from standard input: give CALL or --records"
 }
 
-// What is wrong where the matches of `diff` are no command.
-fn misuse_of_diff(found: &ArgMatches<'_>) -> &'static str {
+// What is wrong where the matches of `diff` or `verify` are no command: `--most`, or else `both`.
+fn misuse_of_comparison(found: &ArgMatches<'_>, both: &'static str) -> &'static str {
     if most_in(found).is_none() {
         return "the value of --most is no number from 0 to 18446744073709551615, decimal or hexadecimal behind 0x";
     }
-    "OLD and NEW can't both be read from standard input"
+    both
 }
 
 // The command that the matches of `compile` are.
@@ -70,6 +77,9 @@ fn compile_in<'a>(found: &ArgMatches<'a>) -> Option<Command<'a>>
     let Some(layout) = layout_in(found) else {
         return None;
     };
+    let Some(format) = format_in(found) else {
+        return None;
+    };
     let Some(policy) = text_in(found, "policy") else {
         return None;
     };
@@ -77,6 +87,7 @@ fn compile_in<'a>(found: &ArgMatches<'a>) -> Option<Command<'a>>
         arch,
         filter: text_in(found, "filter"),
         layout,
+        format,
         output: text_in(found, "output"),
         policy,
     })
@@ -93,13 +104,13 @@ fn show_in<'a>(found: &ArgMatches<'a>) -> Option<Command<'a>>
     let Some(layout) = layout_in(found) else {
         return None;
     };
-    let Some(policy) = text_in(found, "policy") else {
+    let Some(shown) = shown_in(found) else {
         return None;
     };
     Some(Command::Show {
         arch,
         layout,
-        policy,
+        shown,
     })
 }
 
@@ -114,7 +125,11 @@ fn check_in<'a>(found: &ArgMatches<'a>) -> Option<Command<'a>>
     let Some(policy) = text_in(found, "policy") else {
         return None;
     };
-    Some(Command::Check { arch, policy })
+    Some(Command::Check {
+        arch,
+        denied: denied_in(found),
+        policy,
+    })
 }
 
 // The command that the matches of `explain` are.
@@ -225,6 +240,37 @@ fn diff_in<'a>(found: &ArgMatches<'a>) -> Option<Command<'a>>
     })
 }
 
+// The command that the matches of `verify` are.
+fn verify_in<'a>(found: &ArgMatches<'a>) -> Option<Command<'a>>
+    ensures some { IfSome result (IsCommand (codes "verify") (rows_of (found_of found.now))) }
+    ensures none { IfNone result ((c : Command) → IsCommand (codes "verify") (rows_of (found_of found.now)) c → ⊥) }
+{
+    let Some(arch) = arch_in(found) else {
+        return None;
+    };
+    let Some(most) = most_in(found) else {
+        return None;
+    };
+    let Some(policy) = text_in(found, "policy") else {
+        return None;
+    };
+    let Some(program) = text_in(found, "program") else {
+        return None;
+    };
+    if policy == "-" && program == "-" {
+        return None;
+    }
+    Some(Command::Verify {
+        arch,
+        filter: text_in(found, "filter"),
+        relation: relation_in(found),
+        scope: scope_in(found),
+        most,
+        policy,
+        program,
+    })
+}
+
 // The command that the matches of `compat` are.
 fn compat_in<'a>(found: &ArgMatches<'a>) -> Option<Command<'a>>
     ensures some { IfSome result (IsCommand (codes "compat") (rows_of (found_of found.now))) }
@@ -237,119 +283,4 @@ fn compat_in<'a>(found: &ArgMatches<'a>) -> Option<Command<'a>>
         return None;
     };
     Some(Command::Compat { arch, policy })
-}
-
-// The value of an argument of this name.
-fn text_in<'a>(found: &ArgMatches<'a>, id: &str) -> Option<&'a str>
-    ensures { first_of id.now (rows_of (found_of found.now)) ≡ text_of result }
-{
-    found.get_str(id)
-}
-
-// The architecture that `--arch` names.
-fn arch_in(found: &ArgMatches<'_>) -> Option<TargetArch>
-    ensures some { IfSome result (IsArch (rows_of (found_of found.now))) }
-    ensures none { IfNone result ((arch : TargetArch) → IsArch (rows_of (found_of found.now)) arch → ⊥) }
-{
-    match text_in(found, "arch") {
-        Some("x86_64") => Some(TargetArch::x86_64),
-        Some("amd64") => Some(TargetArch::x86_64),
-        Some("aarch64") => Some(TargetArch::aarch64),
-        Some("arm64") => Some(TargetArch::aarch64),
-        Some("riscv64") => Some(TargetArch::riscv64),
-        _ => None,
-    }
-}
-
-// The layout that `--layout` names.
-fn layout_in(found: &ArgMatches<'_>) -> Option<Layout>
-    ensures some { IfSome result (λ layout. first_of (codes "layout") (rows_of (found_of found.now)) ≡ Some (layout_text layout)) }
-    ensures none { IfNone result ((layout : Layout) → first_of (codes "layout") (rows_of (found_of found.now)) ≡ Some (layout_text layout) → ⊥) }
-{
-    match text_in(found, "layout") {
-        Some("linear") => Some(Layout::Linear),
-        Some("tree") => Some(Layout::Tree),
-        _ => None,
-    }
-}
-
-// The relation that is asked for.
-fn relation_in(found: &ArgMatches<'_>) -> Relation
-    ensures { IsRelation (rows_of (found_of found.now)) result }
-{
-    match text_in(found, "at-most") {
-        Some("true") => Relation::AtMostAsPermissive,
-        _ => Relation::Alike,
-    }
-}
-
-// The number of sets that `--most` gives.
-fn most_in(found: &ArgMatches<'_>) -> Option<usize>
-    ensures some { IfSome result (IsMost (rows_of (found_of found.now))) }
-    ensures none { IfNone result ((most : ℕ) → IsMost (rows_of (found_of found.now)) most → ⊥) }
-{
-    sets_in(most_text(found))
-}
-
-// The value of `--most`.
-fn most_text<'a>(found: &ArgMatches<'a>) -> &'a str
-    ensures { result.now ≡ unwrap_or (first_of (codes "most") (rows_of (found_of found.now))) [] }
-{
-    match text_in(found, "most") {
-        Some(text) => text,
-        None => "",
-    }
-}
-
-// The number that a text writes.
-fn sets_in(text: &str) -> Option<usize>
-    ensures some { IfSome result (IsNumber text.now) }
-    ensures none { IfNone result ((most : ℕ) → IsNumber text.now most → ⊥) }
-{
-    let Some(most) = read_number(text) else {
-        return None;
-    };
-    Some(most as usize)
-}
-
-// The arguments that the values of ARG write.
-fn arguments_in(found: &ArgMatches<'_>) -> Option<[u64; 6]>
-    ensures some { IfSome result (AreArguments (given_arguments (rows_of (found_of found.now)))) }
-    ensures none { IfNone result ((arguments : List ℕ) → AreArguments (given_arguments (rows_of (found_of found.now))) arguments → ⊥) }
-{
-    match found.get_strs("arguments") {
-        Some(texts) => read_arguments(texts),
-        None => read_arguments(&[]),
-    }
-}
-
-// The records that are asked about, beside a policy or a program.
-fn records_in<'a>(found: &ArgMatches<'a>, policy: &str) -> Option<Records<'a>>
-    ensures some { IfSome result (AreRecords (rows_of (found_of found.now)) policy.now) }
-    ensures none { IfNone result ((records : Records) → AreRecords (rows_of (found_of found.now)) policy.now records → ⊥) }
-{
-    let Some(call) = text_in(found, "call") else {
-        let path = path_in(found);
-        if path == "-" && policy == "-" {
-            return None;
-        }
-        return Some(Records::In(path));
-    };
-    let None = text_in(found, "records") else {
-        return None;
-    };
-    let Some(arguments) = arguments_in(found) else {
-        return None;
-    };
-    Some(Records::Call { call, arguments })
-}
-
-// The path of the records.
-fn path_in<'a>(found: &ArgMatches<'a>) -> &'a str
-    ensures { result.now ≡ unwrap_or (first_of (codes "records") (rows_of (found_of found.now))) (codes "-") }
-{
-    match text_in(found, "records") {
-        Some(path) => path,
-        None => "-",
-    }
 }

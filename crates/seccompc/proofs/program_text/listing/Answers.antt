@@ -1,4 +1,4 @@
-use Rattle.std.proofs.Common.{◌≡◌, ◌∷◌, ◌++◌, [], length, sym, ap, ◌∙◌, append_assoc}
+use Rattle.std.proofs.Common.{◌≡◌, ◌∷◌, ◌++◌, [], sym, ap, ◌∙◌, append_assoc}
 use Rattle.seccompc.proofs.program_text.Listings.{Entry, listing_more}
 use Rattle.seccompc.proofs.program_text.listing.Goals as goal
 
@@ -8,11 +8,9 @@ loop-name-preserved c =
     let done = l.invariant.0 in
     let e : Entry = (c.in-Some.name.now, c.in-Some.program.now) in
     let left = c.next.new.self in
-    let all : c.args.programs.now.entries ≡ done ++ e ∷ left = l.invariant.1 ∙ ap (λ es. done ++ es) c.in-Some.ensures.steps in
-    let count : c.len.result ≡ length e.1.items = c.len.ensures ∙ sym c.deref.ensures.len ∙ ap length c.deref.ensures.value in (
+    let all : c.args.programs.now.entries ≡ done ++ e ∷ left = l.invariant.1 ∙ ap (λ es. done ++ es) c.in-Some.ensures.steps in (
       done ++ e ∷ [],
       all ∙ sym (append_assoc done (e ∷ []) left),
-      listing_more done e c.len.result c.as_str.result.now c.deref.result.now
-          l.text.items c.push_header.new.text.items c.push_instructions.new.text.items l.invariant.2
-          c.in_ok-push_header.ensures c.in_ok-push_instructions.ensures count c.as_str.ensures.value c.deref.ensures.value,
+      listing_more done e c.as_str.result.now c.deref.result.now
+          l.text.items c.push_listing.new.text.items l.invariant.2 c.in_ok-push_listing.ensures c.as_str.ensures.value c.deref.ensures.value,
     )

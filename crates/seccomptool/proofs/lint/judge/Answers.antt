@@ -1,6 +1,5 @@
-use Rattle.std.specs.BTreeMap.{get_by_text}
 use Rattle.seccomptool.proofs.lint.Judgements.{all_compiled}
 use Rattle.seccomptool.proofs.lint.judge.Goals as goal
 
 pub returns-in-Ok-clause-compiled : goal.returns-in-Ok-clause-compiled
-returns-in-Ok-clause-compiled c = all_compiled c.args.target c.args.text.now (get_by_text c.in-Ok.field-0) c.in-Ok.ensures.programs
+returns-in-Ok-clause-compiled c = all_compiled c.args.target c.args.text.now c.in-Ok.ensures.compiled

@@ -14,8 +14,9 @@ returns-clause-app c =
     let e1 = rule_added _ _ _ _ _ e0 c.arch.ensures.rule c.arch.ensures.local c.in_ok-arg.ensures in
     let e2 = rule_added _ _ _ _ _ e1 c.filter.ensures.rule c.filter.ensures.local c.in_ok-arg-2.ensures in
     let e3 = rule_added _ _ _ _ _ e2 c.layout.ensures.rule c.layout.ensures.local c.in_ok-arg-3.ensures in
-    let e4 = rule_added _ _ _ _ _ e3 c.output.ensures.rule c.output.ensures.local c.in_ok-arg-4.ensures in
-    IfOk-weaker c.arg-5.result _ _ (λ r h. rule_added _ _ _ _ _ e4 c.policy.ensures.rule c.policy.ensures.local h) c.arg-5.ensures
+    let e4 = rule_added _ _ _ _ _ e3 c.format.ensures.rule c.format.ensures.local c.in_ok-arg-4.ensures in
+    let e5 = rule_added _ _ _ _ _ e4 c.output.ensures.rule c.output.ensures.local c.in_ok-arg-5.ensures in
+    IfOk-weaker c.arg-6.result _ _ (λ r h. rule_added _ _ _ _ _ e5 c.policy.ensures.rule c.policy.ensures.local h) c.arg-6.ensures
 
 pub returns-clause-local : goal.returns-clause-local
 returns-clause-local c =
@@ -23,5 +24,6 @@ returns-clause-local c =
     let l1 = local_added _ _ _ l0 c.arch.ensures.local c.in_ok-arg.ensures in
     let l2 = local_added _ _ _ l1 c.filter.ensures.local c.in_ok-arg-2.ensures in
     let l3 = local_added _ _ _ l2 c.layout.ensures.local c.in_ok-arg-3.ensures in
-    let l4 = local_added _ _ _ l3 c.output.ensures.local c.in_ok-arg-4.ensures in
-    IfOk-weaker c.arg-5.result _ _ (λ r h. local_added _ _ _ l4 c.policy.ensures.local h) c.arg-5.ensures
+    let l4 = local_added _ _ _ l3 c.format.ensures.local c.in_ok-arg-4.ensures in
+    let l5 = local_added _ _ _ l4 c.output.ensures.local c.in_ok-arg-5.ensures in
+    IfOk-weaker c.arg-6.result _ _ (λ r h. local_added _ _ _ l5 c.policy.ensures.local h) c.arg-6.ensures

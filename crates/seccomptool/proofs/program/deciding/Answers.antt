@@ -1,8 +1,8 @@
-use Rattle.std.proofs.Common.{◌≡◌, codes}
+use Rattle.std.proofs.Common.{◌≡◌}
 use Rattle.std.proofs.lemmas.Result.{IfOk-weaker}
 use Rattle.clap.specs.Words.{app_of}
 use Rattle.clap.specs.declared.builder.command.Command.{Command}
-use Rattle.seccomptool.specs.CommandLine.{compile_app, deciding_app, explain_app, policy_app, run_app, show_app, top_app}
+use Rattle.seccomptool.specs.CommandLine.{check_app, compile_app, deciding_app, explain_app, run_app, show_app, top_app}
 use Rattle.seccomptool.proofs.program.Apps.{deciding_added}
 use Rattle.seccomptool.proofs.program.deciding.Goals as goal
 
@@ -10,15 +10,17 @@ pub returns : goal.returns
 returns c =
     let archs = c.args.archs in
     let layouts = c.args.layouts in
+    let formats = c.args.formats in
     let is_top : app_of c.in_ok-top.top ≡ top_app = c.in_ok-top.ensures in
-    let is_compile : app_of c.in_ok-compile.compile ≡ compile_app archs layouts = c.in_ok-compile.ensures.app in
+    let is_compile : app_of c.in_ok-compile.compile ≡ compile_app archs layouts formats = c.in_ok-compile.ensures.app in
     let is_show : app_of c.in_ok-show.show ≡ show_app archs layouts = c.in_ok-show.ensures.app in
-    let is_check : app_of c.in_ok-check.check ≡ policy_app (codes "check") archs = c.in_ok-check.ensures.app in
+    let is_check : app_of c.in_ok-check.check ≡ check_app archs = c.in_ok-check.ensures.app in
     let is_explain : app_of c.in_ok-explain.explain ≡ explain_app archs = c.in_ok-explain.ensures.app in
     let is_run : app_of c.in_ok-of_program.of_program ≡ run_app archs = c.in_ok-of_program.ensures.app in
-    let whole : Command → Type 0 = λ r. app_of r ≡ deciding_app archs layouts in
+    let whole : Command → Type 0 = λ r. app_of r ≡ deciding_app archs layouts formats in
     IfOk-weaker c.subcommand-5.result _ whole (λ r h.
-    deciding_added archs layouts c.in_ok-top.top _ _ _ _ r c.in_ok-compile.compile c.in_ok-show.show c.in_ok-check.check c.in_ok-explain.explain c.in_ok-of_program.of_program is_top
+    deciding_added archs layouts formats c.in_ok-top.top _ _ _ _ r c.in_ok-compile.compile c.in_ok-show.show c.in_ok-check.check
+    c.in_ok-explain.explain c.in_ok-of_program.of_program is_top
     (is_compile, c.in_ok-compile.ensures.local, c.in_ok-subcommand.ensures)
     (is_show, c.in_ok-show.ensures.local, c.in_ok-subcommand-2.ensures)
     (is_check, c.in_ok-check.ensures.local, c.in_ok-subcommand-3.ensures)

@@ -12,7 +12,7 @@ pub returns-clause-app : goal.returns-clause-app
 returns-clause-app c =
     let e0 : app_of c.about.result ≡ new_app (codes "diff") = ap app_of_fields c.about.ensures ∙ c.new.ensures.app in
     let e1 = rule_added _ _ _ _ _ e0 c.arch.ensures.rule c.arch.ensures.local c.in_ok-arg.ensures in
-    let e2 = rule_added _ _ _ _ _ e1 c.filter.ensures.rule c.filter.ensures.local c.in_ok-arg-2.ensures in
+    let e2 = rule_added _ _ _ _ _ e1 c.compared_filter.ensures.rule c.compared_filter.ensures.local c.in_ok-arg-2.ensures in
     let e3 = rule_added _ _ _ _ _ e2 c.at_most.ensures.rule c.at_most.ensures.local c.in_ok-arg-3.ensures in
     let e4 = rule_added _ _ _ _ _ e3 c.most.ensures.rule c.most.ensures.local c.in_ok-arg-4.ensures in
     let e5 = rule_added _ _ _ _ _ e4 c.old.ensures.rule c.old.ensures.local c.in_ok-arg-5.ensures in
@@ -22,7 +22,7 @@ pub returns-clause-local : goal.returns-clause-local
 returns-clause-local c =
     let l0 : (out-Command c.about.result).has_globals ≡ false = ap (λ (f : Command-F Command). f.has_globals) c.about.ensures ∙ c.new.ensures.local in
     let l1 = local_added _ _ _ l0 c.arch.ensures.local c.in_ok-arg.ensures in
-    let l2 = local_added _ _ _ l1 c.filter.ensures.local c.in_ok-arg-2.ensures in
+    let l2 = local_added _ _ _ l1 c.compared_filter.ensures.local c.in_ok-arg-2.ensures in
     let l3 = local_added _ _ _ l2 c.at_most.ensures.local c.in_ok-arg-3.ensures in
     let l4 = local_added _ _ _ l3 c.most.ensures.local c.in_ok-arg-4.ensures in
     let l5 = local_added _ _ _ l4 c.old.ensures.local c.in_ok-arg-5.ensures in

@@ -1,6 +1,5 @@
 use Rattle.std.proofs.Common.{◌≡◌, List, map, rules, Some, string_bytes}
 use Rattle.clap.specs.Words.{Text, app_of, found_of, rows_of, subcommand_rows_of}
-use Rattle.seccomptool.specs.CommandLine.{program_app}
 use Rattle.seccomptool.specs.Words.{Choices}
 use Rattle.seccomptool.proofs.words.Meanings.{meant, none_entered, none_of, pair_of, refused, unmeant}
 use Rattle.std.specs.Box.{box_value}
@@ -16,8 +15,10 @@ returns-in-Err c =
     let choices : Choices = record {
       archs = c.as_slice-archs.result;
       layouts = c.as_slice-layouts.result;
+      formats = c.as_slice-formats.result;
       archs_are = search rules;
       layouts_are = search rules;
+      formats_are = search rules;
     } in
     (choices, tt, refused choices _ _ c.in_ok-program.ensures.app c.in-Err.error c.in-Err.ensures.kinds)
 
@@ -30,8 +31,10 @@ returns-in-None c =
     let choices : Choices = record {
       archs = c.as_slice-archs.result;
       layouts = c.as_slice-layouts.result;
+      formats = c.as_slice-formats.result;
       archs_are = search rules;
       layouts_are = search rules;
+      formats_are = search rules;
     } in (
       choices,
       tt,
@@ -44,8 +47,10 @@ returns-in-Some-command_in c =
     let choices : Choices = record {
       archs = c.as_slice-archs.result;
       layouts = c.as_slice-layouts.result;
+      formats = c.as_slice-formats.result;
       archs_are = search rules;
       layouts_are = search rules;
+      formats_are = search rules;
     } in
     let met = pair_of (out-ArgMatches c.in-Ok.matches).subcommand sub_of c.in-Some.name.now (rows_of (found_of c.in-Some.found.now)) c.in-Some.ensures.name c.in-Some.ensures.rows in (
       choices,
@@ -59,8 +64,10 @@ returns c =
     let choices : Choices = record {
       archs = c.as_slice-archs.result;
       layouts = c.as_slice-layouts.result;
+      formats = c.as_slice-formats.result;
       archs_are = search rules;
       layouts_are = search rules;
+      formats_are = search rules;
     } in
     let met = pair_of (out-ArgMatches c.in-Ok.matches).subcommand sub_of c.in-Some.name.now (rows_of (found_of c.in-Some.found.now)) c.in-Some.ensures.name c.in-Some.ensures.rows in (
       choices,

@@ -1,6 +1,6 @@
 use Rattle.std.proofs.Common.{◌≡◌, ◌++◌, ap, ◌∙◌}
-use Rattle.seccomptool.specs.Diff.{AreDecisions, compared, heading, verdict_text}
-use Rattle.seccomptool.specs.Findings.{verdict_of, lines_of}
+use Rattle.seccomptool.specs.Diff.{AreDecisions, compared}
+use Rattle.seccomptool.specs.Findings.{heading, verdict_of, verdict_text, lines_of}
 use Rattle.seccomptool.proofs.findings.Covered.{covered}
 use Rattle.seccomptool.proofs.findings.Pieces.{report_added}
 use Rattle.seccomptool.proofs.diff.filters.push_both.Goals as goal

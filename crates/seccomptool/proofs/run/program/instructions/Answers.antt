@@ -3,7 +3,7 @@ use Rattle.std.proofs.Math.Seq.{take-length}
 use Rattle.std.proofs.lemmas.List.{map-append, take_more}
 use Rattle.std.proofs.lemmas.List.Elements.{All-push}
 use Rattle.seccompiler.specs.Machine.{IsInRange}
-use Rattle.seccomptool.specs.Raw.{instruction_bytes}
+use Rattle.seccomptool.specs.Compile.{instruction_bytes}
 use Rattle.seccomptool.proofs.run.program.instructions.Goals as goal
 
 pub loop-piece-preserved : goal.loop-piece-preserved

@@ -1,0 +1,65 @@
+-- For `check`, `place` and `placed`: what is answered, from what the library answers and from what is found.
+use Rattle.std.proofs.Common.{◌≡◌, ℕ, List, Option, Some, None, IfOk, IfSome, Result, Ok, Err, String, Vec, Global, string_bytes, subst}
+use Rattle.serde_json.specs.Data.{Data}
+use Rattle.seccompiler.specs.declared.backend.BackendError.TheVariants as backend
+use Rattle.seccompiler.specs.declared.backend.TargetArch.{TargetArch}
+use Rattle.seccompiler.specs.declared.bpf.sock_filter.{sock_filter}
+use Rattle.seccompiler.specs.declared.error.Error.{Error}
+use Rattle.seccompiler.specs.declared.error.Error.TheVariants as library
+use Rattle.seccompiler.specs.declared.json.error.JsonFrontendError.{JsonFrontendError}
+use Rattle.seccompiler.specs.declared.json.error.JsonFrontendError.TheVariants as json
+use Rattle.seccompiler.specs.Errors.{IsNoMemoryInside}
+use Rattle.seccompiler.specs.JsonAnswers.{IsReadAs, IsValueOf, OfValue, TellsFrontendFault}
+use Rattle.seccompiler.specs.JsonPrograms.{AreProgramsOf, IsProgramOf, TellsFirstFault}
+use Rattle.seccompiler.specs.Reads.{Reads}
+use Rattle.seccomp_check.specs.Checks.{AreAllCompiled, IsPlaced, IsRejection, TellsFaultOf, cause_told, frontend_cause, from_library}
+use Rattle.seccomp_check.specs.Faults.{IsFaultIn}
+use Rattle.seccomp_check.specs.Texts.{fault_text}
+use Rattle.seccomp_check.specs.declared.fault.Cause.{Cause}
+use Rattle.seccomp_check.specs.declared.fault.Fault.{Fault}
+use Rattle.seccomp_command_line.proofs.Found.{all_values}
+
+-- Values that have programs are all compiled.
+pub all_compiled : (target : TargetArch) (text : List ℕ) (find : List ℕ → Option (Vec sock_filter Global))
+    → Reads (Some text) (λ t. OfValue t (AreProgramsOf target find)) → OfValue text (AreAllCompiled target)
+all_compiled target text find h =
+    let value = subst (λ t. OfValue t (AreProgramsOf target find)) h.1 h.2 in
+    let Compiled : Data → Type 0 = λ v. (program : List sock_filter) × IsProgramOf target v program in
+    (value.0, value.1, all_values _ find value.0 value.2 Compiled (λ v program is. (program.items, is)))
+
+module _ (target : TargetArch) (text : List ℕ) where
+  -- A text of which a fault of the front end with a place is told has a value.
+  pub has_frontend_value : (e : JsonFrontendError) (cause : Cause) → TellsFrontendFault target text e → frontend_cause target e ≡ Some cause
+      → (d : Data) × IsValueOf text d
+  has_frontend_value json.NotAnObject cause first is = (first.0, first.1)
+  has_frontend_value (json.Shape name) cause first is = (first.0, first.1)
+  has_frontend_value (json.SyscallName name known) cause first is = (first.0, first.1)
+  has_frontend_value (json.Backend e) cause first is = (first.0, first.1)
+  has_frontend_value _ cause first is = cc
+
+  -- A text of which a fault with a place is told has a value.
+  has_value : (e : Error) (cause : Cause) → TellsFirstFault target text e → cause_told target e ≡ Some cause → (d : Data) × IsValueOf text d
+  has_value (library.JsonFrontend e) cause first is = has_frontend_value e cause first is
+  has_value (library.Backend (backend.FilterTooLarge n)) cause first is = (first.0, first.1)
+  has_value (library.Backend e) cause first is = absurd first
+  has_value _ cause first is = cc
+
+  -- The first fault with its place.
+  pub is_placed : (e : Error) (cause : Cause) (told : List ℕ) → TellsFirstFault target text e → cause_told target e ≡ Some cause
+      → ((d : Data) → IsReadAs text d → TellsFaultOf cause d told) → IsPlaced target text told
+  is_placed e cause told first is found =
+      let value = has_value e cause first is in
+      record { refusal = e; first = first; cause = cause; kind = is; placed = (value.0, value.1, found value.0 value.1.is_read) }
+
+  -- The first fault as the library tells it.
+  pub is_plain : (e : Error) → IsNoMemoryInside e → TellsFirstFault target text e → IsRejection target text (from_library e)
+  is_plain library.OutOfMemory memory first = tt
+  is_plain e memory first = ((λ same. cc), memory, first)
+
+-- The text of a fault that was found, if it is one.
+pub told_of : {E : Type 0} (r : Result (Option (String Global)) E) (cause : Cause) (d : Data) (fault : Fault)
+    → IfOk r (λ found. IfSome found (λ told. string_bytes told ≡ fault_text fault)) → IsFaultIn cause d fault
+    → IfOk r (λ found. IfSome found (λ told. TellsFaultOf cause d (string_bytes told)))
+told_of (Ok (Some told)) cause d fault same there = (fault, there, same)
+told_of (Ok None) cause d fault same there = tt
+told_of (Err e) cause d fault same there = tt

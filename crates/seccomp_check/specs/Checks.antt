@@ -1,0 +1,65 @@
+-- What `check` answers of a policy's text: the first fault, with its place where it has one.
+use Rattle.std.specs.Prelude.{◌≡◌, ◌≢◌, ℕ, List, Option, Some, None, string_bytes, ⊤}
+use Rattle.serde_json.specs.Data.{Data}
+use Rattle.seccompiler.specs.declared.backend.BackendError.TheVariants as backend
+use Rattle.seccompiler.specs.declared.backend.TargetArch.{TargetArch}
+use Rattle.seccompiler.specs.declared.bpf.sock_filter.{sock_filter}
+use Rattle.seccompiler.specs.declared.error.Error.{Error}
+use Rattle.seccompiler.specs.declared.error.Error.TheVariants as library
+use Rattle.seccompiler.specs.declared.json.error.JsonFrontendError.{JsonFrontendError}
+use Rattle.seccompiler.specs.declared.json.error.JsonFrontendError.TheVariants as frontend
+use Rattle.seccompiler.specs.Errors.{IsNoMemoryInside}
+use Rattle.seccompiler.specs.JsonAnswers.{OfValue}
+use Rattle.seccompiler.specs.JsonFilters.{AreAll}
+use Rattle.seccompiler.specs.JsonPrograms.{IsProgramOf, TellsFirstFault}
+use Rattle.seccomp_check.specs.declared.fault.Cause.{Cause}
+use Rattle.seccomp_check.specs.declared.fault.Cause.TheVariants as cause
+use Rattle.seccomp_check.specs.declared.fault.Fault.{Fault}
+use Rattle.seccomp_check.specs.declared.rejection.Rejection.{Rejection}
+use Rattle.seccomp_check.specs.declared.rejection.Rejection.TheVariants.{Library, Placed, OutOfMemory}
+use Rattle.seccomp_check.specs.Faults.{IsFaultIn}
+use Rattle.seccomp_check.specs.Texts.{fault_text}
+
+-- The kind of fault that the front end's refusal of a policy tells, where it has a place in the policy.
+abbrev pub frontend_cause : TargetArch → JsonFrontendError → Option Cause
+frontend_cause target frontend.NotAnObject = Some cause.Top
+frontend_cause target (frontend.Shape name) = Some cause.Shape
+frontend_cause target (frontend.SyscallName name known) = Some (cause.Call target)
+frontend_cause target (frontend.Backend backend.InvalidArgumentNumber) = Some cause.Argument
+frontend_cause target (frontend.Backend backend.EmptyRule) = Some cause.Empty
+frontend_cause target (frontend.Backend backend.IdenticalActions) = Some cause.Actions
+frontend_cause target e = None
+
+-- The same of the library's refusal: a program that is too long has a place too.
+abbrev pub cause_told : TargetArch → Error → Option Cause
+cause_told target (library.JsonFrontend e) = frontend_cause target e
+cause_told target (library.Backend (backend.FilterTooLarge n)) = Some (cause.Length target)
+cause_told target e = None
+
+-- The text is that of a fault of this kind that the policy's value has.
+abbrev pub TellsFaultOf : Cause → Data → List ℕ → Type 0
+TellsFaultOf cause d told = (fault : Fault) × IsFaultIn cause d fault × (told ≡ fault_text fault)
+
+-- Of the text of a policy: the first fault is of this kind, and this is the text of a fault of its kind that its value
+-- has.
+pub record IsPlaced (target : TargetArch) (text told : List ℕ) : Type 0 where
+  pub refusal : Error
+  pub first : TellsFirstFault target text refusal
+  pub cause : Cause
+  pub kind : cause_told target refusal ≡ Some cause
+  pub placed : OfValue text (λ d. TellsFaultOf cause d told)
+
+-- All filters of the value have programs.
+abbrev pub AreAllCompiled : TargetArch → Data → Type 0
+AreAllCompiled target d = AreAll (λ value. (program : List sock_filter) × IsProgramOf target value program) d
+
+-- The first fault is told: with its place, or as the library tells it. Want of memory may come in place of both.
+abbrev pub IsRejection : TargetArch → List ℕ → Rejection → Type 0
+IsRejection target text (Library e) = (e ≢ library.OutOfMemory) × IsNoMemoryInside e × TellsFirstFault target text e
+IsRejection target text (Placed told) = IsPlaced target text (string_bytes told)
+IsRejection target text OutOfMemory = ⊤
+
+-- The library's refusal, as a rejection without a place.
+abbrev pub from_library : Error → Rejection
+from_library library.OutOfMemory = OutOfMemory
+from_library refusal = Library refusal

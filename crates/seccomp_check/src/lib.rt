@@ -1,0 +1,156 @@
+//! The place at which a policy is rejected.
+//!
+//! The library's errors say what is wrong with a policy, and this crate finds where: [`check`] reads a
+//! policy's text, and tells the first fault by the path of its place, what stands there and what may, as
+//! `main_thread.filter[1].syscall: unknown system call "fnctl" on x86_64; did you mean "fcntl"?`.
+//! [`place`] finds the place for an error that the library gave before.
+//!
+//! ```
+//! use seccomp_check::{Rejection, check};
+//! use seccompiler::TargetArch;
+//! use std::alloc::Global;
+//!
+//! /// Checks a policy for x86_64.
+//! fn check_here(alloc: Global, policy: &[u8]) -> Result<(), Rejection> {
+//!     check(alloc, TargetArch::x86_64, policy)
+//! }
+//! ```
+#![tactic(auto)]
+
+mod allowed;
+pub mod fault;
+mod length;
+mod near;
+pub mod part;
+pub mod rejection;
+mod text;
+mod walk;
+
+ghost use Rattle.std.specs.Prelude.{◌≡◌, IfSome, IfOk, IfErr, OnOk, string_bytes};
+ghost use Rattle.serde_json.specs.Data.{Data};
+ghost use Rattle.seccompiler.specs.Errors.{IsNoMemoryInside};
+ghost use Rattle.seccompiler.specs.JsonAnswers.{OfValue, IsReadAs};
+ghost use Rattle.seccompiler.specs.JsonPrograms.{TellsFirstFault};
+ghost use Rattle.seccomp_check.specs.Checks.{AreAllCompiled, IsRejection, TellsFaultOf, frontend_cause, cause_told};
+ghost use Rattle.seccomp_check.specs.Faults.{Tells};
+ghost use Rattle.seccomp_check.specs.Texts as spec;
+ghost use Rattle.seccomp_check.specs.declared.part.Part.TheVariants.{Policy};
+
+pub use crate::fault::{Cause, Expected, Fault, Finding, Problem, Step};
+pub use crate::part::{Kind, Part};
+pub use crate::rejection::Rejection;
+use crate::text::fault_text;
+use crate::walk::in_policy;
+use seccompiler::json::JsonFrontendError;
+use seccompiler::{BackendError, Error, TargetArch, compile_from_json_in_order};
+use serde_json::Value;
+use std::alloc::{AllocError, Global};
+
+/// Looks for the first fault of a policy's text, and tells its place.
+///
+/// It is Ok only where `compile_from_json` compiles all filters.
+///
+/// A fault's text is a path, a colon, a space and what is wrong there, on one line. The path is the
+/// filter's name, then `.` and a name for what stands under a name, and `[` PLACE `]` for what stands at
+/// a place of an array, from 0; `the policy` stands for the empty path. In names the control characters,
+/// those from U+0080 to U+009F too, and the backslash are written as `\x` and two lower-case hexadecimal
+/// digits for each of their bytes. A value that may not stand there is told as JSON, an array by its
+/// length, and an object as `an object`; behind a call's name that the architecture hasn't may come a like
+/// one that it has. Where an action or an operator is an object of one name, `errno`, `trace` or
+/// `masked_eq`, the path leads to its number.
+///
+/// # Errors
+///
+/// `Library` with what `compile_from_json` refuses of the policy, where that has no place: the bytes are
+/// no JSON, or a name is repeated. `Placed` with the text of a fault of the kind that `compile_from_json`
+/// tells, where that has a place. `OutOfMemory` in place of both, where memory is refused.
+///
+/// Of several faults of that kind it is the first, in the order that docs/TOOL.md gives. That is tested
+/// and not proved, and so is that a fault with a place is told by it: by the contract it may be any one of
+/// its kind, and may be told as `Library`.
+pub fn check(alloc: Global, target: TargetArch, text: &[u8]) -> Result<(), Rejection>
+    ensures compiled { OnOk result (OfValue text.now (AreAllCompiled target)) }
+    ensures rejected { IfErr result (IsRejection target text.now) }
+{
+    match compile_from_json_in_order(alloc, text, target) {
+        Ok(_) => Ok(()),
+        Err(refusal) => Err(placed(alloc, target, text, refusal)),
+    }
+}
+
+/// Finds the first fault of a kind in a policy's text, and tells its place as [`check`] does.
+///
+/// The kind is that of an error that the library gave of the same text, by [`cause_of`] or
+/// [`cause_of_frontend`]. It is None where the text has no such fault.
+///
+/// # Errors
+///
+/// `AllocError` where memory is refused.
+pub fn place(alloc: Global, cause: Cause, text: &[u8]) -> Result<Option<String>, AllocError>
+    ensures told { (d : Data) → IsReadAs text.now d → IfOk result (λ found. IfSome found (λ told. TellsFaultOf cause d (string_bytes told))) }
+{
+    match search(alloc, cause, text) {
+        Ok(()) => Ok(None),
+        Err(Finding::OutOfMemory) => Err(AllocError),
+        Err(Finding::Fault(fault)) => told(alloc, &fault),
+    }
+}
+
+/// The kind of fault that a refusal of the front end tells, where it has a place in the policy.
+pub fn cause_of_frontend(target: TargetArch, refusal: &JsonFrontendError) -> Option<Cause>
+    ensures { result ≡ frontend_cause target refusal.now }
+{
+    match refusal {
+        JsonFrontendError::NotAnObject => Some(Cause::Top),
+        JsonFrontendError::Shape(_) => Some(Cause::Shape),
+        JsonFrontendError::SyscallName(_, _) => Some(Cause::Call(target)),
+        JsonFrontendError::Backend(BackendError::InvalidArgumentNumber) => Some(Cause::Argument),
+        JsonFrontendError::Backend(BackendError::EmptyRule) => Some(Cause::Empty),
+        JsonFrontendError::Backend(BackendError::IdenticalActions) => Some(Cause::Actions),
+        _ => None,
+    }
+}
+
+/// The kind of fault that a refusal of the library tells, where it has a place in the policy.
+pub fn cause_of(target: TargetArch, refusal: &Error) -> Option<Cause>
+    ensures { result ≡ cause_told target refusal.now }
+{
+    match refusal {
+        Error::JsonFrontend(refusal) => cause_of_frontend(target, refusal),
+        Error::Backend(BackendError::FilterTooLarge(_)) => Some(Cause::Length(target)),
+        _ => None,
+    }
+}
+
+// The refusal with its place, or as it is where none is found.
+fn placed(alloc: Global, target: TargetArch, text: &[u8], refusal: Error) -> Rejection
+    ensures { IsNoMemoryInside refusal → TellsFirstFault target text.now refusal → IsRejection target text.now result }
+{
+    let Some(cause) = cause_of(target, &refusal) else {
+        return refusal.into();
+    };
+    match place(alloc, cause, text) {
+        Ok(Some(told)) => Rejection::Placed(told),
+        Ok(None) => refusal.into(),
+        Err(_) => Rejection::OutOfMemory,
+    }
+}
+
+// The text of a fault. Its bytes are UTF-8, which is not proved: `None` would say that they are not.
+fn told(alloc: Global, fault: &Fault) -> Result<Option<String>, AllocError>
+    ensures { IfOk result (λ told. IfSome told (λ told. string_bytes told ≡ spec.fault_text fault.now)) }
+{
+    let text = fault_text(alloc, fault)?;
+    Ok(String::from_utf8(text).ok())
+}
+
+// The first fault of this kind in a text.
+fn search(alloc: Global, cause: Cause, text: &[u8]) -> Result<(), Finding>
+    ensures found { (d : Data) → IsReadAs text.now d → IfErr result (Tells cause Policy d) }
+{
+    match Value::from_slice(alloc, text) {
+        Ok(value) => in_policy(alloc, cause, &value),
+        Err(error) if error.is_memory() => Err(Finding::OutOfMemory),
+        Err(_) => Ok(()),
+    }
+}

@@ -1,0 +1,42 @@
+// Why a policy isn't taken.
+
+use std::alloc::AllocError;
+
+/// Why a policy isn't taken.
+///
+/// Want of memory stands in `OutOfMemory` alone, and never inside another variant.
+#[derive(Debug, Drop)]
+pub enum Rejection {
+    /// The library refuses, and the fault has no place: the text is no JSON, or repeats a name.
+    Library(seccompiler::Error),
+    /// The policy has a fault that has a place; the text tells the place, what stands there and what may.
+    Placed(String),
+    /// A growth of memory was refused.
+    OutOfMemory,
+}
+
+/// The library's want of memory stays so; any other refusal has no place.
+impl From<seccompiler::Error> for Rejection {
+    ghost use Rattle.std.specs.Prelude.{◌≡◌};
+    ghost use Rattle.seccomp_check.specs.Checks.{from_library};
+
+    ghost from_gives = { λ refusal rejection. rejection ≡ from_library refusal };
+
+    fn from(refusal: seccompiler::Error) -> Rejection {
+        match refusal {
+            seccompiler::Error::OutOfMemory => Rejection::OutOfMemory,
+            refusal => Rejection::Library(refusal),
+        }
+    }
+}
+
+impl From<AllocError> for Rejection {
+    ghost use Rattle.std.specs.Prelude.{◌≡◌};
+    ghost use Rattle.seccomp_check.specs.declared.rejection.Rejection.TheVariants.{OutOfMemory};
+
+    ghost from_gives = { λ _ rejection. rejection ≡ OutOfMemory };
+
+    fn from(_refused: AllocError) -> Rejection {
+        Rejection::OutOfMemory
+    }
+}

@@ -1,7 +1,0 @@
-use Rattle.std.proofs.Common.{◌≡◌, ◌++◌, take, map}
-use Rattle.std.specs.List.{concat}
-use Rattle.seccomptool.specs.LintTexts.{step_text}
-use Rattle.seccomptool.proofs.lint.text.push_steps.Given as goal
-
-abbrev pub invariant-loop-step : goal.invariant-loop-step
-invariant-loop-step l = l.text.items ≡ l.fn.text.items ++ concat (map step_text (take l.step-index l.path))

@@ -1,2 +1,0 @@
--- Lemmas for the functions of `raw`.
-pub mod Programs

@@ -1,0 +1,14 @@
+use Rattle.std.proofs.Common.{◌≡◌, ◌<◌, All, map, take}
+use Rattle.seccompiler.specs.CompareFilters.{IsCompilableInSome}
+use Rattle.seccomptool.specs.Findings.{IsFound}
+use Rattle.seccomptool.specs.Verify.{AreAnswers}
+use Rattle.seccomptool.specs.declared.findings.Finding.{Finding}
+use Rattle.seccomptool.proofs.verify.report.findings_of.Given as goal
+
+-- what is found is that of the parts so far; once there is one, the filter has a program
+abbrev pub invariant-loop-part : goal.invariant-loop-part
+invariant-loop-part l = record {
+  parts : map (λ (f : Finding). f.part) l.findings.items ≡ take l.part-index l.parts;
+  each : All (λ (f : Finding). IsFound l.terms.target l.terms.relation (AreAnswers l.program l.filter) f.part f.answer) l.findings.items;
+  tried : 0 < l.part-index → IsCompilableInSome l.filter;
+}

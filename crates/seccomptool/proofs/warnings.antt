@@ -1,0 +1,3 @@
+-- Lemmas for the functions of `warnings`.
+pub mod Picked
+pub mod Reported

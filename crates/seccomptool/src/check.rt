@@ -1,0 +1,66 @@
+// The first fault of a policy, or else its warnings.
+
+ghost use Rattle.std.specs.Prelude.{◌≡◌, IfErr};
+ghost use Rattle.seccomptool.specs.Check.{AnswersCheck, verdict_where};
+ghost use Rattle.seccomptool.specs.Errors.{KeepsOutput};
+
+use crate::error::ToolError;
+use crate::findings::Verdict;
+use crate::lint::lint;
+use crate::policy::policy_text;
+use crate::send::send;
+use crate::warnings::report::report_of;
+use seccompiler::TargetArch;
+use seccompiler::json::filters_of;
+use std::alloc::Global;
+use std::io::{Read, Write};
+
+/// Tells the first fault of a policy as an error, as [`lint`] tells it, or else writes its warnings.
+///
+/// For each filter, in byte order of names, comes a line for each warning: those of its two actions
+/// first, and then those of its entries, condition by condition. A line is the place, `: warning [`, the
+/// warning's code, `]: `, what is so, and what to write instead. The place begins with the filter's name,
+/// in which the control characters, those from U+0080 to U+009F too, and the backslash are written as `\x`
+/// and two lower-case hexadecimal digits for each of their bytes; an action is placed as
+/// `mismatch_action` or `match_action`, by whichever of its two names it stands there. Where there is no
+/// warning nothing is written. All lines are written at once.
+///
+/// The verdict is `Different` where `denied` and there is a warning, and `Same` otherwise.
+///
+/// The policy's text is what its reader gives, and is read whole at first.
+///
+/// # Errors
+///
+/// The first of these: what [`lint`] refuses, as it tells it; `Write` where the writer fails.
+/// `OutOfMemory` comes in place of any of these where memory is refused, and where the reader fails for
+/// want of memory. On any error but `Write` nothing is written.
+pub fn check<R: Read + Drop, W: Write>(
+    alloc: Global,
+    arch: &str,
+    denied: bool,
+    policy: R,
+    out: &mut W,
+) -> Result<Verdict, ToolError>
+    // When each answer comes, and what is written.
+    ensures answers { AnswersCheck arch.now denied (R.remaining policy) result (W.contents out.old) (W.contents out.new) }
+    ensures unwritten { IfErr result (λ e. KeepsOutput e out.old out.new) }
+{
+    TargetArch::from_text(alloc, arch)?;
+    let text = policy_text(alloc, policy)?;
+    lint(alloc, arch, text.as_slice())?;
+    let filters = filters_of(alloc, text.as_slice())?;
+    let report = report_of(alloc, &filters)?;
+    send(out, &report.text)?;
+    Ok(verdict_where(denied, report.warned))
+}
+
+// The verdict where warnings are denied or not, and there are some or none.
+fn verdict_where(denied: bool, warned: bool) -> Verdict
+    ensures { result ≡ verdict_where denied warned }
+{
+    if denied && warned {
+        Verdict::Different
+    } else {
+        Verdict::Same
+    }
+}

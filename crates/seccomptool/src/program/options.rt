@@ -1,0 +1,227 @@
+// The options and arguments of the commands, as `clap` is told of them.
+
+ghost use Rattle.std.specs.Prelude.{◌≡◌, false};
+ghost use Rattle.clap.specs.Words.{rule_of};
+ghost use Rattle.seccomptool.specs.CommandLine.{all_rule, arch_rule, arguments_rule, at_most_rule, call_rule, deny_warnings_rule, filter_rule, format_rule, given_call_rule, given_policy_rule, layout_rule, most_rule, new_policy_rule, old_rule, output_rule, policy_rule, program_rule, records_rule, shown_policy_rule, shown_program_rule};
+
+use clap::{Arg, ArgAction};
+use std::alloc::Global;
+
+pub(super) fn arch<'a>(alloc: Global, archs: &'a [&'a str]) -> Arg<'a>
+    ensures rule { rule_of result ≡ arch_rule archs.entry }
+    ensures local { result.global ≡ false }
+{
+    Arg::new(alloc, "arch")
+        .short('a')
+        .long("arch")
+        .value_name("ARCH")
+        .value_parser(archs)
+        .default_value("x86_64")
+        .help("The architecture")
+}
+
+pub(super) fn filter<'a>(alloc: Global) -> Arg<'a>
+    ensures rule { rule_of result ≡ filter_rule }
+    ensures local { result.global ≡ false }
+{
+    Arg::new(alloc, "filter")
+        .short('f')
+        .long("filter")
+        .value_name("FILTER")
+        .help("The filter's name; it may be left out where the policy has one filter")
+}
+
+pub(super) fn compared_filter<'a>(alloc: Global) -> Arg<'a>
+    ensures rule { rule_of result ≡ filter_rule }
+    ensures local { result.global ≡ false }
+{
+    Arg::new(alloc, "filter")
+        .short('f')
+        .long("filter")
+        .value_name("FILTER")
+        .help("The name of the filter that is compared; all filters where it isn't given")
+}
+
+pub(super) fn layout<'a>(alloc: Global, layouts: &'a [&'a str]) -> Arg<'a>
+    ensures rule { rule_of result ≡ layout_rule layouts.entry }
+    ensures local { result.global ≡ false }
+{
+    Arg::new(alloc, "layout")
+        .long("layout")
+        .value_name("LAYOUT")
+        .value_parser(layouts)
+        .default_value("tree")
+        .help("How a program finds a call's rules: one call after the other, or by a tree of tests")
+}
+
+pub(super) fn format<'a>(alloc: Global, formats: &'a [&'a str]) -> Arg<'a>
+    ensures rule { rule_of result ≡ format_rule formats.entry }
+    ensures local { result.global ≡ false }
+{
+    Arg::new(alloc, "format")
+        .long("format")
+        .value_name("FORMAT")
+        .value_parser(formats)
+        .default_value("raw")
+        .help("How the program is written: as bytes, as a listing, or as an initialiser in C")
+}
+
+pub(super) fn output<'a>(alloc: Global) -> Arg<'a>
+    ensures rule { rule_of result ≡ output_rule }
+    ensures local { result.global ≡ false }
+{
+    Arg::new(alloc, "output")
+        .short('o')
+        .long("output")
+        .value_name("FILE")
+        .help("Where the program goes, in place of standard output")
+}
+
+pub(super) fn records<'a>(alloc: Global) -> Arg<'a>
+    ensures rule { rule_of result ≡ records_rule }
+    ensures local { result.global ≡ false }
+{
+    Arg::new(alloc, "records")
+        .long("records")
+        .value_name("FILE")
+        .help("Records of calls, in place of standard input, where no CALL is given")
+}
+
+pub(super) fn at_most<'a>(alloc: Global) -> Arg<'a>
+    ensures rule { rule_of result ≡ at_most_rule }
+    ensures local { result.global ≡ false }
+{
+    Arg::new(alloc, "at-most")
+        .long("at-most")
+        .action(ArgAction::SetTrue)
+        .help("Ask only where the second one permits more than the first")
+}
+
+pub(super) fn all<'a>(alloc: Global) -> Arg<'a>
+    ensures rule { rule_of result ≡ all_rule }
+    ensures local { result.global ≡ false }
+{
+    Arg::new(alloc, "all")
+        .long("all")
+        .action(ArgAction::SetTrue)
+        .help("Count other architectures for the exit status too")
+}
+
+pub(super) fn deny_warnings<'a>(alloc: Global) -> Arg<'a>
+    ensures rule { rule_of result ≡ deny_warnings_rule }
+    ensures local { result.global ≡ false }
+{
+    Arg::new(alloc, "deny-warnings")
+        .long("deny-warnings")
+        .action(ArgAction::SetTrue)
+        .help("End with exit status 1 where there is a warning")
+}
+
+pub(super) fn most<'a>(alloc: Global) -> Arg<'a>
+    ensures rule { rule_of result ≡ most_rule }
+    ensures local { result.global ≡ false }
+{
+    Arg::new(alloc, "most")
+        .long("most")
+        .value_name("N")
+        .default_value("1000000")
+        .help("How many sets of arguments are looked at, at most, for each call")
+}
+
+pub(super) fn old<'a>(alloc: Global) -> Arg<'a>
+    ensures rule { rule_of result ≡ old_rule }
+    ensures local { result.global ≡ false }
+{
+    Arg::new(alloc, "old")
+        .value_name("OLD")
+        .required(true)
+        .help("The old policy's file, or - for standard input")
+}
+
+pub(super) fn new_policy<'a>(alloc: Global) -> Arg<'a>
+    ensures rule { rule_of result ≡ new_policy_rule }
+    ensures local { result.global ≡ false }
+{
+    Arg::new(alloc, "new")
+        .value_name("NEW")
+        .required(true)
+        .help("The new policy's file, or - for standard input")
+}
+
+pub(super) fn policy<'a>(alloc: Global) -> Arg<'a>
+    ensures rule { rule_of result ≡ policy_rule }
+    ensures local { result.global ≡ false }
+{
+    Arg::new(alloc, "policy")
+        .value_name("POLICY")
+        .default_value("-")
+        .help("The policy's file, or - for standard input")
+}
+
+pub(super) fn shown_policy<'a>(alloc: Global) -> Arg<'a>
+    ensures rule { rule_of result ≡ shown_policy_rule }
+    ensures local { result.global ≡ false }
+{
+    Arg::new(alloc, "policy")
+        .value_name("POLICY")
+        .help("The policy's file, or - for standard input")
+}
+
+pub(super) fn shown_program<'a>(alloc: Global) -> Arg<'a>
+    ensures rule { rule_of result ≡ shown_program_rule }
+    ensures local { result.global ≡ false }
+{
+    Arg::new(alloc, "program")
+        .long("program")
+        .value_name("FILE")
+        .help("A program's file, as compile writes it, in place of a policy")
+}
+
+pub(super) fn given_policy<'a>(alloc: Global) -> Arg<'a>
+    ensures rule { rule_of result ≡ given_policy_rule }
+    ensures local { result.global ≡ false }
+{
+    Arg::new(alloc, "policy")
+        .value_name("POLICY")
+        .required(true)
+        .help("The policy's file, or - for standard input")
+}
+
+pub(super) fn program_file<'a>(alloc: Global) -> Arg<'a>
+    ensures rule { rule_of result ≡ program_rule }
+    ensures local { result.global ≡ false }
+{
+    Arg::new(alloc, "program")
+        .value_name("PROGRAM")
+        .required(true)
+        .help("The program's file, as compile writes it, or - for standard input")
+}
+
+pub(super) fn call<'a>(alloc: Global) -> Arg<'a>
+    ensures rule { rule_of result ≡ call_rule }
+    ensures local { result.global ≡ false }
+{
+    Arg::new(alloc, "call")
+        .value_name("CALL")
+        .help("The call's name or number")
+}
+
+pub(super) fn given_call<'a>(alloc: Global) -> Arg<'a>
+    ensures rule { rule_of result ≡ given_call_rule }
+    ensures local { result.global ≡ false }
+{
+    Arg::new(alloc, "call")
+        .value_name("CALL")
+        .required(true)
+        .help("The call's name or number")
+}
+
+pub(super) fn arguments<'a>(alloc: Global) -> Arg<'a>
+    ensures rule { rule_of result ≡ arguments_rule }
+    ensures local { result.global ≡ false }
+{
+    Arg::new(alloc, "arguments")
+        .value_name("ARG")
+        .num_args(0..=6)
+        .help("The call's arguments, 0 where they aren't given")
+}

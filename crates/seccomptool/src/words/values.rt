@@ -1,0 +1,191 @@
+// The values of options and arguments, in clap's matches.
+
+ghost use Rattle.std.specs.Prelude.{◌≡◌, ℕ, List, [], IfSome, IfNone, Some, codes, unwrap_or};
+ghost use Rattle.clap.specs.Words.{first_of, found_of, rows_of};
+ghost use Rattle.seccompiler.specs.declared.backend.TargetArch.{TargetArch};
+ghost use Rattle.seccompiler.specs.declared.layout.Layout.{Layout};
+ghost use Rattle.seccomptool.specs.Numbers.{IsNumber};
+ghost use Rattle.seccomptool.specs.Words.{AreArguments, AreRecords, AreShown, IsArch, IsDenied, IsMost, IsRelation, IsScope, format_text, given_arguments, layout_text, text_of};
+ghost use Rattle.seccomptool.specs.declared.compile.format.ProgramFormat.{ProgramFormat};
+ghost use Rattle.seccomptool.specs.declared.words.Records.{Records};
+ghost use Rattle.seccomptool.specs.declared.words.Shown.{Shown};
+
+use super::arguments::read_arguments;
+use super::{Records, Shown};
+use crate::compile::format::ProgramFormat;
+use crate::numbers::read_number;
+use crate::verify::scope::Scope;
+use clap::ArgMatches;
+use seccompiler::{Layout, Relation, TargetArch};
+
+// The value of an argument of this name.
+pub(super) fn text_in<'a>(found: &ArgMatches<'a>, id: &str) -> Option<&'a str>
+    ensures { first_of id.now (rows_of (found_of found.now)) ≡ text_of result }
+{
+    found.get_str(id)
+}
+
+// The architecture that `--arch` names.
+pub(super) fn arch_in(found: &ArgMatches<'_>) -> Option<TargetArch>
+    ensures some { IfSome result (IsArch (rows_of (found_of found.now))) }
+    ensures none { IfNone result ((arch : TargetArch) → IsArch (rows_of (found_of found.now)) arch → ⊥) }
+{
+    match text_in(found, "arch") {
+        Some("x86_64") => Some(TargetArch::x86_64),
+        Some("amd64") => Some(TargetArch::x86_64),
+        Some("aarch64") => Some(TargetArch::aarch64),
+        Some("arm64") => Some(TargetArch::aarch64),
+        Some("riscv64") => Some(TargetArch::riscv64),
+        _ => None,
+    }
+}
+
+// The layout that `--layout` names.
+pub(super) fn layout_in(found: &ArgMatches<'_>) -> Option<Layout>
+    ensures some { IfSome result (λ layout. first_of (codes "layout") (rows_of (found_of found.now)) ≡ Some (layout_text layout)) }
+    ensures none { IfNone result ((layout : Layout) → first_of (codes "layout") (rows_of (found_of found.now)) ≡ Some (layout_text layout) → ⊥) }
+{
+    match text_in(found, "layout") {
+        Some("linear") => Some(Layout::Linear),
+        Some("tree") => Some(Layout::Tree),
+        _ => None,
+    }
+}
+
+// The format that `--format` names.
+pub(super) fn format_in(found: &ArgMatches<'_>) -> Option<ProgramFormat>
+    ensures some { IfSome result (λ format. first_of (codes "format") (rows_of (found_of found.now)) ≡ Some (format_text format)) }
+    ensures none { IfNone result ((format : ProgramFormat) → first_of (codes "format") (rows_of (found_of found.now)) ≡ Some (format_text format) → ⊥) }
+{
+    match text_in(found, "format") {
+        Some("raw") => Some(ProgramFormat::Raw),
+        Some("listing") => Some(ProgramFormat::Listing),
+        Some("c") => Some(ProgramFormat::C),
+        _ => None,
+    }
+}
+
+// Whether warnings are denied.
+pub(super) fn denied_in(found: &ArgMatches<'_>) -> bool
+    ensures { IsDenied (rows_of (found_of found.now)) result }
+{
+    match text_in(found, "deny-warnings") {
+        Some("true") => true,
+        _ => false,
+    }
+}
+
+// What `show` is to print: a policy or a program, and not both.
+pub(super) fn shown_in<'a>(found: &ArgMatches<'a>) -> Option<Shown<'a>>
+    ensures some { IfSome result (AreShown (rows_of (found_of found.now))) }
+    ensures none { IfNone result ((shown : Shown) → AreShown (rows_of (found_of found.now)) shown → ⊥) }
+{
+    let Some(program) = text_in(found, "program") else {
+        return Some(Shown::Policy(policy_in(found)));
+    };
+    let None = text_in(found, "policy") else {
+        return None;
+    };
+    Some(Shown::Program(program))
+}
+
+// The path of the policy, `-` where none is given.
+fn policy_in<'a>(found: &ArgMatches<'a>) -> &'a str
+    ensures { result.now ≡ unwrap_or (first_of (codes "policy") (rows_of (found_of found.now))) (codes "-") }
+{
+    match text_in(found, "policy") {
+        Some(path) => path,
+        None => "-",
+    }
+}
+
+// The calls that count.
+pub(super) fn scope_in(found: &ArgMatches<'_>) -> Scope
+    ensures { IsScope (rows_of (found_of found.now)) result }
+{
+    match text_in(found, "all") {
+        Some("true") => Scope::All,
+        _ => Scope::Named,
+    }
+}
+
+// The relation that is asked for.
+pub(super) fn relation_in(found: &ArgMatches<'_>) -> Relation
+    ensures { IsRelation (rows_of (found_of found.now)) result }
+{
+    match text_in(found, "at-most") {
+        Some("true") => Relation::AtMostAsPermissive,
+        _ => Relation::Alike,
+    }
+}
+
+// The number of sets that `--most` gives.
+pub(super) fn most_in(found: &ArgMatches<'_>) -> Option<usize>
+    ensures some { IfSome result (IsMost (rows_of (found_of found.now))) }
+    ensures none { IfNone result ((most : ℕ) → IsMost (rows_of (found_of found.now)) most → ⊥) }
+{
+    sets_in(most_text(found))
+}
+
+// The value of `--most`.
+fn most_text<'a>(found: &ArgMatches<'a>) -> &'a str
+    ensures { result.now ≡ unwrap_or (first_of (codes "most") (rows_of (found_of found.now))) [] }
+{
+    match text_in(found, "most") {
+        Some(text) => text,
+        None => "",
+    }
+}
+
+// The number that a text writes.
+fn sets_in(text: &str) -> Option<usize>
+    ensures some { IfSome result (IsNumber text.now) }
+    ensures none { IfNone result ((most : ℕ) → IsNumber text.now most → ⊥) }
+{
+    let Some(most) = read_number(text) else {
+        return None;
+    };
+    Some(most as usize)
+}
+
+// The arguments that the values of ARG write.
+pub(super) fn arguments_in(found: &ArgMatches<'_>) -> Option<[u64; 6]>
+    ensures some { IfSome result (AreArguments (given_arguments (rows_of (found_of found.now)))) }
+    ensures none { IfNone result ((arguments : List ℕ) → AreArguments (given_arguments (rows_of (found_of found.now))) arguments → ⊥) }
+{
+    match found.get_strs("arguments") {
+        Some(texts) => read_arguments(texts),
+        None => read_arguments(&[]),
+    }
+}
+
+// The records that are asked about, beside a policy or a program.
+pub(super) fn records_in<'a>(found: &ArgMatches<'a>, policy: &str) -> Option<Records<'a>>
+    ensures some { IfSome result (AreRecords (rows_of (found_of found.now)) policy.now) }
+    ensures none { IfNone result ((records : Records) → AreRecords (rows_of (found_of found.now)) policy.now records → ⊥) }
+{
+    let Some(call) = text_in(found, "call") else {
+        let path = path_in(found);
+        if path == "-" && policy == "-" {
+            return None;
+        }
+        return Some(Records::In(path));
+    };
+    let None = text_in(found, "records") else {
+        return None;
+    };
+    let Some(arguments) = arguments_in(found) else {
+        return None;
+    };
+    Some(Records::Call { call, arguments })
+}
+
+// The path of the records.
+fn path_in<'a>(found: &ArgMatches<'a>) -> &'a str
+    ensures { result.now ≡ unwrap_or (first_of (codes "records") (rows_of (found_of found.now))) (codes "-") }
+{
+    match text_in(found, "records") {
+        Some(path) => path,
+        None => "-",
+    }
+}

@@ -1,0 +1,312 @@
+"""What `check` has to do where a policy may not say what its author means: its warnings.
+
+Of each code there is a table of filters that have it and of filters that just don't. What holds of generated
+conditions is found by trying them on values, and not by their operators.
+"""
+
+import json
+import random
+
+from .forms import OUTPUT, FULL, Case, rejects, writes
+
+# What is so, and what to write instead.
+SAID = {
+    "fake-success": "the call isn't made, and returns 0 as if it had gone well; write an errno from 1 to 4095",
+    "errno-too-large": "Linux keeps the low 16 bits, and takes 4095 for what is above it; write an errno from 1 to 4095",
+    "trace-without-tracer": 'where no tracer is attached, the call fails with ENOSYS; write an errno or "allow" '
+    "where there is none",
+    "allows-by-default": "calls without an entry are let through, newer ones and those of x32 too; write a denying "
+    "action, and entries for what is allowed",
+    "high-half-ignored": '"dword" compares the low 32 bits, and the value has others; write the value\'s low 32 bits, '
+    'or "qword"',
+    "value-outside-mask": "the value has bits outside the mask, which aren't compared; write the value without them, "
+    "or a mask that has them",
+    "always-holds": "it holds for every argument; leave it out, or write what it has to ask",
+    "never-holds": "it holds for no argument, so the entry matches no call; leave the entry out, or write what it has "
+    "to ask",
+    "high-half-evades": "a caller passes by it with a high half, which the kernel ignores for arguments of 32 bits; "
+    'write "dword" for these',
+}
+
+# The key of an action or a condition that a code is about, behind its place.
+KEYS = {
+    "fake-success": ".errno",
+    "errno-too-large": ".errno",
+    "trace-without-tracer": ".trace",
+    "high-half-ignored": ".val",
+    "value-outside-mask": ".val",
+}
+
+LOW = 2**32 - 1
+WHOLE = 2**64 - 1
+
+
+def line(place, code):
+    """Returns the line of a warning, where this is the place of an action or a condition."""
+    return f"{place}{KEYS.get(code, '')}: warning [{code}]: {SAID[code]}\n"
+
+
+def condition(length, operator, value, index=0):
+    """Returns a condition."""
+    return {"index": index, "type": length, "op": operator, "val": value}
+
+
+def filter_of(conditions, mismatch="trap", match="allow"):
+    """Returns a filter of one entry, which has these conditions, or none."""
+    entries = [{"syscall": "read", "args": conditions}] if conditions else []
+    return {"mismatch_action": mismatch, "match_action": match, "filter": entries}
+
+
+def warned(filters, *lines):
+    """Returns the cases of a policy that has exactly these warnings, where they are denied and where they aren't."""
+    text, output = json.dumps(filters), "".join(lines)
+    denied = Case("check --deny-warnings", 1 if lines else 0, output, "", text)
+    return [writes("check", text, output), denied]
+
+
+def of_action(action, codes):
+    """Returns the cases of an action that has these codes, in either place of a filter."""
+    return [
+        *warned({"a": filter_of([], action, "kill_thread")}, *(line("a.mismatch_action", it) for it in codes)),
+        *warned({"a": filter_of([], "kill_thread", action)}, *(line("a.match_action", it) for it in codes)),
+    ]
+
+
+def of_condition(length, operator, value, codes, mismatch="trap", match="allow"):
+    """Returns the cases of a condition that has these codes, behind one and in an entry that have none."""
+    plain = condition("dword", "eq", 7)
+    filters = {"a": filter_of([plain, condition(length, operator, value, 5)], mismatch, match)}
+    filters["a"]["filter"].insert(0, {"syscall": "write"})
+    default = [line("a.mismatch_action", "allows-by-default")] if mismatch in ("allow", "log") else []
+    return warned(filters, *default, *(line("a.filter[1].args[1]", it) for it in codes))
+
+
+def masked(mask):
+    """Returns the operator under this mask."""
+    return {"masked_eq": mask}
+
+
+# Actions, and their codes.
+ACTIONS = [
+    ({"errno": 0}, ["fake-success"]),
+    ({"errno": 1}, []),
+    ({"errno": 4095}, []),
+    ({"errno": 4096}, ["errno-too-large"]),
+    ({"errno": 65535}, ["errno-too-large"]),
+    ({"errno": 65536}, ["fake-success", "errno-too-large"]),
+    ({"errno": 65537}, ["errno-too-large"]),
+    ({"errno": 4294901760}, ["fake-success", "errno-too-large"]),
+    ({"errno": 4294967295}, ["errno-too-large"]),
+    ({"trace": 0}, ["trace-without-tracer"]),
+    ({"trace": 4294967295}, ["trace-without-tracer"]),
+    ("kill_process", []),
+    ("trap", []),
+]
+
+# Conditions, and their codes, in a filter that denies by default.
+CONDITIONS = [
+    ("dword", "eq", LOW, []),
+    ("dword", "eq", LOW + 1, ["high-half-ignored"]),
+    ("dword", "ne", WHOLE, ["high-half-ignored"]),
+    ("qword", "eq", LOW + 1, []),
+    ("dword", masked(3), 4, ["value-outside-mask"]),
+    ("dword", masked(7), 4, []),
+    ("dword", masked(7), LOW + 5, ["high-half-ignored", "value-outside-mask"]),
+    ("dword", masked(WHOLE), LOW + 1, ["high-half-ignored", "value-outside-mask"]),
+    ("qword", masked(WHOLE), LOW + 1, []),
+    ("qword", masked(LOW), LOW + 1, ["value-outside-mask"]),
+    ("qword", masked(LOW + 1), LOW + 1, []),
+    ("dword", "ge", 0, ["always-holds"]),
+    ("dword", "ge", 1, []),
+    ("dword", "ge", LOW + 1, ["high-half-ignored", "always-holds"]),
+    ("qword", "ge", LOW + 1, []),
+    ("dword", "le", LOW, ["always-holds"]),
+    ("dword", "le", LOW - 1, []),
+    ("qword", "le", LOW, []),
+    ("qword", "le", WHOLE, ["always-holds"]),
+    ("dword", masked(0), 0, ["always-holds"]),
+    ("dword", masked(LOW + 1), 0, ["always-holds"]),
+    ("dword", masked(0), 1, ["value-outside-mask", "always-holds"]),
+    ("qword", masked(LOW + 1), 0, []),
+    ("dword", masked(1), 0, []),
+    ("dword", "lt", 0, ["never-holds"]),
+    ("dword", "lt", 1, []),
+    ("dword", "lt", LOW + 1, ["high-half-ignored", "never-holds"]),
+    ("qword", "lt", 0, ["never-holds"]),
+    ("dword", "gt", LOW, ["never-holds"]),
+    ("dword", "gt", LOW - 1, []),
+    ("qword", "gt", LOW, []),
+    ("qword", "gt", WHOLE, ["never-holds"]),
+    ("qword", "gt", WHOLE - 1, []),
+    ("dword", "gt", 2**33 - 1, ["high-half-ignored", "never-holds"]),
+]
+
+# Conditions that a high half passes by, where a filter denies what it lists, and conditions that it doesn't.
+EVADED = [
+    ("qword", "eq", 0x5412, ["high-half-evades"]),
+    ("qword", "eq", LOW, ["high-half-evades"]),
+    ("qword", "eq", LOW + 1, []),
+    ("dword", "eq", 0x5412, []),
+    ("qword", "ne", 0x5412, []),
+    ("qword", "ge", 0x5412, []),
+    ("qword", masked(WHOLE), 0x5412, ["high-half-evades"]),
+    ("qword", masked(LOW + 1), 0, ["high-half-evades"]),
+    ("qword", masked(LOW), 0x5412, []),
+    ("qword", masked(WHOLE), LOW + 1, []),
+    ("qword", masked(2**33 + 1), 2**32 + 1, ["value-outside-mask", "high-half-evades"]),
+]
+
+# The actions that let a call through, and some that don't.
+PERMITS = ("allow", "log")
+DENIES = ("kill_process", "kill_thread", "trap", {"errno": 1})
+
+DEFAULTS = [
+    *(it for action in PERMITS for it in warned(
+        {"a": filter_of([], action, "trap")}, line("a.mismatch_action", "allows-by-default"))),
+    *(it for action in PERMITS for it in warned({"a": filter_of([], "trap", action)})),
+    # Where the listed calls are let through as well, nothing is denied that could be passed by.
+    *of_condition("qword", "eq", 5, [], "allow", "log"),
+    *of_condition("qword", "eq", 5, [], "trap", "kill_process"),
+    *(it for action in DENIES for it in of_condition("qword", "eq", 5, ["high-half-evades"], "log", action)),
+]
+
+# Two filters: byte order of their names, the actions before the entries, and the entries in order.
+SEVERAL = {
+    "b\n": {"default_action": {"errno": 0}, "filter_action": {"errno": 65536}, "filter": [
+        {"syscall": "read"},
+        {"syscall": "read", "args": [condition("dword", "lt", 0), condition("dword", "ge", 2**32, 1)]},
+        {"syscall": "write", "args": [condition("qword", masked(0), 0, 2)]}]},
+    "a\u009b": filter_of([condition("qword", "eq", 1)], "log", "trap"),
+}
+
+IN_ORDER = [
+    line("a\\xc2\\x9b.mismatch_action", "allows-by-default"),
+    line("a\\xc2\\x9b.filter[0].args[0]", "high-half-evades"),
+    line("b\\x0a.mismatch_action", "fake-success"),
+    line("b\\x0a.match_action", "fake-success"),
+    line("b\\x0a.match_action", "errno-too-large"),
+    line("b\\x0a.filter[1].args[0]", "never-holds"),
+    line("b\\x0a.filter[1].args[1]", "high-half-ignored"),
+    line("b\\x0a.filter[1].args[1]", "always-holds"),
+    line("b\\x0a.filter[2].args[0]", "always-holds"),
+]
+
+
+# ---- generated conditions, tried on values
+
+
+def mask_of(operator):
+    """Returns the mask of an operator, or none."""
+    return operator["masked_eq"] if isinstance(operator, dict) else None
+
+
+def holds(it, argument):
+    """Returns whether a condition holds for an argument, as docs/JSON.md says of its operator."""
+    cut = LOW if it["type"] == "dword" else WHOLE
+    left, right, operator = argument & cut, it["val"] & cut, it["op"]
+    if isinstance(operator, dict):
+        return left & (mask_of(operator) & cut) == right & (mask_of(operator) & cut)
+    return {"eq": left == right, "ne": left != right, "ge": left >= right, "gt": left > right, "le": left <= right,
+            "lt": left < right}[operator]
+
+
+def tries(it):
+    """Returns arguments that show whether a condition holds for all or for none: borders, and single bits."""
+    near = {it["val"], it["val"] & LOW, *((it["val"] ^ 2**bit) for bit in range(64))}
+    borders = {(border + step) & WHOLE for border in {*near, 0, 2**32} for step in (-1, 0, 1)}
+    return borders | {2**bit for bit in range(64)}
+
+
+def is_evaded(it):
+    """Returns whether `eq` or `masked_eq` of all 64 bits holds for some number of 32 bits, and not with a high half."""
+    if it["type"] != "qword" or (it["op"] != "eq" and mask_of(it["op"]) is None):
+        return False
+    low = [argument for argument in tries(it) | {it["val"] & (mask_of(it["op"]) or 0)} if argument <= LOW]
+    return any(holds(it, x) and not holds(it, x | 2**bit) for x in low for bit in range(32, 64))
+
+
+def codes_of(it, mismatch, match):
+    """Returns the codes that a condition has in a filter of these actions, in their order."""
+    mask = mask_of(it["op"])
+    cut = LOW if it["type"] == "dword" else WHOLE
+    found = {
+        "high-half-ignored": it["type"] == "dword" and it["val"] != it["val"] & LOW,
+        "value-outside-mask": mask is not None and it["val"] & ~(mask & cut) != 0,
+        "always-holds": all(holds(it, argument) for argument in tries(it)),
+        "never-holds": not any(holds(it, argument) for argument in tries(it)),
+        "high-half-evades": mismatch in PERMITS and match not in PERMITS and is_evaded(it),
+    }
+    return [code for code, so in found.items() if so]
+
+
+def codes_of_action(action):
+    """Returns the codes that an action has wherever it stands, in their order."""
+    numbered = action if isinstance(action, dict) else {}
+    found = {
+        "fake-success": numbered.get("errno", 1) & 65535 == 0,
+        "errno-too-large": numbered.get("errno", 1) >= 4096,
+        "trace-without-tracer": "trace" in numbered,
+    }
+    return [code for code, so in found.items() if so]
+
+
+def lines_of_filter(name, it):
+    """Returns the lines of the warnings of a filter of this name, as a list of single lines."""
+    mismatch = it.get("mismatch_action", it.get("default_action"))
+    match = it.get("match_action", it.get("filter_action"))
+    lines = [line(f"{name}.mismatch_action", code) for code in codes_of_action(mismatch)]
+    if mismatch in PERMITS:
+        lines.append(line(f"{name}.mismatch_action", "allows-by-default"))
+    lines += [line(f"{name}.match_action", code) for code in codes_of_action(match)]
+    for entry, rule in enumerate(it["filter"]):
+        for place, compared in enumerate(rule.get("args") or []):
+            codes = codes_of(compared, mismatch, match)
+            lines += [line(f"{name}.filter[{entry}].args[{place}]", code) for code in codes]
+    return lines
+
+
+def lines_of(policy):
+    """Returns the lines of the warnings of a policy, whose filters have names without control characters."""
+    filters = json.loads(policy)
+    names = sorted(filters, key=lambda name: name.encode())
+    return "".join(it for name in names for it in lines_of_filter(name, filters[name]))
+
+
+def some_number(chance):
+    """Returns a number of 64 bits, often one near a border."""
+    border = chance.choice([0, 1, 2**31, LOW, 2**32, 2**63, WHOLE, chance.getrandbits(32), chance.getrandbits(64)])
+    return (border + chance.choice([-1, 0, 0, 1])) & WHOLE
+
+
+def some_condition(chance):
+    """Returns a condition."""
+    operator = chance.choice(["eq", "ge", "gt", "le", "lt", "ne", "masked", "masked"])
+    operator = masked(some_number(chance)) if operator == "masked" else operator
+    return condition(chance.choice(["dword", "qword"]), operator, some_number(chance), chance.randrange(6))
+
+
+def generated(seed):
+    """Returns the case of a filter of conditions that this number leads to."""
+    chance = random.Random(seed)
+    mismatch, match = chance.choice([("trap", "allow"), ("allow", "trap"), ("log", {"errno": 1}), ("allow", "log")])
+    entries = [[some_condition(chance) for _ in range(chance.randrange(1, 5))] for _ in range(chance.randrange(1, 5))]
+    entries = [{"syscall": "read", "args": it} for it in entries]
+    policy = json.dumps({"a": {"mismatch_action": mismatch, "match_action": match, "filter": entries}})
+    return writes("check", policy, lines_of(policy))
+
+
+FAULTY = json.dumps({"a": filter_of([condition("dword", "lt", 0)], {"errno": 0}, {"errno": 0})})
+
+CASES = [
+    *(it for action, codes in ACTIONS for it in of_action(action, codes)),
+    *(it for row in CONDITIONS for it in of_condition(*row)),
+    *(it for row in EVADED for it in of_condition(*row, "allow", {"errno": 1})),
+    *DEFAULTS,
+    *warned(SEVERAL, *IN_ORDER),
+    *warned({}),
+    *(generated(seed) for seed in range(200)),
+    # A policy with a fault has no warnings.
+    rejects("check", FAULTY, "a: expected two actions that differ, found the same one twice\n"),
+    # Where the warnings can't be written, that is told.
+    rejects("check > /dev/full", json.dumps({"a": filter_of([], {"errno": 0}, "allow")}), FULL, OUTPUT),
+]

@@ -9,9 +9,11 @@ usage: tools/page_checks.py [--long]
   stands for any name. A path may be given from the top, from the page's folder or from a crate's.
 - The files of definitions that docs/PROMISES.md lists to be read are there, and promised: they stand in the first block
   of a Lib.antt.
-- Pages use the terms of the table 'Words' of CONTRIBUTING.md, and none of those that its last column has.
+- Pages use the terms of the table 'Words' of CONTRIBUTING.md, and none of those that its last column has. So does the
+  documentation in the sources of DOCUMENTED, that of Rust and Rattle in its lines `///` and `//!`, outside examples.
 - A table's cell has at most 200 characters, and README.md at most 1,000 words outside its blocks of code.
 - The picture in docs/ is what tools/make-picture makes of its source.
+- README.md names the version of the kit, where `rt` is installed to ask.
 
 Prints each difference, and as its last line 'N passed, M failed'. With --long it prints the sentences of more than
 30 words instead, which pages have few of.
@@ -23,6 +25,7 @@ import itertools
 import os
 import pathlib
 import re
+import shutil
 import subprocess
 import sys
 
@@ -43,6 +46,10 @@ BUILT = re.compile(r"(^|/)(out|target)(/|$)")
 PASSED_OVER = ("out", "target", "__pycache__")
 # Paths of other places: a reader's own repository, the kernel's headers, the Rust crate.
 ELSEWHERE = ("crates/app", ".vscode/", "linux/", "src/syscall_table/x86_64.rs")
+# The sources whose documentation uses the terms of pages, and a line of it in Rust or Rattle.
+DOCUMENTED = ("crates/*/src/**/*.rt", "examples/*/src/**/*.rs", "include/*.h", "rust/*/src/**/*.rs", "rust/*/tests/*.rs")
+DOCUMENTS = re.compile(r"^ *//[/!] ?(.*)$")
+EXIT_STATUS = re.compile(r"\bexit\sstatus(?:es)?\b", re.I)
 PLACEHOLDER = re.compile(r"\b[A-Z][A-Z_]+\b(?!\.md)")
 
 
@@ -193,18 +200,47 @@ def unwanted_terms():
     return [term.strip() for row in rows[2:] if len(row) > 2 for term in row[2].split(",") if term.strip()]
 
 
+@functools.cache
+def unwanted():
+    """Returns the expression of the terms that pages don't use, in which a line may end for a space."""
+    terms = (r"[ \n]".join(map(re.escape, it.split())) for it in unwanted_terms())
+    return re.compile(rf"\b(?:{'|'.join(terms)})\b", re.I)
+
+
+def unwanted_in(lines):
+    """Returns the terms of numbered lines that pages don't use, outside code, each with the number of its line."""
+    texts = {number: LINK.sub("", CODE.sub("", line)) for number, line in lines}
+    text = "\n".join(texts.get(number, "") for number in range(1, max(texts, default=0) + 1))
+    text = EXIT_STATUS.sub(lambda it: re.sub(r"[^\n]", "", it[0]), text)
+    found = [(text.count("\n", 0, it.start()) + 1, it[0].replace("\n", " ")) for it in unwanted().finditer(text)]
+    return [f"{number}: {term}" for number, term in found]
+
+
+def documentation_of(source):
+    """Returns the numbered lines of a source's documentation outside its examples: all lines of a header for C."""
+    lines, fenced = [], False
+    for number, line in enumerate(source.read_text(encoding="utf-8").splitlines(), 1):
+        documents = [line, line.strip(" */")] if source.suffix == ".h" else DOCUMENTS.match(line)
+        if not documents:
+            fenced = False
+        elif documents[1].startswith("```"):
+            fenced = not fenced
+        elif not fenced:
+            lines.append((number, documents[1].strip()))
+    return lines
+
+
 def compare_terms(results):
     """Looks for terms that pages don't use, outside code and the table itself."""
-    terms = unwanted_terms()
-    results.compare("CONTRIBUTING.md: terms in its table 'Words'", (True,), (len(terms) > 9,))
-    unwanted = re.compile(r"\b(" + "|".join(re.escape(it) for it in terms) + r")\b", re.I)
+    results.compare("CONTRIBUTING.md: terms in its table 'Words'", (True,), (len(unwanted_terms()) > 9,))
     table = section_of(TOP / "CONTRIBUTING.md", "Words")
-    for page in current():
-        used = []
-        for number, line in lines_of(page):
-            text = re.sub(r"(?i)exit status(es)?", "", LINK.sub("", CODE.sub("", line)))
-            used += [f"{number}: {it}" for it in unwanted.findall(text) if (number, line) not in table]
-        results.compare(f"{name_of(page)}: terms that pages don't use", ([],), (used,))
+    texts = {page: [it for it in lines_of(page) if it not in table] for page in current()}
+    for pattern in DOCUMENTED:
+        sources = [it for it in sorted(TOP.glob(pattern)) if not BUILT.search(name_of(it))]
+        results.compare(f"{pattern}: sources with documentation", (True,), (bool(sources),))
+        texts.update((source, documentation_of(source)) for source in sources)
+    for source, lines in texts.items():
+        results.compare(f"{name_of(source)}: terms that pages don't use", ([],), (unwanted_in(lines),))
 
 
 def current():
@@ -231,6 +267,15 @@ def compare_picture(results):
     results.compare("docs/pipeline.svg is what tools/make-picture makes", (0, True), (made.returncode, same))
 
 
+def compare_kit(results):
+    """Compares the kit that README.md names with the one that is installed, if one is."""
+    named = re.findall(r"`rt version` says `([^`]+)`", (TOP / "README.md").read_text(encoding="utf-8"))
+    results.compare("README.md names a kit", (1,), (len(named),))
+    if shutil.which("rt"):
+        version = subprocess.run(["rt", "version"], capture_output=True, text=True).stdout.split()
+        results.compare("README.md: the kit that `rt version` says", (named,), (version[:1],))
+
+
 def compare_pages(results):
     """Makes all comparisons of this file."""
     compare_links(results)
@@ -239,6 +284,7 @@ def compare_pages(results):
     compare_terms(results)
     compare_lengths(results)
     compare_picture(results)
+    compare_kit(results)
 
 
 def sentences_of(page):

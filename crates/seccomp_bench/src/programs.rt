@@ -36,7 +36,7 @@ fn program_in(rt: &(impl Files + AllocGlobal), name: &str) -> Result<BpfProgram,
     Ok(program)
 }
 
-/// Compares the programs of two files, and writes `alike`, or the words that they return for a record on
+/// Compares the programs of two files, and writes `alike`, or the values that they return for a record on
 /// which they differ.
 pub(crate) fn compare_files(rt: &(impl Env + Files + Print + AllocGlobal)) -> Result<(), Failure> {
     let first = program_in(rt, file_named(rt, 2)?.as_str())?;

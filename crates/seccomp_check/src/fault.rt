@@ -38,7 +38,7 @@ pub enum Expected {
 /// What is wrong with a value.
 #[derive(Drop)]
 pub enum Problem {
-    /// It is told by this text, and something else may stand there, such as this name, if one is like it.
+    /// It is shown as this text, and something else may stand there, such as this name, if one is like it.
     Stands(String, Expected, Option<&'static str>),
     /// It has this name, which no object of its kind has.
     Strange(String, Kind),
@@ -55,7 +55,7 @@ pub enum Problem {
     TooLong(usize, Option<usize>, TargetArch),
 }
 
-/// The kinds of faults, in the order in which they are told.
+/// The kinds of faults, in the order in which they are reported.
 #[derive(Clone, Copy)]
 pub enum Cause {
     /// The policy is no object.
@@ -86,7 +86,7 @@ pub struct Fault {
 pub enum Finding {
     /// This is the first fault.
     Fault(Fault),
-    /// A growth of memory was refused.
+    /// Memory ran out.
     OutOfMemory,
 }
 

@@ -1,7 +1,7 @@
 //! The place at which a policy is rejected.
 //!
 //! The library's errors say what is wrong with a policy, and this crate finds where: [`check`] reads a
-//! policy's text, and tells the first fault by the path of its place, what stands there and what may, as
+//! policy's text, and reports the first fault by the path of its place, what stands there and what may, as
 //! `main_thread.filter[1].syscall: unknown system call "fnctl" on x86_64; did you mean "fcntl"?`.
 //! [`place`] finds the place for an error that the library gave before.
 //!
@@ -46,7 +46,7 @@ use seccompiler::{BackendError, Error, TargetArch, compile_from_json_in_order};
 use serde_json::Value;
 use std::alloc::{AllocError, Global};
 
-/// Looks for the first fault of a policy's text, and tells its place.
+/// Looks for the first fault of a policy's text, and reports its place.
 ///
 /// It is Ok only where `compile_from_json` compiles all filters.
 ///
@@ -54,20 +54,20 @@ use std::alloc::{AllocError, Global};
 /// filter's name, then `.` and a name for what stands under a name, and `[` PLACE `]` for what stands at
 /// a place of an array, from 0; `the policy` stands for the empty path. In names the control characters,
 /// those from U+0080 to U+009F too, and the backslash are written as `\x` and two lower-case hexadecimal
-/// digits for each of their bytes. A value that may not stand there is told as JSON, an array by its
+/// digits for each of their bytes. A value that may not stand there is shown as JSON, an array by its
 /// length, and an object as `an object`; behind a call's name that the architecture hasn't may come a like
 /// one that it has. Where an action or an operator is an object of one name, `errno`, `trace` or
 /// `masked_eq`, the path leads to its number.
 ///
 /// # Errors
 ///
-/// `Library` with what `compile_from_json` refuses of the policy, where that has no place: the bytes are
-/// no JSON, or a name is repeated. `Placed` with the text of a fault of the kind that `compile_from_json`
-/// tells, where that has a place. `OutOfMemory` in place of both, where memory is refused.
+/// `Library` with what `compile_from_json` rejects the policy for, where that has no place: the bytes are no
+/// JSON, or a name is repeated. `Placed` with the text of a fault of the kind that `compile_from_json`
+/// reports, where that has a place. `OutOfMemory` in place of both, where memory runs out.
 ///
 /// Of several faults of that kind it is the first, in the order that docs/TOOL.md gives. That is tested
-/// and not proved, and so is that a fault with a place is told by it: by the contract it may be any one of
-/// its kind, and may be told as `Library`.
+/// and not proved, and so is that a fault with a place is reported by it: by the contract it may be any one
+/// of its kind, and may be reported as `Library`.
 pub fn check(alloc: Global, target: TargetArch, text: &[u8]) -> Result<(), Rejection>
     ensures compiled { OnOk result (OfValue text.now (AreAllCompiled target)) }
     ensures rejected { IfErr result (IsRejection target text.now) }
@@ -78,14 +78,14 @@ pub fn check(alloc: Global, target: TargetArch, text: &[u8]) -> Result<(), Rejec
     }
 }
 
-/// Finds the first fault of a kind in a policy's text, and tells its place as [`check`] does.
+/// Finds the first fault of a kind in a policy's text, and reports its place as [`check`] does.
 ///
 /// The kind is that of an error that the library gave of the same text, by [`cause_of`] or
 /// [`cause_of_frontend`]. It is None where the text has no such fault.
 ///
 /// # Errors
 ///
-/// `AllocError` where memory is refused.
+/// `AllocError` where memory runs out.
 pub fn place(alloc: Global, cause: Cause, text: &[u8]) -> Result<Option<String>, AllocError>
     ensures told { (d : Data) → IsReadAs text.now d → IfOk result (λ found. IfSome found (λ told. TellsFaultOf cause d (string_bytes told))) }
 {
@@ -96,7 +96,7 @@ pub fn place(alloc: Global, cause: Cause, text: &[u8]) -> Result<Option<String>,
     }
 }
 
-/// The kind of fault that a refusal of the front end tells, where it has a place in the policy.
+/// The kind of fault that an error of the front end reports, where it has a place in the policy.
 pub fn cause_of_frontend(target: TargetArch, refusal: &JsonFrontendError) -> Option<Cause>
     ensures { result ≡ frontend_cause target refusal.now }
 {
@@ -111,7 +111,7 @@ pub fn cause_of_frontend(target: TargetArch, refusal: &JsonFrontendError) -> Opt
     }
 }
 
-/// The kind of fault that a refusal of the library tells, where it has a place in the policy.
+/// The kind of fault that an error of the library reports, where it has a place in the policy.
 pub fn cause_of(target: TargetArch, refusal: &Error) -> Option<Cause>
     ensures { result ≡ cause_told target refusal.now }
 {

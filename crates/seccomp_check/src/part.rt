@@ -1,6 +1,6 @@
 // The parts of a policy. docs/JSON.md has the format.
 
-/// An object whose names are told.
+/// An object whose names are listed.
 #[derive(Clone, Copy)]
 pub enum Kind {
     /// A filter.

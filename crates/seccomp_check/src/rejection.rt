@@ -4,18 +4,18 @@ use std::alloc::AllocError;
 
 /// Why a policy isn't taken.
 ///
-/// Want of memory stands in `OutOfMemory` alone, and never inside another variant.
+/// Running out of memory is `OutOfMemory` alone, and never inside another variant.
 #[derive(Debug, Drop)]
 pub enum Rejection {
-    /// The library refuses, and the fault has no place: the text is no JSON, or repeats a name.
+    /// The library rejects the policy, and the fault has no place: the text is no JSON, or repeats a name.
     Library(seccompiler::Error),
-    /// The policy has a fault that has a place; the text tells the place, what stands there and what may.
+    /// The policy has a fault that has a place; the text names the place, what stands there and what may.
     Placed(String),
-    /// A growth of memory was refused.
+    /// Memory ran out.
     OutOfMemory,
 }
 
-/// The library's want of memory stays so; any other refusal has no place.
+/// The library's `OutOfMemory` stays so; any other error has no place.
 impl From<seccompiler::Error> for Rejection {
     ghost use Rattle.std.specs.Prelude.{◌≡◌};
     ghost use Rattle.seccomp_check.specs.Checks.{from_library};

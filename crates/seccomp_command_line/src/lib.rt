@@ -1,8 +1,8 @@
-//! What the programs at the command line have in common: the words that they are called with and the
+//! What the programs at the command line have in common: the arguments that they are called with and the
 //! architecture that one names; names of filters and numbers as they are written; what is read to its end,
-//! written at once and told of records; and the errors of all this.
+//! written at once and said of records; and the errors of all this.
 //!
-//! What an engine answers, and which fault of a policy it tells, stands in `specs/`.
+//! What an engine answers, and which fault of a policy it reports, stands in `specs/`.
 #![tactic(auto)]
 
 pub mod architecture;

@@ -24,7 +24,7 @@ pub const LINE: usize = 20;
 ///
 /// # Errors
 ///
-/// `AllocError` where memory is refused; the text may then have grown by a front of this.
+/// `AllocError` where memory runs out; the text may then have grown by a front of this.
 pub fn push_listing(
     text: &mut Vec<u8>,
     name: &str,

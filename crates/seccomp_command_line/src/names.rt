@@ -14,7 +14,7 @@ use std::alloc::AllocError;
 ///
 /// # Errors
 ///
-/// `AllocError` where memory is refused; the text may then have grown by a front of this.
+/// `AllocError` where memory runs out; the text may then have grown by a front of this.
 pub fn push_escaped(text: &mut Vec<u8>, name: &[u8]) -> Result<(), AllocError>
     ensures { OnOk result (text.new.items ≡ text.old.items ++ escaped name.now) }
 {
@@ -30,7 +30,7 @@ pub fn push_escaped(text: &mut Vec<u8>, name: &[u8]) -> Result<(), AllocError>
 ///
 /// # Errors
 ///
-/// `AllocError` where memory is refused; the text may then have grown by a front of this.
+/// `AllocError` where memory runs out; the text may then have grown by a front of this.
 pub fn push_readable(text: &mut Vec<u8>, name: &str) -> Result<(), AllocError>
     ensures { OnOk result (text.new.items ≡ text.old.items ++ readable name.now) }
 {

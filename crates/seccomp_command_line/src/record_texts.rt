@@ -10,7 +10,7 @@ use crate::streams::{read_whole, send};
 use std::alloc::{AllocError, Global};
 use std::io::{Read, Write};
 
-/// What is told of records: a program of a policy's filter, or its decisions.
+/// What is said of records: a program of a policy's filter, or its decisions.
 pub trait TellsRecords {
     ghost can_tell: { Self → Type 0 };
 
@@ -21,7 +21,7 @@ pub trait TellsRecords {
     ///
     /// # Errors
     ///
-    /// `AllocError` where memory is refused.
+    /// `AllocError` where memory runs out.
     fn text_of(&self, alloc: Global, records: &[[u8; 64]]) -> Result<Vec<u8>, AllocError>
         requires { can_tell self.now }
         ensures { IfOk result (λ text. is_text_of self.now records.now text.items) };
@@ -35,7 +35,7 @@ pub trait TellsRecords {
 ///
 /// The first of these: `Read` where the reader fails; `Write` where the writer does; `ShortRecord` where
 /// 1 to 63 bytes are left, after the text of the whole records is written. `OutOfMemory` comes in place of
-/// any of these where memory is refused, and where the reader fails for want of memory. On any error but
+/// any of these where memory runs out, in the reader too. On any error but
 /// `Write` and `ShortRecord` nothing is written.
 pub fn tell_records<T: TellsRecords, R: Read + Drop, W: Write>(
     alloc: Global,

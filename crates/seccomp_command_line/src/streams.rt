@@ -12,7 +12,7 @@ use std::io::{ErrorKind, Read, Write};
 ///
 /// # Errors
 ///
-/// `Read` where the reader fails, and `OutOfMemory` where it fails for want of memory.
+/// `Read` where the reader fails, and `OutOfMemory` where it fails because memory runs out.
 pub fn read_whole<R: Read + Drop>(alloc: Global, mut reader: R) -> Result<Vec<u8>, ToolError>
     ensures bytes { IfOk result (λ bytes. IfSome (R.remaining reader) (λ known. bytes.items ≡ known)) }
     ensures cause { IfErr result IsReadError }

@@ -8,7 +8,7 @@ use std::alloc::{AllocError, AllocFailed};
 /// Why the calls end before the last.
 #[derive(Clone, Copy, Debug, PartialEq, Eq)]
 pub enum Ending {
-    /// Memory was refused: to a call, which told so in its outermost error, or to this program.
+    /// Memory ran out: in a call, which said so in its outermost error, or in this program.
     OutOfMemory,
     /// This is not as it has to be.
     Wrong(&'static str),
@@ -86,7 +86,7 @@ pub(crate) fn ensure_code(
     ensure_rows(name, &made?, rows)
 }
 
-/// What a policy is refused for.
+/// What a policy is rejected for.
 #[derive(Clone, Copy, Debug, PartialEq, Eq)]
 pub enum Fault {
     /// The text is no JSON.
@@ -109,7 +109,7 @@ pub enum Fault {
     IdenticalActions,
     /// A filter's program has 4102 instructions.
     FilterTooLarge,
-    /// Memory is refused.
+    /// Memory runs out.
     OutOfMemory,
     /// Anything else.
     Other,
@@ -124,7 +124,7 @@ fn fault_of_backend(refusal: &BackendError) -> Fault {
     }
 }
 
-/// The fault that the front end tells.
+/// The fault that the front end reports.
 pub(crate) fn fault_of_frontend(error: &JsonFrontendError) -> Fault {
     match error {
         JsonFrontendError::Backend(refusal) => fault_of_backend(refusal),
@@ -140,7 +140,7 @@ pub(crate) fn fault_of_frontend(error: &JsonFrontendError) -> Fault {
     }
 }
 
-/// The fault that the library tells: want of memory outside of all else, a program too large within
+/// The fault that the library reports: out of memory outside of all else, a program too large within
 /// `Backend`, any other within `JsonFrontend`.
 pub(crate) fn fault_of_library(error: &Error) -> Fault {
     match error {

@@ -4,7 +4,7 @@ use crate::answers::{Ending, ensure};
 use seccompiler::BackendError;
 use std::alloc::Global;
 
-/// What calls are lent, with the calls.
+/// What calls borrow, with the calls.
 pub trait Lent: Drop {
     /// Makes all of it.
     fn new(alloc: Global) -> Result<Self, BackendError>;
@@ -21,8 +21,8 @@ fn is_given_memory(alloc: Global) -> bool {
     Vec::<u8>::with_capacity(alloc, 1).is_ok()
 }
 
-/// Makes calls. Wants nothing that is lent to change, and each call to answer as ever after want of memory,
-/// unless memory is refused still: then the first that takes some has to tell that again.
+/// Makes calls. Wants nothing that they borrow to change, and each call to answer as ever after memory ran
+/// out, unless there is still none: then the first that takes some has to report that again.
 pub(crate) fn make_calls_of<L: Lent>(alloc: Global) -> Result<(), Ending> {
     let lent = L::new(alloc)?;
     let copy = L::new(alloc)?;

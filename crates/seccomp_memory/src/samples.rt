@@ -176,7 +176,7 @@ pub(crate) fn three_calls(alloc: Global) -> Result<SeccompFilter, BackendError> 
     filter(alloc, THREE_CALLS, Trap)
 }
 
-/// The filter of the main thread, which refuses by error number 1000.
+/// The filter of the main thread, which denies calls with errno 1000.
 pub(crate) fn main_thread(alloc: Global) -> Result<SeccompFilter, BackendError> {
     filter(alloc, MAIN_THREAD, Errno(1000))
 }
@@ -202,7 +202,7 @@ pub(crate) fn main_thread_entries(alloc: Global) -> Result<JsonFilter, BackendEr
     entries(alloc, Errno(1000), MAIN_THREAD_ENTRIES)
 }
 
-/// The value of a text, which is refused for want of memory alone.
+/// The value of a text, which is rejected only where memory runs out.
 pub(crate) fn value_of(alloc: Global, text: &str) -> Result<Value, BackendError> {
     match Value::from_str(alloc, text) {
         Ok(value) => Ok(value),

@@ -170,7 +170,7 @@ fn compile_faulty_filters_in_order(
     }
 }
 
-/// Wants programs to be refused for this fault.
+/// Wants programs to be rejected for this fault.
 pub(crate) fn compile_faulty_programs(
     alloc: Global,
     what: &'static str,
@@ -195,7 +195,7 @@ fn compile_faulty_in_order(
     }
 }
 
-/// Wants the text to be refused by each call for this fault.
+/// Wants the text to be rejected by each call for this fault.
 pub(crate) fn ask_of_faulty_text(
     alloc: Global,
     what: &'static str,

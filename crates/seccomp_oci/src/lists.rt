@@ -45,7 +45,7 @@ fn read_texts(alloc: Global, items: &[Value]) -> Result<Option<Vec<String>>, All
 ///
 /// # Errors
 ///
-/// An error comes where memory is refused.
+/// An error comes where memory runs out.
 pub fn texts_under(alloc: Global, value: Option<&Value>) -> Result<Option<Vec<String>>, AllocError>
     ensures found { IfOk result (λ o. IfSome o
         (λ all. IsListed IsText (option_map (λ v. view v.now) value.entry) (map string_bytes all.items))) }
@@ -80,7 +80,7 @@ fn read_arguments(alloc: Global, items: &[Value]) -> Result<Option<Vec<Argument>
 ///
 /// # Errors
 ///
-/// An error comes where memory is refused.
+/// An error comes where memory runs out.
 pub fn arguments_under(
     alloc: Global,
     value: Option<&Value>,
@@ -118,7 +118,7 @@ fn read_flags(alloc: Global, items: &[Value]) -> Result<Option<Vec<Flag>>, Alloc
 ///
 /// # Errors
 ///
-/// An error comes where memory is refused.
+/// An error comes where memory runs out.
 pub fn flags_under(alloc: Global, value: Option<&Value>) -> Result<Option<Vec<Flag>>, AllocError>
     ensures found { IfOk result (λ o. IfSome o
         (λ all. IsListed IsFlag (option_map (λ v. view v.now) value.entry) all.items)) }

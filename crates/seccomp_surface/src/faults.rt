@@ -7,7 +7,7 @@ use std::alloc::Global;
 use std::io::Read;
 use std::process::Abort;
 
-/// What a policy is refused for.
+/// What a policy is rejected for.
 #[derive(Clone, Copy, Debug)]
 pub enum Fault {
     /// The reader fails.
@@ -30,7 +30,7 @@ pub enum Fault {
     IdenticalActions,
     /// A filter's program would have this many instructions.
     FilterTooLarge(usize),
-    /// Memory is refused.
+    /// Memory runs out.
     OutOfMemory,
 }
 
@@ -76,7 +76,7 @@ fn is_library_fault(error: &Error, fault: Fault) -> bool {
     }
 }
 
-/// Whether `compile` on x86_64 refuses what the reader gives for this fault.
+/// Whether `compile` on x86_64 rejects what the reader gives for this fault.
 pub fn compile_tells<R: Read + Drop>(alloc: Global, reader: R, fault: Fault) -> bool {
     match JsonCompiler::new(TargetArch::x86_64).compile(alloc, reader) {
         Ok(_) => false,
@@ -84,7 +84,7 @@ pub fn compile_tells<R: Read + Drop>(alloc: Global, reader: R, fault: Fault) -> 
     }
 }
 
-/// Whether `compile_from_json` for x86_64 refuses what the reader gives for this fault.
+/// Whether `compile_from_json` for x86_64 rejects what the reader gives for this fault.
 pub fn compile_from_json_tells<R: Read + Drop>(alloc: Global, reader: R, fault: Fault) -> bool {
     match compile_from_json(alloc, reader, TargetArch::x86_64) {
         Ok(_) => false,
@@ -100,7 +100,7 @@ fn assert_fault(rt: &impl Abort, alloc: Global, text: &str, fault: Fault) {
     assert!(rt; told, "compile_from_json of {text} does not tell {fault:?}");
 }
 
-/// Asserts that both calls refuse each text for its fault.
+/// Asserts that both calls reject each text for its fault.
 pub fn assert_faults(rt: &impl Abort, alloc: Global, cases: &[(&str, Fault)]) {
     for (text, fault) in cases {
         assert_fault(rt, alloc, text, *fault);

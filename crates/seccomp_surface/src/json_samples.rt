@@ -13,7 +13,7 @@ pub const READS: &str = "{\"syscall\":\"read\"}";
 pub const COMPARES: &str =
     "{\"syscall\":\"read\",\"args\":[{\"index\":0,\"type\":\"dword\",\"op\":\"eq\",\"val\":5}]}";
 
-/// Seven calls without arguments and two with, refused by error number 1000.
+/// Seven calls without arguments and two with, denied with errno 1000.
 pub const MAIN_THREAD: &str =
     r#"{"main_thread":{"mismatch_action":{"errno":1000},"match_action":"allow","filter":[
     {"syscall":"rt_sigprocmask"},{"syscall":"sigaltstack"},{"syscall":"munmap"},{"syscall":"exit"},

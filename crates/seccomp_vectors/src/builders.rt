@@ -34,7 +34,7 @@ pub const RISCV64: u32 = 0xc000_00f3;
 pub struct SeccompData {
     /// The call number.
     pub number: u32,
-    /// The architecture word.
+    /// The architecture's `AUDIT_ARCH_*` value.
     pub arch: u32,
     /// The address of the instruction that made the call.
     pub instruction_pointer: u64,
@@ -105,8 +105,7 @@ pub fn one_rule(alloc: Global, rule: SeccompRule) -> Result<SeccompFilter, Fail>
     Ok(SeccompFilter::new(chains, trap, allow, TargetArch::x86_64)?)
 }
 
-/// Whether the program passes the checker, and it and the filter's `decide` answer the record by the
-/// word.
+/// Whether the program passes the checker, and it and the filter's `decide` answer the record by this value.
 pub fn is_answered(
     filter: &SeccompFilter,
     program: &[sock_filter],
@@ -117,7 +116,7 @@ pub fn is_answered(
 }
 
 /// Asserts that the filter's program passes the checker, and that it and `decide` answer the call by
-/// the word.
+/// this value.
 pub fn assert_word(
     rt: &impl Abort,
     name: &str,
@@ -163,7 +162,7 @@ fn assert_outcomes(
 }
 
 /// Asserts that the filter compiles to a program of `program_len` instructions that passes the
-/// checker, and that the program and `decide` answer each call by the word, the program in so many
+/// checker, and that the program and `decide` answer each call by its value, the program in so many
 /// steps.
 pub fn assert_answers(
     rt: &impl Abort,

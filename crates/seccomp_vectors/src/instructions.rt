@@ -2,7 +2,7 @@
 
 use seccompiler::bpf::{bpf_jump, bpf_stmt, sock_filter};
 
-/// Loads the word at byte `k` of the record.
+/// Loads the 32 bits at byte `k` of the record.
 pub fn load(k: u32) -> sock_filter {
     bpf_stmt(0x20, k)
 }
@@ -32,7 +32,7 @@ pub fn jump_at_least(k: u32, jt: u8, jf: u8) -> sock_filter {
     bpf_jump(0x35, k, jt, jf)
 }
 
-/// Ends, and returns the word `k`.
+/// Ends, and returns `k`.
 pub fn give(k: u32) -> sock_filter {
     bpf_stmt(0x06, k)
 }

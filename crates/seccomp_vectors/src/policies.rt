@@ -75,7 +75,7 @@ impl Policy<'_> {
     }
 }
 
-/// The length for which compiling was refused, if that is what it was refused for.
+/// The length for which compiling failed, if that is what it failed for.
 pub fn refused_length(made: Result<BpfProgram, BackendError>) -> Option<usize> {
     match made {
         Err(BackendError::FilterTooLarge(length)) => Some(length),
@@ -83,7 +83,7 @@ pub fn refused_length(made: Result<BpfProgram, BackendError>) -> Option<usize> {
     }
 }
 
-/// The call number for which compiling was refused, if that is what it was refused for.
+/// The call number for which compiling failed, if that is what it failed for.
 pub fn refused_number(made: Result<BpfProgram, BackendError>) -> Option<i64> {
     match made {
         Err(BackendError::InvalidSyscallNumber(number)) => Some(number),

@@ -13,7 +13,7 @@ const RESERVE: usize = 16 << 20;
 /// All memory that the process may still have, in blocks that nothing is written to.
 ///
 /// The last few megabytes are blocks of 16 to 1024 bytes, so that the C library has kept none of these
-/// sizes. It rests on a kernel that lends address space without backing it, as Linux does by default.
+/// sizes. It rests on a kernel that gives address space without backing it, as Linux does by default.
 #[derive(Drop)]
 pub struct Hoard {
     large: Vec<Vec<u8>>,

@@ -18,16 +18,16 @@ use std::io::{Read, Write};
 /// by one space. In the name the bytes 00 to 1f, 7f and the backslash are written as `\x` and two
 /// lower-case hexadecimal digits, all others as they are. The whole listing is written at once.
 ///
-/// The policy's text is what its reader gives; of a reader whose type doesn't tell its bytes, as that
+/// The policy's text is what its reader gives; of a reader whose type doesn't say what it reads, as that
 /// of standard input, the contract says that there is such a text.
 ///
 /// # Errors
 ///
 /// The first of these: `Library` with `InvalidTargetArch` and the text as it was given where `arch` is
-/// no architecture's name, ASCII case aside; `Library` with what `compile_from_json` refuses of the
-/// policy, `JsonFrontend(Read)` among it where the reader fails; `Write` where the writer fails.
-/// `OutOfMemory` comes in place of any of these where memory is refused, and where the reader fails for
-/// want of memory. On any error but `Write` nothing is written.
+/// no architecture's name, ASCII case aside; `Library` with what `compile_from_json` rejects the policy for,
+/// `JsonFrontend(Read)` among it where the reader fails; `Write` where the writer fails. `OutOfMemory` comes
+/// in place of any of these where memory runs out, in the reader too. On any error but `Write` nothing is
+/// written.
 pub fn list<R: Read + Drop, W: Write>(
     alloc: Global,
     arch: &str,

@@ -18,14 +18,14 @@ use std::collections::BTreeMap;
 use std::io::{Read, Write};
 
 /// Shows what a program that is compiled for a filter of one condition does with records: for each
-/// whole record of 64 bytes the line of the word that the program returns and the steps that it takes.
+/// whole record of 64 bytes the line of the value that the program returns and the steps that it takes.
 ///
 /// The filter allows call `nr` where all 8 bytes of argument `index`, numbered from 0, equal
 /// `value`, and kills the process at any other call and on any other architecture than `arch`. A
-/// line is the word in 8 lower-case hexadecimal digits, a space, the steps in decimal, a line feed.
+/// line is the value in 8 lower-case hexadecimal digits, a space, the steps in decimal, a line feed.
 /// All records are read before the first line is written, and all lines are written at once.
 ///
-/// The records are what their reader gives; of a reader whose type doesn't tell its bytes, as that of
+/// The records are what their reader gives; of a reader whose type doesn't say what it reads, as that of
 /// standard input, the contract says that there are such bytes.
 ///
 /// # Errors
@@ -35,7 +35,7 @@ use std::io::{Read, Write};
 /// is above 5; `Library` with `InvalidSyscallNumber` where `nr` lies outside 0 to 4294967295; `Read`
 /// where the reader fails; `Write` where the writer does; `ShortRecord` where 1 to 63 bytes are
 /// left, after the lines of the whole records are written. `OutOfMemory` comes in place of any of
-/// these where memory is refused, and where the reader fails for want of memory. On any error but
+/// these where memory runs out, in the reader too. On any error but
 /// `Write` and `ShortRecord` nothing is written.
 pub fn probe<R: Read + Drop, W: Write>(
     alloc: Global,

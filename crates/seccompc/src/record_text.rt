@@ -11,7 +11,7 @@ use seccompiler::BpfProgramRef;
 use seccompiler::machine::{Outcome, run};
 use std::alloc::{AllocError, Global};
 
-/// A program, of whose runs on records a line each is told.
+/// A program, of whose runs on records a line each is printed.
 #[derive(Clone, Copy)]
 pub(crate) struct Trace<'a>(pub BpfProgramRef<'a>);
 

@@ -36,7 +36,7 @@ pub enum Command<'a> {
     },
 }
 
-/// Reads the words that follow the program's name: exactly the command that they are, or `None`
+/// Reads the arguments that follow the program's name: exactly the command that they are, or `None`
 /// where they are none. Takes no memory.
 ///
 /// The commands are `probe ARCH NR INDEX VALUE`, `list ARCH` and `run ARCH FILE NAME`. ARCH, FILE and

@@ -125,7 +125,7 @@ impl TargetArch {
         }
     }
 
-    /// The architecture's word in a call record, as `linux/audit.h` has it.
+    /// The architecture's `AUDIT_ARCH_*` value in a call record, as `linux/audit.h` has it.
     pub fn get_audit_value(self) -> u32
         ensures { result ≡ audit_word self }
     {
@@ -210,13 +210,13 @@ impl EqualByParts for SeccompCmpArgLen {
 
 /// What a filter answers for a system call, as `seccomp(2)` names it.
 ///
-/// A filter's two actions are compared as values, not as words: `Errno(1)` and `Errno(65537)`
-/// differ, although both stand for the same word.
+/// A filter's two actions are compared as they are given, not by what programs return: `Errno(1)` and
+/// `Errno(65537)` differ, although programs return the same value for both.
 #[derive(Clone, Copy, Debug, PartialEq, Eq)]
 pub enum SeccompAction {
     /// Allows the call.
     Allow,
-    /// Returns from the call with this error number; only its low 16 bits are kept.
+    /// Returns from the call with this errno; only its low 16 bits are kept.
     Errno(u32),
     /// Kills the calling thread.
     KillThread,
@@ -240,7 +240,7 @@ impl EqualByParts for SeccompAction {
     ghost decides = { Prim.search (comparing, rules) };
 }
 
-/// The word that a program returns for the action.
+/// The value that a program returns for the action.
 impl From<SeccompAction> for u32 {
     ghost use Rattle.std.specs.Prelude.{◌≡◌};
     ghost use Rattle.seccompiler.specs.Policy.{word_of};
@@ -260,7 +260,7 @@ impl From<SeccompAction> for u32 {
     }
 }
 
-/// Why the backend refuses.
+/// Why the backend fails.
 #[derive(Debug, PartialEq, Eq, Drop)]
 pub enum BackendError {
     /// A rule of no conditions was asked for.
@@ -275,7 +275,7 @@ pub enum BackendError {
     InvalidTargetArch(String),
     /// This key of a filter's map lies outside 0 to 4294967295, and no lesser one does.
     InvalidSyscallNumber(i64),
-    /// A growth of memory was refused.
+    /// Memory ran out.
     OutOfMemory,
 }
 
@@ -349,11 +349,11 @@ ghost use Rattle.seccompiler.specs.Architecture.{audit_word};
 ghost use Rattle.seccompiler.specs.Code.{guard_code};
 
 /// The three instructions that kill the process on a call of another architecture: load the
-/// architecture word, skip the return where it is `arch`'s, return `SECCOMP_RET_KILL_PROCESS`.
+/// `AUDIT_ARCH_*` value, skip the return where it is `arch`'s, return `SECCOMP_RET_KILL_PROCESS`.
 ///
 /// # Errors
 ///
-/// `OutOfMemory` where memory is refused.
+/// `OutOfMemory` where memory runs out.
 pub fn build_arch_validation_sequence(
     alloc: Global,
     arch: TargetArch,

@@ -24,7 +24,7 @@ pub struct sock_filter {
     pub jt: u8,
     /// How many instructions a tested jump skips where its test is false.
     pub jf: u8,
-    /// The operand: a byte offset, a mask, a distance, a number to compare with, or a word to return.
+    /// The operand: a byte offset, a mask, a distance, a number to compare with, or a value to return.
     pub k: u32,
 }
 
@@ -45,7 +45,7 @@ const _: () = prove!(align_of::<sock_filter>() == 4);
 /// A program: a sequence of BPF instructions.
 pub type BpfProgram = Vec<sock_filter>;
 
-/// A program that is lent.
+/// A borrowed program.
 pub type BpfProgramRef<'a> = &'a [sock_filter];
 
 /// The greatest index of a system call's argument: a call has six arguments, numbered from 0.
@@ -60,7 +60,7 @@ pub const BPF_MAX_LEN: usize = 4096;
 /// Where the call number stands in `struct seccomp_data`, in bytes.
 pub const SECCOMP_DATA_NR_OFFSET: u8 = 0;
 
-/// Where the architecture word stands in `struct seccomp_data`, in bytes.
+/// Where the `AUDIT_ARCH_*` value stands in `struct seccomp_data`, in bytes.
 pub const SECCOMP_DATA_ARCH_OFFSET: u8 = 4;
 
 /// Where the first argument stands in `struct seccomp_data`, in bytes.
@@ -81,7 +81,7 @@ pub const BPF_JMP: u16 = 0x05;
 /// The class of returns.
 pub const BPF_RET: u16 = 0x06;
 
-/// The size of a load: a word of 32 bits.
+/// The size of a load: 32 bits.
 pub const BPF_W: u16 = 0x00;
 
 /// The mode of a load: from a fixed offset in the record.
@@ -130,7 +130,7 @@ const _: () = prove!(BPF_JGE == 0x30);
 
 const _: () = prove!(BPF_K == 0x00);
 
-/// The code that loads the word at byte `k` of the record into the accumulator.
+/// The code that loads the 32 bits at byte `k` of the record into the accumulator.
 pub const LOAD: u16 = BPF_LD | BPF_W | BPF_ABS;
 
 /// The code that keeps the bits of the accumulator that are set in `k`.
@@ -148,7 +148,7 @@ pub const JUMP_GREATER: u16 = BPF_JMP | BPF_JGT | BPF_K;
 /// The code that jumps over `jt` instructions where the accumulator is at least `k`, unsigned, else over `jf`.
 pub const JUMP_AT_LEAST: u16 = BPF_JMP | BPF_JGE | BPF_K;
 
-/// The code that ends the program, and returns the word `k`.
+/// The code that ends the program, and returns `k`.
 pub const RETURN: u16 = BPF_RET | BPF_K;
 
 // The seven codes that a checked program may have, as numbers.
@@ -166,13 +166,13 @@ const _: () = prove!(JUMP_AT_LEAST == 0x35);
 
 const _: () = prove!(RETURN == 0x06);
 
-/// The architecture word of x86_64 in `struct seccomp_data`, as `linux/audit.h` has it.
+/// The `AUDIT_ARCH_*` value of x86_64 in `struct seccomp_data`, as `linux/audit.h` has it.
 pub const AUDIT_ARCH_X86_64: u32 = 0xc000_003e;
 
-/// The architecture word of aarch64 in `struct seccomp_data`, as `linux/audit.h` has it.
+/// The `AUDIT_ARCH_*` value of aarch64 in `struct seccomp_data`, as `linux/audit.h` has it.
 pub const AUDIT_ARCH_AARCH64: u32 = 0xc000_00b7;
 
-/// The architecture word of riscv64 in `struct seccomp_data`, as `linux/audit.h` has it.
+/// The `AUDIT_ARCH_*` value of riscv64 in `struct seccomp_data`, as `linux/audit.h` has it.
 pub const AUDIT_ARCH_RISCV64: u32 = 0xc000_00f3;
 
 /// Builds an instruction that jumps by no test: `jt` and `jf` are 0.
@@ -189,7 +189,7 @@ pub fn bpf_jump(code: u16, k: u32, jt: u8, jf: u8) -> sock_filter
     sock_filter { code, jt, jf, k }
 }
 
-/// Loads the word at byte `k` of the record into the accumulator.
+/// Loads the 32 bits at byte `k` of the record into the accumulator.
 pub(crate) fn load_word(k: u32) -> sock_filter
     ensures instruction { result ≡ load k }
     ensures range { IsInRange result }
@@ -237,7 +237,7 @@ pub(crate) fn jump_if_at_least(k: u32, jt: u8, jf: u8) -> sock_filter
     bpf_jump(JUMP_AT_LEAST, k, jt, jf)
 }
 
-/// Ends the run and returns the word `k`.
+/// Ends the run and returns `k`.
 pub(crate) fn return_word(k: u32) -> sock_filter
     ensures instruction { result ≡ give k }
     ensures range { IsInRange result }

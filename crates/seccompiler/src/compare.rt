@@ -21,16 +21,16 @@ pub use calls::Calls;
 use std::alloc::Global;
 use tasks::compare_on;
 
-/// What is asked of the words that two programs return for a call.
+/// What is asked of the values that two programs return for a call.
 #[derive(Clone, Copy, Debug)]
 pub enum Relation {
-    /// Both words are the same.
+    /// Both values are the same.
     Alike,
     /// The action of the first permits as much as that of the second, or less.
     ///
-    /// From the least that is permitted: killing the process, killing the thread, trap, error
-    /// number, user notification, trace, log, allow, as `seccomp(2)` ranks them. The data of the
-    /// words doesn't count. A word that names none of these actions kills the process.
+    /// From the least that is permitted: killing the process, killing the thread, trap, errno, user
+    /// notification, trace, log, allow, as `seccomp(2)` ranks them. The values' data doesn't count. A value
+    /// that names none of these actions kills the process.
     AtMostAsPermissive,
 }
 
@@ -58,7 +58,7 @@ pub enum Comparison {
 ///
 /// # Errors
 ///
-/// `OutOfMemory` where memory is refused.
+/// `OutOfMemory` where memory runs out.
 ///
 /// # Examples
 ///
@@ -109,10 +109,10 @@ fn is_related(relation: Relation, word: u32, other: u32) -> bool
     }
 }
 
-/// How much the action of a word permits: 0 for killing the process, 1 for killing the thread, 2 for
-/// trap, 3 for an error number, 4 for user notification, 5 for trace, 6 for log, 7 for allow.
+/// How much the action of a return value permits: 0 for killing the process, 1 for killing the thread, 2 for
+/// trap, 3 for an errno, 4 for user notification, 5 for trace, 6 for log, 7 for allow.
 ///
-/// The upper half of the word names the action; the lower half, its data, doesn't count. A word that
+/// The upper half of the value names the action; the lower half, its data, doesn't count. A value that
 /// names none of these actions kills the process.
 pub fn rank(word: u32) -> u32
     ensures { result ≡ rank word }

@@ -27,20 +27,19 @@ pub type BpfMap = HashMap<String, BpfProgram>;
 /// Reads a text of JSON filters to its end, and compiles each filter for an architecture.
 ///
 /// The map has the text's names, each with its filter's program, as `SeccompFilter::to_bpf` gives it.
-/// The text is what the reader gives, which the contract names where the reader's type tells its
-/// bytes, as a slice does. For a reader that doesn't tell them, as a file, it says that there is a
+/// The text is what the reader gives, which the contract names where the reader's type says what it reads, as
+/// a slice does. For a reader whose type doesn't, as a file, it says that there is a
 /// text of which all this holds.
 ///
 /// # Errors
 ///
 /// The first of these that is there:
 ///
-/// - `JsonFrontend` with what `JsonCompiler::compile` refuses;
+/// - `JsonFrontend` with what `JsonCompiler::compile` rejects the text for;
 /// - `Backend(FilterTooLarge(n))` for the least name, in byte order, whose filter's program would have
 ///   more than 4096 instructions. `n` is how many, or `usize::MAX` if that is less.
 ///
-/// `OutOfMemory` may come in place of both, where memory is refused or the reader fails for want of
-/// it.
+/// `OutOfMemory` may come in place of both, where memory runs out, in the reader too.
 ///
 /// # Examples
 ///
@@ -84,17 +83,17 @@ pub fn compile_from_json_in_order<R: Read + Drop>(
 ///
 /// The map has the names of `policies`, each with its policy's program. Where the policies are those of
 /// a text, as [`JsonCompiler::policies`] gives them, the programs are the text's, as
-/// [`compile_from_json`] gives them, and an error tells its first fault.
+/// [`compile_from_json`] gives them, and an error names its first fault.
 ///
 /// # Errors
 ///
-/// What `SeccompFilter::to_bpf` refuses, of the least name, in byte order, with such a policy:
+/// What `SeccompFilter::to_bpf` rejects, of the least name, in byte order, with such a policy:
 ///
 /// - `InvalidSyscallNumber(n)` with its least number that is no call's;
 /// - `FilterTooLarge(n)` where its program would have more than 4096 instructions. `n` is how many, or
 ///   `usize::MAX` if that is less.
 ///
-/// `OutOfMemory`, where memory is refused, may come in place of both, and no other error.
+/// `OutOfMemory`, where memory runs out, may come in place of both, and no other error.
 ///
 /// # Examples
 ///

@@ -194,7 +194,7 @@ impl SeccompCondition {
     ///
     /// # Errors
     ///
-    /// `OutOfMemory` where memory is refused.
+    /// `OutOfMemory` where memory runs out.
     pub fn to_bpf(&self, alloc: Global, offset: u8) -> Result<Vec<sock_filter>, BackendError>
         requires some { 1 ≤ offset }
         requires few { offset ≤ greatest_offset }

@@ -5,24 +5,24 @@ use crate::json::JsonFrontendError;
 use std::alloc::AllocError;
 use std::fmt;
 
-/// Why a call of this crate refuses.
+/// Why a call of this crate fails.
 ///
-/// Want of memory stands here alone, and never inside another variant.
+/// Running out of memory is `OutOfMemory` alone, and never inside another variant.
 #[derive(Debug, Drop)]
 pub enum Error {
-    /// The backend refuses.
+    /// The backend's error.
     Backend(BackendError),
     /// A program of no instructions was to be installed.
     EmptyFilter,
-    /// The call that sets `no_new_privs` failed with this error number, as `prctl(2)` lists them.
+    /// The call that sets `no_new_privs` failed with this errno, as `prctl(2)` lists them.
     Prctl(i32),
-    /// The call that installs a filter failed with this error number, as `seccomp(2)` lists them.
+    /// The call that installs a filter failed with this errno, as `seccomp(2)` lists them.
     Seccomp(i32),
     /// The thread of this id could not take the filter that all threads were to have.
     ThreadSync(i64),
-    /// The JSON front end refuses.
+    /// The JSON front end's error.
     JsonFrontend(JsonFrontendError),
-    /// A growth of memory was refused.
+    /// Memory ran out.
     OutOfMemory,
 }
 
@@ -61,7 +61,7 @@ impl fmt::Display for Error {
 
 impl std::error::Error for Error {}
 
-/// The backend's want of memory is the crate's; any other refusal stays the backend's.
+/// The backend's `OutOfMemory` is the crate's; any other error stays the backend's.
 impl From<BackendError> for Error {
     ghost use Rattle.std.specs.Prelude.{◌≡◌};
     ghost use Rattle.seccompiler.specs.Errors.{from_backend};
@@ -76,7 +76,7 @@ impl From<BackendError> for Error {
     }
 }
 
-/// The front end's want of memory is the crate's; any other refusal stays the front end's.
+/// The front end's `OutOfMemory` is the crate's; any other error stays the front end's.
 impl From<JsonFrontendError> for Error {
     ghost use Rattle.std.specs.Prelude.{◌≡◌};
     ghost use Rattle.seccompiler.specs.Errors.{from_frontend};
@@ -91,7 +91,7 @@ impl From<JsonFrontendError> for Error {
     }
 }
 
-/// A refused growth is want of memory.
+/// A failed allocation is `OutOfMemory`.
 impl From<AllocError> for Error {
     ghost use Rattle.std.specs.Prelude.{◌≡◌};
     ghost use Rattle.seccompiler.specs.declared.error.Error.TheVariants.{OutOfMemory};

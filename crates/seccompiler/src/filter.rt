@@ -95,7 +95,7 @@ impl SeccompFilter {
     /// The filter's program.
     ///
     /// It has `program_len` instructions, passes `machine::check`, and returns for every call
-    /// record, within as many steps as it has instructions, the word that `decide` gives. A call of
+    /// record, within as many steps as it has instructions, the value that `decide` gives. A call of
     /// the filter's architecture without a chain is answered in a number of steps that the
     /// filter's map alone determines.
     ///
@@ -103,7 +103,7 @@ impl SeccompFilter {
     ///
     /// `InvalidSyscallNumber` with the least key that lies outside 0 to 4294967295, where there is
     /// one; else `FilterTooLarge` with `program_len` where that is more than 4096; both take
-    /// no memory. `OutOfMemory` where memory for the program is refused.
+    /// no memory. `OutOfMemory` where memory for the program runs out.
     ///
     /// # Examples
     ///
@@ -126,7 +126,7 @@ impl SeccompFilter {
     ///
     /// # Errors
     ///
-    /// `OutOfMemory` where memory is refused.
+    /// `OutOfMemory` where memory runs out.
     pub fn clone(&self, alloc: Global) -> Result<Self, BackendError>
         ensures same { IfOk result (λ f. f ≡ self.now) }
         ensures memory { IsOkUnless result OutOfMemory }
@@ -143,12 +143,12 @@ impl SeccompFilter {
         })
     }
 
-    /// The word that the policy names for the call of this record: `SECCOMP_RET_KILL_PROCESS` where
-    /// the record is of another architecture, else the word of the match action where the policy
-    /// matches, else the word of the mismatch action.
+    /// The return value that the policy names for the call of this record: `SECCOMP_RET_KILL_PROCESS` where
+    /// the record is of another architecture, else that of the match action where the policy matches, else
+    /// that of the mismatch action.
     ///
     /// It depends on neither the order of rules in a chain nor that of conditions in a rule, nor on
-    /// the record's instruction pointer. The policy names no other word for the call.
+    /// the record's instruction pointer. The policy names no other value for the call.
     ///
     /// ```
     /// // Call 39 of x86_64, with each argument 0.
@@ -237,7 +237,7 @@ impl SeccompFilter {
     /// Fills the part with the filter's program, the one that `to_bpf` gives. Takes no memory.
     ///
     /// The filter must be one that `to_bpf` compiles, and the part have as many places as its
-    /// program has instructions: [`compiled_len`](SeccompFilter::compiled_len) tells both.
+    /// program has instructions: [`compiled_len`](SeccompFilter::compiled_len) says both.
     ///
     /// # Examples
     ///

@@ -17,10 +17,9 @@ const SECCOMP_FILTER_FLAG_TSYNC: u64 = 1;
 /// This crate makes no system call itself. Whoever installs a program hands in a value that does,
 /// or one that stands in for a kernel, as in a test.
 ///
-/// Each call answers a code and an error number, as `prctl(2)` and `seccomp(2)` return a code and
-/// leave the error number in `errno`. For each call the trait names a relation between the kernel
-/// before it, its arguments, its answer and the kernel after it; what installing does is said in
-/// terms of these two alone.
+/// Each call answers a code and an errno, as `prctl(2)` and `seccomp(2)` return a code and set `errno`. For
+/// each call the trait names a relation between the kernel before it, its arguments, its answer and the
+/// kernel after it; what installing does is said in terms of these two alone.
 ///
 /// ```
 /// /// A kernel whose calls all succeed, and of whose calls no more is known.
@@ -56,14 +55,14 @@ pub trait Kernel {
 
     /// Sets the calling thread's `no_new_privs`, as `prctl(PR_SET_NO_NEW_PRIVS, 1, 0, 0, 0)`.
     ///
-    /// The code is 0 where the call succeeded; else the error number says why it failed.
+    /// The code is 0 where the call succeeded; else the errno says why it failed.
     fn set_no_new_privs(&mut self) -> (i32, i32)
         ensures { no_new_privs self.old result.0 result.1 self.new };
 
     /// Installs a filter, as `seccomp(SECCOMP_SET_MODE_FILTER, flags, program)`.
     ///
     /// The code is 0 where the filter is installed. It is negative where the call failed, and the
-    /// error number then says why. It is positive where `flags` asked for all threads and some
+    /// errno then says why. It is positive where `flags` asked for all threads and some
     /// thread could not take the filter: that thread's id.
     ///
     /// The program has at most 65535 instructions, so that its length fits the 16 bits of
@@ -83,8 +82,8 @@ pub trait Kernel {
 /// # Errors
 ///
 /// `EmptyFilter` where the program has no instruction, and then no call is made. `Prctl` with the
-/// error number where setting `no_new_privs` answers another code than 0, and then the filter is not
-/// asked for. Else as the code for the filter says: `Seccomp` with the error number where it is
+/// errno where setting `no_new_privs` answers another code than 0, and then the filter is not asked for. Else
+/// as the code for the filter says: `Seccomp` with the errno where it is
 /// negative, `ThreadSync` with the code where it is positive.
 ///
 /// # Examples

@@ -2,9 +2,9 @@
 //!
 //! A text is an object that gives each filter a name, with its two actions and its entries;
 //! docs/JSON.md has the format. [`filters_of`] reads a text in memory as JSON filters, [`filters_from`]
-//! that of a reader, and [`JsonCompiler`] makes them the filters of an architecture. [`repeats_key`] tells that a text repeats a name, and
-//! [`read_filters`] turns the value of a text into JSON filters. Whoever looks at the values inside a
-//! policy has [`read_action`], [`read_arg_len`] and [`read_operator`].
+//! that of a reader, and [`JsonCompiler`] makes them the filters of an architecture. [`repeats_key`] says
+//! whether a text repeats a name, and [`read_filters`] turns the value of a text into JSON filters. Whoever
+//! looks at the values inside a policy has [`read_action`], [`read_arg_len`] and [`read_operator`].
 
 mod compiler;
 mod error;

@@ -11,7 +11,7 @@ use std::alloc::Global;
 
 /// How a filter's program finds the rules of a call number.
 ///
-/// In both layouts a program passes `machine::check`, and returns for every call record the word that
+/// In both layouts a program passes `machine::check`, and returns for every call record the value that
 /// [`SeccompFilter::decide`] gives. They differ in length and in steps.
 #[derive(Clone, Copy, Debug, PartialEq, Eq)]
 pub enum Layout {
@@ -63,12 +63,11 @@ impl SeccompFilter {
     }
 
     /// The filter's program in a layout, the one that [`to_bpf_in`](SeccompFilter::to_bpf_in) gives,
-    /// and what stands at each of its places: at each index the instruction is what the place tells.
+    /// and what stands at each of its places: at each index the instruction is what the place says.
     ///
     /// # Errors
     ///
-    /// Those of `to_bpf_in`, in the same order; `OutOfMemory` also where memory for the places is
-    /// refused.
+    /// Those of `to_bpf_in`, in the same order; `OutOfMemory` also where memory for the places runs out.
     ///
     /// # Examples
     ///

@@ -8,12 +8,12 @@
 //! - A *rule* ([`SeccompRule`]) is one condition or more. It holds where all of them hold.
 //! - A *condition* ([`SeccompCondition`]) compares one argument of a call, its low half or all of it,
 //!   with a value.
-//! - An *action* ([`SeccompAction`]) is what a kernel does with a call: allow it, log it, refuse it
-//!   with an error number, or end the process. A program returns it as a word.
+//! - An *action* ([`SeccompAction`]) is what a kernel does with a call: allow it, log it, deny it with an
+//!   errno, or end the process. A program returns it as a number of 32 bits.
 //! - A *program* ([`BpfProgram`]) is classic BPF, a list of instructions that a kernel runs on each
 //!   call. Its jumps lead forward alone, so a run takes no more steps than it has instructions.
 //! - A *record* is the call as a program sees it: a `struct seccomp_data` of 64 bytes, little-endian,
-//!   with the call number, the architecture word, the instruction pointer and six arguments.
+//!   with the call number, the `AUDIT_ARCH_*` value, the instruction pointer and six arguments.
 //!
 //! ```
 //! use seccompiler::machine::{Outcome, run};
@@ -41,7 +41,7 @@
 //! policy means. [`SeccompFilter::to_tree_bpf`] gives a program of fewer steps. [`compile_from_json`]
 //! reads policies as text, [`JsonCompiler`] in more steps. [`machine`] checks and runs programs,
 //! [`apply_filter`] installs them in a [`Kernel`], and [`SyscallTable`] knows the names of calls. The
-//! folder `docs/` has the definitions in words, the JSON format and advice for jailers.
+//! folder `docs/` has the definitions in English, the JSON format and advice for jailers.
 #![tactic(auto)]
 
 pub mod backend;

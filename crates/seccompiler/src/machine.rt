@@ -14,7 +14,7 @@ use crate::record::{LAST_WORD_OFFSET, word_at};
 /// How a run of a program ends.
 #[derive(Clone, Copy, Debug, PartialEq, Eq)]
 pub struct Outcome {
-    /// The word that the program returns.
+    /// The value that the program returns.
     pub word: u32,
     /// How many instructions are executed, the return included.
     pub steps: usize,
@@ -30,10 +30,10 @@ impl EqualByParts for Outcome {
     ghost decides = { Prim.search (comparing, rules) };
 }
 
-/// Tells whether a program may be run.
+/// Says whether a program may be run.
 ///
 /// A program passes if it has 1 to 4096 instructions, each instruction is one of the seven that
-/// [`run`] knows, each load is of a word of the record at a multiple of 4, both targets of each
+/// [`run`] knows, each load is of 32 bits of the record at a multiple of 4, both targets of each
 /// jump are places of the program, and the last instruction returns.
 ///
 /// Fields that an instruction ignores may hold any number. A kernel also takes programs of other
@@ -61,7 +61,7 @@ pub fn check(prog: BpfProgramRef<'_>) -> bool
     prog[prog.len() - 1].code == RETURN
 }
 
-/// Tells the first place of a program that keeps [`check`] from passing it, if there is one.
+/// Gives the first place of a program that keeps [`check`] from passing it, if there is one.
 ///
 /// That is the place of the first instruction that may not stand where it does; or 4096, where there are
 /// more and those before may; or the last place, where all may and the last instruction doesn't return.

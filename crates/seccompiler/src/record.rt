@@ -5,10 +5,10 @@ ghost use Rattle.seccompiler.specs.Machine.{word_at, argument_at};
 
 use crate::bpf::{SECCOMP_DATA_ARG_SIZE, SECCOMP_DATA_ARGS_OFFSET};
 
-/// Where the last word of a record stands, in bytes.
+/// Where the last 32 bits of a record stand, in bytes.
 pub(crate) const LAST_WORD_OFFSET: u32 = 60;
 
-/// Reads the 32-bit word of bytes `k` to `k + 3`.
+/// Reads the 32 bits of bytes `k` to `k + 3`.
 pub(crate) fn word_at(call: &[u8; 64], k: usize) -> u32
     requires { k ≤ 60 }
     ensures { result ≡ word_at call.now k }

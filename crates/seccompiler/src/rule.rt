@@ -74,7 +74,7 @@ impl SeccompRule {
     ///
     /// # Errors
     ///
-    /// `OutOfMemory` where memory is refused.
+    /// `OutOfMemory` where memory runs out.
     pub fn clone(&self, alloc: Global) -> Result<Self, BackendError>
         ensures same { IfOk result (λ rule. rule ≡ self.now) }
         ensures memory { IsOkUnless result OutOfMemory }
@@ -103,7 +103,7 @@ impl SeccompRule {
     ///
     /// # Errors
     ///
-    /// `OutOfMemory` where memory is refused.
+    /// `OutOfMemory` where memory runs out.
     pub fn to_bpf(&self, alloc: Global) -> Result<BpfProgram, BackendError>
         ensures code { IfOk result (λ code. IsRuleCode self.now code.items) }
         ensures groups { IsOnlyCut self.now (groups_of self.now) }

@@ -9,9 +9,9 @@ use seccompiler::BackendError;
 /// Why no program of arrays is given.
 #[derive(Clone, Copy, Debug, PartialEq, Eq)]
 pub(crate) enum ArraysFault {
-    /// A growth of memory was refused.
+    /// Memory ran out.
     OutOfMemory,
-    /// The word is no architecture's.
+    /// The value is no architecture's.
     UnknownArchitecture,
     /// The number names no layout.
     UnknownLayout,
@@ -70,7 +70,7 @@ impl ArraysFault {
     }
 }
 
-/// The backend's want of memory stays so; any other refusal is the filter's.
+/// The backend's `OutOfMemory` stays so; any other error is the filter's.
 impl From<BackendError> for ArraysFault {
     ghost use Rattle.std.specs.Prelude.{◌≡◌};
     ghost use Rattle.seccompiler_c.specs.ArraysDemands.{arrays_fault_of};

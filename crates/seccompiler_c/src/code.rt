@@ -15,9 +15,9 @@ use crate::codes::{
 /// Why an exported function has no other answer.
 #[derive(Clone, Copy, Debug)]
 pub(crate) enum Code {
-    /// Memory was refused.
+    /// Memory ran out.
     OutOfMemory,
-    /// The word is no architecture's.
+    /// The value is no architecture's.
     UnknownArchitecture,
     /// The number names no layout.
     UnknownLayout,

@@ -1,9 +1,9 @@
 // What the exported functions answer where they have no other answer.
 
-/// Memory was refused. Each function says in place of which answers it may come.
+/// Memory ran out. Each function says in place of which answers it may come.
 pub const SECCOMPILER_OUT_OF_MEMORY: i64 = -1;
 
-/// The architecture word is none of the three that filters are compiled for.
+/// The architecture is none of the three `AUDIT_ARCH_*` values that filters are compiled for.
 pub const SECCOMPILER_UNKNOWN_ARCHITECTURE: i64 = -2;
 
 /// The number names no layout.
@@ -66,7 +66,7 @@ pub const SECCOMPILER_VERSION: u32 = 0x1_0000;
 /// The layout of the Rust crate, which tests one call number after the other.
 pub const SECCOMPILER_LAYOUT_LINEAR: u32 = 0;
 
-/// The layout of a tree of tests, which tell ranges of call numbers apart.
+/// The layout of a tree of tests, which distinguish ranges of call numbers.
 pub const SECCOMPILER_LAYOUT_TREE: u32 = 1;
 
 /// The low 4 bytes of the argument count.
@@ -96,7 +96,7 @@ pub const SECCOMPILER_LE: u8 = 5;
 /// The argument and the value have the same bits under the mask.
 pub const SECCOMPILER_MASKED_EQ: u8 = 6;
 
-/// Two programs return the same word.
+/// Two programs return the same value.
 pub const SECCOMPILER_ALIKE: u32 = 0;
 
 /// The first program permits as much as the second, or less.

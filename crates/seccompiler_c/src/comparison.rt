@@ -16,7 +16,7 @@ use std::alloc::Global;
 /// The calls that are asked about.
 #[derive(Clone, Copy, Debug, PartialEq, Eq)]
 pub(crate) struct Asked {
-    /// The architecture's word; or 0, for all calls.
+    /// The architecture's `AUDIT_ARCH_*` value; or 0, for all calls.
     pub architecture: u32,
     /// The least number.
     pub least: u32,

@@ -10,19 +10,19 @@ use std::fmt;
 /// Why a policy, a program of it or a decision of it is not given.
 #[derive(Debug, Drop)]
 pub(crate) enum Fault {
-    /// A growth of memory was refused.
+    /// Memory ran out.
     OutOfMemory,
-    /// The word is no architecture's.
+    /// The value is no architecture's.
     UnknownArchitecture,
     /// The number names no layout.
     UnknownLayout,
-    /// The text has this fault, which is neither want of memory nor a reader's.
+    /// The text has this fault, which is neither out of memory nor a reader's.
     Text(JsonFrontendError),
     /// No filter of the text has the name.
     NoFilter,
     /// The text has no more filters than the index.
     NoIndex,
-    /// The filter is refused so, and not for want of memory.
+    /// The filter is rejected so, and memory didn't run out.
     Filter(BackendError),
     /// The program has so many instructions, and there is room for less.
     NoRoom(usize),
@@ -52,7 +52,7 @@ impl Fault {
     }
 }
 
-/// The fault's text: the library's own where the library refuses.
+/// The fault's text: the library's own where the library rejects it.
 impl fmt::Display for Fault {
     ghost use Rattle.std.specs.Fmt.{DisplaysOnOk};
     ghost use Rattle.seccompiler.specs.Texts.{WritesOne};
@@ -80,7 +80,7 @@ impl fmt::Display for Fault {
     }
 }
 
-/// The front end's want of memory stays so; any other refusal is the text's.
+/// The front end's `OutOfMemory` stays so; any other error is the text's.
 impl From<JsonFrontendError> for Fault {
     ghost use Rattle.std.specs.Prelude.{◌≡◌};
     ghost use Rattle.seccompiler_c.specs.Policies.{from_frontend};
@@ -95,7 +95,7 @@ impl From<JsonFrontendError> for Fault {
     }
 }
 
-/// The backend's want of memory stays so; any other refusal is the filter's.
+/// The backend's `OutOfMemory` stays so; any other error is the filter's.
 impl From<BackendError> for Fault {
     ghost use Rattle.std.specs.Prelude.{◌≡◌};
     ghost use Rattle.seccompiler_c.specs.Policies.{from_backend};

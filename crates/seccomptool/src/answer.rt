@@ -13,7 +13,7 @@ use std::io;
 use std::process::ExitCode;
 use std::rt::Files;
 
-/// Carries out the command that the words behind the program's name mean, or tells what is wrong with
+/// Carries out the command that the arguments behind the program's name mean, or says what is wrong with
 /// them, or writes the help or the version that they ask for. `to_terminal` says whether standard output
 /// is a terminal.
 pub(crate) fn answer(

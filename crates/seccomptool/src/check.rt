@@ -15,7 +15,7 @@ use seccompiler::json::filters_of;
 use std::alloc::Global;
 use std::io::{Read, Write};
 
-/// Tells the first fault of a policy as an error, as [`lint`] tells it, or else writes its warnings.
+/// Reports the first fault of a policy as an error, as [`lint`] reports it, or else writes its warnings.
 ///
 /// For each filter, in byte order of names, comes a line for each warning: those of its two actions
 /// first, and then those of its entries, condition by condition. A line is the place, `: warning [`, the
@@ -31,9 +31,9 @@ use std::io::{Read, Write};
 ///
 /// # Errors
 ///
-/// The first of these: what [`lint`] refuses, as it tells it; `Write` where the writer fails.
-/// `OutOfMemory` comes in place of any of these where memory is refused, and where the reader fails for
-/// want of memory. On any error but `Write` nothing is written.
+/// The first of these: the error of [`lint`], as it reports it; `Write` where the writer fails. `OutOfMemory`
+/// comes in place of any of these where memory runs out, in the reader too. On any error but `Write` nothing
+/// is written.
 pub fn check<R: Read + Drop, W: Write>(
     alloc: Global,
     arch: &str,

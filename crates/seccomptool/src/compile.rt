@@ -40,18 +40,17 @@ use std::io::{Read, Write};
 ///   lines stand between the braces of the initializer of an array of `struct sock_filter`.
 ///
 /// All is written at once. The policy's text is what its reader gives; of a reader whose type doesn't
-/// tell its bytes, as that of standard input, the contract says that there is such a text.
+/// say what it reads, as that of standard input, the contract says that there is such a text.
 ///
 /// # Errors
 ///
 /// The first of these: `Library` with `InvalidTargetArch` and the text as it was given where `arch`
-/// is no architecture's name, ASCII case aside; `Library` with what `JsonCompiler::compile` refuses
-/// of the policy, `JsonFrontend(Read)` among it where the reader fails; `NoFilter` with the name
-/// where no filter of the policy has it; `Fault` where its program is too large in this layout, with a
-/// text of its name, of the instructions that it needs, and of those of the other layout, where they
-/// fit; `Write` where the writer fails. Only the filter of this name is compiled, so that another one is too large
-/// is no error. `OutOfMemory` comes in place of any of these where memory is refused, and where the
-/// reader fails for want of memory. On any error but `Write` nothing is written.
+/// is no architecture's name, ASCII case aside; `Library` with what `JsonCompiler::compile` rejects the policy
+/// for, `JsonFrontend(Read)` among it where the reader fails; `NoFilter` with the name where no filter of the
+/// policy has it; `Fault` where its program is too large in this layout, with a text of its name, of the
+/// instructions that it needs, and of those of the other layout, where they fit; `Write` where the writer fails.
+/// Only the filter of this name is compiled, so that another one is too large is no error. `OutOfMemory` comes in
+/// place of any of these where memory runs out, in the reader too. On any error but `Write` nothing is written.
 pub fn compile<R: Read + Drop, W: Write>(
     alloc: Global,
     format: ProgramFormat,

@@ -16,7 +16,7 @@ use seccompiler::{JsonCompiler, Relation, TargetArch};
 use std::alloc::Global;
 use std::io::{Read, Write};
 
-/// Tells on which calls a new policy decides otherwise than an old one, or permits more.
+/// Reports on which calls a new policy decides otherwise than an old one, or permits more.
 ///
 /// For each filter of the old policy, in byte order of names, and then for each that the new one alone
 /// has, comes a line `filter NAME: ` and what is found; where `filter` is given, for that one alone.
@@ -24,25 +24,25 @@ use std::io::{Read, Write};
 /// the new decision to the old one doesn't hold has a line, in ascending order of numbers, and so has
 /// each range of numbers that have no name: the call's name, both actions, whether the new one permits
 /// `more`, `less` or `otherwise`, and a call on which this is so. A call for which `most` sets of
-/// records were looked at without an answer is told as `undecided`. Other architectures have no line:
+/// records were looked at without an answer is reported as `undecided`. Other architectures have no line:
 /// both policies are for one, and kill the process on each other. All lines are written at once.
 ///
-/// The verdict is `Different` where some line tells a difference or a filter that one policy lacks;
+/// The verdict is `Different` where some line reports a difference or a filter that one policy lacks;
 /// else `Undecided` where some call is undecided; and `Same` only where the relation holds for every
 /// call.
 ///
-/// The policies' texts are what their readers give; of a reader whose type doesn't tell its bytes, as
+/// The policies' texts are what their readers give; of a reader whose type doesn't say what it reads, as
 /// that of standard input, the contract says that there is such a text.
 ///
 /// # Errors
 ///
 /// The first of these: `Library` with `InvalidTargetArch` and the text as it was given where `arch` is
-/// no architecture's name, ASCII case aside; `Library` with what `JsonCompiler::compile` refuses of the
-/// old policy, and then `NewPolicy` with what it refuses of the new one, `JsonFrontend(Read)` among it
-/// where the reader fails; `NoFilter` with the name where neither policy has the filter; `Library` with `FilterTooLarge` of a
-/// filter that both have and that is too large in both layouts; `Write` where the writer fails.
-/// `OutOfMemory` comes in place of any of these where memory is refused, and where a reader fails for
-/// want of memory. On any error but `Write` nothing is written.
+/// no architecture's name, ASCII case aside; `Library` with what `JsonCompiler::compile` rejects the old
+/// policy for, and then `NewPolicy` with what it rejects the new one for, `JsonFrontend(Read)` among it where
+/// the reader fails; `NoFilter` with the name where neither policy has the filter; `Library` with
+/// `FilterTooLarge` of a filter that both have and that is too large in both layouts; `Write` where the
+/// writer fails. `OutOfMemory` comes in place of any of these where memory runs out, in a reader too. On any
+/// error but `Write` nothing is written.
 pub fn diff<O: Read + Drop, N: Read + Drop, W: Write>(
     alloc: Global,
     arch: &str,

@@ -9,12 +9,12 @@ use std::{fmt, io};
 
 /// Why an engine of the program fails.
 ///
-/// Want of memory stands here alone, and never inside another variant.
+/// Running out of memory is `OutOfMemory` alone, and never inside another variant.
 #[derive(Debug, Drop)]
 pub enum ToolError {
-    /// The library refuses.
+    /// The library's error.
     Library(seccompiler::Error),
-    /// The library refuses the new one of two policies.
+    /// The library's error of the new one of two policies.
     NewPolicy(seccompiler::Error),
     /// No filter of the policy has this name.
     NoFilter(String),
@@ -26,13 +26,13 @@ pub enum ToolError {
     ShortRecord(usize),
     /// The records can't be read.
     Read(io::Error),
-    /// The policy has a fault that has a place; the text tells the place, what stands there and what may.
+    /// The policy has a fault that has a place; the text names the place, what stands there and what may.
     Fault(String),
     /// The program can't be read, or may not be run.
     Program(ProgramFault),
     /// The output can't be written; how much of it went out is not known.
     Write(io::Error),
-    /// A growth of memory was refused, or reading failed for want of memory.
+    /// Memory ran out, here or in a reader.
     OutOfMemory,
 }
 
@@ -70,7 +70,7 @@ impl fmt::Display for ToolError {
 
 impl std::error::Error for ToolError {}
 
-/// The library's want of memory is the program's.
+/// The library's `OutOfMemory` is the program's.
 impl From<seccompiler::Error> for ToolError {
     ghost use Rattle.std.specs.Prelude.{◌≡◌};
     ghost use Rattle.seccomptool.specs.Errors.{from_library};

@@ -16,7 +16,7 @@ use seccompiler::{Calls, Relation, TargetArch};
 pub(crate) struct Terms {
     /// The architecture.
     pub target: TargetArch,
-    /// What is asked of the two words for a call, the new one first.
+    /// What is asked of the two values for a call, the new one first.
     pub relation: Relation,
     /// How many sets of records are looked at, at most, for each part.
     pub most: usize,
@@ -39,9 +39,9 @@ pub enum Part {
     },
     /// The calls of other architectures.
     Elsewhere {
-        /// The least of their architecture words.
+        /// The least of their `AUDIT_ARCH_*` values.
         least: u32,
-        /// The greatest of their architecture words.
+        /// The greatest of their `AUDIT_ARCH_*` values.
         greatest: u32,
     },
 }
@@ -55,9 +55,9 @@ pub enum Answer {
     Fails {
         /// The record of the call.
         call: [u8; 64],
-        /// The old word for it.
+        /// The old value for it.
         old: u32,
-        /// The new word for it.
+        /// The new value for it.
         new: u32,
     },
     /// As many sets of records were looked at as was allowed, and neither was found.
@@ -84,7 +84,7 @@ pub enum Verdict {
     Undecided,
 }
 
-/// What is told of two sides.
+/// What is reported of two sides.
 #[derive(Drop)]
 pub(crate) struct Report {
     /// The text.

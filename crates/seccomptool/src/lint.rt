@@ -11,7 +11,7 @@ use seccompiler::TargetArch;
 use std::alloc::Global;
 use std::io::Read;
 
-/// Looks for the first fault of a policy, and tells its place, as [`check`] does.
+/// Looks for the first fault of a policy, and reports its place, as [`check`] does.
 ///
 /// It is Ok only where `list` of seccompc lists: `compile_from_json` compiles all filters. Nothing is
 /// written anywhere. The policy's text is what its reader gives, and is read whole at first.
@@ -19,15 +19,14 @@ use std::io::Read;
 /// # Errors
 ///
 /// The first of these: `Library` with `InvalidTargetArch` and the text as it was given where `arch` is
-/// no architecture's name, ASCII case aside; `Library` with what `compile_from_json` refuses of the
-/// policy, where that has no place: the reader fails, the bytes are no JSON, or a name is repeated;
-/// `Fault` with the text of a fault of the kind that `compile_from_json` tells, where that has a place.
-/// `OutOfMemory` comes in place of any of these where memory is refused, and where the reader fails for
-/// want of memory.
+/// no architecture's name, ASCII case aside; `Library` with what `compile_from_json` rejects the policy for,
+/// where that has no place: the reader fails, the bytes are no JSON, or a name is repeated; `Fault` with the
+/// text of a fault of the kind that `compile_from_json` reports, where that has a place. `OutOfMemory` comes
+/// in place of any of these where memory runs out, in the reader too.
 ///
 /// Of several faults of that kind it is the first, in the order that docs/TOOL.md gives. That is tested
-/// and not proved, and so is that a fault with a place is told by it: by the contract it may be any one of
-/// its kind, and may be told as `Library`.
+/// and not proved, and so is that a fault with a place is reported by it: by the contract it may be any one
+/// of its kind, and may be reported as `Library`.
 pub fn lint<R: Read + Drop>(alloc: Global, arch: &str, policy: R) -> Result<(), ToolError>
     // When each answer comes, and what it tells.
     ensures answers { AnswersLint arch.now (R.remaining policy) result }

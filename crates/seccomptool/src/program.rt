@@ -31,7 +31,7 @@ const COMPAT: &str = "Print the calls that the Rust crate would decide otherwise
 
 /// The subcommands and their arguments, with the names of architectures and of layouts.
 ///
-/// The words that it reads are those behind the program's own name.
+/// The arguments that it reads are those behind the program's own name.
 pub(crate) fn program<'a>(
     alloc: Global,
     archs: &'a [&'a str],

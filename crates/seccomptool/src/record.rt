@@ -16,7 +16,7 @@ use std::io::Write;
 /// Writes the record of a call as the kernel hands it to a program: the 64 bytes of a
 /// `struct seccomp_data`, as `seccomp(2)` has it.
 ///
-/// They are the call number and the architecture word, of 4 bytes each, the instruction pointer, which
+/// They are the call number and the `AUDIT_ARCH_*` value, of 4 bytes each, the instruction pointer, which
 /// is 0, and the six arguments, of 8 bytes each, every number with its low byte first. `call` is the
 /// call's number, from 0 to 4294967295, in decimal digits, or in hexadecimal ones behind `0x`; or, where
 /// it is no number that 64 bits hold, the name of a call of the architecture. All bytes are written at
@@ -27,7 +27,7 @@ use std::io::Write;
 /// The first of these: `Library` with `InvalidTargetArch` and the text as it was given where `arch` is
 /// no architecture's name, ASCII case aside; `UnknownCall` with the text and the architecture where
 /// `call` is no call; `Write` where the writer fails. `OutOfMemory` comes in place of any of these
-/// where memory is refused. On any error but `Write` nothing is written.
+/// where memory runs out. On any error but `Write` nothing is written.
 pub fn record<W: Write>(
     alloc: Global,
     arch: &str,

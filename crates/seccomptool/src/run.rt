@@ -24,23 +24,23 @@ use std::io::{Read, Write};
 /// in 4. It may be of any compiler, if `machine::check` passes it; that takes fewer instructions than a
 /// kernel does.
 ///
-/// A line is the action of the returned word by its name in a policy and a line feed: `allow`, `log`,
+/// A line is the action of the returned value by its name in a policy and a line feed: `allow`, `log`,
 /// `trap`, `kill_thread`, `kill_process` and `user_notif`, a space and the low 16 bits in decimal behind
-/// `errno` and `trace`; a word that is none of these is written in hexadecimal digits behind `0x`.
+/// `errno` and `trace`; a value that is none of these is written in hexadecimal digits behind `0x`.
 ///
 /// The program is read to its end and checked before the records are read. All records are read before
 /// the first line is written, and all lines are written at once.
 ///
-/// The program's bytes and the records are what their readers give; of a reader whose type doesn't tell
-/// its bytes, as a file's, the contract says that there are such bytes.
+/// The program's bytes and the records are what their readers give; of a reader whose type doesn't say what
+/// it reads, as a file's, the contract says that there are such bytes.
 ///
 /// # Errors
 ///
 /// The first of these: `Program` with the first of [`ProgramFault`](fault::ProgramFault) that is so of
 /// the program; `Read` where the reader of the records fails; `Write` where the writer does;
 /// `ShortRecord` where 1 to 63 bytes are left, after the lines of the whole records are written.
-/// `OutOfMemory` comes in place of any of these where memory is refused, and where a reader fails for
-/// want of memory. On any error but `Write` and `ShortRecord` nothing is written.
+/// `OutOfMemory` comes in place of any of these where memory runs out, in a reader too. On any error but
+/// `Write` and `ShortRecord` nothing is written.
 pub fn run<P: Read + Drop, R: Read + Drop, W: Write>(
     alloc: Global,
     program: P,

@@ -26,26 +26,26 @@ use std::io::{Read, Write};
 /// For each filter come a line `filter LENGTH NAME` and a line for each instruction. In NAME the control
 /// characters, those from U+0080 to U+009F too, and the backslash are written as `\x` and two lower-case
 /// hexadecimal digits for each of their bytes, all others as they are. An instruction's line has its
-/// place in decimal, filled with spaces in front up to 4 bytes; two spaces; and the instruction in the
-/// words of `bpf_asm`, in which jumps tell the places that they lead to. Where a note stands beside
-/// them, the words are filled with spaces up to 28 bytes, and `; ` stands in front of the note. It says
-/// first which call, rule and condition the instruction belongs to, or which calls it tells apart: rules
-/// and conditions are numbered from 0, in the policy's order, and a call has the name of its first
-/// entry, or its number where it has none. The second instruction's note is the architecture that it
-/// tests. Then the note says what a load gets of the record, and which action a returned word stands
+/// place in decimal, filled with spaces in front up to 4 bytes; two spaces; and the instruction as `bpf_asm`
+/// has it, in which jumps name the places that they lead to. Where a note stands beside it, the instruction
+/// is filled with spaces up to 28 bytes, and `; ` stands in front of the note. It says first which call, rule
+/// and condition the instruction belongs to, or which calls it distinguishes: rules and conditions are
+/// numbered from 0, in the policy's order, and a call has the name of its first entry, or its number where it
+/// has none. The second instruction's note is the architecture that it tests. Then the note says what a load
+/// gets of the record, and which action a returned value stands
 /// for. All is written at once.
 ///
-/// The policy's text is what its reader gives; of a reader whose type doesn't tell its bytes, as that
+/// The policy's text is what its reader gives; of a reader whose type doesn't say what it reads, as that
 /// of standard input, the contract says that there is such a text.
 ///
 /// # Errors
 ///
 /// The first of these: `Library` with `InvalidTargetArch` and the text as it was given where `arch` is
-/// no architecture's name, ASCII case aside; `Library` with what the library refuses of the policy,
-/// `JsonFrontend(Read)` among it where the reader fails, and then with `FilterTooLarge` of the least
-/// name whose program would have more than 4096 instructions in this layout; `Write` where the writer
-/// fails. `OutOfMemory` comes in place of any of these where memory is refused, and where the reader
-/// fails for want of memory. On any error but `Write` nothing is written.
+/// no architecture's name, ASCII case aside; `Library` with what the library rejects the policy for,
+/// `JsonFrontend(Read)` among it where the reader fails, and then with `FilterTooLarge` of the least name
+/// whose program would have more than 4096 instructions in this layout; `Write` where the writer fails.
+/// `OutOfMemory` comes in place of any of these where memory runs out, in the reader too. On any error but
+/// `Write` nothing is written.
 pub fn show<R: Read + Drop, W: Write>(
     alloc: Global,
     arch: &str,

@@ -17,7 +17,7 @@ use seccompiler::{JsonCompiler, SyscallTable, TargetArch};
 use std::alloc::Global;
 use std::io::{Read, Write};
 
-/// Tells how long the programs of a policy's filters are, in both layouts, and how many steps they
+/// Reports how long the programs of a policy's filters are, in both layouts, and how many steps they
 /// take.
 ///
 /// For each filter, in byte order of names, come three lines:
@@ -37,17 +37,17 @@ use std::io::{Read, Write};
 /// the filter doesn't list takes exactly as many, if it lists any; in the tree another one may take more
 /// or fewer. All lines are written at once.
 ///
-/// The policy's text is what its reader gives; of a reader whose type doesn't tell its bytes, as that
+/// The policy's text is what its reader gives; of a reader whose type doesn't say what it reads, as that
 /// of standard input, the contract says that there is such a text.
 ///
 /// # Errors
 ///
 /// The first of these: `Library` with `InvalidTargetArch` and the text as it was given where `arch` is
-/// no architecture's name, ASCII case aside; `Library` with what `compile_from_json` refuses of the
-/// policy, `JsonFrontend(Read)` among it where the reader fails, and `FilterTooLarge` of a program in
-/// the linear layout; `Library` with `FilterTooLarge` of the tree of the least name whose tree is too
-/// large; `Write` where the writer fails. `OutOfMemory` comes in place of any of these where memory is
-/// refused, and where the reader fails for want of memory. On any error but `Write` nothing is written.
+/// no architecture's name, ASCII case aside; `Library` with what `compile_from_json` rejects the policy for,
+/// `JsonFrontend(Read)` among it where the reader fails, and `FilterTooLarge` of a program in the linear
+/// layout; `Library` with `FilterTooLarge` of the tree of the least name whose tree is too large; `Write`
+/// where the writer fails. `OutOfMemory` comes in place of any of these where memory runs out, in the reader
+/// too. On any error but `Write` nothing is written.
 pub fn steps<R: Read + Drop, W: Write>(
     alloc: Global,
     arch: &str,

@@ -20,7 +20,7 @@ use seccompiler::{JsonCompiler, Relation, TargetArch};
 use std::alloc::Global;
 use std::io::{Read, Write};
 
-/// Tells on which calls a program decides otherwise than a filter of a policy, or permits more.
+/// Reports on which calls a program decides otherwise than a filter of a policy, or permits more.
 ///
 /// The program's bytes are those that [`compile`](crate::compile::compile) writes, and may be of any compiler, if
 /// `machine::check` passes them. The filter is the one that is named, or the policy's only one.
@@ -32,26 +32,26 @@ use std::io::{Read, Write};
 /// that have no name have such lines behind these, in ascending order; x32 numbers are among them. Then
 /// comes a line `other architectures: ` with what is found on the calls of all others, on which the
 /// filter kills the process, and a line for those with a lesser `AUDIT_ARCH_*` value and for those with
-/// a greater one. A part for which `most` sets of records were looked at without an answer is told as
+/// a greater one. A part for which `most` sets of records were looked at without an answer is reported as
 /// `undecided`. All lines are written at once.
 ///
 /// The verdict is that of the architecture's calls; with `Scope::All` other architectures count too, and
-/// it is the worse of both. It is `Different` where some line that counts tells a difference; else
+/// it is the worse of both. It is `Different` where some line that counts reports a difference; else
 /// `Undecided` where one is undecided; and `Same` only where the relation holds for every call.
 ///
 /// The policy's text and the program's bytes are what their readers give; of a reader whose type doesn't
-/// tell its bytes, as a file's, the contract says that there are such bytes.
+/// say what it reads, as a file's, the contract says that there are such bytes.
 ///
 /// # Errors
 ///
 /// The first of these: `Library` with `InvalidTargetArch` and the text as it was given where `arch` is
-/// no architecture's name, ASCII case aside; `Library` with what `JsonCompiler::compile` refuses of the
-/// policy, `JsonFrontend(Read)` among it where its reader fails; `NoFilter` with the name where no filter
-/// of the policy has it; `Unchosen` where no filter is named and the policy hasn't exactly one; `Program`
-/// with the first of [`ProgramFault`](crate::run::fault::ProgramFault) that is so of the program;
-/// `Library` with `FilterTooLarge` where the filter is too large in both layouts; `Write` where the
-/// writer fails. `OutOfMemory` comes in place of any of these where memory is refused, and where a reader
-/// fails for want of memory. On any error but `Write` nothing is written.
+/// no architecture's name, ASCII case aside; `Library` with what `JsonCompiler::compile` rejects the policy
+/// for, `JsonFrontend(Read)` among it where its reader fails; `NoFilter` with the name where no filter of the
+/// policy has it; `Unchosen` where no filter is named and the policy hasn't exactly one; `Program` with the
+/// first of [`ProgramFault`](crate::run::fault::ProgramFault) that is so of the program; `Library` with
+/// `FilterTooLarge` where the filter is too large in both layouts; `Write` where the writer fails.
+/// `OutOfMemory` comes in place of any of these where memory runs out, in a reader too. On any error but
+/// `Write` nothing is written.
 pub fn verify<P: Read + Drop, R: Read + Drop, W: Write>(
     alloc: Global,
     arch: &str,

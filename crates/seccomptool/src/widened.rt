@@ -23,17 +23,16 @@ use std::io::{Read, Write};
 /// written as `\x` and two lower-case hexadecimal digits for each of their bytes, all others as they are.
 /// Where there is no such call nothing is written. All lines are written at once.
 ///
-/// The policy's text is what its reader gives; of a reader whose type doesn't tell its bytes, as that
+/// The policy's text is what its reader gives; of a reader whose type doesn't say what it reads, as that
 /// of standard input, the contract says that there is such a text.
 ///
 /// # Errors
 ///
 /// The first of these: `Library` with `InvalidTargetArch` and the text as it was given where `arch` is
-/// no architecture's name, ASCII case aside; `Library` with what `JsonCompiler::compile` refuses of the
-/// policy, `JsonFrontend(Read)` among it where the reader fails; `Write` where the writer fails. No
-/// program is made, so that one is too large is no error. `OutOfMemory` comes in place of any of these
-/// where memory is refused, and where the reader fails for want of memory. On any error but `Write`
-/// nothing is written.
+/// no architecture's name, ASCII case aside; `Library` with what `JsonCompiler::compile` rejects the policy
+/// for, `JsonFrontend(Read)` among it where the reader fails; `Write` where the writer fails. No program is
+/// made, so that one is too large is no error. `OutOfMemory` comes in place of any of these where memory runs
+/// out, in the reader too. On any error but `Write` nothing is written.
 pub fn widened<R: Read + Drop, W: Write>(
     alloc: Global,
     arch: &str,

@@ -157,11 +157,11 @@ pub enum Records<'a> {
     In(&'a str),
 }
 
-/// Reads the words that follow the program's name: the command that they mean.
+/// Reads the arguments that follow the program's name: the command that they mean.
 ///
 /// # Errors
 ///
-/// `clap`'s: help and the version where they are asked for, and its own error of words that are no
+/// `clap`'s: help and the version where they are asked for, and its own error of arguments that are no
 /// command. `ValueValidation` where an ARG or the value of `--most` is no number, where `explain` or `run`
 /// is given both CALL and `--records`, or `show` both POLICY and `--program`, and where two files would both be read from
 /// standard input: policy and records, program and records, policy and program, or both policies of `diff`. `OutOfMemory` may

@@ -2,13 +2,13 @@
 //!
 //! Runs a command under the filters that have the names FILTER in the policy file POLICY: what
 //! `examples/jail/jail.c` does, in safe Rust. The exit status is that of the command. Where it doesn't
-//! come to that, a line on standard error says why, and the status is 125 where nothing was run, 126
-//! where the command can't be run and 127 where there is none.
+//! come to that, a line on standard error says why, and it is 125 where nothing was run, 126 where
+//! the command can't be run and 127 where there is none.
 //!
 //! The filters are installed in the order in which they are named, so each but the last has to allow
-//! `prctl` and `seccomp`; where one answers `seccomp` with error number 0, the next one isn't installed,
-//! and nothing tells. They hold for the last steps of this program already: it makes
-//! `rt_sigprocmask`, `rt_sigaction` and `execve`, and where that fails, `write` and `exit_group`.
+//! `prctl` and `seccomp`; where one answers `seccomp` with errno 0, the next one isn't installed, and
+//! nothing reports it. They hold for the last steps of this program already: it makes `rt_sigprocmask`,
+//! `rt_sigaction` and `execve`, and where that fails, `write` and `exit_group`.
 
 #![forbid(unsafe_code)]
 
@@ -26,7 +26,7 @@ use std::str;
 
 /// What keeps a command from being run.
 enum Failure {
-    /// The words ask for nothing.
+    /// The arguments ask for nothing.
     Words,
     /// The policy can't be read.
     Policy(OsString, io::Error),
@@ -121,7 +121,7 @@ fn install(path: &OsStr, programs: &[(OsString, BpfProgram)]) -> Result<(), Fail
     Ok(())
 }
 
-/// Does what the words ask for. Where it goes well this program is gone, and the command in its place.
+/// Does what the arguments ask for. Where it goes well this program is gone, and the command in its place.
 fn jail(mut words: impl Iterator<Item = OsString>) -> Result<(), Failure> {
     let mut first = words.next();
     let mut layout = Layout::Linear;

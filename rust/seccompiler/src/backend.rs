@@ -21,7 +21,7 @@ pub enum BackendError {
     ///
     /// An addition: the crate panics.
     InvalidSyscallNumber(i64),
-    /// The memory for the answer was refused.
+    /// Memory for the answer ran out.
     ///
     /// An addition: the crate aborts the process.
     OutOfMemory,
@@ -178,7 +178,7 @@ pub enum SeccompAction {
     KillProcess,
     /// The call is made, and logged.
     Log,
-    /// The tracer is told, with this message, of which programs carry the low 16 bits.
+    /// The tracer is notified, with this message, of which programs carry the low 16 bits.
     Trace(u32),
     /// The thread is sent `SIGSYS`.
     Trap,

@@ -60,7 +60,7 @@ impl SeccompFilter {
     /// Returns the filter's program in a layout.
     ///
     /// The program passes [`check`](crate::check), and returns for each call record what
-    /// [`decide`](SeccompFilter::decide) tells. In the linear layout it is, instruction by instruction, the crate's.
+    /// [`decide`](SeccompFilter::decide) gives. In the linear layout it is, instruction by instruction, the crate's.
     ///
     /// An addition: `BpfProgram::try_from` is the linear layout.
     ///
@@ -68,7 +68,7 @@ impl SeccompFilter {
     ///
     /// - `InvalidSyscallNumber` with the least number that is below 0 or above 4294967295;
     /// - `FilterTooLarge` with the program's length, where that is more than 4096;
-    /// - `OutOfMemory` where memory is refused.
+    /// - `OutOfMemory` where memory runs out.
     ///
     /// # Examples
     ///
@@ -92,7 +92,7 @@ impl SeccompFilter {
         }
     }
 
-    /// Tells what the filter decides for a call record, without making a program: `SECCOMP_RET_*` with its data.
+    /// Returns what the filter decides for a call record, without making a program: `SECCOMP_RET_*` with its data.
     ///
     /// A call record is the 64 bytes of a `struct seccomp_data` of `linux/seccomp.h`, little-endian. The answer is
     /// the match action where the filter matches the call, the mismatch action where it doesn't, and
@@ -103,7 +103,7 @@ impl SeccompFilter {
     /// # Errors
     ///
     /// - `InvalidSyscallNumber` with the least number that is below 0 or above 4294967295;
-    /// - `OutOfMemory` where memory is refused.
+    /// - `OutOfMemory` where memory runs out.
     ///
     /// # Examples
     ///
@@ -189,7 +189,7 @@ impl Flat {
         Ok(flat)
     }
 
-    /// Lends them with the words of the filter.
+    /// Borrows them, with the architecture and the actions of the filter.
     fn lend(&self, filter: &SeccompFilter) -> Arrays<'_> {
         Arrays {
             chains: &self.chains,

@@ -9,13 +9,13 @@ use std::error;
 use std::fmt;
 use std::io::{self, Read};
 
-/// The most bytes of a message, but for what it tells of the policy.
+/// The most bytes of a message, but for what it shows of the policy.
 const MESSAGE: usize = 4096;
 
 /// The most bytes of a message for each byte of the policy: a name's control characters are written as `\x` and two digits.
 const MESSAGE_PER_BYTE: usize = 4;
 
-/// Why a text gives no filters: a sentence that tells the cause, or the error of its reader.
+/// Why a text gives no filters: a sentence that names the cause, or the error of its reader.
 ///
 /// The crate's error has a variant for each of three kinds of causes, but can't be named outside of it.
 #[derive(Debug)]
@@ -57,7 +57,7 @@ impl fmt::Display for JsonFrontendError {
 /// - `JsonFrontend` where the reader fails, or the policy is rejected: it is no JSON, has another form, names an
 ///   unknown system call, or one of its filters is none.
 /// - `Backend` with `FilterTooLarge` where a program would have more than 4096 instructions, of the first such
-///   filter by name; with `OutOfMemory` where memory is refused.
+///   filter by name; with `OutOfMemory` where memory runs out.
 ///
 /// # Examples
 ///
@@ -121,7 +121,7 @@ pub fn compile_from_json_in<R: Read>(
 struct Policy<'a> {
     text: &'a [u8],
     arch: TargetArch,
-    /// Room for a message. What it tells of the policy are names and a value, which stand in the policy.
+    /// Room for a message. What it shows of the policy are names and a value, which stand in the policy.
     message: Vec<u8>,
 }
 
@@ -192,7 +192,7 @@ impl<'a> Policy<'a> {
     }
 }
 
-/// Returns the length that the message of a filter that is too large tells.
+/// Returns the length that the message of a filter that is too large names.
 fn too_large(message: &str) -> Option<usize> {
     let (_, behind) = message.split_once("BPF instructions: ")?;
     behind.split_once('.')?.0.parse().ok()

@@ -26,10 +26,10 @@
 //! - A program of exactly 4096 instructions, which is the most that a kernel takes, is made; the crate rejects it.
 //! - A number of a system call that is below 0 or above 4294967295 is the error
 //!   [`BackendError::InvalidSyscallNumber`]; the crate panics.
-//! - Where memory is refused, calls that return a `Result` return [`BackendError::OutOfMemory`]; the crate aborts.
+//! - Where memory runs out, calls that return a `Result` return [`BackendError::OutOfMemory`]; the crate aborts.
 //!   So a `match` on [`BackendError`] without a last arm `_` wants arms for these two.
-//! - The error of the JSON front end, [`JsonFrontendError`], is a text that tells the cause. Texts that tell a wrong
-//!   form are the library's own, and of several faults another one may be told first. Forms of JSON filters that the
+//! - The error of the JSON front end, [`JsonFrontendError`], is a text that names the cause. Texts of a wrong
+//!   form are the library's own, and of several faults another one may be named first. Forms of JSON filters that the
 //!   crate takes beside the documented ones, as `{"allow": null}`, are rejected.
 //! - [`apply_filter`] rejects a program of more than 65535 instructions, where the crate cuts off its end.
 //! - `Deserialize` of [`SeccompCmpOp`], [`SeccompCmpArgLen`] and [`SeccompAction`] comes with the feature `serde`, which

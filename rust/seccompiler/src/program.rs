@@ -56,7 +56,7 @@ pub enum Layout {
 pub enum ProgramError {
     /// The program doesn't pass [`check`].
     NotChecked,
-    /// The memory that it takes was refused.
+    /// Memory ran out.
     OutOfMemory,
 }
 
@@ -71,10 +71,10 @@ impl fmt::Display for ProgramError {
     }
 }
 
-/// Tells whether a program may be run.
+/// Says whether a program may be run.
 ///
 /// It may where it has 1 to 4096 instructions, each is one of the seven kinds that compiled programs are made of,
-/// loads aligned words of a call record and jumps to places of the program, and the last one returns.
+/// loads aligned 32 bits of a call record and jumps to places of the program, and the last one returns.
 ///
 /// An addition.
 ///
@@ -196,7 +196,7 @@ pub enum Comparison {
 ///
 /// # Errors
 ///
-/// `NotChecked` where one of the programs doesn't pass [`check`], `OutOfMemory` where memory is refused.
+/// `NotChecked` where one of the programs doesn't pass [`check`], `OutOfMemory` where memory runs out.
 ///
 /// # Examples
 ///

@@ -51,7 +51,7 @@ impl From<SeccompRule> for BpfProgram {
     /// Returns the rule's code, without a return behind it, so it is no whole program.
     ///
     /// Run from its first instruction it leaves at its end where the rule matches, and one instruction further where it
-    /// doesn't. Where memory is refused the process is aborted, as it is by the crate.
+    /// doesn't. Where memory runs out the process is aborted, as it is by the crate.
     fn from(rule: SeccompRule) -> Self {
         let entries = rule.conditions.iter().map(SeccompCondition::entry);
         let entries: Vec<Condition> = entries.collect();

@@ -22,7 +22,7 @@ fn plain(code: u16, k: u32) -> sock_filter {
     jump(code, k, 0, 0)
 }
 
-/// Loads the word at this byte of the call record.
+/// Loads the 32 bits at this byte of the call record.
 fn ld(k: u32) -> sock_filter {
     plain(0x20, k)
 }
@@ -32,17 +32,17 @@ fn ja(k: u32) -> sock_filter {
     plain(0x05, k)
 }
 
-/// Skips by whether the word equals the operand.
+/// Skips by whether the accumulator equals the operand.
 fn jeq(k: u32, jt: u8, jf: u8) -> sock_filter {
     jump(0x15, k, jt, jf)
 }
 
-/// Skips by whether the word is greater than the operand.
+/// Skips by whether the accumulator is greater than the operand.
 fn jgt(k: u32, jt: u8, jf: u8) -> sock_filter {
     jump(0x25, k, jt, jf)
 }
 
-/// Skips by whether the word is at least the operand.
+/// Skips by whether the accumulator is at least the operand.
 fn jge(k: u32, jt: u8, jf: u8) -> sock_filter {
     jump(0x35, k, jt, jf)
 }

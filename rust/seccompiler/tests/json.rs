@@ -165,7 +165,7 @@ fn what_is_no_json_is_told() {
     }
 }
 
-/// 1000 rules of one condition take 5 instructions each, and 7 are around them; the first such filter by name is told.
+/// 1000 rules of one condition take 5 instructions each, and 7 are around them; the first such filter by name is reported.
 #[test]
 fn a_filter_that_is_too_large_is_an_error_of_the_backend() {
     let rule =

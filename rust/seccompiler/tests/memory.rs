@@ -9,11 +9,11 @@ use std::cell::Cell;
 use std::ptr;
 
 thread_local! {
-    /// How many requests of this thread are granted before one is refused.
+    /// How many requests of this thread are granted before one fails.
     static BEFORE: Cell<usize> = const { Cell::new(usize::MAX) };
 }
 
-/// Tells whether a request is granted.
+/// Returns whether a request is granted.
 fn is_granted() -> bool {
     let granted = BEFORE.try_with(|before| {
         let left = before.get();
@@ -23,7 +23,7 @@ fn is_granted() -> bool {
     granted.unwrap_or(true)
 }
 
-/// The system's allocator, which refuses one request.
+/// The system's allocator, of which one request fails.
 struct Refusing;
 
 // SAFETY: each call is the system's, or is refused.
@@ -45,7 +45,7 @@ unsafe impl GlobalAlloc for Refusing {
 #[global_allocator]
 static ALLOCATOR: Refusing = Refusing;
 
-/// Makes a call with each of its requests refused, one at a time: it tells that, and else what it tells with all granted.
+/// Makes a call with each of its requests failing, one at a time: it reports that, and else what it reports with all granted.
 fn refuse_each<T: PartialEq + std::fmt::Debug>(what: &str, call: impl Fn() -> Result<T, Error>) {
     let told = |answer: Result<T, Error>| answer.map_err(|error| error.to_string());
     let ample = told(call());

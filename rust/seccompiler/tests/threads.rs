@@ -38,7 +38,7 @@ fn denying(errno: u32) -> BpfProgram {
     filter.expect("a filter").try_into().expect("a program")
 }
 
-/// Tells its number and its errno, and again the errno when it is asked; with a filter of its own where it shall.
+/// Sends its number and its errno, and again the errno when it is asked; with a filter of its own where it shall.
 fn thread_of_its_own(own: Option<u32>, tell: &Sender<(i64, Option<i32>)>, ask: &Receiver<()>) {
     if let Some(errno) = own {
         apply_filter(&denying(errno)).expect("the kernel takes it");
@@ -48,7 +48,7 @@ fn thread_of_its_own(own: Option<u32>, tell: &Sender<(i64, Option<i32>)>, ask: &
     tell.send((number(), refused())).expect("the test waits");
 }
 
-/// Starts such a thread, and returns what it tells and how it is asked.
+/// Starts such a thread, and returns what it sends and how it is asked.
 fn start(own: Option<u32>) -> (Receiver<(i64, Option<i32>)>, Sender<()>) {
     let (tell, told) = mpsc::channel();
     let (asking, ask) = mpsc::channel();

@@ -51,7 +51,7 @@ impl Calls {
         Calls::of_arch_words(0, u32::MAX)
     }
 
-    /// The calls whose architecture words lie from `least` to `greatest`, both included, with any
+    /// The calls whose `AUDIT_ARCH_*` values lie from `least` to `greatest`, both included, with any
     /// numbers; none where `greatest` is less. So those of all architectures but one are two such sets.
     pub fn of_arch_words(least: u32, greatest: u32) -> Self
         ensures { (r : List ℕ) → (IsCallOf result r

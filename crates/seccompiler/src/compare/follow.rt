@@ -8,12 +8,12 @@ ghost use Rattle.seccompiler.specs.RecordSets.{IsIn, accumulator, Reaches};
 use super::values::{Values, outcome};
 use crate::bpf::{BpfProgramRef, JUMP, LOAD, MASK, RETURN, sock_filter};
 
-/// Where a run stands: at a place, with a word of the record under a mask in the accumulator.
+/// Where a run stands: at a place, with 32 bits of the record under a mask in the accumulator.
 #[derive(Clone, Copy, Debug)]
 pub struct At {
     /// The place of the next instruction.
     pub place: usize,
-    /// Which word of the record the accumulator has.
+    /// Which 32 bits of the record the accumulator has, counted from 0.
     pub word: usize,
     /// The bits of it that the accumulator has.
     pub mask: u32,

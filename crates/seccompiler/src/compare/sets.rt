@@ -10,7 +10,7 @@ use super::follow::At;
 use super::values::{Values, halves};
 use crate::bpf::sock_filter;
 
-/// The set in which a word is one of these.
+/// The set in which the 32 bits of this index are one of these values.
 pub(crate) fn narrowed(part: &[Values; 16], word: usize, values: Values) -> [Values; 16]
     requires word { word < 16 }
     requires tight { AreTight part.now }
@@ -45,7 +45,7 @@ pub(crate) fn split(part: &[Values; 16], at: At, test: sock_filter) -> ([Values;
     )
 }
 
-/// The record of the least words under the masks of their bounds.
+/// The record of the least numbers under the masks of their bounds.
 pub(crate) fn member(part: &[Values; 16]) -> [u8; 64]
     requires tight { AreTight part.now }
     requires some { LeavesSome part.now }
@@ -75,7 +75,7 @@ fn write_word(call: &mut [u8; 64], word: usize, value: u32)
     call[k + 3] = d;
 }
 
-/// Whether the bounds of a word leave none.
+/// Whether some bounds leave no number.
 pub(crate) fn is_empty(part: &[Values; 16]) -> bool
     ensures empty { IsTrue result → (r : List ℕ) → IsIn part.now r → ⊥ }
     ensures some { result ≡ false → LeavesSome part.now }

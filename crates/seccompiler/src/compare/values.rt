@@ -5,7 +5,7 @@ ghost use Rattle.seccompiler.specs.WordSets.{HasValue, KeepsKnown, AreSame, AreH
 
 use crate::bpf::{JUMP_EQUAL, JUMP_GREATER, sock_filter};
 
-/// Words of which some bits are known, within bounds under a mask.
+/// Numbers of 32 bits of which some bits are known, within bounds under a mask.
 #[derive(Clone, Copy, Debug)]
 pub struct Values {
     /// The bits that are known.
@@ -14,13 +14,13 @@ pub struct Values {
     pub value: u32,
     /// The bits that the bounds speak of.
     pub mask: u32,
-    /// The least word under that mask.
+    /// The least number under that mask.
     pub least: u32,
-    /// The greatest word under that mask.
+    /// The greatest number under that mask.
     pub most: u32,
 }
 
-/// All words.
+/// All numbers.
 pub const ALL: Values = Values {
     known: 0,
     value: 0,
@@ -288,7 +288,7 @@ fn raw_halves(values: Values, mask: u32, test: sock_filter) -> (Values, Values)
     by_order(values, border | !order)
 }
 
-/// The words from `least` to `most`, both included.
+/// The numbers from `least` to `most`, both included.
 pub(crate) fn between(least: u32, most: u32) -> Values
     ensures words { (x : ℕ) → x < 2 ^ 32 → (HasValue result x ↔ ((least ≤ x) × (x ≤ most))) }
     ensures tight { IsTight result }

@@ -13,7 +13,7 @@ impl SeccompFilter {
 
     /// Compares what two filters decide, for each call of a set.
     ///
-    /// `Holds` says that on every call of the set the words that `decide` gives are related, the
+    /// `Holds` says that on every call of the set the values that `decide` gives are related, the
     /// filter's own first; `Fails` has a call of the set on which they aren't. Whether a new
     /// policy permits nothing that the old one doesn't is `AtMostAsPermissive` of the new one,
     /// with the old one as `other`.
@@ -27,7 +27,7 @@ impl SeccompFilter {
     ///
     /// Those of `self`, then those of `other`: `InvalidSyscallNumber` with the least key that lies
     /// outside 0 to 4294967295; `FilterTooLarge` with `program_len` where both layouts take more than
-    /// 4096 instructions. `OutOfMemory` where memory is refused.
+    /// 4096 instructions. `OutOfMemory` where memory runs out.
     ///
     /// # Examples
     ///
@@ -57,7 +57,7 @@ impl SeccompFilter {
 
     /// Compares what a program returns with what the filter decides, for each call of a set.
     ///
-    /// `Holds` says that on every call of the set the word that the program returns and the one that
+    /// `Holds` says that on every call of the set the value that the program returns and the one that
     /// `decide` gives are related, the program's first; `Fails` has a call of the set on which they
     /// aren't. The program must pass [`machine::check`](crate::machine::check), and may be of any
     /// compiler. Whether it permits nothing that the policy doesn't is `AtMostAsPermissive`.
@@ -69,7 +69,7 @@ impl SeccompFilter {
     ///
     /// `InvalidSyscallNumber` with the least key that lies outside 0 to 4294967295; `FilterTooLarge`
     /// with `program_len` where both layouts take more than 4096 instructions. `OutOfMemory` where
-    /// memory is refused.
+    /// memory runs out.
     pub fn compare_program(
         &self,
         alloc: Global,

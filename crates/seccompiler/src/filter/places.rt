@@ -22,7 +22,7 @@ impl SeccompFilter {
     ///
     /// # Errors
     ///
-    /// Those of `to_bpf`, in the same order; `OutOfMemory` also where memory for the places is refused.
+    /// Those of `to_bpf`, in the same order; `OutOfMemory` also where memory for the places runs out.
     ///
     /// # Examples
     ///
@@ -51,8 +51,7 @@ impl SeccompFilter {
     ///
     /// # Errors
     ///
-    /// Those of `to_tree_bpf`, in the same order; `OutOfMemory` also where memory for the places is
-    /// refused.
+    /// Those of `to_tree_bpf`, in the same order; `OutOfMemory` also where memory for the places runs out.
     pub fn to_tree_bpf_with_places(
         &self,
         alloc: Global,

@@ -26,14 +26,13 @@ impl SeccompFilter {
     /// The filter's program in a second layout, which finds a call's rules by few tests.
     ///
     /// The program that [`to_bpf`](SeccompFilter::to_bpf) gives tests one call number after the
-    /// other. This one tells ranges of call numbers apart: neighbouring numbers without a chain,
-    /// neighbouring numbers whose chains have no rules, and each number whose chain has rules. It
-    /// halves them by the side of a border on which the call number lies, until at most six tests
-    /// are left; each of these settles one range, by a border, or as a single number between ranges
-    /// that are answered alike. Ranges without rules share two returns, as far as a test can jump
-    /// over 255 instructions. It passes
-    /// `machine::check`, and returns for every call record, within as many steps as it has
-    /// instructions, the word that `decide` gives.
+    /// other. This one distinguishes ranges of call numbers: neighbouring numbers without a chain,
+    /// neighbouring numbers whose chains have no rules, and each number whose chain has rules. It halves them
+    /// by the side of a border on which the call number lies, until at most six tests are left; each of these
+    /// settles one range, by a border, or as a single number between ranges that are answered alike. Ranges
+    /// without rules share two returns, as far as a test can jump over 255 instructions. It passes
+    /// `machine::check`, and returns for every call record, within as many steps as it has instructions, the
+    /// value that `decide` gives.
     ///
     /// A call that has no rules of its own, or is of another architecture, is answered within
     /// `4 + 2 * k` steps, where `2^k` is at least the number of ranges. They are at most twice the
@@ -44,7 +43,7 @@ impl SeccompFilter {
     /// `InvalidSyscallNumber` with the least key that lies outside 0 to 4294967295, where there is
     /// one, which takes no memory; else `FilterTooLarge` with the number of instructions where that
     /// is more than 4096, or `usize::MAX` if that is less. `OutOfMemory` where memory for the ranges or
-    /// for the program is refused; since the ranges are made before the number of instructions is
+    /// for the program runs out; since the ranges are made before the number of instructions is
     /// known, it may come in place of `FilterTooLarge`.
     ///
     /// # Examples
@@ -82,7 +81,7 @@ impl SeccompFilter {
         Ok(program)
     }
 
-    /// Whatever both layouts give for a filter, the two programs return the same word for every call
+    /// Whatever both layouts give for a filter, the two programs return the same value for every call
     /// record.
     ///
     /// It computes nothing: its contract says so to a caller's proof.

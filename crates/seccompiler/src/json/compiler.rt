@@ -65,16 +65,16 @@ impl JsonCompiler {
     /// filter's actions.
     ///
     /// In the Rust crate an entry without conditions has no effect beside entries with conditions;
-    /// `widened` tells which calls that makes a difference for.
+    /// `widened` says which calls that makes a difference for.
     ///
     /// # Errors
     ///
-    /// The first fault is told, in this order: of the entries, one after the other,
-    /// `SyscallName` with the call's name and this architecture where the architecture has no such
-    /// call, else `Backend(InvalidArgumentNumber)` where a condition's index is above 5, else
-    /// `Backend(EmptyRule)` where the list of conditions is there and empty; after all entries
-    /// `Backend(IdenticalActions)` where the two actions are equal. `OutOfMemory`, where memory is
-    /// refused, may come in place of any of these, and no other error in place of the first.
+    /// The first fault is reported, in this order: of the entries, one after the other, `SyscallName` with
+    /// the call's name and this architecture where the architecture has no such call, else
+    /// `Backend(InvalidArgumentNumber)` where a condition's index is above 5, else `Backend(EmptyRule)` where
+    /// the list of conditions is there and empty; after all entries `Backend(IdenticalActions)` where the two
+    /// actions are equal. `OutOfMemory`, where memory runs out, may come in place of any of these, and no
+    /// other error in place of the first.
     pub fn make_seccomp_filter(
         &self,
         alloc: Global,
@@ -167,12 +167,12 @@ impl JsonCompiler {
     /// The map has the names of `filters`, each with its filter; the filters' call numbers are within
     /// 0 to 462. It doesn't matter where `filters` come from. Where they are those of a text, as
     /// [`filters_of`](crate::json::filters_of) and [`filters_from`](crate::json::filters_from) give
-    /// them, the filters are the text's, as `compile` gives them, and an error tells its first fault.
+    /// them, the filters are the text's, as `compile` gives them, and an error names its first fault.
     ///
     /// # Errors
     ///
-    /// What `make_seccomp_filter` refuses, of the least name, in byte order, with such a filter.
-    /// `OutOfMemory`, where memory is refused, may come in place of it, and no other error.
+    /// What `make_seccomp_filter` rejects, of the least name, in byte order, with such a filter.
+    /// `OutOfMemory`, where memory runs out, may come in place of it, and no other error.
     ///
     /// # Examples
     ///
@@ -208,8 +208,8 @@ impl JsonCompiler {
     /// Reads a text of JSON filters to its end, and makes each filter, as `make_seccomp_filter` does.
     ///
     /// The map has the text's names, each with its filter; the filters' call numbers are within 0 to
-    /// 462. The text is what the reader gives, which the contract names where the reader's type tells
-    /// its bytes, as a slice does. For a reader that doesn't tell them, as a file, it says that there
+    /// 462. The text is what the reader gives, which the contract names where the reader's type says what it
+    /// reads, as a slice does. For a reader whose type doesn't, as a file, it says that there
     /// is a text of which all this holds.
     ///
     /// # Errors
@@ -221,10 +221,9 @@ impl JsonCompiler {
     /// - `RepeatedKey` where `repeats_key` finds that a name is repeated;
     /// - `NotAnObject` where the text is no object;
     /// - `Shape` with the least name, in byte order, whose value is no filter;
-    /// - what `make_seccomp_filter` refuses, of the least name with such a filter.
+    /// - what `make_seccomp_filter` rejects, of the least name with such a filter.
     ///
-    /// `OutOfMemory` may come in place of each, where memory is refused or the reader fails for want
-    /// of it.
+    /// `OutOfMemory` may come in place of each, where memory runs out, in the reader too.
     ///
     /// # Examples
     ///

@@ -8,20 +8,20 @@ use std::{error, fmt, io};
 // More bytes than any error of `serde_json` says: at most 50, and a line and a column behind them.
 const WORDS_CAPACITY: usize = 128;
 
-/// Why the JSON front end refuses.
+/// Why the JSON front end fails.
 ///
-/// Where a text has several faults, the first of these is told: the reader fails, the bytes are no
-/// JSON, a name is repeated, the top is no object, a filter has a wrong shape, and then what
-/// building the filters refuses.
+/// Where a text has several faults, the first of these is reported: the reader fails, the bytes are no JSON,
+/// a name is repeated, the top is no object, a filter has a wrong shape, and then what building the filters
+/// rejects.
 #[derive(Debug, Drop)]
 pub enum JsonFrontendError {
-    /// The backend refuses a filter. No call gives it with `BackendError::OutOfMemory` inside.
+    /// The backend rejects a filter. No call gives it with `BackendError::OutOfMemory` inside.
     Backend(BackendError),
-    /// The bytes are no JSON text in UTF-8, or nest too deep. No call gives it for want of memory.
+    /// The bytes are no JSON text in UTF-8, or nest too deep. No call gives it where memory runs out.
     SerdeJson(serde_json::Error),
     /// No system call of this architecture has this name.
     SyscallName(String, TargetArch),
-    /// The reader failed. No call gives it for want of memory.
+    /// The reader failed. No call gives it where memory runs out.
     Read(io::Error),
     /// The text has more bytes `:` outside strings than the objects of its value have names, as one
     /// that writes a name of an object twice.
@@ -30,7 +30,7 @@ pub enum JsonFrontendError {
     NotAnObject,
     /// The value of this name is no filter, and that of each lesser name, in byte order, is one.
     Shape(String),
-    /// A growth of memory was refused.
+    /// Memory ran out.
     OutOfMemory,
 }
 
@@ -88,7 +88,7 @@ impl<T: Drop> From<AllocFailed<T>> for JsonFrontendError {
     }
 }
 
-/// Want of memory stays so; every other error of the backend is `Backend`.
+/// `OutOfMemory` stays so; every other error of the backend is `Backend`.
 impl From<BackendError> for JsonFrontendError {
     ghost use Rattle.std.specs.Prelude.{◌≡◌};
     ghost use Rattle.seccompiler.specs.Errors.{frontend_refusal};

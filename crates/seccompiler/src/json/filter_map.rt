@@ -26,7 +26,7 @@ use std::collections::BTreeMap;
 ///
 /// - `NotAnObject` where the value is no object.
 /// - `Shape` with the least name, in byte order, whose value is no filter.
-/// - `OutOfMemory` where a growth was refused, in place of any answer.
+/// - `OutOfMemory` where memory runs out, in place of any answer.
 ///
 /// # Examples
 ///

@@ -246,7 +246,7 @@ fn read_one_action(first: Option<&Value>, second: Option<&Value>) -> Option<Secc
     }
 }
 
-/// The filter that the value is, or `None` where it is none; an error only for want of memory.
+/// The filter that the value is, or `None` where it is none; an error only where memory runs out.
 pub fn read_filter(alloc: Global, value: &Value) -> Result<Option<JsonFilter>, AllocError>
     ensures found { IfOk result (λ o. IfSome o (IsFilter (view value.now))) }
     ensures none { IfOk result

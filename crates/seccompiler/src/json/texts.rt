@@ -25,8 +25,8 @@ use std::io::{ErrorKind, Read};
 /// name is looked up, and no filter made: `JsonCompiler::make_seccomp_filter` does that with one of
 /// them, for an architecture, and `JsonCompiler::compile` with all of a text at once.
 ///
-/// The text is what the reader gives, which the contract names where the reader's type tells its
-/// bytes, as a slice does. For a reader that doesn't tell them, as a file, it says that there is a
+/// The text is what the reader gives, which the contract names where the reader's type says what it reads, as
+/// a slice does. For a reader whose type doesn't, as a file, it says that there is a
 /// text of which all this holds. The reader is dropped, and behind an error any part of it may have
 /// been read. Neither the text nor its value outlives the call.
 ///
@@ -40,8 +40,8 @@ use std::io::{ErrorKind, Read};
 /// - `NotAnObject` where the text is no object;
 /// - `Shape` with the least name, in byte order, whose value is no filter.
 ///
-/// `OutOfMemory` may come in place of any answer, where memory is refused or the reader fails for
-/// want of it. No other error comes.
+/// `OutOfMemory` may come in place of any answer, where memory runs out, in the reader too. No other error
+/// comes.
 ///
 /// # Examples
 ///
@@ -90,7 +90,7 @@ pub fn filters_from<R: Read + Drop>(
 /// - `NotAnObject` where the text is no object;
 /// - `Shape` with the least name, in byte order, whose value is no filter.
 ///
-/// `OutOfMemory` may come in place of any answer, where memory is refused. No other error comes: as
+/// `OutOfMemory` may come in place of any answer, where memory runs out. No other error comes: as
 /// there is no reader, none is `Read`.
 ///
 /// # Examples

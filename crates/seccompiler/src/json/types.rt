@@ -34,7 +34,7 @@ impl EqualByParts for JsonCondition {
 /// One entry of a filter: a system call, and conditions on its arguments.
 ///
 /// Two entries are equal if their parts are. No conditions at all (`None`) differ from an empty list
-/// of them, which is refused later on. A contract sees the name as its bytes and the conditions as
+/// of them, which is rejected later on. A contract sees the name as its bytes and the conditions as
 /// a list.
 #[derive(Debug, Drop)]
 pub struct JsonRule {

@@ -45,9 +45,9 @@ pub enum RulePlace {
 /// A call is named by its number. The rules of its chain are numbered from 0, in the chain's order.
 #[derive(Clone, Copy, Debug)]
 pub enum Place {
-    /// Loads the architecture word.
+    /// Loads the `AUDIT_ARCH_*` value.
     LoadArchitecture,
-    /// Tests whether the architecture word is that of the filter's architecture.
+    /// Tests whether the `AUDIT_ARCH_*` value is that of the filter's architecture.
     TestArchitecture,
     /// Returns `SECCOMP_RET_KILL_PROCESS`: the record is of another architecture.
     OtherArchitecture,
@@ -65,14 +65,14 @@ pub enum Place {
     PastMatch(u32),
     /// Belongs to the rule of this call and this index.
     OfRule(u32, usize, RulePlace),
-    /// Returns the word of the match action: the rule of this call and this index holds.
+    /// Returns the match action: the rule of this call and this index holds.
     RuleHolds(u32, usize),
-    /// Returns the word of the match action for this call, whose chain has no rules.
+    /// Returns the match action for this call, whose chain has no rules.
     CallMatches(u32),
-    /// Returns the word of the mismatch action for this call.
+    /// Returns the mismatch action for this call.
     CallDiffers(u32),
-    /// Returns the word of the match action for other calls.
+    /// Returns the match action for other calls.
     OthersMatch,
-    /// Returns the word of the mismatch action for other calls.
+    /// Returns the mismatch action for other calls.
     OthersDiffer,
 }

@@ -32,7 +32,7 @@ const ACTION: u32 = 0xffff_0000;
 
 const DATA: u32 = 0x0000_ffff;
 
-/// A word that a program returns, by its action.
+/// A value that a program returns, by its action.
 #[derive(Clone, Copy)]
 pub(crate) struct Word(pub u32);
 
@@ -113,7 +113,7 @@ impl fmt::Display for PartName {
     }
 }
 
-/// The two words of a difference, and whether the new one permits more.
+/// The two values of a difference, and whether the new one permits more.
 #[derive(Clone, Copy)]
 struct Change {
     old: u32,
@@ -133,7 +133,7 @@ impl fmt::Display for Change {
     }
 }
 
-/// A call of a part: its name or number, behind the architecture word where that is another.
+/// A call of a part: its name or number, behind the `AUDIT_ARCH_*` value where that is another.
 #[derive(Clone, Copy)]
 struct ExampleCall {
     target: TargetArch,

@@ -2,7 +2,7 @@
 
 use std::{fmt, io};
 
-/// Why a program isn't run, in the order in which the faults are told.
+/// Why a program isn't run, in the order in which the faults are reported.
 #[derive(Debug, Drop)]
 pub enum ProgramFault {
     /// Its bytes can't be read.
@@ -20,7 +20,8 @@ pub enum ProgramFault {
 pub enum Amiss {
     /// Its code is this one, and none of the seven that `machine::run` knows.
     Operation(u16),
-    /// It loads from a byte that is no multiple of 4, or lies behind byte 60: none of a record's words.
+    /// It loads from a byte that is no multiple of 4, or lies behind byte 60: none of a record's 16 numbers
+    /// of 32 bits.
     Load,
     /// A place that it leads to lies behind the program's end.
     Jump,
@@ -52,7 +53,7 @@ impl fmt::Display for ProgramFault {
     }
 }
 
-/// What is amiss, in words.
+/// What is amiss, in English.
 impl fmt::Display for Amiss {
     ghost use Rattle.std.specs.Prelude.{Some};
     ghost use Rattle.seccomptool.specs.RunFaults.{amiss_text};

@@ -9,7 +9,7 @@ use seccomp_command_line::record_texts::TellsRecords;
 use seccompiler::{BpfProgramRef, machine};
 use std::alloc::{AllocError, Global};
 
-/// A program, of whose runs on records the actions are told.
+/// A program, of whose runs on records the actions are printed.
 #[derive(Clone, Copy)]
 pub(crate) struct Actions<'a>(pub BpfProgramRef<'a>);
 

@@ -18,15 +18,15 @@ use std::io::{Read, Write};
 /// comes a line as [`show`](crate::show::show) writes it, without any call, rule or condition, since no
 /// policy is known. All lines are written at once.
 ///
-/// The program's bytes are what their reader gives; of a reader whose type doesn't tell its bytes, as
+/// The program's bytes are what their reader gives; of a reader whose type doesn't say what it reads, as
 /// that of standard input, the contract says that there are such bytes.
 ///
 /// # Errors
 ///
 /// The first of these: `Program` with the first of
 /// [`ProgramFault`](crate::run::fault::ProgramFault) that is so; `Write` where the writer fails.
-/// `OutOfMemory` comes in place of any of these where memory is refused, and where the reader fails for
-/// want of memory. On any error but `Write` nothing is written.
+/// `OutOfMemory` comes in place of any of these where memory runs out, in the reader too. On any error but
+/// `Write` nothing is written.
 pub fn show_program<P: Read + Drop, W: Write>(
     alloc: Global,
     program: P,

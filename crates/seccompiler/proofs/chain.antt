@@ -1,6 +1,4 @@
 -- Lemmas for the functions of `chain`.
 pub mod RulesCode
-pub mod ChainPlaces
-pub mod OneChain
-pub mod AllChains
+pub mod RulesPlaces
 pub mod CallNumbers

@@ -1,30 +1,24 @@
-// The chains of a filter: rules of one call number, and their code.
+// The rules of one call number, and their code.
 
 pub(crate) mod places;
 
-ghost use Rattle.std.specs.Prelude.{◌≡◌, ℕ, ◌≤◌, ◌<◌, ◌^◌, ◌+◌, ◌-◌, ◌↔◌, ℤ, pos, min, map, length, take, All, IsTrue, IsNone, IfOk, IfSome, IsOkUnless};
+ghost use Rattle.std.specs.Prelude.{◌≡◌, ℕ, ◌≤◌, ◌+◌, ◌↔◌, pos, min, length, take, IsTrue, IsNone, IfOk, IfSome, IsOkUnless};
 ghost use Rattle.std.specs.BTreeMap.{keys};
 ghost use Rattle.seccompiler.specs.declared.backend.BackendError.TheVariants.{OutOfMemory};
 ghost use Rattle.seccompiler.specs.Machine.{greatest_length};
-ghost use Rattle.seccompiler.specs.Policy.{Filter, chains_of, IsCallNumber, ChainMatches, word_of};
-ghost use Rattle.seccompiler.specs.Layout.{rule_length, rules_length, chain_length, chains_length};
+ghost use Rattle.seccompiler.specs.Policy.{Filter, IsCallNumber, ChainMatches, word_of};
+ghost use Rattle.seccompiler.specs.Layout.{rule_length, rules_length};
 ghost use Rattle.seccompiler.specs.Compiled.{AreCallNumbers, IsLeastUnfit};
 ghost use Rattle.std.specs.List.{AllZip};
 ghost use Rattle.seccompiler.specs.Places.{HasChain, HasRule, Stands};
-ghost use Rattle.seccompiler.specs.PlaceLists.{AreWords, chain_places, chains_places, numbered_places, rules_places};
-ghost use Rattle.seccompiler.specs.ChainCode.{IsReturningRuleCode, IsRulesCode, IsChainCode, IsChainsCode};
+ghost use Rattle.seccompiler.specs.PlaceLists.{numbered_places, rules_places};
+ghost use Rattle.seccompiler.specs.ChainCode.{IsReturningRuleCode, IsRulesCode};
 
 use crate::backend::BackendError;
-use crate::bpf::{jump_if_equal, jump_over, return_word, sock_filter};
+use crate::bpf::{return_word, sock_filter};
 use crate::rule::SeccompRule;
 use std::alloc::Global;
 use std::collections::BTreeMap;
-
-// The instructions of a chain without rules.
-const EMPTY_CHAIN_LEN: usize = 5;
-
-// The test in front of a chain's rules, and the return behind them.
-const CHAIN_ENDS: usize = 2;
 
 /// The least number that does not fit 32 unsigned bits, if there is one.
 pub(crate) fn unfit_number(rules: &BTreeMap<i64, Vec<SeccompRule>>) -> Option<i64>
@@ -69,16 +63,6 @@ pub(crate) fn clone_chain(
     Ok(rules)
 }
 
-/// How many instructions the chain takes, or `usize::MAX` if that is less.
-pub(crate) fn chain_len(chain: &[SeccompRule]) -> usize
-    ensures { result ≡ min (chain_length chain.now) usize.MAX }
-{
-    if chain.is_empty() {
-        return EMPTY_CHAIN_LEN;
-    }
-    rules_len(chain).saturating_add(CHAIN_ENDS)
-}
-
 /// How many instructions the rules of the chain take, each with its return, or `usize::MAX` if that
 /// is less.
 pub(crate) fn rules_len(chain: &[SeccompRule]) -> usize
@@ -91,68 +75,12 @@ pub(crate) fn rules_len(chain: &[SeccompRule]) -> usize
     length
 }
 
-/// Fills the part with the code of the chains, in ascending order of call numbers.
-pub(crate) fn write_chains(
-    part: &mut [sock_filter],
-    rules: &BTreeMap<i64, Vec<SeccompRule>>,
-    mismatch: u32,
-    matched: u32,
-)
-    requires numbers { AreCallNumbers (keys rules.now) }
-    requires room { length part.old ≡ chains_length (chains_of rules.now.entries) }
-    requires short { length part.old ≤ greatest_length }
-    ensures code { IsChainsCode (chains_of rules.now.entries) mismatch matched part.new }
-    ensures places { (f : Filter) → f.chains ≡ chains_of rules.now.entries → AreWords f mismatch matched → AllZip (Stands f) (chains_places (chains_of rules.now.entries)) part.new }
-{
-    let mut start = 0;
-    for (number, chain) in rules {
-        start += write_chain(
-            &mut part[start..],
-            call_number(number),
-            chain,
-            mismatch,
-            matched,
-        );
-    }
-}
-
 /// The call number as a record has it.
 pub(crate) fn call_number(number: &i64) -> u32
     requires { IsCallNumber number.now }
     ensures { number.now ≡ pos result }
 {
     *number as u32
-}
-
-// Fills the front of the part with the code of a chain: a test of the call number, the rules, and a return. Gives its
-// length.
-fn write_chain(
-    part: &mut [sock_filter],
-    number: u32,
-    chain: &[SeccompRule],
-    mismatch: u32,
-    matched: u32,
-) -> usize
-    requires room { chain_length chain.now ≤ length part.old }
-    requires short { length part.old ≤ greatest_length }
-    ensures length { result ≡ chain_length chain.now }
-    ensures code { IsChainCode number chain.now mismatch matched (take result part.new) }
-    ensures places { (f : Filter) → HasChain f number chain.now → AreWords f mismatch matched → AllZip (Stands f) (chain_places number chain.now) (take result part.new) }
-{
-    if chain.is_empty() {
-        part[..EMPTY_CHAIN_LEN].copy_from_slice(&[
-            jump_if_equal(number, 0, 1),
-            jump_over(1),
-            jump_over(2),
-            return_word(matched),
-            return_word(mismatch),
-        ]);
-        return EMPTY_CHAIN_LEN;
-    }
-    part[0] = jump_if_equal(number, 0, 1);
-    let end = 1 + write_rules(&mut part[1..], chain, matched);
-    part[end] = return_word(mismatch);
-    end + 1
 }
 
 /// Fills the front of the part with the rules of a chain, each with its return, and gives their length.

@@ -1,15 +1,10 @@
-// A policy on system calls, and its program.
+// A policy on system calls.
 
 mod comparison;
-mod places;
-mod tree_layout;
 
-use crate::backend::{BackendError, GUARD_LEN, SeccompAction, TargetArch, arch_guard};
-use crate::bpf::{
-    BPF_MAX_LEN, BpfProgram, SECCOMP_DATA_ARCH_OFFSET, SECCOMP_DATA_NR_OFFSET, load_word,
-    return_word, sock_filter,
-};
-use crate::chain::{chain_len, chain_matches, clone_chain, unfit_number, write_chains};
+use crate::backend::{BackendError, SeccompAction, TargetArch};
+use crate::bpf::{SECCOMP_DATA_ARCH_OFFSET, SECCOMP_DATA_NR_OFFSET};
+use crate::chain::{chain_matches, clone_chain};
 use crate::equality::EqualByParts;
 use crate::record::word_at;
 use crate::rule::SeccompRule;
@@ -17,19 +12,16 @@ use std::alloc::Global;
 use std::collections::BTreeMap;
 use std::marker::Model;
 
-// The load of the call number behind the guard, and the return at the end.
-const PROGRAM_ENDS: usize = 2;
-
 /// A policy on system calls: a chain of rules for each of some call numbers, what to answer where
 /// a chain matches and where none does, and the architecture that the numbers are of.
 ///
 /// A chain matches a call of its number where it has no rule, or where one of its rules holds.
 #[derive(Debug, Drop)]
 pub struct SeccompFilter {
-    rules: BTreeMap<i64, Vec<SeccompRule>>,
-    mismatch_action: SeccompAction,
-    match_action: SeccompAction,
-    target_arch: TargetArch,
+    pub(crate) rules: BTreeMap<i64, Vec<SeccompRule>>,
+    pub(crate) mismatch_action: SeccompAction,
+    pub(crate) match_action: SeccompAction,
+    pub(crate) target_arch: TargetArch,
 }
 
 impl Model for SeccompFilter {
@@ -44,16 +36,10 @@ impl Model for SeccompFilter {
 }
 
 impl SeccompFilter {
-    ghost use Rattle.std.specs.Prelude.{◌≡◌, ◌≢◌, ◌≤◌, ◌↔◌, ℕ, ℤ, List, length, min, IfOk, IfErr, IsOk, IsTrue, OnOk, IsOkUnless};
-    ghost use Rattle.std.specs.List.Sorted.{IsStrictlySortedBy};
-    ghost use Rattle.std.specs.Ordering.{int_cmp};
-    ghost use Rattle.seccompiler.specs.declared.backend.BackendError.TheVariants.{IdenticalActions, InvalidSyscallNumber, OutOfMemory};
+    ghost use Rattle.std.specs.Prelude.{◌≡◌, ◌≢◌, ◌↔◌, ℕ, List, IfOk, IfErr, IsOk, IsTrue, IsOkUnless};
+    ghost use Rattle.seccompiler.specs.declared.backend.BackendError.TheVariants.{IdenticalActions, OutOfMemory};
     ghost use Rattle.seccompiler.specs.Policy.{Filter, chains_of, Matches, IsDecision};
     ghost use Rattle.seccompiler.specs.Reorder.{IsReordered, IsSameCall};
-    ghost use Rattle.seccompiler.specs.Layout.{counted_length};
-    ghost use Rattle.seccompiler.specs.Compiled.{IsCompiled, numbers_of, AreCallNumbers, IsLeastUnfit, IsCompilable, IsRefusal};
-    ghost use Rattle.seccompiler.specs.Places.{ArePlaces};
-    ghost use Rattle.seccompiler.specs.PlaceLists.{linear_places};
 
     /// Makes a filter: `rules` has the chain of each call number, its rules joined by or.
     ///
@@ -90,36 +76,6 @@ impl SeccompFilter {
             match_action,
             target_arch,
         })
-    }
-
-    /// The filter's program.
-    ///
-    /// It has `program_len` instructions, passes `machine::check`, and returns for every call
-    /// record, within as many steps as it has instructions, the value that `decide` gives. A call of
-    /// the filter's architecture without a chain is answered in a number of steps that the
-    /// filter's map alone determines.
-    ///
-    /// # Errors
-    ///
-    /// `InvalidSyscallNumber` with the least key that lies outside 0 to 4294967295, where there is
-    /// one; else `FilterTooLarge` with `program_len` where that is more than 4096; both take
-    /// no memory. `OutOfMemory` where memory for the program runs out.
-    ///
-    /// # Examples
-    ///
-    /// ```
-    /// let program = filter.to_bpf(alloc)?;
-    /// assert!(rt; program.len() == filter.program_len());
-    /// assert!(rt; check(&program));
-    /// ```
-    pub fn to_bpf(&self, alloc: Global) -> Result<BpfProgram, BackendError>
-        ensures compiled { IfOk result (λ program. IsCompiled self.now program.items) }
-        ensures compilable { OnOk result (IsCompilable self.now) }
-        ensures refused { IfErr result (IsRefusal self.now) }
-    {
-        let mut program = vec![in alloc; return_word(0); self.compiled_len()?]?;
-        self.write(&mut program);
-        Ok(program)
     }
 
     /// An equal filter.
@@ -181,93 +137,6 @@ impl SeccompFilter {
             Some(chain) => chain_matches(chain, call),
             None => false,
         }
-    }
-
-    /// How many instructions the filter's program takes, or `usize::MAX` if that is less.
-    ///
-    /// As for every map, the call numbers ascend, each once; so there is one chain under each.
-    pub fn program_len(&self) -> usize
-        ensures length { result ≡ min (counted_length self.now) usize.MAX }
-        ensures ordered { IsStrictlySortedBy int_cmp (numbers_of self.now.chains) }
-    {
-        if self.rules.is_empty() {
-            return GUARD_LEN + 1;
-        }
-        let mut length = GUARD_LEN + PROGRAM_ENDS;
-        for chain in self.rules.values() {
-            length = length.saturating_add(chain_len(chain));
-        }
-        length
-    }
-
-    // Refuses a filter of which a number does not fit.
-    fn check_numbers(&self) -> Result<(), BackendError>
-        ensures fit { OnOk result (AreCallNumbers (numbers_of self.now.chains)) }
-        ensures unfit { IfErr result (λ e. (n : ℤ) × (e ≡ InvalidSyscallNumber n) × IsLeastUnfit (numbers_of self.now.chains) n) }
-    {
-        if let Some(number) = unfit_number(&self.rules) {
-            return Err(BackendError::InvalidSyscallNumber(number));
-        }
-        Ok(())
-    }
-
-    /// How many instructions `to_bpf` gives, or why it gives none. Takes no memory.
-    ///
-    /// Who has a buffer of his own asks for the length here, and then has the program written into
-    /// a part of that length by [`write`](SeccompFilter::write).
-    ///
-    /// # Errors
-    ///
-    /// Those of `to_bpf` but for `OutOfMemory`: `InvalidSyscallNumber` with the least key that lies
-    /// outside 0 to 4294967295, where there is one; else `FilterTooLarge` with `program_len` where
-    /// that is more than 4096.
-    pub fn compiled_len(&self) -> Result<usize, BackendError>
-        ensures length { IfOk result (λ n. n ≡ counted_length self.now) }
-        ensures compilable { OnOk result (IsCompilable self.now) }
-        ensures refused { IfErr result (λ e. (e ≢ OutOfMemory) × IsRefusal self.now e) }
-    {
-        self.check_numbers()?;
-        let length = self.program_len();
-        if length > BPF_MAX_LEN {
-            return Err(BackendError::FilterTooLarge(length));
-        }
-        Ok(length)
-    }
-
-    /// Fills the part with the filter's program, the one that `to_bpf` gives. Takes no memory.
-    ///
-    /// The filter must be one that `to_bpf` compiles, and the part have as many places as its
-    /// program has instructions: [`compiled_len`](SeccompFilter::compiled_len) says both.
-    ///
-    /// # Examples
-    ///
-    /// ```
-    /// let length = filter.compiled_len()?;
-    /// if length <= buffer.len() {
-    ///     filter.write(&mut buffer[..length]);
-    /// }
-    /// ```
-    pub fn write(&self, program: &mut [sock_filter])
-        requires compilable { IsCompilable self.now }
-        requires room { length program.old ≡ counted_length self.now }
-        ensures compiled { IsCompiled self.now program.new }
-        ensures places { ArePlaces self.now (linear_places self.now.chains) program.new }
-    {
-        let mismatch = u32::from(self.mismatch_action);
-        program[..GUARD_LEN].copy_from_slice(&arch_guard(self.target_arch));
-        if self.rules.is_empty() {
-            program[GUARD_LEN] = return_word(mismatch);
-            return;
-        }
-        program[GUARD_LEN] = load_word(u32::from(SECCOMP_DATA_NR_OFFSET));
-        let last = program.len() - 1;
-        write_chains(
-            &mut program[GUARD_LEN + 1..last],
-            &self.rules,
-            mismatch,
-            self.match_action.into(),
-        );
-        program[last] = return_word(mismatch);
     }
 }
 

@@ -1,9 +1,12 @@
 // The two layouts of a filter's program, and what stands at its places.
 
+mod linear;
 pub mod places;
+mod tree;
 
 use crate::backend::BackendError;
 use crate::bpf::BpfProgram;
+use crate::chain::unfit_number;
 use crate::equality::EqualByParts;
 use crate::filter::SeccompFilter;
 use crate::layout::places::Place;
@@ -33,7 +36,9 @@ impl EqualByParts for Layout {
 }
 
 impl SeccompFilter {
-    ghost use Rattle.std.specs.Prelude.{IfOk, IfErr, OnOk};
+    ghost use Rattle.std.specs.Prelude.{◌≡◌, ℤ, IfOk, IfErr, OnOk};
+    ghost use Rattle.seccompiler.specs.declared.backend.BackendError.TheVariants.{InvalidSyscallNumber};
+    ghost use Rattle.seccompiler.specs.Compiled.{AreCallNumbers, IsLeastUnfit, numbers_of};
     ghost use Rattle.seccompiler.specs.Layouts.{AreInOrder, IsCompiledIn, IsCompilableIn, IsRefusalIn};
     ghost use Rattle.seccompiler.specs.Places.{ArePlaces};
 
@@ -90,5 +95,16 @@ impl SeccompFilter {
             Layout::Linear => self.to_bpf_with_places(alloc),
             Layout::Tree => self.to_tree_bpf_with_places(alloc),
         }
+    }
+
+    // Refuses a filter of which a number does not fit.
+    fn check_numbers(&self) -> Result<(), BackendError>
+        ensures fit { OnOk result (AreCallNumbers (numbers_of self.now.chains)) }
+        ensures unfit { IfErr result (λ e. (n : ℤ) × (e ≡ InvalidSyscallNumber n) × IsLeastUnfit (numbers_of self.now.chains) n) }
+    {
+        if let Some(number) = unfit_number(&self.rules) {
+            return Err(BackendError::InvalidSyscallNumber(number));
+        }
+        Ok(())
     }
 }

@@ -60,7 +60,6 @@ pub mod machine;
 pub(crate) mod record;
 pub mod rule;
 pub mod syscall_table;
-pub(crate) mod tree;
 
 pub use backend::{BackendError, SeccompAction, SeccompCmpArgLen, SeccompCmpOp, TargetArch};
 pub use bpf::{BpfProgram, BpfProgramRef, sock_filter};

@@ -1,6 +1,6 @@
 use Rattle.std.proofs.Common.{arith}
 use Rattle.seccompiler.proofs.chain.RulesCode.{with_return}
-use Rattle.seccompiler.proofs.chain.ChainPlaces.{numbered_stand}
+use Rattle.seccompiler.proofs.chain.RulesPlaces.{numbered_stand}
 use Rattle.seccompiler.proofs.Parts.{front-written}
 use Rattle.seccompiler.proofs.chain.write_rule.Goals as goal
 

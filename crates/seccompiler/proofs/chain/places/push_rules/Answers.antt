@@ -1,4 +1,4 @@
-use Rattle.seccompiler.proofs.chain.ChainPlaces.{rules_added}
+use Rattle.seccompiler.proofs.chain.RulesPlaces.{rules_added}
 use Rattle.seccompiler.proofs.chain.places.push_rules.Goals as goal
 
 pub loop-index-preserved : goal.loop-index-preserved

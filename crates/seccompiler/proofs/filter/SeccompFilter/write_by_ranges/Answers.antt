@@ -4,9 +4,9 @@ use Rattle.seccompiler.specs.Architecture.{audit_word}
 use Rattle.seccompiler.specs.Code.{jump_equal, guard_code}
 use Rattle.seccompiler.specs.Policy.{Filter}
 use Rattle.seccompiler.proofs.Parts.{four-written}
-use Rattle.seccompiler.proofs.filter.Guarded.{words_of}
-use Rattle.seccompiler.proofs.filter.TreeProgram.{written_tree}
-use Rattle.seccompiler.proofs.filter.FilterPlaces.{places_of_ranges}
+use Rattle.seccompiler.proofs.layout.Guarded.{words_of}
+use Rattle.seccompiler.proofs.layout.tree.TreeProgram.{written_tree}
+use Rattle.seccompiler.proofs.layout.FilterPlaces.{places_of_ranges}
 use Rattle.seccompiler.proofs.filter.SeccompFilter.write_by_ranges.Goals as goal
 
 pub returns : goal.returns

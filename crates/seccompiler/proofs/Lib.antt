@@ -12,6 +12,7 @@ pub mod Closed
 pub mod Blocks
 pub mod CappedLengths
 pub mod FoundChains
+pub mod ChainNumbers
 pub mod RangesOnly
 pub mod RangesOf
 pub mod TableFacts

@@ -1,8 +1,7 @@
--- For `SeccompFilter::check_numbers`, `SeccompFilter::clone`, `SeccompFilter::matches`, `SeccompFilter::program_len`,
--- `SeccompFilter::to_tree_bpf` and others: the chains that a map holds: in ascending order of their keys, and found
--- under them.
+-- For `SeccompFilter::clone` and `SeccompFilter::matches`: the chains that a map holds: in ascending order of their keys, and
+-- found under them.
 use Rattle.std.proofs.Common.{◌≡◌, ◌↔◌, ℕ, ℤ, pos, ◌++◌, List, [], ◌∷◌, Vec, Global, Bool, false, Option, Some, None, Less, Greater}
-use Rattle.std.proofs.Common.{option_map, refl, sym, ap, ◌∙◌, subst, append_assoc, length, arith}
+use Rattle.std.proofs.Common.{option_map, refl, sym, ap, ◌∙◌, subst, append_assoc}
 use Rattle.std.specs.Prelude.{IsTrue}
 use Rattle.std.specs.List.{AllByRecursion}
 use Rattle.std.specs.List.Sorted.{IsStrictlySortedBy}
@@ -15,23 +14,7 @@ use Rattle.std.proofs.lemmas.Map.Made.{lookup-map_values}
 use Rattle.std.proofs.lemmas.Bool.{false≢true}
 use Rattle.seccompiler.specs.Machine.{word_at}
 use Rattle.seccompiler.specs.Policy.{Rule, Chain, Filter, chains_of, chain_under, ChainMatches, Matches}
-
--- The numbers of the chains are the keys of the map.
-pub numbers_are_keys : (entries : List (ℤ × Vec Rule Global)) → keys_of (chains_of entries) ≡ keys_of entries
-numbers_are_keys [] = refl
-numbers_are_keys (e ∷ entries) = ap (λ keys. e.0 ∷ keys) (numbers_are_keys entries)
-
--- The call numbers of a map's chains ascend, since its keys do.
-pub numbers_ascend : (f : Filter) (entries : List (ℤ × Vec Rule Global)) → chains_of entries ≡ f.chains
-    → IsStrictlySortedBy int_cmp (keys_of entries) → IsStrictlySortedBy int_cmp (keys_of f.chains)
-numbers_ascend f entries same = subst (IsStrictlySortedBy int_cmp) (sym (numbers_are_keys entries) ∙ ap keys_of same)
-
--- So do those of no chains.
-pub no_numbers_ascend : (f : Filter) (entries : List (ℤ × Vec Rule Global)) → chains_of entries ≡ f.chains
-    → length entries ≡ 0 → IsStrictlySortedBy int_cmp (keys_of f.chains)
-unfolding IsStrictlySortedBy
-no_numbers_ascend f [] same none = numbers_ascend f [] same tt
-no_numbers_ascend f (e ∷ entries) same none = absurd (omega arith)
+use Rattle.seccompiler.proofs.ChainNumbers.{numbers_are_keys}
 
 -- What stands behind others that are all above a number is above it.
 above_middle : (number : ℤ) (front : List (ℤ × Chain)) (e : ℤ × Chain) (back : List (ℤ × Chain))

@@ -4,7 +4,7 @@ use Rattle.std.specs.Map.{keys_of}
 use Rattle.seccompiler.specs.declared.backend.BackendError.TheVariants.{InvalidSyscallNumber}
 use Rattle.seccompiler.specs.Policy.{Filter, IsCallNumber}
 use Rattle.seccompiler.specs.Compiled.{numbers_of, IsLeastUnfit}
-use Rattle.seccompiler.proofs.filter.Chains.{numbers_are_keys}
+use Rattle.seccompiler.proofs.ChainNumbers.{numbers_are_keys}
 use Rattle.seccompiler.proofs.filter.SeccompFilter.check_numbers.Goals as goal
 use Rattle.seccompiler.proofs.filter.SeccompFilter.check_numbers.Goals.{After-unfit_number}
 

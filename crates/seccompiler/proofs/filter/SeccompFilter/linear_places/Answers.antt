@@ -1,7 +1,7 @@
 use Rattle.std.proofs.Common.{All, ap, sym, ◌∙◌, subst}
 use Rattle.seccompiler.specs.Policy.{Filter, IsCallNumber}
 use Rattle.seccompiler.specs.Compiled.{numbers_of}
-use Rattle.seccompiler.proofs.filter.Chains.{numbers_are_keys}
+use Rattle.seccompiler.proofs.ChainNumbers.{numbers_are_keys}
 use Rattle.seccompiler.proofs.filter.SeccompFilter.linear_places.Goals as goal
 
 pub push_chains-requires : goal.push_chains-requires

@@ -4,7 +4,7 @@ use Rattle.std.proofs.lemmas.Map.Iter.{iter_end}
 use Rattle.std.specs.Map.Iter.{deref}
 use Rattle.std.specs.Map.{values_of}
 use Rattle.seccompiler.specs.Policy.{Filter}
-use Rattle.seccompiler.proofs.filter.Chains.{numbers_ascend, no_numbers_ascend}
+use Rattle.seccompiler.proofs.ChainNumbers.{numbers_ascend, no_numbers_ascend}
 use Rattle.seccompiler.proofs.CappedLengths.{capped_chain_more, capped_filter, empty_filter}
 use Rattle.seccompiler.proofs.filter.SeccompFilter.program_len.Goals as goal
 

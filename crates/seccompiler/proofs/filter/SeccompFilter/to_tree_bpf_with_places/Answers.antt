@@ -5,7 +5,7 @@ use Rattle.seccompiler.specs.Places.{ArePlaces}
 use Rattle.seccompiler.specs.Ranges.{Range, AreRanges}
 use Rattle.seccompiler.specs.Compiled.{numbers_of}
 use Rattle.seccompiler.specs.TreePlaces.{AreProgramPlaces}
-use Rattle.seccompiler.proofs.filter.Chains.{numbers_are_keys}
+use Rattle.seccompiler.proofs.ChainNumbers.{numbers_are_keys}
 use Rattle.seccompiler.proofs.filter.SeccompFilter.to_tree_bpf_with_places.Goals as goal
 
 pub ranges_of-requires : goal.ranges_of-requires

@@ -5,7 +5,7 @@ use Rattle.seccompiler.specs.Code.{jump_equal, guard_code}
 use Rattle.seccompiler.specs.Policy.{Filter, IsCallNumber}
 use Rattle.seccompiler.specs.Compiled.{numbers_of}
 use Rattle.seccompiler.proofs.Parts.{four-written, headed}
-use Rattle.seccompiler.proofs.filter.Chains.{numbers_are_keys}
+use Rattle.seccompiler.proofs.ChainNumbers.{numbers_are_keys}
 use Rattle.seccompiler.proofs.layout.Guarded.{words_of}
 use Rattle.seccompiler.proofs.layout.linear.WholeProgram.{written_full, written_empty, counted_full, counted_empty}
 use Rattle.seccompiler.proofs.layout.FilterPlaces.{are_words, places_empty, places_full}

@@ -1,5 +1,6 @@
 -- What holds of each table, from tests that are computed over the whole of it.
-use Rattle.std.proofs.Common.{◌≡◌, ◌≢◌, ◌<◌, ◌≤◌, pos, ◌&&◌, List, [], ◌∷◌, Bool, true, false, Ordering, Less, Equal, Greater, nat_cmp, length, All, AllPairs, slice_index_or, refl, ap, ◌∙◌, arith}
+use Rattle.std.proofs.Common.{◌≡◌, ◌≢◌, ◌<◌, ◌≤◌, pos, ◌&&◌, List, [], ◌∷◌, Bool, true, false, Ordering, Less, Equal, Greater, nat_cmp}
+use Rattle.std.proofs.Common.{length, All, AllPairs, slice_index_or, refl, ap, ◌∙◌, arith}
 use Rattle.std.specs.Cmp.Lexicographic.{slice_cmp}
 use Rattle.std.specs.List.{list_all}
 use Rattle.std.specs.Ordering.{is_lt}
@@ -11,7 +12,8 @@ use Rattle.std.proofs.lemmas.Float.{T_from_true}
 use Rattle.std.proofs.lemmas.List.Elements.{All-nil, All-cons, All-weaker}
 use Rattle.std.proofs.lemmas.List.Kept.{AllPairs-cons}
 use Rattle.std.proofs.lemmas.List.Sums.{AllPass-from_list_all}
-use Rattle.seccomp_tables.specs.Tables.{Pair, greatest_number, IsTableNumber, IsCallTable, StandsBefore, x86_64_pairs, aarch64_pairs, riscv64_pairs}
+use Rattle.seccomp_tables.specs.Tables.{Pair, greatest_number, IsTableNumber, IsCallTable, StandsBefore, x86_64_pairs, aarch64_pairs}
+use Rattle.seccomp_tables.specs.Tables.{riscv64_pairs}
 
 -- a test of two parts passes only where both do
 both : (a b : Bool) → (a && b) ≡ true → (a ≡ true) × (b ≡ true)
@@ -31,13 +33,19 @@ is_ascending (first ∷ []) = true
 is_ascending (first ∷ second ∷ rest) = is_lt (slice_cmp nat_cmp first.0 second.0) && is_ascending (second ∷ rest)
 
 -- names each of which stands before the next stand before all later ones
-all_before : (first : Pair) (rest : List Pair) → is_ascending (first ∷ rest) ≡ true → All (StandsBefore first) rest × AllPairs StandsBefore (first ∷ rest)
-all_before first [] passed = (All-nil (StandsBefore first), AllPairs-cons StandsBefore first [] (All-nil (StandsBefore first)) (λ i j d i<j short. absurd (omega arith)))
+all_before : (first : Pair) (rest : List Pair) → is_ascending (first ∷ rest) ≡ true
+    → All (StandsBefore first) rest × AllPairs StandsBefore (first ∷ rest)
+all_before first [] passed = (
+  All-nil (StandsBefore first),
+  AllPairs-cons StandsBefore first [] (All-nil (StandsBefore first)) (λ i j d i<j short. absurd (omega arith)),
+)
 all_before first (second ∷ rest) passed =
     let parts = both (is_lt (slice_cmp nat_cmp first.0 second.0)) (is_ascending (second ∷ rest)) passed in
     let here : StandsBefore first second = less_of (slice_cmp nat_cmp first.0 second.0) parts.0 in
     let behind = all_before second rest parts.1 in
-    let all = All-cons (StandsBefore first) second rest here (All-weaker (StandsBefore second) (StandsBefore first) (λ later. nat_list_cmp_total.trans first.0 second.0 later.0 here) rest behind.0) in
+    let all = All-cons (StandsBefore first) second rest here
+    (All-weaker (StandsBefore second) (StandsBefore first)
+    (λ later. nat_list_cmp_total.trans first.0 second.0 later.0 here) rest behind.0) in
     (all, AllPairs-cons StandsBefore first (second ∷ rest) all behind.1)
 
 ascending : (table : List Pair) → is_ascending table ≡ true → AllPairs StandsBefore table
@@ -57,26 +65,31 @@ abbrev is_in_range : Pair → Bool
 is_in_range pair = le_z (pos 0) pair.1 && le_z pair.1 greatest_number
 
 in_range : (pair : Pair) → is_in_range pair ≡ true → IsTableNumber pair.1
-in_range pair passed = let parts = both (le_z (pos 0) pair.1) (le_z pair.1 greatest_number) passed in (le_z_yes (T_from_true _ parts.0), le_z_yes (T_from_true _ parts.1))
+in_range pair passed = let parts = both (le_z (pos 0) pair.1) (le_z pair.1 greatest_number) passed in
+    (le_z_yes (T_from_true _ parts.0), le_z_yes (T_from_true _ parts.1))
 
 -- whether a pair's name is of ASCII
 abbrev is_ascii : Pair → Bool
 is_ascii pair = list_all (λ byte. ltb byte 128) pair.0
 
 ascii : (pair : Pair) → is_ascii pair ≡ true → All (λ byte. byte < 128) pair.0
-ascii pair passed = All-weaker (λ byte. ltb byte 128 ≡ true) (λ byte. byte < 128) (λ byte. ltb-true byte 128) pair.0 (AllPass-from_list_all (λ byte. ltb byte 128) pair.0 passed)
+ascii pair passed = All-weaker (λ byte. ltb byte 128 ≡ true) (λ byte. byte < 128) (λ byte. ltb-true byte 128) pair.0
+    (AllPass-from_list_all (λ byte. ltb byte 128) pair.0 passed)
 
 -- a table that passes the tests is one
-is_table : (table : List Pair) → 255 ≤ length table → length table < 512 → list_all is_ascii table ≡ true → is_ascending table ≡ true → list_all is_in_range table ≡ true → IsCallTable table
+is_table : (table : List Pair) → 255 ≤ length table → length table < 512 → list_all is_ascii table ≡ true → is_ascending table ≡ true
+    → list_all is_in_range table ≡ true → IsCallTable table
 is_table table long short names order range =
     let ascends = ascending table order in
     record {
       long = long;
       short = short;
-      ascii = All-weaker (λ pair. is_ascii pair ≡ true) (λ pair. All (λ byte. byte < 128) pair.0) ascii table (AllPass-from_list_all is_ascii table names);
+      ascii = All-weaker (λ pair. is_ascii pair ≡ true) (λ pair. All (λ byte. byte < 128) pair.0) ascii table
+          (AllPass-from_list_all is_ascii table names);
       ascending = ascends;
       distinct = λ i j d i<j j<n. differs (slice_index_or table i d) (slice_index_or table j d) (ascends i j d i<j j<n);
-      in_range = All-weaker (λ pair. is_in_range pair ≡ true) (λ pair. IsTableNumber pair.1) in_range table (AllPass-from_list_all is_in_range table range);
+      in_range = All-weaker (λ pair. is_in_range pair ≡ true) (λ pair. IsTableNumber pair.1) in_range table
+          (AllPass-from_list_all is_in_range table range);
     }
 
 -- the tests, computed

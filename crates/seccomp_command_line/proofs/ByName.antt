@@ -1,6 +1,7 @@
 -- Look-ups by name in lists of values in order of their names: what is found, the names themselves, and what stands in
 -- front of a name.
-use Rattle.std.proofs.Common.{◌≡◌, ℕ, suc, List, [], ◌∷◌, ◌++◌, cond, Some, None, String, Global, Less, All, Contains, string_bytes, string_cmp, string_eq, nat_cmp, bytes_eq, map, IfSome, refl, sym, ap, ◌∙◌, subst, inl, inr, arith}
+use Rattle.std.proofs.Common.{◌≡◌, ℕ, suc, List, [], ◌∷◌, ◌++◌, cond, Some, None, String, Global, Less, All, Contains, string_bytes}
+use Rattle.std.proofs.Common.{string_cmp, string_eq, nat_cmp, bytes_eq, map, IfSome, refl, sym, ap, ◌∙◌, subst, inl, inr, arith}
 use Rattle.std.specs.BTreeMap.{is_at}
 use Rattle.std.specs.Cmp.Lexicographic.{slice_cmp}
 use Rattle.std.specs.List.{AllByRecursion, IsDistinct}
@@ -26,22 +27,26 @@ module _ {X : Type 0} where
 
   -- In order, no name stands twice.
   once : (entries : List (String Global × X)) → IsStrictlySortedBy string_cmp (keys_of entries) → IsDistinct string_eq (keys_of entries)
-  once entries order = subst (λ e. IsDistinct e (keys_of entries)) (λ i x y. is_eq-slice_cmp (string_bytes x) (string_bytes y) i) (IsDistinct-from_sorted string_cmp (keys_of entries) order)
+  once entries order = subst (λ e. IsDistinct e (keys_of entries)) (λ i x y. is_eq-slice_cmp (string_bytes x) (string_bytes y) i)
+      (IsDistinct-from_sorted string_cmp (keys_of entries) order)
 
   -- In order, each value is found under its name.
-  pub found_there : (entries : List (String Global × X)) (e : String Global × X) → IsStrictlySortedBy string_cmp (keys_of entries) → Contains entries e → lookup (is_text (string_bytes e.0)) entries ≡ Some e.1
+  pub found_there : (entries : List (String Global × X)) (e : String Global × X) → IsStrictlySortedBy string_cmp (keys_of entries)
+      → Contains entries e → lookup (is_text (string_bytes e.0)) entries ≡ Some e.1
   found_there entries e order there = lookup-from_Contains string_eq_equiv e.0 e.1 entries (once entries order) there
 
   -- In order, what holds of all that is found holds of each value with its name.
   pub each_found : (P : List ℕ → X → Type 0) (entries : List (String Global × X)) → IsStrictlySortedBy string_cmp (keys_of entries)
       → ((q : List ℕ) (x : X) → lookup (is_text q) entries ≡ Some x → P q x) → All (λ e. P (string_bytes e.0) e.1) entries
   each_found P entries order found =
-      All-weaker (Contains entries) (λ e. P (string_bytes e.0) e.1) (λ e there. found (string_bytes e.0) e.1 (found_there entries e order there)) entries (All-contains_itself entries)
+      All-weaker (Contains entries) (λ e. P (string_bytes e.0) e.1)
+      (λ e there. found (string_bytes e.0) e.1 (found_there entries e order there)) entries (All-contains_itself entries)
 
   -- ---- the names
 
   -- A name that is found is there.
-  pub found_name : (q : List ℕ) (x : X) (entries : List (String Global × X)) → lookup (is_text q) entries ≡ Some x → Contains (map (λ e. string_bytes e.0) entries) q
+  pub found_name : (q : List ℕ) (x : X) (entries : List (String Global × X)) → lookup (is_text q) entries ≡ Some x
+      → Contains (map (λ e. string_bytes e.0) entries) q
   found_name q x [] there = cc
   found_name q x (e ∷ entries) there = elim (cases_Bool (bytes_eq q (string_bytes e.0))) [
     | inl t ↦ (0, omega arith, sym ((bytes_eq-Decides q (string_bytes e.0)).0 t))
@@ -49,12 +54,14 @@ module _ {X : Type 0} where
   ]
 
   -- They are in byte order.
-  above_all : (first : String Global) (entries : List (String Global × X)) → AllByRecursion (λ y. string_cmp first y ≡ Less) (keys_of entries)
+  above_all : (first : String Global) (entries : List (String Global × X))
+      → AllByRecursion (λ y. string_cmp first y ≡ Less) (keys_of entries)
       → AllByRecursion (λ y. slice_cmp nat_cmp (string_bytes first) y ≡ Less) (map (λ e. string_bytes e.0) entries)
   above_all first [] all = tt
   above_all first (e ∷ entries) all = (all.0, above_all first entries all.1)
 
-  pub names_ordered : (entries : List (String Global × X)) → IsStrictlySortedBy string_cmp (keys_of entries) → IsStrictlySortedBy (slice_cmp nat_cmp) (map (λ e. string_bytes e.0) entries)
+  pub names_ordered : (entries : List (String Global × X)) → IsStrictlySortedBy string_cmp (keys_of entries)
+      → IsStrictlySortedBy (slice_cmp nat_cmp) (map (λ e. string_bytes e.0) entries)
   unfolding IsStrictlySortedBy
   names_ordered [] order = tt
   names_ordered (e ∷ entries) order = (above_all e.0 entries order.0, names_ordered entries order.1)
@@ -62,24 +69,33 @@ module _ {X : Type 0} where
   -- ---- in front of a name
 
   -- What is found stands under a key of that name.
-  key_of : (q : List ℕ) (entries : List (String Global × X)) (x : X) → lookup (is_text q) entries ≡ Some x → (key : String Global) × (string_bytes key ≡ q)
-  key_of q entries x there = let place = place_from_lookup (is_text q) entries x there in (place.1, sym ((bytes_eq-Decides q (string_bytes place.1)).0 place.3))
+  key_of : (q : List ℕ) (entries : List (String Global × X)) (x : X) → lookup (is_text q) entries ≡ Some x
+      → (key : String Global) × (string_bytes key ≡ q)
+  key_of q entries x there = let place = place_from_lookup (is_text q) entries x there in
+      (place.1, sym ((bytes_eq-Decides q (string_bytes place.1)).0 place.3))
 
   -- What is not found behind others is found in front of them.
-  in_front : (q : List ℕ) (front back : List (String Global × X)) → lookup (is_text q) back ≡ None → lookup (is_text q) (front ++ back) ≡ lookup (is_text q) front
+  in_front : (q : List ℕ) (front back : List (String Global × X)) → lookup (is_text q) back ≡ None
+      → lookup (is_text q) (front ++ back) ≡ lookup (is_text q) front
   in_front q [] back none = none
   in_front q (e ∷ front) back none = ap (cond (bytes_eq q (string_bytes e.0)) (Some e.1)) (in_front q front back none)
 
-  behind : (front back : List (String Global × X)) → IsStrictlySortedBy string_cmp (keys_of (front ++ back)) → IsStrictlySortedBy string_cmp (keys_of back)
+  behind : (front back : List (String Global × X)) → IsStrictlySortedBy string_cmp (keys_of (front ++ back))
+      → IsStrictlySortedBy string_cmp (keys_of back)
   behind [] back order = order
   behind (e ∷ front) back order = behind front back (sorted_tail string_cmp e.0 (keys_of (front ++ back)) order)
 
   -- In order, what is found under a name below another stands in front of that one, and is as all are there.
-  pub holds_below : (P : X → Type 0) (front : List (String Global × X)) (e : String Global × X) (back : List (String Global × X)) → IsStrictlySortedBy string_cmp (keys_of (front ++ e ∷ back))
-      → All (λ f. P f.1) front → (q : List ℕ) (x : X) → lookup (is_text q) (front ++ e ∷ back) ≡ Some x → slice_cmp nat_cmp q (string_bytes e.0) ≡ Less → P x
+  pub holds_below : (P : X → Type 0) (front : List (String Global × X)) (e : String Global × X) (back : List (String Global × X))
+      → IsStrictlySortedBy string_cmp (keys_of (front ++ e ∷ back))
+      → All (λ f. P f.1) front → (q : List ℕ) (x : X) → lookup (is_text q) (front ++ e ∷ back) ≡ Some x
+      → slice_cmp nat_cmp q (string_bytes e.0) ≡ Less → P x
   holds_below P front e back order all q x there less =
       let key = key_of q (front ++ e ∷ back) x there in
       let below : string_cmp key.0 e.0 ≡ Less = subst (λ r. slice_cmp nat_cmp r (string_bytes e.0) ≡ Less) (sym key.1) less in
-      let none = sym (by_text (string_bytes key.0) (e ∷ back)) ∙ lookup-none (is_at (string_cmp key.0)) (e ∷ back) (none_below_head string_cmp_total key.0 e back (behind front (e ∷ back) order) below) in
-      let found : lookup (is_text q) front ≡ Some x = sym (in_front q front (e ∷ back) (subst (λ r. lookup (is_text r) (e ∷ back) ≡ None) key.1 none)) ∙ there in
+      let none = sym (by_text (string_bytes key.0) (e ∷ back))
+      ∙ lookup-none (is_at (string_cmp key.0)) (e ∷ back)
+      (none_below_head string_cmp_total key.0 e back (behind front (e ∷ back) order) below) in
+      let found : lookup (is_text q) front ≡ Some x =
+      sym (in_front q front (e ∷ back) (subst (λ r. lookup (is_text r) (e ∷ back) ≡ None) key.1 none)) ∙ there in
       subst (λ o. IfSome o P) found (All-lookup P (is_text q) front all)

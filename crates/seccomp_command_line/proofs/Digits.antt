@@ -27,7 +27,8 @@ two_bytes_written n few =
 
 -- The digits of four bytes.
 pub four_bytes_written : (n : ℕ) → n < 2 ^ 32
-    → hexadecimal 2 (byte_at 3 n) ++ hexadecimal 2 (byte_at 2 n) ++ hexadecimal 2 (byte_at 1 n) ++ hexadecimal 2 (byte_at 0 n) ≡ hexadecimal 8 n
+    → hexadecimal 2 (byte_at 3 n) ++ hexadecimal 2 (byte_at 2 n) ++ hexadecimal 2 (byte_at 1 n) ++ hexadecimal 2 (byte_at 0 n)
+    ≡ hexadecimal 8 n
 four_bytes_written n few =
     let fourth : byte_at 3 n ≡ n / 256 / 256 / 256 = omega (arith, few) in
     let third : byte_at 2 n ≡ n / 256 / 256 % 256 = omega arith in

@@ -1,5 +1,6 @@
 -- Bytes in chunks, and those in chunks of 64, which are records and a rest.
-use Rattle.std.proofs.Common.{◌≡◌, ℕ, zero, suc, ◌+◌, ◌*◌, ◌/◌, ◌≤◌, List, ◌++◌, length, take, drop, All, Option, Err, refl, sym, subst, ap, ◌∙◌, append_assoc, take-append-drop, length-drop, length-take-le, arith}
+use Rattle.std.proofs.Common.{◌≡◌, ℕ, zero, suc, ◌+◌, ◌*◌, ◌/◌, ◌≤◌, List, ◌++◌, length, take, drop, All, Option, Err, refl, sym, subst, ap}
+use Rattle.std.proofs.Common.{◌∙◌, append_assoc, take-append-drop, length-drop, length-take-le, arith}
 use Rattle.std.specs.List.{concat}
 use Rattle.std.proofs.Math.Nat.{suc-mul}
 use Rattle.std.specs.Simd.{first_chunks}

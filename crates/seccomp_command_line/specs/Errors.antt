@@ -8,7 +8,8 @@ use Rattle.seccompiler.specs.declared.error.Error.TheVariants as library
 use Rattle.seccompiler.specs.Errors.{error_text}
 use Rattle.seccompiler.specs.Architecture.{arch_text}
 use Rattle.seccomp_command_line.specs.declared.error.ToolError.{ToolError}
-use Rattle.seccomp_command_line.specs.declared.error.ToolError.TheVariants.{Library, NoFilter, UnknownCall, ShortRecord, Read, Fault, Write, OutOfMemory}
+use Rattle.seccomp_command_line.specs.declared.error.ToolError.TheVariants.{Library, NoFilter, UnknownCall, ShortRecord, Read, Fault, Write}
+use Rattle.seccomp_command_line.specs.declared.error.ToolError.TheVariants.{OutOfMemory}
 
 -- A refusal of the library; want of memory stays want of memory.
 abbrev pub from_library : LibraryError → ToolError

@@ -11,7 +11,8 @@ header_of count name = codes "filter " ++ decimal count ++ codes " " ++ escaped 
 
 -- The line of an instruction: its four numbers in hexadecimal digits.
 abbrev pub instruction_line : sock_filter → List ℕ
-instruction_line i = hexadecimal 4 i.code ++ codes " " ++ hexadecimal 2 i.jt ++ codes " " ++ hexadecimal 2 i.jf ++ codes " " ++ hexadecimal 8 i.k ++ codes "\n"
+instruction_line i = hexadecimal 4 i.code ++ codes " " ++ hexadecimal 2 i.jt ++ codes " " ++ hexadecimal 2 i.jf ++ codes " "
+    ++ hexadecimal 8 i.k ++ codes "\n"
 
 -- The lines of a program's instructions, in order.
 abbrev pub instruction_lines : List sock_filter → List ℕ

@@ -8,6 +8,7 @@ loop-instruction-preserved c =
     let program = c.args.program.now in
     let at = c.loop-instruction.instruction-index in
     let old = c.loop-instruction.text.items in
-    joined_more instruction_line program at (record { code = 0; jt = 0; jf = 0; k = 0 }) c.args.text.now.items old c.extend_from_slice.new.self.items
+    joined_more instruction_line program at (record { code = 0; jt = 0; jf = 0; k = 0 })
+    c.args.text.now.items old c.extend_from_slice.new.self.items
     c.loop-instruction-test.true c.loop-instruction.invariant
     (c.in_ok-extend_from_slice.ensures.items ∙ ap (λ line. old ++ line) c.line.ensures)

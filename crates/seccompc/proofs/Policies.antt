@@ -1,5 +1,6 @@
 -- What the programs of a policy mean for the answers of the engines.
-use Rattle.std.proofs.Common.{◌≡◌, ℕ, List, Option, Some, None, String, Vec, Global, Contains, string_bytes, string_cmp, nat_cmp, map, sym, subst}
+use Rattle.std.proofs.Common.{◌≡◌, ℕ, List, Option, Some, None, String, Vec, Global, Contains, string_bytes, string_cmp, nat_cmp, map, sym}
+use Rattle.std.proofs.Common.{subst}
 use Rattle.std.specs.Cmp.Lexicographic.{slice_cmp}
 use Rattle.std.proofs.lemmas.Simd.{map-map}
 use Rattle.std.specs.List.{concat}

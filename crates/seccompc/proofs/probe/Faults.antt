@@ -4,7 +4,8 @@ use Rattle.std.proofs.lemmas.List.Elements.{All-head}
 use Rattle.seccompiler.specs.declared.bpf.sock_filter.{sock_filter}
 use Rattle.seccompiler.specs.declared.backend.TargetArch.{TargetArch}
 use Rattle.seccompiler.specs.declared.backend.BackendError.{BackendError}
-use Rattle.seccompiler.specs.declared.backend.BackendError.TheVariants.{FilterTooLarge, InvalidArgumentNumber, InvalidSyscallNumber, OutOfMemory}
+use Rattle.seccompiler.specs.declared.backend.BackendError.TheVariants.{FilterTooLarge, InvalidArgumentNumber, InvalidSyscallNumber}
+use Rattle.seccompiler.specs.declared.backend.BackendError.TheVariants.{OutOfMemory}
 use Rattle.seccompiler.specs.Errors.{from_backend}
 use Rattle.seccompiler.specs.Layout.{counted_length}
 use Rattle.seccompiler.specs.Policy.{Filter, IsCallNumber}

@@ -17,7 +17,8 @@ listings entries = concat (map listing_of (map named_program entries))
 
 -- One program more at the end.
 listings_push : (entries : List Entry) (e : Entry) → listings (entries ++ e ∷ []) ≡ listings entries ++ listing_of (named_program e)
-listings_push entries e = ap (joined listing_of) (map_push named_program entries e) ∙ joined_push listing_of (map named_program entries) (named_program e)
+listings_push entries e =
+    ap (joined listing_of) (map_push named_program entries e) ∙ joined_push listing_of (map named_program entries) (named_program e)
 
 -- One listing more.
 pub listing_more : (done : List Entry) (e : Entry) (name : List ℕ) (program : List sock_filter) (old new : List ℕ) → old ≡ listings done

@@ -10,7 +10,8 @@ returns-in_err-to_bpf-clause-refused c =
     let filter = c.in_ok-probe_filter.field-0 in
     let made = rw (to_z-of_z w64 nr c.ranges.nr) at c.in_ok-probe_filter.ensures.made in
     let error = err_from_is_err_and c.from_residual-in_err-to_bpf.result c.from_residual-in_err-to_bpf.ensures.1 in
-    rw (error.1, error.2) (filter_refused c.args.arch.now nr c.args.index c.args.value filter c.in_err-to_bpf.field-0.0 made c.in_err-to_bpf.ensures.refused)
+    rw (error.1, error.2)
+    (filter_refused c.args.arch.now nr c.args.index c.args.value filter c.in_err-to_bpf.field-0.0 made c.in_err-to_bpf.ensures.refused)
 
 pub returns-clause-compiled : goal.returns-clause-compiled
 returns-clause-compiled c =

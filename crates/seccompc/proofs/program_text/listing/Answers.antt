@@ -12,5 +12,6 @@ loop-name-preserved c =
       done ++ e ∷ [],
       all ∙ sym (append_assoc done (e ∷ []) left),
       listing_more done e c.as_str.result.now c.deref.result.now
-          l.text.items c.push_listing.new.text.items l.invariant.2 c.in_ok-push_listing.ensures c.as_str.ensures.value c.deref.ensures.value,
+          l.text.items c.push_listing.new.text.items l.invariant.2 c.in_ok-push_listing.ensures c.as_str.ensures.value
+          c.deref.ensures.value,
     )

@@ -1,4 +1,5 @@
-use Rattle.std.proofs.Common.{◌≡◌, ℕ, ℤ, pos, negsuc, ◌<◌, ◌^◌, List, [], ◌∷◌, Result, Ok, Err, Some, codes, sym, subst, refl, ◌∙◌, arith, rules, w64, FitsSigned}
+use Rattle.std.proofs.Common.{◌≡◌, ℕ, ℤ, pos, negsuc, ◌<◌, ◌^◌, List, [], ◌∷◌, Result, Ok, Err, Some, codes, sym, subst, refl, ◌∙◌, arith}
+use Rattle.std.proofs.Common.{rules, w64, FitsSigned}
 use Rattle.std.specs.Result.{OkIff, result_ok}
 use Rattle.std.proofs.lemmas.Int.{ints, to_z-of_z}
 use Rattle.seccomp_command_line.specs.Numbers.{IsWritten}

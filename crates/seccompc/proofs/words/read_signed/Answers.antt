@@ -5,6 +5,7 @@ use Rattle.seccompc.proofs.words.read_signed.Goals as goal
 
 pub returns : goal.returns
 returns c =
-    let differs : slice_index c.args.text.now 0 ≢ 43 = grind (arith, nat_tests, c.if-starts_with.ensures.byte (lit< tt) (lit< tt) (λ _ _ x. x)) in
+    let differs : slice_index c.args.text.now 0 ≢ 43 =
+    grind (arith, nat_tests, c.if-starts_with.ensures.byte (lit< tt) (lit< tt) (λ _ _ x. x)) in
     let h = signed_read c.args.text.now c.parse.result c.parse.ensures.value.0 differs in
     rw c.ok.ensures.value (record { read = h.read; unread = h.unread })

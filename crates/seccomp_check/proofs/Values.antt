@@ -1,5 +1,6 @@
 -- For `is_empty` of `allowed` and the functions of `walk`: what JSON values have under names and at places.
-use Rattle.std.proofs.Common.{◌≡◌, ℕ, suc, ◌<◌, List, [], ◌∷◌, ◌++◌, length, get_or, Option, Some, None, option_map, Vec, Global, Bor, Less, Greater, Bool, IfSome, Contains, bytes_eq, string_bytes, string_cmp, nat_cmp, arith, refl, sym, ap, ◌∙◌, ◌↔◌}
+use Rattle.std.proofs.Common.{◌≡◌, ℕ, suc, ◌<◌, List, [], ◌∷◌, ◌++◌, length, get_or, Option, Some, None, option_map, Vec, Global, Bor, Less}
+use Rattle.std.proofs.Common.{Greater, Bool, IfSome, Contains, bytes_eq, string_bytes, string_cmp, nat_cmp, arith, refl, sym, ap, ◌∙◌, ◌↔◌}
 use Rattle.std.specs.Prelude.{IsTrue, ◌==◌}
 use Rattle.std.specs.Cmp.Lexicographic.{slice_cmp}
 use Rattle.std.specs.List.{AllByRecursion, list_any}
@@ -32,15 +33,18 @@ counted [] = refl
 counted (v ∷ vs) = ap suc (counted vs)
 
 -- An array is the empty one where its length is 0.
-pub emptied : (vs : List Value) (n : ℕ) (r : Bool) → n ≡ length vs → r ≡ (n == 0) → (IsTrue r → array (items_view vs) ≡ array no_items) × (array (items_view vs) ≡ array no_items → IsTrue r)
+pub emptied : (vs : List Value) (n : ℕ) (r : Bool) → n ≡ length vs → r ≡ (n == 0)
+    → (IsTrue r → array (items_view vs) ≡ array no_items) × (array (items_view vs) ≡ array no_items → IsTrue r)
 emptied [] n r same is = (λ yes. refl, λ e. rw (is, same) refl)
 emptied (v ∷ vs) n r same is = (λ yes. absurd (grind (arith, nat_tests, same, is, yes)), λ e. cc)
 
 -- The action that is found stands in the values that are looked at.
-pub actions_are : (o p x y : Option Data) (r : Option SeccompAction) (a : SeccompAction) → IfSome r (IsOneAction o p) → r ≡ Some a → o ≡ x → p ≡ y → IsOneAction x y a
+pub actions_are : (o p x y : Option Data) (r : Option SeccompAction) (a : SeccompAction) → IfSome r (IsOneAction o p) → r ≡ Some a → o ≡ x
+    → p ≡ y → IsOneAction x y a
 actions_are o p x y r a found is one two = rw (← one, ← two) (rw is at found)
 
-below_middle : (first : Entry) (es : List Entry) (e : Entry) (more : List Entry) → AllByRecursion (λ y. string_cmp first.0 y ≡ Less) (keys_of (es ++ e ∷ more)) → string_cmp first.0 e.0 ≡ Less
+below_middle : (first : Entry) (es : List Entry) (e : Entry) (more : List Entry)
+    → AllByRecursion (λ y. string_cmp first.0 y ≡ Less) (keys_of (es ++ e ∷ more)) → string_cmp first.0 e.0 ≡ Less
 below_middle first [] e more h = h.0
 below_middle first (x ∷ es) e more h = below_middle first es e more h.1
 
@@ -59,7 +63,8 @@ pub item_there : (vs : List Value) (i : ℕ) (v : Value) → i < length vs → v
 item_there vs i v inside is = sym (get_item_within vs i v inside) ∙ ap (λ w. Some (view w)) (sym is)
 
 -- What is found by reference is what is there.
-pub found_value : (o : Option (Bor Value)) (r : Bor Value) (found : Option Data) → option_map (λ v. view v.now) o ≡ found → o ≡ Some r → found ≡ Some (view r.now)
+pub found_value : (o : Option (Bor Value)) (r : Bor Value) (found : Option Data) → option_map (λ v. view v.now) o ≡ found → o ≡ Some r
+    → found ≡ Some (view r.now)
 found_value o r found is some = sym is ∙ ap (option_map (λ v. view v.now)) some
 
 -- Where nothing is found by reference, nothing is there.
@@ -67,5 +72,6 @@ pub lacks_value : (o : Option (Bor Value)) (found : Option Data) → option_map 
 lacks_value o found is none = sym is ∙ ap (option_map (λ v. view v.now)) none
 
 -- The same of an array.
-pub found_array : (o : Option (Bor Value)) (r : Bor Value) (items : Vec Value Global) (found : Option Data) → option_map (λ v. view v.now) o ≡ found → o ≡ Some r → r.now ≡ Array items → found ≡ Some (array (items_view items.items))
+pub found_array : (o : Option (Bor Value)) (r : Bor Value) (items : Vec Value Global) (found : Option Data)
+    → option_map (λ v. view v.now) o ≡ found → o ≡ Some r → r.now ≡ Array items → found ≡ Some (array (items_view items.items))
 found_array o r items found is some same = found_value o r found is some ∙ ap (λ v. Some (view v)) same ∙ ap Some (view-Array items)

@@ -1,5 +1,6 @@
 -- The faults of a policy that have a place: where they are, and what is wrong there.
-use Rattle.std.specs.Prelude.{◌≡◌, ◌≢◌, ◌≤◌, ◌==◌, if◌then◌else◌, ℕ, suc, List, [], ◌∷◌, ◌++◌, Contains, Option, Some, None, IfSome, false, option_and_then, codes, decimal, string_bytes, ⊤}
+use Rattle.std.specs.Prelude.{◌≡◌, ◌≢◌, ◌≤◌, ◌==◌, if◌then◌else◌, ℕ, suc, List, [], ◌∷◌, ◌++◌, Contains, Option, Some, None, IfSome, false}
+use Rattle.std.specs.Prelude.{option_and_then, codes, decimal, string_bytes, ⊤}
 use Rattle.serde_json.specs.Data.{Data, array, object, string, Items, no_items, item}
 use Rattle.serde_json.specs.Find.{get, at}
 use Rattle.serde_json.specs.Read.{read}
@@ -65,7 +66,10 @@ count_of (item d items) = suc (count_of items)
 
 -- What is said of an array of this many values.
 abbrev pub array_text : ℕ → List ℕ
-array_text n = if n == 0 then codes "an empty array" else if n == 1 then codes "an array of 1 value" else codes "an array of " ++ decimal n ++ codes " values"
+array_text n =
+    if n == 0 then codes "an empty array"
+    else if n == 1 then codes "an array of 1 value"
+    else codes "an array of " ++ decimal n ++ codes " values"
 
 -- The text is JSON of the value: the one that serde_json writes, where no number is a float.
 pub record IsWritten (d : Data) (text : List ℕ) : Type 0 where

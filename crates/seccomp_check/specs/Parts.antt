@@ -14,7 +14,8 @@ use Rattle.seccompiler.specs.SyscallTable.{number_of}
 use Rattle.seccomp_check.specs.declared.part.Kind.{Kind}
 use Rattle.seccomp_check.specs.declared.part.Kind.TheVariants.{Filter, Entry, Condition}
 use Rattle.seccomp_check.specs.declared.part.Part.{Part}
-use Rattle.seccomp_check.specs.declared.part.Part.TheVariants.{Policy, Object, Action, Entries, Name, Comment, Conditions, Index, Length, Operator, ActionNumber, Number}
+use Rattle.seccomp_check.specs.declared.part.Part.TheVariants.{Policy, Object, Action, Entries, Name, Comment, Conditions, Index, Length}
+use Rattle.seccomp_check.specs.declared.part.Part.TheVariants.{Operator, ActionNumber, Number}
 use Rattle.seccomp_check.specs.declared.fault.Step.{Step}
 use Rattle.seccomp_check.specs.declared.fault.Step.TheVariants as step
 

@@ -10,4 +10,7 @@ returns-in-Ok-tree_length c =
     let policy = c.in-Ok.policy in
     let made = subst (λ arch. IsPolicyOf arch filter policy) c.new.ensures c.in-Ok.ensures.policy in
     let large = rw c.in-Err-FilterTooLarge.field-0-is at c.in-Err-FilterTooLarge.ensures.refused in
-    record { found = λ d is. c.refuse.ensures.found (parts.Object kind.Filter) d (refl, (policy, (filter, is, made), large, c.in-Ok-tree_length.ensures)) }
+    record {
+      found = λ d is. c.refuse.ensures.found (parts.Object kind.Filter) d
+          (refl, (policy, (filter, is, made), large, c.in-Ok-tree_length.ensures));
+    }

@@ -13,6 +13,8 @@ returns-in-Some-Some c =
     let b = c.in-Some-Some.matching in
     let d = view c.args.value.now in
     let same : a ≡ b = search (comparing, rules) in
-    let first = actions_are _ _ _ _ c.one_action-mismatch.result a c.one_action-mismatch.ensures.found c.in-Some-Some.is-0 c.get.ensures c.get-2.ensures in
-    let second = actions_are _ _ _ _ c.one_action-matching.result b c.one_action-matching.ensures.found c.in-Some-Some.is-1 c.get-3.ensures c.get-4.ensures in
+    let first = actions_are _ _ _ _ c.one_action-mismatch.result a c.one_action-mismatch.ensures.found c.in-Some-Some.is-0 c.get.ensures
+    c.get-2.ensures in
+    let second = actions_are _ _ _ _ c.one_action-matching.result b c.one_action-matching.ensures.found c.in-Some-Some.is-1 c.get-3.ensures
+    c.get-4.ensures in
     record { found = c.refuse.ensures.found (parts.Object kind.Filter) d (refl, (a, subst (HasActions d a) (sym same) (first, second))) }

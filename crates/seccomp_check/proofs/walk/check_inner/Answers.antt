@@ -10,4 +10,7 @@ returns-in-Some c =
     let there = found_value c.get.result inner _ c.get.ensures c.in-Some.is in
     let cause = cause_of_expected (Form c.args.part) in
     let found = c.check_form.ensures.found in
-    record { found = λ outer under. c.under_key.ensures.led cause outer c.args.part (view c.args.value.now) (view inner.now) under there found }
+    record {
+      found =
+          λ outer under. c.under_key.ensures.led cause outer c.args.part (view c.args.value.now) (view inner.now) under there found;
+    }

@@ -16,8 +16,10 @@ returns-in_err-under_key c =
     let e : Entry = (c.in-Some.name.now, c.in-Some.value.now) in
     let left = c.next.new.self in
     let all : c.args.members.now.entries ≡ done ++ e ∷ left = c.loop-name.invariant.1 ∙ ap (λ es. done ++ es) c.in-Some.ensures.steps in
-    let sorted : IsStrictlySortedBy string_cmp (keys_of (done ++ e ∷ left)) = subst (λ es. IsStrictlySortedBy string_cmp (keys_of es)) all c.iter-name-items.ensures.ordered in
-    let there : get_member c.as_str.result.now (members_view c.args.members.now.entries) ≡ Some (view e.1) = rw (all, c.as_str.ensures.value) (member_there done e left sorted) in
+    let sorted : IsStrictlySortedBy string_cmp (keys_of (done ++ e ∷ left)) =
+    subst (λ es. IsStrictlySortedBy string_cmp (keys_of es)) all c.iter-name-items.ensures.ordered in
+    let there : get_member c.as_str.result.now (members_view c.args.members.now.entries) ≡ Some (view e.1) =
+    rw (all, c.as_str.ensures.value) (member_there done e left sorted) in
     let led = c.under_key.ensures.led c.args.cause parts.Policy (parts.Object kind.Filter) in
     let told = led (object (members_view c.args.members.now.entries)) (view e.1) refl there c.in_filter.ensures.found in
     record { found = search (rules, told) }

@@ -36,7 +36,8 @@ module _ (target : TargetArch) (find : Find) (d : Data) (are : ArePoliciesOf tar
   all_policies = record { is_object = are.is_object; each = λ name value has. let own = are.each name value has in (own.found, own.own) }
 
   -- A policy that is found is that of the value of its name.
-  found_value : (name : List ℕ) (policy : Filter) → find name ≡ Some policy → (o : Option Data) → get name d ≡ o → Under d name (λ value. (p : Filter) × HasPolicy target value p × (p ≡ policy))
+  found_value : (name : List ℕ) (policy : Filter) → find name ≡ Some policy → (o : Option Data) → get name d ≡ o
+      → Under d name (λ value. (p : Filter) × HasPolicy target value p × (p ≡ policy))
   found_value name policy found None lacks = let none : Some policy ≡ None = sym found ∙ are.no_other name lacks in cc
   found_value name policy found (Some value) has =
       let own = are.each name value has in
@@ -49,12 +50,16 @@ module _ (target : TargetArch) (find : Find) (d : Data) (are : ArePoliciesOf tar
   found_nowhere name none (Some value) has = let own = are.each name value has in absurd (none own.found own.there)
 
 -- The policy that is found is the text's.
-pub names_policy : (target : TargetArch) (text name : List ℕ) (find : Find) (policy : Filter) → OfValue text (ArePoliciesOf target find) → find name ≡ Some policy → NamesPolicy target text name (λ p. p ≡ policy)
-names_policy target text name find policy (d, is, are) found = (d, is, (all_policies target find d are, found_value target find d are name policy found (get name d) refl))
+pub names_policy : (target : TargetArch) (text name : List ℕ) (find : Find) (policy : Filter) → OfValue text (ArePoliciesOf target find)
+    → find name ≡ Some policy → NamesPolicy target text name (λ p. p ≡ policy)
+names_policy target text name find policy (d, is, are) found =
+    (d, is, (all_policies target find d are, found_value target find d are name policy found (get name d) refl))
 
 -- Where none is found, the text has no filter of the name.
-pub names_none : (target : TargetArch) (text name : List ℕ) (find : Find) → OfValue text (ArePoliciesOf target find) → ((policy : Filter) → find name ≡ Some policy → ⊥) → NamesNone target text name
-names_none target text name find (d, is, are) none = (d, is, (all_policies target find d are, found_nowhere target find d are name none (get name d) refl))
+pub names_none : (target : TargetArch) (text name : List ℕ) (find : Find) → OfValue text (ArePoliciesOf target find)
+    → ((policy : Filter) → find name ≡ Some policy → ⊥) → NamesNone target text name
+names_none target text name find (d, is, are) none =
+    (d, is, (all_policies target find d are, found_nowhere target find d are name none (get name d) refl))
 
 -- A name under which something is found is UTF-8.
 pub utf8_where_found : (name : List ℕ) (entries : List (String Global × Filter)) (policy : Filter)

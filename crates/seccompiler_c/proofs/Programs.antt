@@ -1,5 +1,6 @@
 -- Why a request is refused, from why its parts are.
-use Rattle.std.proofs.Common.{◌≡◌, ◌<◌, ◌≤◌, ◌^◌, ◌++◌, ℕ, ℤ, pos, negsuc, List, drop, length, w64, to_z, refl, sym, ap, ◌∙◌, subst, All, arith}
+use Rattle.std.proofs.Common.{◌≡◌, ◌<◌, ◌≤◌, ◌^◌, ◌++◌, ℕ, ℤ, pos, negsuc, List, drop, length, w64, to_z, refl, sym, ap, ◌∙◌, subst, All}
+use Rattle.std.proofs.Common.{arith}
 use Rattle.std.proofs.lemmas.Int.{ints, to_z_pos}
 use Rattle.std.proofs.lemmas.List.Elements.{All-contains}
 use Rattle.seccompiler.specs.Layouts.{IsRefusalIn}
@@ -19,7 +20,8 @@ use Rattle.seccompiler_c.specs.declared.fault.Fault.{Fault}
 use Rattle.seccompiler_c.specs.declared.fault.Fault.TheVariants as fault
 
 -- A number that is told as unfit is the least one in both layouts.
-pub unfit_in : (layout : Layout) (f : Filter) (n : ℤ) → IsRefusalIn layout f (backend.InvalidSyscallNumber n) → IsLeastUnfit (numbers_of f.chains) n
+pub unfit_in : (layout : Layout) (f : Filter) (n : ℤ) → IsRefusalIn layout f (backend.InvalidSyscallNumber n)
+    → IsLeastUnfit (numbers_of f.chains) n
 unfit_in Linear f n why = why
 unfit_in Tree f n why = why
 
@@ -41,18 +43,23 @@ uncompiled Linear f numbers _ why = absurd why
 uncompiled Tree f numbers _ why = absurd why
 
 -- What holds of the policy that is found holds of the policy of the name.
-pub named_so : (target : TargetArch) (text name : List ℕ) (policy : Filter) (P : Filter → Type 0) → NamesPolicy target text name (λ p. p ≡ policy) → P policy → NamesPolicy target text name P
-named_so target text name policy P (d, is, (all, (value, has, (p, own, same)))) holds = (d, is, (all, (value, has, (p, own, subst P (sym same) holds))))
+pub named_so : (target : TargetArch) (text name : List ℕ) (policy : Filter) (P : Filter → Type 0)
+    → NamesPolicy target text name (λ p. p ≡ policy) → P policy → NamesPolicy target text name P
+named_so target text name policy P (d, is, (all, (value, has, (p, own, same)))) holds =
+    (d, is, (all, (value, has, (p, own, subst P (sym same) holds))))
 
-module _ (r : Request) (target : TargetArch) (layout : Layout) (architecture : IsArchitecture r.architecture target) (number : IsLayout r.layout layout) where
+module _ (r : Request) (target : TargetArch) (layout : Layout) (architecture : IsArchitecture r.architecture target)
+    (number : IsLayout r.layout layout) where
   -- A request whose policy has no program is refused for that.
-  pub no_program : (policy : Filter) → NamesPolicy target r.text r.name (λ p. p ≡ policy) → (f : Fault) → IsUncompiledIn layout policy f → IsRefusal r f
+  pub no_program : (policy : Filter) → NamesPolicy target r.text r.name (λ p. p ≡ policy) → (f : Fault) → IsUncompiledIn layout policy f
+      → IsRefusal r f
   no_program policy named fault.OutOfMemory why = (target, architecture, (layout, number, tt))
   no_program policy named (fault.Filter e) why = (target, architecture, (layout, number, named_so target r.text r.name policy _ named why))
   no_program policy named _ why = absurd why
 
 -- What holds of a request's program is so of it.
-pub programs_so : (r : Request) (P Q : List sock_filter → Type 0) → ((program : List sock_filter) → P program → Q program) → OfProgram r P → OfProgram r Q
+pub programs_so : (r : Request) (P Q : List sock_filter → Type 0) → ((program : List sock_filter) → P program → Q program) → OfProgram r P
+    → OfProgram r Q
 programs_so r P Q so (target, architecture, (layout, number, (d, is, (all, (value, has, (policy, own, (program, compiled, holds))))))) =
     (target, architecture, (layout, number, (d, is, (all, (value, has, (policy, own, (program, compiled, so program holds)))))))
 

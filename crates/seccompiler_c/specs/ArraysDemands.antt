@@ -16,7 +16,9 @@ use Rattle.seccompiler_c.specs.declared.arrays.seccompiler_chain.{seccompiler_ch
 use Rattle.seccompiler_c.specs.declared.arrays.seccompiler_rule.{seccompiler_rule}
 use Rattle.seccompiler_c.specs.declared.arrays.seccompiler_condition.{seccompiler_condition}
 use Rattle.seccompiler_c.specs.declared.arrays_fault.ArraysFault.{ArraysFault}
-use Rattle.seccompiler_c.specs.declared.arrays_fault.ArraysFault.TheVariants.{OutOfMemory, UnknownArchitecture, UnknownLayout, UnknownAction, Counts, Argument, Length, Operator, EmptyRule, EqualActions, Order, Number, TooLarge, NoRoom}
+use Rattle.seccompiler_c.specs.declared.arrays_fault.ArraysFault.TheVariants.{OutOfMemory, UnknownArchitecture, UnknownLayout}
+use Rattle.seccompiler_c.specs.declared.arrays_fault.ArraysFault.TheVariants.{UnknownAction, Counts, Argument, Length, Operator, EmptyRule}
+use Rattle.seccompiler_c.specs.declared.arrays_fault.ArraysFault.TheVariants.{EqualActions, Order, Number, TooLarge, NoRoom}
 
 -- The code of a fault: each has one of its own, and those that a text's request can have are that request's.
 abbrev pub arrays_fault_code : ArraysFault → Code

@@ -9,7 +9,8 @@ use Rattle.seccomp_check.specs.Checks.{TellsFaultOf, frontend_cause}
 use Rattle.seccomp_check.specs.declared.fault.Cause.{Cause}
 use Rattle.seccompiler_c.specs.Codes.{fault_code, code_text, IsSentence}
 use Rattle.seccompiler_c.specs.declared.fault.Fault.{Fault}
-use Rattle.seccompiler_c.specs.declared.fault.Fault.TheVariants.{OutOfMemory, UnknownArchitecture, UnknownLayout, Text, NoFilter, NoIndex, Filter, NoRoom}
+use Rattle.seccompiler_c.specs.declared.fault.Fault.TheVariants.{OutOfMemory, UnknownArchitecture, UnknownLayout, Text, NoFilter, NoIndex}
+use Rattle.seccompiler_c.specs.declared.fault.Fault.TheVariants.{Filter, NoRoom}
 
 -- The text of a fault, where all of it is known: that of JSON that can't be read ends in serde_json's own words.
 abbrev pub fault_text : Fault → Option (List ℕ)

@@ -29,7 +29,8 @@ OfPolicies target text P = OfValue text (λ d. AreAll (HasSomePolicy target) d �
 
 -- The text has no fault, and P holds of the policy that its filter of this name is.
 abbrev pub NamesPolicy : TargetArch → List ℕ → List ℕ → (Filter → Type 0) → Type 0
-NamesPolicy target text name P = OfPolicies target text (λ d. Under d name (λ value. (policy : Filter) × HasPolicy target value policy × P policy))
+NamesPolicy target text name P =
+    OfPolicies target text (λ d. Under d name (λ value. (policy : Filter) × HasPolicy target value policy × P policy))
 
 -- The text has no fault, and no filter of this name.
 abbrev pub NamesNone : TargetArch → List ℕ → List ℕ → Type 0

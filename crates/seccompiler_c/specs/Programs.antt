@@ -12,7 +12,8 @@ use Rattle.seccompiler_c.specs.Codes.{code_of}
 use Rattle.seccompiler_c.specs.Messages.{HoldsMessage, TellsPolicyFault}
 use Rattle.seccompiler_c.specs.Policies.{NamesPolicy, NamesNone, TellsTextFault}
 use Rattle.seccompiler_c.specs.declared.fault.Fault.{Fault}
-use Rattle.seccompiler_c.specs.declared.fault.Fault.TheVariants.{OutOfMemory, UnknownArchitecture, UnknownLayout, Text, NoFilter, Filter as TooLarge, NoRoom}
+use Rattle.seccompiler_c.specs.declared.fault.Fault.TheVariants.{OutOfMemory, UnknownArchitecture, UnknownLayout, Text, NoFilter}
+use Rattle.seccompiler_c.specs.declared.fault.Fault.TheVariants.{Filter as TooLarge, NoRoom}
 
 -- What a caller asks for: the filter of a name in a JSON text, compiled for the architecture of a word in the layout of
 -- a number, where the program has at most so many instructions.

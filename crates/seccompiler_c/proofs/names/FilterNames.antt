@@ -1,5 +1,6 @@
 -- For `name_of`: the names of a text's filters are the keys of their map, and why there are none.
-use Rattle.std.proofs.Common.{◌≡◌, ℕ, suc, List, [], ◌∷◌, Option, Some, None, String, Global, Less, Contains, string_bytes, string_cmp, nat_cmp, bytes_eq, false, map, refl, sym, ◌∙◌, inl, inr, arith}
+use Rattle.std.proofs.Common.{◌≡◌, ℕ, suc, List, [], ◌∷◌, Option, Some, None, String, Global, Less, Contains, string_bytes, string_cmp}
+use Rattle.std.proofs.Common.{nat_cmp, bytes_eq, false, map, refl, sym, ◌∙◌, inl, inr, arith}
 use Rattle.std.specs.BTreeMap.{is_at}
 use Rattle.std.specs.Cmp.Lexicographic.{slice_cmp}
 use Rattle.std.specs.List.{AllByRecursion}

@@ -13,6 +13,7 @@ returns-in_default-from_utf8 c =
     let target = c.in-Some.target in
     rw (to_z-of_z w64 code.result (record { sfits = code.type_inv }))
     (record {
-      answers = unknown_call (target, c.in-Some.ensures.found, no_call (table_of target) c.args.name.now table c.in_default-from_utf8.ensures.cases.0)
+      answers = unknown_call
+          (target, c.in-Some.ensures.found, no_call (table_of target) c.args.name.now table c.in_default-from_utf8.ensures.cases.0)
           code.ensures.number;
     })

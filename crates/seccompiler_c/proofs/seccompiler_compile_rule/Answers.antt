@@ -26,7 +26,10 @@ returns-else-count-code c =
     let small : n < 2 ^ 63 = omega (arith, c.if-count-code.false, c.well_formed) in
     let count : n ≡ length code = omega (arith, small, c.code_len-count.ensures.length, is.long) in
     let room : length code ≤ length old = omega (arith, count, c.if-count-code.false) in
-    record { answers = compiled rule.0 code (subst (λ q. IsRuleCode q code) rule.1 is) (holds old code code n count refl room small code refl) }
+    record {
+      answers =
+          compiled rule.0 code (subst (λ q. IsRuleCode q code) rule.1 is) (holds old code code n count refl room small code refl);
+    }
 
 pub returns-in-Err : goal.returns-in-Err
 returns-in-Err c = rw (to_z-of_z w64 c.number-in-Err.result (record { sfits = c.number-in-Err.type_inv })) (record {

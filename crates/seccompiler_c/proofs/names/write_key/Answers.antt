@@ -1,4 +1,5 @@
-use Rattle.std.proofs.Common.{◌≡◌, ◌+◌, ◌<◌, ℕ, List, Some, [], ◌∷◌, ◌++◌, String, Global, string_bytes, length, map, slice_get, pos, w64, refl, sym, ap, ◌∙◌, subst, arith, append_assoc, option_map}
+use Rattle.std.proofs.Common.{◌≡◌, ◌+◌, ◌<◌, ℕ, List, Some, [], ◌∷◌, ◌++◌, String, Global, string_bytes, length, map, slice_get, pos, w64}
+use Rattle.std.proofs.Common.{refl, sym, ap, ◌∙◌, subst, arith, append_assoc, option_map}
 use Rattle.std.specs.Map.{keys_of}
 use Rattle.std.proofs.Math.Seq.{get_or-append_seam}
 use Rattle.std.proofs.lemmas.Int.{to_z-of_z}

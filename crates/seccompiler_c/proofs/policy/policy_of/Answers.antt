@@ -36,7 +36,8 @@ returns-in_default-clause-fault c =
     let name = c.args.name.now in
     let read = c.in_ok-filters.ensures.filters in
     let policies : OfValue text (ArePoliciesOf c.new.result find) = (read.0, read.1, c.in_ok-policies.ensures.of_value read.0 read.2) in
-    let none = λ (policy : Filter) (found : find name ≡ Some policy). c.in_default.ensures.cases.0 (utf8_where_found name c.in_ok-policies.policies.entries policy found) in
+    let none = λ (policy : Filter) (found : find name ≡ Some policy). c.in_default.ensures.cases.0
+    (utf8_where_found name c.in_ok-policies.policies.entries policy found) in
     subst (λ (target : TargetArch). NamesNone target text name) c.new.ensures (names_none c.new.result text name find policies none)
 
 pub returns-in-Some-clause-policy : goal.returns-in-Some-clause-policy
@@ -47,16 +48,20 @@ returns-in-Some-clause-policy c =
     let policy = c.in-Some.policy in
     let read = c.in_ok-filters.ensures.filters in
     let policies : OfValue text (ArePoliciesOf c.new.result find) = (read.0, read.1, c.in_ok-policies.ensures.of_value read.0 read.2) in
-    let there : find name ≡ Some policy = subst (λ (called : List ℕ). find called ≡ Some policy) c.in-Ok.ensures.cases.0 (sym c.in-Some.ensures.value) in
-    subst (λ (target : TargetArch). NamesPolicy target text name (λ p. p ≡ policy)) c.new.ensures (names_policy c.new.result text name find policy policies there)
+    let there : find name ≡ Some policy =
+    subst (λ (called : List ℕ). find called ≡ Some policy) c.in-Ok.ensures.cases.0 (sym c.in-Some.ensures.value) in
+    subst (λ (target : TargetArch). NamesPolicy target text name (λ p. p ≡ policy)) c.new.ensures
+    (names_policy c.new.result text name find policy policies there)
 
 pub returns-in-Some-clause-numbers : goal.returns-in-Some-clause-numbers
 returns-in-Some-clause-numbers c =
     let find = get_by_text c.in_ok-policies.policies in
     let name = c.args.name.now in
     let policy = c.in-Some.policy in
-    let there : find name ≡ Some policy = subst (λ (called : List ℕ). find called ≡ Some policy) c.in-Ok.ensures.cases.0 (sym c.in-Some.ensures.value) in
-    subst (λ (o : Option Filter). IfSome o (λ (f : Filter). All IsTableNumber (numbers_of f.chains))) there (c.in_ok-policies.ensures.numbers name)
+    let there : find name ≡ Some policy =
+    subst (λ (called : List ℕ). find called ≡ Some policy) c.in-Ok.ensures.cases.0 (sym c.in-Some.ensures.value) in
+    subst (λ (o : Option Filter). IfSome o (λ (f : Filter). All IsTableNumber (numbers_of f.chains))) there
+    (c.in_ok-policies.ensures.numbers name)
 
 pub returns-clause-fault : goal.returns-clause-fault
 returns-clause-fault c =
@@ -65,6 +70,8 @@ returns-clause-fault c =
     let name = c.args.name.now in
     let read = c.in_ok-filters.ensures.filters in
     let policies : OfValue text (ArePoliciesOf c.new.result find) = (read.0, read.1, c.in_ok-policies.ensures.of_value read.0 read.2) in
-    let nowhere : find name ≡ None = subst (λ (called : List ℕ). find called ≡ None) c.in-Ok.ensures.cases.0 (sym c.in-None.ensures.value) in
-    let none : (policy : Filter) → find name ≡ Some policy → ⊥ = λ policy found. (let differ : Some policy ≡ None = sym found ∙ nowhere in cc) in
+    let nowhere : find name ≡ None =
+    subst (λ (called : List ℕ). find called ≡ None) c.in-Ok.ensures.cases.0 (sym c.in-None.ensures.value) in
+    let none : (policy : Filter) → find name ≡ Some policy → ⊥ =
+    λ policy found. (let differ : Some policy ≡ None = sym found ∙ nowhere in cc) in
     subst (λ (target : TargetArch). NamesNone target text name) c.new.ensures (names_none c.new.result text name find policies none)

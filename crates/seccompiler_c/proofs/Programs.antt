@@ -2,10 +2,10 @@
 use Rattle.std.proofs.Common.{◌≡◌, ◌<◌, ◌≤◌, ◌^◌, ◌++◌, ℕ, ℤ, pos, negsuc, List, drop, length, w64, to_z, refl, sym, ap, ◌∙◌, subst, All}
 use Rattle.std.proofs.Common.{arith}
 use Rattle.std.proofs.lemmas.Int.{ints, to_z_pos}
-use Rattle.std.proofs.lemmas.List.Elements.{All-contains}
+use Rattle.std.proofs.lemmas.List.Elements.{All-contains, All-weaker}
 use Rattle.seccompiler.specs.Layouts.{IsRefusalIn}
 use Rattle.seccompiler.specs.Policy.{Filter, IsCallNumber}
-use Rattle.seccompiler.specs.Compiled.{IsLeastUnfit, numbers_of}
+use Rattle.seccompiler.specs.Compiled.{AreCallNumbers, IsLeastUnfit, numbers_of}
 use Rattle.seccompiler.specs.SyscallTable.{IsTableNumber}
 use Rattle.seccompiler.specs.declared.backend.BackendError.{BackendError}
 use Rattle.seccompiler.specs.declared.backend.BackendError.TheVariants as backend
@@ -20,7 +20,7 @@ use Rattle.seccompiler_c.specs.declared.fault.Fault.{Fault}
 use Rattle.seccompiler_c.specs.declared.fault.Fault.TheVariants as fault
 
 -- A number that is told as unfit is the least one in both layouts.
-pub unfit_in : (layout : Layout) (f : Filter) (n : ℤ) → IsRefusalIn layout f (backend.InvalidSyscallNumber n)
+unfit_in : (layout : Layout) (f : Filter) (n : ℤ) → IsRefusalIn layout f (backend.InvalidSyscallNumber n)
     → IsLeastUnfit (numbers_of f.chains) n
 unfit_in Linear f n why = why
 unfit_in Tree f n why = why
@@ -30,17 +30,25 @@ table_number_fits : (z : ℤ) → IsTableNumber z → IsCallNumber z
 table_number_fits (pos n) h = (n, refl, grind (arith, ints, h.1))
 table_number_fits (negsuc n) h = absurd (grind (arith, ints, h.0))
 
+-- What holds of want of memory and of a length holds of all that a filter is refused for whose numbers are call numbers.
+pub of_refusal : (layout : Layout) (f : Filter) (P : BackendError → Type 0) → AreCallNumbers (numbers_of f.chains)
+    → P backend.OutOfMemory
+    → ((n : ℕ) → IsRefusalIn layout f (backend.FilterTooLarge n) → P (backend.FilterTooLarge n))
+    → (e : BackendError) → IsRefusalIn layout f e → P e
+of_refusal layout f P numbers memory long backend.OutOfMemory why = memory
+of_refusal layout f P numbers memory long (backend.FilterTooLarge n) why = long n why
+of_refusal layout f P numbers memory long (backend.InvalidSyscallNumber n) why = absurd (fits n (unfit_in layout f n why))
+  where
+    fits : (n : ℤ) → IsLeastUnfit (numbers_of f.chains) n → ⊥
+    fits n least = least.unfit (All-contains IsCallNumber (numbers_of f.chains) n numbers least.among)
+of_refusal Linear f P numbers memory long _ why = absurd why
+of_refusal Tree f P numbers memory long _ why = absurd why
+
 -- A filter whose numbers are those of a table is refused for its length, or for want of memory.
 pub uncompiled : (layout : Layout) (f : Filter) → All IsTableNumber (numbers_of f.chains) → (e : BackendError) → IsRefusalIn layout f e
     → IsUncompiledIn layout f (from_backend e)
-uncompiled layout f numbers backend.OutOfMemory why = tt
-uncompiled layout f numbers (backend.FilterTooLarge n) why = why
-uncompiled layout f numbers (backend.InvalidSyscallNumber n) why = absurd (fits (unfit_in layout f n why))
-  where
-    fits : IsLeastUnfit (numbers_of f.chains) n → ⊥
-    fits least = least.unfit (table_number_fits n (All-contains IsTableNumber (numbers_of f.chains) n numbers least.among))
-uncompiled Linear f numbers _ why = absurd why
-uncompiled Tree f numbers _ why = absurd why
+uncompiled layout f numbers = of_refusal layout f (λ e. IsUncompiledIn layout f (from_backend e))
+    (All-weaker IsTableNumber IsCallNumber table_number_fits (numbers_of f.chains) numbers) tt (λ n why. why)
 
 -- What holds of the policy that is found holds of the policy of the name.
 pub named_so : (target : TargetArch) (text name : List ℕ) (policy : Filter) (P : Filter → Type 0)

@@ -1,0 +1,128 @@
+"""What tools/try-jail shows of the codes of docs/CHECKS.md: what the running kernel does under filters that have them.
+
+Of each code there are filters that have it and filters that just don't. Each has calls, with what `call` prints of them.
+Where seccomptool is built, `check` has to warn of exactly the codes that are stated.
+"""
+
+import json
+import os
+import re
+import sys
+from typing import NamedTuple
+
+from jail_cases import TIOCSTI, X32_ANSWERS, X32_BIT, X32_CALLS, answer_of, denying, filter_of, when
+from jail_running import EXAMPLES, TOOL, TOP, run
+
+LOW = 2**32 - 1
+WHOLE = 2**64 - 1
+
+# What `call` prints of a call that is denied with this errno, which no kernel gives; and of one that is made.
+DENIED = answer_of(1000)
+MADE = answer_of(0)
+NO_TERMINAL = answer_of(25)
+
+CAT = json.loads((EXAMPLES / "cat-policy.json").read_text(encoding="utf-8"))["cat"]
+YIELD_OF_X32 = str(X32_BIT + X32_CALLS["sched_yield"])
+
+
+class Shown(NamedTuple):
+    """The codes of a filter, beside `allows-by-default` where it does, the filter, and calls with their answers. A list
+    has the answers of kernels that are configured differently."""
+
+    codes: list
+    filter: dict
+    calls: list
+
+
+def on_yield(codes, length, operator, value, denied, made):
+    """Returns the filter that denies `sched_yield` by a condition, with first arguments that it denies and doesn't."""
+    calls = [(f"sched_yield {it}", DENIED) for it in denied] + [(f"sched_yield {it}", MADE) for it in made]
+    return Shown(codes, denying(when("sched_yield", (0, length, operator, value))), calls)
+
+
+def on_terminal(codes, length, operator, others):
+    """Returns the filter that denies TIOCSTI by a condition. Standard input is a pipe, so errno 25 is the kernel's."""
+    calls = [("ioctl 0 0x5412", DENIED), ("ioctl 0 0x5413", NO_TERMINAL)]
+    calls += [(f"ioctl 0 {it}", others) for it in ("0x100005412", "0x8000000000005412")]
+    return Shown(codes, denying(when("ioctl", (1, length, operator, TIOCSTI))), calls)
+
+
+def on_errno(codes, number, answered):
+    """Returns the filter that answers calls with an errno, and what they return. The kernel would reject each of them,
+    for an address or a user that isn't."""
+    calls = [(it, answer_of(answered)) for it in ("chroot 0", "mkdir 0", "mkdirat 0 0", "setuid -1")]
+    return Shown(codes, filter_of({"errno": number}, "allow", *(it.split()[0] for it, _ in calls)), calls)
+
+
+WARNED = {
+    "errno 0": on_errno(["fake-success"], 0, 0),
+    "errno 65536": on_errno(["fake-success", "errno-too-large"], 65536, 0),
+    "errno 1000": on_errno([], 1000, 1000),
+    "errno 4095": on_errno([], 4095, 4095),
+    "errno 4096": on_errno(["errno-too-large"], 4096, 4095),
+    "errno 70000": on_errno(["errno-too-large"], 70000, 4095),
+    "errno 65537": on_errno(["errno-too-large"], 65537, 1),
+    "trace": Shown(["trace-without-tracer"], filter_of({"trace": 1}, "allow", "sched_yield"),
+                   [("sched_yield", answer_of(38))]),
+    "errno 38": Shown([], filter_of({"errno": 38}, "allow", "sched_yield"), [("sched_yield", answer_of(38))]),
+    # The number of x32 is none of the list: the filter lets it through. What the kernel says then isn't the filter's.
+    "denies a list": Shown([], denying("sched_yield"), [("sched_yield", DENIED), (YIELD_OF_X32, X32_ANSWERS)]),
+    "allows a list": Shown([], {**CAT, "mismatch_action": {"errno": 1000}}, [
+        ("chroot 0", DENIED), (YIELD_OF_X32, DENIED)]),
+    "the high half is ignored": on_yield(
+        ["high-half-ignored"], "dword", "eq", LOW + 6, [5, LOW + 6, 3 * (LOW + 1) + 5], [4, 6, LOW + 5]),
+    "the high half is compared": on_yield([], "qword", "eq", LOW + 6, [LOW + 6], [5, 3 * (LOW + 1) + 5]),
+    "a bit outside the mask": on_yield(
+        ["value-outside-mask"], "dword", {"masked_eq": 3}, 4, [0, 4, 8, 16], [1, 2, 5, 7]),
+    "no bit outside the mask": on_yield([], "dword", {"masked_eq": 7}, 4, [4, 12], [0, 1, 8, 16]),
+    "at most the greatest dword": on_yield(["always-holds"], "dword", "le", LOW, [0, 1, LOW, LOW + 1, WHOLE], []),
+    "at most that of a qword": on_yield([], "qword", "le", LOW, [0, 1, LOW], [LOW + 1, WHOLE]),
+    "less than 0": on_yield(["never-holds"], "qword", "lt", 0, [], [0, 1, LOW, LOW + 1, WHOLE]),
+    "less than 1": on_yield([], "qword", "lt", 1, [0], [1, LOW, LOW + 1, WHOLE]),
+    "TIOCSTI as a qword": on_terminal(["high-half-evades"], "qword", "eq", NO_TERMINAL),
+    "TIOCSTI under a mask": on_terminal(["high-half-evades"], "qword", {"masked_eq": WHOLE}, NO_TERMINAL),
+    "TIOCSTI under a mask of its half": on_terminal([], "qword", {"masked_eq": LOW}, DENIED),
+    "TIOCSTI as a dword": on_terminal([], "dword", "eq", DENIED),
+}
+
+POLICY = {name: it.filter for name, it in WARNED.items()}
+
+# Sets the user, and prints who it is then.
+SET_USER = "import os; os.setuid(os.getuid() + 1); print(os.getuid())"
+
+
+def try_warned(results, jailer, folder):
+    """Makes the calls under the filters of each code, and compares what they return."""
+    for name, it in WARNED.items():
+        for words, answers in it.calls:
+            out, err, status = run([*jailer.words, "warned.json", name, folder / "bin/call", *words.split()], folder)
+            among = answers if isinstance(answers, list) else [answers]
+            wanted = out if out in among else among
+            results.compare(f"{jailer} {name}: {words}", (wanted, "", 0), (out, err, status))
+
+
+def try_believed(results, jailer, folder):
+    """Runs commands that believe in a call that isn't made: they go well, no folder is there, and the user is the same."""
+    for name in (it for it, shown in WARNED.items() if "fake-success" in shown.codes):
+        jailed = [*jailer.words, "warned.json", name]
+        found = run([*jailed, "mkdir", "made"], folder), (folder / "made").exists()
+        results.compare(f"{jailer} {name}: mkdir", (("", "", 0), False), found)
+        found = run([*jailed, sys.executable, "-B", "-c", SET_USER], folder)
+        results.compare(f"{jailer} {name}: setuid", (f"{os.getuid()}\n", "", 0), found)
+    found = run([*jailer.words, "warned.json", "errno 1000", "mkdir", "made"], folder)
+    results.compare(f"{jailer} errno 1000: mkdir", ("", 1, False), (found[0], found[2], (folder / "made").exists()))
+
+
+def try_codes(results, folder):
+    """Compares what `check` warns of in the filters with their codes, and all of these with the codes of docs/CHECKS.md."""
+    page = (TOP / "docs/CHECKS.md").read_text(encoding="utf-8")
+    defaults = {name: ["allows-by-default"] * (it["mismatch_action"] in ("allow", "log")) for name, it in POLICY.items()}
+    codes = {name: sorted(it.codes + defaults[name]) for name, it in WARNED.items()}
+    listed = sorted(re.findall(r"^### `([a-z-]+)`$", page, re.M))
+    results.compare("each code has a filter", listed, sorted({code for it in codes.values() for code in it}))
+    if TOOL.exists():
+        out, err, status = run([TOOL, "check", "warned.json"], folder)
+        found = re.findall(r"^([^.\n]+)\.[^:\n]*: warning \[([a-z-]+)\]: ", out, re.M)
+        for name, stated in codes.items():
+            results.compare(f"check of {name}", stated, sorted(code for it, code in found if it == name))
+        results.compare("check of warned.json", (len(found), "", 0), (out.count("\n"), err, status))

@@ -1,15 +1,12 @@
 -- For `listing`: listings of programs, one after the other.
-use Rattle.std.proofs.Common.{◌≡◌, ℕ, List, [], ◌∷◌, ◌++◌, map, String, Vec, Global, string_bytes, sym, ap, ◌∙◌}
+use Rattle.std.proofs.Common.{◌≡◌, ℕ, List, [], ◌∷◌, ◌++◌, map, string_bytes, sym, ap, ◌∙◌}
 use Rattle.std.specs.List.{concat}
 use Rattle.std.proofs.lemmas.List.{map_push}
 use Rattle.seccompiler.specs.declared.bpf.sock_filter.{sock_filter}
 use Rattle.seccomp_command_line.specs.Listing.{listing_of}
 use Rattle.seccompc.specs.Listing.{named_program}
 use Rattle.seccomp_command_line.proofs.Joined.{joined, joined_push}
-
--- A program with its name.
-abbrev pub Entry : Type 0
-Entry = String Global × Vec sock_filter Global
+use Rattle.seccompc.proofs.Policies.{Entry}
 
 -- The listings of programs.
 abbrev pub listings : List Entry → List ℕ

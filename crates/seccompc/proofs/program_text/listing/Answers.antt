@@ -1,5 +1,6 @@
 use Rattle.std.proofs.Common.{◌≡◌, ◌∷◌, ◌++◌, [], sym, ap, ◌∙◌, append_assoc}
-use Rattle.seccompc.proofs.program_text.Listings.{Entry, listing_more}
+use Rattle.seccompc.proofs.Policies.{Entry}
+use Rattle.seccompc.proofs.program_text.Listings.{listing_more}
 use Rattle.seccompc.proofs.program_text.listing.Goals as goal
 
 pub loop-name-preserved : goal.loop-name-preserved

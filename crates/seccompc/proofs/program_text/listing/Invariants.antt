@@ -1,5 +1,6 @@
 use Rattle.std.proofs.Common.{◌≡◌, List, ◌++◌}
-use Rattle.seccompc.proofs.program_text.Listings.{Entry, listings}
+use Rattle.seccompc.proofs.Policies.{Entry}
+use Rattle.seccompc.proofs.program_text.Listings.{listings}
 use Rattle.seccompc.proofs.program_text.listing.Given as goal
 
 abbrev pub invariant-loop-name : goal.invariant-loop-name

@@ -1,2 +1,6 @@
--- The definitions that the contracts cite: which JSON values are which parts of a profile.
+-- The definitions that the contracts cite: which JSON values are which parts of a profile, which are profiles, and when an
+-- entry applies.
+pub mod Types
 pub mod Shape
+pub mod ProfileShape
+pub mod Decision

@@ -1,17 +1,23 @@
 //! Seccomp profiles of OCI runtimes, as Docker, Podman, containerd and runc take them.
 //!
-//! A *profile* is the JSON of `linux.seccomp` in the OCI runtime specification. This crate has the
-//! readers of its parts: actions, conditions on arguments, flags, and lists of these and of texts. A
-//! value that is no such part gives `None`.
+//! A *profile* is the JSON of `linux.seccomp` in the OCI runtime specification. [`read_profile`] reads
+//! one. There are also the readers of its parts: actions, conditions on arguments, flags, and lists of
+//! these and of texts. A value that is no profile, or no such part, gives `None`. [`applies`] says whether
+//! an entry applies to a container.
 #![tactic(auto)]
 
+mod entries;
 mod lists;
 mod members;
 mod parts;
+mod profile;
+mod scope;
 #[cfg(test)]
 mod tests;
 pub mod types;
 
 pub use lists::{arguments_under, flags_under, texts_under};
 pub use parts::{read_action, read_argument, read_flag};
-pub use types::{Argument, Flag, Operator};
+pub use profile::read_profile;
+pub use scope::applies;
+pub use types::{Argument, Criteria, Entry, Flag, Operator, Profile};

@@ -1,17 +1,18 @@
-// What the readers of a JSON object share: its names, its numbers and its lists.
+// What the readers of a JSON object share: its names, its numbers, its lists and its comment.
 
 ghost use Rattle.std.specs.Prelude.{◌≡◌, ◌↔◌, ◌≤◌, ℕ, ◌^◌, ◌-◌, IsTrue, IfSome, IfNone, map, option_map};
 ghost use Rattle.std.specs.List.{list_any};
 ghost use Rattle.std.specs.Str.{bytes_eq};
 ghost use Rattle.serde_json.specs.Data.{object};
 ghost use Rattle.serde_json.specs.View.{view, items_view, members_view};
-ghost use Rattle.seccompiler.specs.JsonShape.{HasOnly, IsWhole};
+ghost use Rattle.seccompiler.specs.JsonShape.{HasOnly, IsWhole, IsComment, IsCommented};
 ghost use Rattle.seccomp_oci.specs.Shape.{IsAbsent, IsWholeOr, items_of};
 
 use serde_json::Value;
 use serde_json::value::Map;
 
-fn is_among(name: &str, names: &[&str]) -> bool
+/// Whether the name is one of these.
+pub(crate) fn is_among(name: &str, names: &[&str]) -> bool
     ensures { result ≡ list_any (bytes_eq name.now) (map (λ n. n.now) names.now) }
 {
     for one in names {
@@ -92,4 +93,21 @@ pub(crate) fn items_of(value: Option<&Value>) -> Option<&[Value]>
         Some(Value::Array(items)) => Some(items.as_slice()),
         Some(_) => None,
     }
+}
+
+// Whether a comment is absent, null or a text.
+fn is_comment(comment: Option<&Value>) -> bool
+    ensures { IsTrue result ↔ IsComment (option_map (λ v. view v.now) comment.entry) }
+{
+    match comment {
+        None | Some(Value::Null | Value::String(_)) => true,
+        Some(_) => false,
+    }
+}
+
+/// Whether an object's comment is as it may be.
+pub(crate) fn is_commented(value: &Value) -> bool
+    ensures { IsTrue result ↔ IsCommented (view value.now) }
+{
+    is_comment(value.get("comment"))
 }

@@ -1,7 +1,9 @@
 // Parts of profiles that are read, and that are rejected, by the words of the OCI runtime specification.
 
-use crate::{Operator, arguments_under, flags_under, read_action, texts_under};
-use seccompiler::SeccompAction;
+use crate::{
+    Entry, Operator, applies, arguments_under, flags_under, read_action, read_profile, texts_under,
+};
+use seccompiler::{SeccompAction, TargetArch};
 use serde_json::Value;
 use std::alloc::Global;
 use std::test::Fail;
@@ -79,5 +81,76 @@ fn names_and_flags_are_listed(rt: HostRuntime) -> Result<(), Fail> {
         None => false,
     };
     assert!(rt; flags);
+    Ok(())
+}
+
+// A profile of two entries, by the OCI runtime specification and what Docker adds to it.
+const PROFILE: &str = r#"{"defaultAction": "SCMP_ACT_ERRNO", "defaultErrnoRet": 38,
+    "architectures": ["SCMP_ARCH_X86_64"], "archMap": [{"architecture": "SCMP_ARCH_X86_64"}],
+    "syscalls": [
+        {"names": ["read", "write"], "action": "SCMP_ACT_ALLOW", "args": null, "comment": "both",
+         "includes": {"caps": ["CAP_SYS_ADMIN"]}, "excludes": {"arches": ["arm64"]}},
+        {"name": "clone3", "action": "SCMP_ACT_KILL_PROCESS"}]}"#;
+
+// Objects that are no profiles: no default action, a listener, an entry with an unknown name, and one
+// whose action can't be carried.
+const NO_PROFILES: [&str; 4] = [
+    r#"{"syscalls": []}"#,
+    r#"{"defaultAction": "SCMP_ACT_ALLOW", "listenerPath": "/run/agent.sock"}"#,
+    r#"{"defaultAction": "SCMP_ACT_ALLOW", "syscalls": [{"names": ["read"], "action": "SCMP_ACT_LOG", "nams": []}]}"#,
+    r#"{"defaultAction": "SCMP_ACT_ALLOW", "syscalls": [{"names": ["read"], "action": "SCMP_ACT_NOTIFY"}]}"#,
+];
+
+#[test]
+fn a_profile_has_its_entries_in_order(rt: HostRuntime) -> Result<(), Fail> {
+    let value = Value::from_str(rt.alloc(), PROFILE)?;
+    let read = match read_profile(rt.alloc(), &value)? {
+        Some(profile) => profile.default == SeccompAction::Errno(38) && has_both(&profile.entries),
+        None => false,
+    };
+    assert!(rt; read);
+    Ok(())
+}
+
+// The first entry includes a capability, and excludes `arm64`.
+fn applies_where_it_should(first: &Entry) -> bool {
+    applies(TargetArch::x86_64, &["CAP_CHOWN", "CAP_SYS_ADMIN"], first)
+        && !applies(TargetArch::x86_64, &["CAP_CHOWN"], first)
+        && !applies(TargetArch::aarch64, &["CAP_SYS_ADMIN"], first)
+}
+
+#[test]
+fn an_entry_applies_by_capabilities_and_architectures(rt: HostRuntime) -> Result<(), Fail> {
+    let value = Value::from_str(rt.alloc(), PROFILE)?;
+    let as_wanted = match read_profile(rt.alloc(), &value)? {
+        Some(profile) => match profile.entries.first() {
+            Some(first) => applies_where_it_should(first),
+            None => false,
+        },
+        None => false,
+    };
+    assert!(rt; as_wanted);
+    Ok(())
+}
+
+fn has_both(entries: &[Entry]) -> bool {
+    match (entries.get(0), entries.get(1)) {
+        (Some(first), Some(second)) => {
+            first.names.len() == 2
+                && first.includes.caps.len() == 1
+                && first.excludes.arches.len() == 1
+                && second.names.len() == 1
+                && second.action == SeccompAction::KillProcess
+        }
+        _ => false,
+    }
+}
+
+#[test]
+fn an_object_that_cannot_be_carried_is_no_profile(rt: HostRuntime) -> Result<(), Fail> {
+    for text in &NO_PROFILES {
+        let value = Value::from_str(rt.alloc(), *text)?;
+        assert!(rt; read_profile(rt.alloc(), &value)?.is_none());
+    }
     Ok(())
 }

@@ -1,5 +1,8 @@
 // A profile as types.
 
+use seccompiler::SeccompAction;
+use std::marker::Model;
+
 /// How an argument of a call is compared, both numbers unsigned and of 64 bits.
 #[derive(Clone, Copy, Debug, PartialEq, Eq)]
 pub enum Operator {
@@ -41,4 +44,71 @@ pub enum Flag {
     Log,
     /// `SECCOMP_FILTER_FLAG_SPEC_ALLOW`
     SpecAllow,
+}
+
+/// What a container has to have, or must not have, for an entry to apply: `includes` or `excludes`.
+///
+/// A contract sees the texts as their bytes, in lists.
+#[derive(Debug, Drop)]
+pub struct Criteria {
+    /// Names of capabilities, such as `CAP_SYS_ADMIN`: `caps`.
+    pub caps: Vec<String>,
+    /// Names of architectures as Go has them, such as `amd64`: `arches`.
+    pub arches: Vec<String>,
+}
+
+impl Model for Criteria {
+    ghost use Rattle.std.specs.Prelude.{map, string_bytes};
+    ghost use Rattle.seccomp_oci.specs.Types.{Criteria};
+
+    ghost Value = { Criteria };
+
+    ghost view = { λ c. record { caps = map string_bytes c.caps.items; arches = map string_bytes c.arches.items } };
+}
+
+/// One entry of a profile: an item of `syscalls`.
+///
+/// A contract sees the names as their bytes, and both they and the conditions as lists.
+#[derive(Debug, Drop)]
+pub struct Entry {
+    /// The calls' names: `names`, or the one of the older `name`. Some may be no call's.
+    pub names: Vec<String>,
+    /// The action for these calls: `action`, with `errnoRet`.
+    pub action: SeccompAction,
+    /// The conditions on the calls' arguments: `args`.
+    pub args: Vec<Argument>,
+    /// What has to be there for the entry to apply: `includes`.
+    pub includes: Criteria,
+    /// What must not be there for the entry to apply: `excludes`.
+    pub excludes: Criteria,
+}
+
+impl Model for Entry {
+    ghost use Rattle.std.specs.Prelude.{map, string_bytes};
+    ghost use Rattle.seccomp_oci.specs.Types.{Entry};
+
+    ghost Value = { Entry };
+
+    ghost view = { λ e. record { names = map string_bytes e.names.items; action = e.action; args = e.args.items; includes = e.includes; excludes = e.excludes } };
+}
+
+/// A profile: `linux.seccomp`.
+///
+/// A contract sees the flags and the entries as lists.
+#[derive(Debug, Drop)]
+pub struct Profile {
+    /// The action for calls that no entry is for: `defaultAction`, with `defaultErrnoRet`.
+    pub default: SeccompAction,
+    /// The flags of `seccomp(2)`: `flags`.
+    pub flags: Vec<Flag>,
+    /// The entries, in the text's order: `syscalls`.
+    pub entries: Vec<Entry>,
+}
+
+impl Model for Profile {
+    ghost use Rattle.seccomp_oci.specs.Types.{Profile};
+
+    ghost Value = { Profile };
+
+    ghost view = { λ p. record { default = p.default; flags = p.flags.items; entries = p.entries.items } };
 }

@@ -1,5 +1,6 @@
 -- For the functions of `lists`: how far a loop has read the values of an array, one by one.
-use Rattle.std.proofs.Common.{◌≡◌, ℕ, ◌+◌, ◌<◌, ◌≤◌, List, [], ◌∷◌, ◌++◌, length, get_or, drop, sym, subst, append_assoc}
+use Rattle.std.proofs.Common.{◌≡◌, ℕ, ◌+◌, ◌<◌, ◌≤◌, List, [], ◌∷◌, ◌++◌, length, get_or, drop, Option, Some, None, IfNone, refl, sym}
+use Rattle.std.proofs.Common.{subst, append_assoc}
 use Rattle.std.proofs.lemmas.List.{append-nil, drop_more, drop_all}
 use Rattle.serde_json.specs.Data.{Data, Items, item}
 use Rattle.serde_json.specs.View.{view, items_view}
@@ -45,3 +46,8 @@ module _ {X : Type 0} (P : Data → X → Type 0) where
       let nothing : drop i all ≡ [] = drop_all i all over in
       subst (OneByOne P (items_view all)) (append-nil done)
       (so_far.joined [] (subst (λ vs. OneByOne P (items_view vs) []) (sym nothing) tt))
+
+-- What is said of nothing holds where there is not something.
+pub unless_some : {X : Type 0} {P : Type 0} (o : Option X) → ((x : X) → o ≡ Some x → ⊥) → IfNone o P → P
+unless_some None none there = there
+unless_some (Some x) none there = absurd (none x refl)

@@ -1,0 +1,78 @@
+-- For `has_text`, `has_all` and `has_none`: what tests of lists of texts say.
+use Rattle.std.proofs.Common.{◌≡◌, ◌↔◌, ℕ, List, [], ◌∷◌, Bool, true, false, not, ◌&&◌, ◌||◌, ◌⊎◌, refl, subst}
+use Rattle.std.specs.Prelude.{All, Contains, IsTrue}
+use Rattle.std.specs.List.{list_all, list_any}
+use Rattle.std.specs.Str.{bytes_eq}
+use Rattle.std.specs.Bool.{Decides}
+use Rattle.std.proofs.lemmas.Bool.Decides.{Decides-and, Decides-by_and, Decides-not, Decides-at}
+use Rattle.std.proofs.lemmas.Cmp.{nat_list_eq_equiv}
+use Rattle.std.proofs.lemmas.Map.Views.{Contains-from_any, list_any-from_Contains}
+use Rattle.std.proofs.lemmas.Slice.Eq.{bytes_eq-Decides}
+use Rattle.seccompiler.specs.declared.backend.TargetArch.{TargetArch}
+use Rattle.seccomp_oci.specs.Decision.{go_name, Applies}
+use Rattle.seccomp_oci.specs.Types.{Entry}
+
+-- Whether a text is one of these.
+pub text_decides : (texts : List (List ℕ)) (text : List ℕ) → Decides (list_any (bytes_eq text) texts) (Contains texts text)
+text_decides texts text = (
+  Contains-from_any {eq = bytes_eq} (λ x y. (bytes_eq-Decides x y).0) text texts,
+  list_any-from_Contains {eq = bytes_eq} nat_list_eq_equiv text texts,
+)
+
+-- Whether each of some texts is.
+pub all_decides : (names texts : List (List ℕ))
+    → Decides (list_all (λ text. list_any (bytes_eq text) names) texts) (All (λ text. Contains names text) texts)
+all_decides names texts = Decides-by_and (λ text. list_any (bytes_eq text) names) (λ text. Contains names text)
+    (list_all (λ text. list_any (bytes_eq text) names)) (text_decides names) refl (λ _ _. refl) texts
+
+-- None of some texts is one of these where not any is.
+none_is_all : (names texts : List (List ℕ))
+    → not (list_any (λ text. list_any (bytes_eq text) names) texts) ≡ list_all (λ text. not (list_any (bytes_eq text) names)) texts
+none_is_all names [] = refl
+none_is_all names (text ∷ texts) = by (list_any (bytes_eq text) names) _ _ (none_is_all names texts)
+  where
+    by : (b c d : Bool) → not c ≡ d → not (b || c) ≡ (not b && d)
+    by true c d same = refl
+    by false c d same = same
+
+pub none_decides : (names texts : List (List ℕ))
+    → Decides (not (list_any (λ text. list_any (bytes_eq text) names) texts)) (All (λ text. Contains names text → ⊥) texts)
+none_decides names texts = Decides-at _ _ (none_is_all names texts)
+    (Decides-by_and (λ text. not (list_any (bytes_eq text) names)) (λ text. Contains names text → ⊥)
+    (list_all (λ text. not (list_any (bytes_eq text) names))) (λ text. Decides-not _ (text_decides names text)) refl (λ _ _. refl) texts)
+
+-- A test's answer is true where what it decides is.
+told : {P : Type 0} (r b : Bool) → r ≡ b → Decides b P → IsTrue r ↔ P
+told r b same tests = Decides-at r b same tests
+
+pub contains_tested : (texts : List (List ℕ)) (text : List ℕ) (r : Bool) → r ≡ list_any (bytes_eq text) texts
+    → IsTrue r ↔ Contains texts text
+contains_tested texts text r same = told r _ same (text_decides texts text)
+
+pub all_tested : (names texts : List (List ℕ)) (r : Bool) → r ≡ list_all (λ text. list_any (bytes_eq text) names) texts
+    → IsTrue r ↔ All (λ text. Contains names text) texts
+all_tested names texts r same = told r _ same (all_decides names texts)
+
+pub none_tested : (names texts : List (List ℕ)) (r : Bool) → r ≡ not (list_any (λ text. list_any (bytes_eq text) names) texts)
+    → IsTrue r ↔ All (λ text. Contains names text → ⊥) texts
+none_tested names texts r same = told r _ same (none_decides names texts)
+
+-- Whether an entry applies, by four tests.
+pub applies_tested : (arch : TargetArch) (caps : List (List ℕ)) (e : Entry) (r all included none excluded : Bool)
+    (ic ia ec ea : List (List ℕ)) (name : List ℕ)
+    → r ≡ (all && (included && (none && not excluded)))
+    → (IsTrue all ↔ All (λ cap. Contains caps cap) ic) → (IsTrue included ↔ ((ia ≡ []) ⊎ Contains ia name))
+    → (IsTrue none ↔ All (λ cap. Contains caps cap → ⊥) ec) → (IsTrue excluded ↔ Contains ea name)
+    → name ≡ go_name arch → ic ≡ e.includes.caps → ia ≡ e.includes.arches → ec ≡ e.excludes.caps → ea ≡ e.excludes.arches
+    → IsTrue r ↔ Applies arch caps e
+applies_tested arch caps e r all included none excluded ic ia ec ea name same a i n x name_is caps_are arches_are no_caps_are
+    no_arches_are =
+    let four = Decides-at r _ same (Decides-and all _ (subst (λ cs. IsTrue all ↔ All (λ cap. Contains caps cap) cs) caps_are a)
+    (Decides-and included _ (subst (λ cs. IsTrue included ↔ ((cs ≡ []) ⊎ Contains cs (go_name arch))) arches_are
+    (subst (λ go. IsTrue included ↔ ((ia ≡ []) ⊎ Contains ia go)) name_is i))
+    (Decides-and none (not excluded) (subst (λ cs. IsTrue none ↔ All (λ cap. Contains caps cap → ⊥) cs) no_caps_are n)
+    (Decides-not excluded (subst (λ cs. IsTrue excluded ↔ Contains cs (go_name arch)) no_arches_are
+    (subst (λ go. IsTrue excluded ↔ Contains ea go) name_is x)))))) in (
+      λ h. let are = four.0 h in record { each_cap = are.0; this_arch = are.1.0; no_cap = are.1.1.0; no_arch = are.1.1.1 },
+      λ is. four.1 (is.each_cap, (is.this_arch, (is.no_cap, is.no_arch))),
+    )

@@ -1,0 +1,120 @@
+// From JSON values to entries of a profile.
+
+ghost use Rattle.std.specs.Prelude.{ℕ, List, map, option_map, string_bytes, IfOk, IfSome, IfNone};
+ghost use Rattle.serde_json.specs.View.{view, items_view};
+ghost use Rattle.seccompiler.specs.JsonShape.{OneByOne};
+ghost use Rattle.seccomp_oci.specs.ProfileShape.{AreNames, AreCriteria, AreCriteriaOr, IsEntry};
+ghost use Rattle.seccomp_oci.specs.Types.{Criteria, Entry};
+
+use crate::lists::{arguments_under, texts_under};
+use crate::members::{is_commented, is_object_of};
+use crate::parts::read_action;
+use crate::types::{Criteria, Entry};
+use serde_json::Value;
+use std::alloc::{AllocError, Global};
+
+// The names under `names`, or the one under `name`.
+fn read_names(
+    alloc: Global,
+    names: Option<&Value>,
+    name: Option<&Value>,
+) -> Result<Option<Vec<String>>, AllocError>
+    ensures found { IfOk result (λ o. IfSome o
+        (λ all. AreNames (option_map (λ v. view v.now) names.entry) (option_map (λ v. view v.now) name.entry) (map string_bytes all.items))) }
+    ensures none { IfOk result (λ o. IfNone o
+        ((all : List (List ℕ)) → AreNames (option_map (λ v. view v.now) names.entry) (option_map (λ v. view v.now) name.entry) all → ⊥)) }
+{
+    match (names, name) {
+        (names, None) => texts_under(alloc, names),
+        (None, Some(Value::String(text))) => {
+            let text = String::from_str(alloc, text.as_str())?;
+            Ok(Some(vec![in alloc; text]?))
+        }
+        _ => Ok(None),
+    }
+}
+
+fn read_criteria(alloc: Global, value: &Value) -> Result<Option<Criteria>, AllocError>
+    ensures found { IfOk result (λ o. IfSome o (AreCriteria (view value.now))) }
+    ensures none { IfOk result (λ o. IfNone o ((c : Criteria) → AreCriteria (view value.now) c → ⊥)) }
+{
+    if !is_object_of(value, &["caps", "arches"]) {
+        return Ok(None);
+    }
+    let Some(caps) = texts_under(alloc, value.get("caps"))? else {
+        return Ok(None);
+    };
+    let Some(arches) = texts_under(alloc, value.get("arches"))? else {
+        return Ok(None);
+    };
+    Ok(Some(Criteria { caps, arches }))
+}
+
+// The criteria that stand there: empty ones where nothing stands there.
+fn criteria_under(alloc: Global, value: Option<&Value>) -> Result<Option<Criteria>, AllocError>
+    ensures found { IfOk result (λ o. IfSome o (AreCriteriaOr (option_map (λ v. view v.now) value.entry))) }
+    ensures none { IfOk result (λ o. IfNone o
+        ((c : Criteria) → AreCriteriaOr (option_map (λ v. view v.now) value.entry) c → ⊥)) }
+{
+    match value {
+        None => Ok(Some(Criteria {
+            caps: Vec::new(alloc),
+            arches: Vec::new(alloc),
+        })),
+        Some(value) => read_criteria(alloc, value),
+    }
+}
+
+fn read_entry(alloc: Global, value: &Value) -> Result<Option<Entry>, AllocError>
+    ensures found { IfOk result (λ o. IfSome o (IsEntry (view value.now))) }
+    ensures none { IfOk result (λ o. IfNone o ((e : Entry) → IsEntry (view value.now) e → ⊥)) }
+{
+    let names = [
+        "names", "name", "action", "errnoRet", "args", "includes", "excludes", "comment",
+    ];
+    if !is_object_of(value, &names) || !is_commented(value) {
+        return Ok(None);
+    }
+    let Some(action) = value.get("action") else {
+        return Ok(None);
+    };
+    let Some(action) = read_action(action, value.get("errnoRet")) else {
+        return Ok(None);
+    };
+    let Some(names) = read_names(alloc, value.get("names"), value.get("name"))? else {
+        return Ok(None);
+    };
+    let Some(args) = arguments_under(alloc, value.get("args"))? else {
+        return Ok(None);
+    };
+    let Some(includes) = criteria_under(alloc, value.get("includes"))? else {
+        return Ok(None);
+    };
+    let Some(excludes) = criteria_under(alloc, value.get("excludes"))? else {
+        return Ok(None);
+    };
+    Ok(Some(Entry {
+        names,
+        action,
+        args,
+        includes,
+        excludes,
+    }))
+}
+
+/// The entries that the items are, in their order; `None` where one is none.
+pub(crate) fn read_entries(alloc: Global, items: &[Value]) -> Result<Option<Vec<Entry>>, AllocError>
+    ensures found { IfOk result
+        (λ o. IfSome o (λ all. OneByOne IsEntry (items_view items.now) all.items)) }
+    ensures none { IfOk result (λ o. IfNone o
+        ((all : List Entry) → OneByOne IsEntry (items_view items.now) all → ⊥)) }
+{
+    let mut found = Vec::with_capacity(alloc, items.len())?;
+    for item in items {
+        match read_entry(alloc, item)? {
+            Some(entry) => found.push(entry)?,
+            None => return Ok(None),
+        }
+    }
+    Ok(Some(found))
+}

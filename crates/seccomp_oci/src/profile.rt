@@ -1,0 +1,86 @@
+// From a JSON value to a profile.
+
+ghost use Rattle.std.specs.Prelude.{◌↔◌, IsTrue, List, option_map, IfOk, IfSome, IfNone};
+ghost use Rattle.serde_json.specs.View.{view};
+ghost use Rattle.seccomp_oci.specs.Shape.{IsListed};
+ghost use Rattle.seccomp_oci.specs.ProfileShape.{IsList, HasProfileNames, IsEntry, IsProfile};
+ghost use Rattle.seccomp_oci.specs.Types.{Entry, Profile};
+
+use crate::entries::read_entries;
+use crate::lists::flags_under;
+use crate::members::{is_object_of, items_of};
+use crate::parts::read_action;
+use crate::types::{Entry, Profile};
+use serde_json::Value;
+use std::alloc::{AllocError, Global};
+
+// Whether a list stands there, or nothing, or null.
+fn is_list(value: Option<&Value>) -> bool
+    ensures { IsTrue result ↔ IsList (option_map (λ v. view v.now) value.entry) }
+{
+    items_of(value).is_some()
+}
+
+// Whether the value is an object that has no names but those of a profile, with lists of architectures.
+fn has_profile_names(value: &Value) -> bool
+    ensures { IsTrue result ↔ HasProfileNames (view value.now) }
+{
+    let names = [
+        "defaultAction",
+        "defaultErrnoRet",
+        "architectures",
+        "archMap",
+        "flags",
+        "syscalls",
+    ];
+    is_object_of(value, &names)
+        && is_list(value.get("architectures"))
+        && is_list(value.get("archMap"))
+}
+
+fn entries_under(alloc: Global, value: Option<&Value>) -> Result<Option<Vec<Entry>>, AllocError>
+    ensures found { IfOk result (λ o. IfSome o
+        (λ all. IsListed IsEntry (option_map (λ v. view v.now) value.entry) all.items)) }
+    ensures none { IfOk result (λ o. IfNone o
+        ((all : List Entry) → IsListed IsEntry (option_map (λ v. view v.now) value.entry) all → ⊥)) }
+{
+    match items_of(value) {
+        Some(items) => read_entries(alloc, items),
+        None => Ok(None),
+    }
+}
+
+/// The profile that a JSON value is, or `None` where it is none.
+///
+/// `value` is what stands under `linux.seccomp` in the OCI runtime specification, or a profile of Docker
+/// or Podman. It is none where it, one of its entries or a part of an entry has a name that isn't known
+/// or can't be carried, as `listenerPath` and `minKernel`, or an action, operator or flag that can't.
+///
+/// # Errors
+///
+/// An error comes where memory runs out.
+pub fn read_profile(alloc: Global, value: &Value) -> Result<Option<Profile>, AllocError>
+    ensures found { IfOk result (λ o. IfSome o (IsProfile (view value.now))) }
+    ensures none { IfOk result (λ o. IfNone o ((p : Profile) → IsProfile (view value.now) p → ⊥)) }
+{
+    if !has_profile_names(value) {
+        return Ok(None);
+    }
+    let Some(default) = value.get("defaultAction") else {
+        return Ok(None);
+    };
+    let Some(default) = read_action(default, value.get("defaultErrnoRet")) else {
+        return Ok(None);
+    };
+    let Some(flags) = flags_under(alloc, value.get("flags"))? else {
+        return Ok(None);
+    };
+    let Some(entries) = entries_under(alloc, value.get("syscalls"))? else {
+        return Ok(None);
+    };
+    Ok(Some(Profile {
+        default,
+        flags,
+        entries,
+    }))
+}

@@ -3,22 +3,14 @@ use Rattle.std.proofs.lemmas.Result.{err_from_is_err_and}
 use Rattle.seccompiler.specs.Policy.{Filter}
 use Rattle.seccompiler.specs.Compiled.{AreCallNumbers, numbers_of}
 use Rattle.seccompiler_c.specs.Arrays.{condition_of, cut_rules}
-use Rattle.seccompiler_c.specs.ArraysPrograms.{ArraysRequest}
 use Rattle.seccompiler_c.proofs.arrays_program.ArraysRefusals.{unmet_refused, call_numbers}
 use Rattle.seccompiler_c.proofs.arrays_program.filter_in_layout.Goals as goal
 
 pub returns-in_err-check_demands-clause-refused : goal.returns-in_err-check_demands-clause-refused
 returns-in_err-check_demands-clause-refused c =
     let error = err_from_is_err_and c.from_residual-in_err-check_demands.result c.from_residual-in_err-check_demands.ensures.1 in
-    let request : ArraysRequest = record {
-      chains = c.args.chains.now;
-      rules = c.args.rules.now;
-      conditions = c.args.conditions.now;
-      words = c.args.words;
-      capacity = 0;
-    } in
-    rw (error.1, error.2) (unmet_refused request c.in_ok-named.named c.in_ok-named.ensures.named c.in_err-check_demands.field-0.0
-    c.in_err-check_demands.ensures.unmet)
+    rw (error.1, error.2) (unmet_refused (record { chains = _; rules = _; conditions = _; words = _; capacity = 0 })
+    c.in_ok-named.named c.in_ok-named.ensures.named c.in_err-check_demands.field-0.0 c.in_err-check_demands.ensures.unmet)
 
 pub returns-clause-numbers : goal.returns-clause-numbers
 returns-clause-numbers c =

@@ -37,9 +37,9 @@ _seccomptool_value() {
     done
 }
 
-# Prints the names of the arguments that a help has, in their order.
+# Prints the names of the arguments that a help has, in their order, with ... behind one that may come again.
 _seccomptool_arguments() {
-    sed -nE 's/^Usage: seccomptool [a-z]+ //p' | tr -d '[]<>.' | tr ' ' '\n' | grep -vx OPTIONS
+    sed -nE 's/^Usage: seccomptool [a-z]+ //p' | tr -d '[]<>' | tr ' ' '\n' | grep -vx OPTIONS
 }
 
 # Adds the words that begin as the word that is completed. They may come from a policy, so nothing in them is expanded.
@@ -92,7 +92,9 @@ _seccomptool_argument() {
         fi
     done
     mapfile -t names < <(_seccomptool_arguments <<< "$help")
-    printf '%s\n' "${names[place]-}"
+    ((place < ${#names[@]})) || [[ ${names[*]} != *... ]] || place=-1
+    value=${names[place]-}
+    printf '%s\n' "${value%...}"
 }
 
 # Completes the name of a command, or an option of the program itself.

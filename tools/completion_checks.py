@@ -131,10 +131,10 @@ def compare_commands(results, folder):
 
 
 def compare_input(results, folder):
-    """Looks whether - is completed for a policy, which may be standard input, and for no output."""
-    asked = ["check", ""], ["check", "-"], ["compile", "-o", ""]
+    """Looks whether - is completed for each policy, which may be standard input, and for no output."""
+    asked = ["check", ""], ["check", "-"], ["check", "given", ""], ["stats", "given", ""], ["compile", "-o", ""]
     given = ["-" in completed(folder, "seccomptool", *words) for words in asked]
-    results.compare("seccomptool check and compile -o: -", ([True, True, False],), (given,))
+    results.compare("seccomptool check, stats and compile -o: -", ([True, True, True, False, False],), (given,))
 
 
 def compare_seccompc(results, folder):

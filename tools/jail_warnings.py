@@ -122,7 +122,7 @@ def try_codes(results, folder):
     results.compare("each code has a filter", listed, sorted({code for it in codes.values() for code in it}))
     if TOOL.exists():
         out, err, status = run([TOOL, "check", "warned.json"], folder)
-        found = re.findall(r"^([^.\n]+)\.[^:\n]*: warning \[([a-z-]+)\]: ", out, re.M)
+        found = re.findall(r"^warned\.json: ([^.\n]+)\.[^:\n]*: warning \[([a-z-]+)\]: ", out, re.M)
         for name, stated in codes.items():
             results.compare(f"check of {name}", stated, sorted(code for it, code in found if it == name))
         results.compare("check of warned.json", (len(found), "", 0), (out.count("\n"), err, status))

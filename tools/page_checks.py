@@ -12,8 +12,11 @@ usage: tools/page_checks.py [--long]
 - Pages use the terms of the table 'Words' of CONTRIBUTING.md, and none of those that its last column has. So does the
   documentation in the sources of DOCUMENTED, that of Rust and Rattle in its lines `///` and `//!`, outside examples.
 - A table's cell has at most 200 characters, and README.md at most 1,000 words outside its blocks of code.
+- docs/CHECKS.md has the codes of warnings in the order of the definitions, in its table and as sections, and the first
+  line of each section, without its marks, is what the code's definition says.
 - The picture in docs/ is what tools/make-picture makes of its source.
 - README.md names the version of the kit, where `rt` is installed to ask.
+- A line of proofs or definitions has at most 140 characters, in each crate.
 
 Prints each difference, and as its last line 'N passed, M failed'. With --long it prints the sentences of more than
 30 words instead, which pages have few of.
@@ -31,6 +34,7 @@ import sys
 
 TOP = pathlib.Path(__file__).resolve().parent.parent
 CELL = 200
+LINE = 140
 README_WORDS = 1000
 SENTENCE = 30
 
@@ -276,6 +280,45 @@ def compare_kit(results):
         results.compare("README.md: the kit that `rt version` says", (named,), (version[:1],))
 
 
+def plain(text):
+    """Returns a line of a page without the marks of code and of links."""
+    return re.sub(r"\[([^\]]*)\]\([^)]*\)", r"\1", text).replace("`", "")
+
+
+def defined_texts(text, function):
+    """Returns the texts of a definition on codes, by the codes: each is one or more literals."""
+    clauses = re.findall(rf"^{function} code\.(\w+) =((?:\s+(?:\+\+ )?codes \"(?:[^\"\\]|\\.)*\")+)", text, re.M)
+    literals = {name: re.findall(r"\"((?:[^\"\\]|\\.)*)\"", told) for name, told in clauses}
+    return {name: re.sub(r"\\(.)", r"\1", "".join(told)) for name, told in literals.items()}
+
+
+def compare_codes(results):
+    """Compares the sections of docs/CHECKS.md with the definitions of codes."""
+    page = TOP / "docs/CHECKS.md"
+    text = (TOP / "crates/seccomp_warnings/specs/Codes.antt").read_text(encoding="utf-8")
+    names, told = defined_texts(text, "code_text"), defined_texts(text, "paragraph_text")
+    all_codes = re.search(r"^all_codes = ([^\[]*)\[\]", text, re.M)[1]
+    order = [names[it] for it in re.findall(r"code\.(\w+)", all_codes)]
+    results.compare("Codes.antt: codes with a name and a paragraph", (order, sorted(names)),
+                    ([names[it] for it in told], sorted(told)))
+    sections = re.findall(r"^### `([a-z-]+)`$", page.read_text(encoding="utf-8"), re.M)
+    table = re.findall(r"^\| \[`([a-z-]+)`\]", page.read_text(encoding="utf-8"), re.M)
+    results.compare("docs/CHECKS.md: the sections of codes", order, sections)
+    results.compare("docs/CHECKS.md: the table of codes", order, table)
+    for name, code in names.items():
+        first = next((plain(line) for _, line in section_of(page, f"`{code}`") if line), "")
+        results.compare(f"docs/CHECKS.md: how the section of {code} begins", (told.get(name),), (first,))
+
+
+def compare_proofs(results):
+    """Compares the lengths of the lines of each crate's proofs and definitions."""
+    for crate in sorted(TOP.glob("crates/*")):
+        texts = {it: it.read_text(encoding="utf-8") for it in files_below(crate) if it.suffix == ".antt"}
+        lines = [(path, number, line) for path, text in texts.items() for number, line in enumerate(text.splitlines(), 1)]
+        long = [f"{path.relative_to(crate)}:{number}: {len(line)}" for path, number, line in lines if len(line) > LINE]
+        results.compare(f"{name_of(crate)}: lines of proofs of more than {LINE} characters", ([],), (long,))
+
+
 def compare_pages(results):
     """Makes all comparisons of this file."""
     compare_links(results)
@@ -283,8 +326,10 @@ def compare_pages(results):
     compare_definitions(results)
     compare_terms(results)
     compare_lengths(results)
+    compare_codes(results)
     compare_picture(results)
     compare_kit(results)
+    compare_proofs(results)
 
 
 def sentences_of(page):

@@ -81,8 +81,9 @@ def content_of(name, files):
     return content if isinstance(content, (str, bytes)) else json.dumps(content)
 
 
-def policy_named(words):
-    """Returns the word that names the policy of a command of seccomptool; `-` where none does."""
+def names_in(words):
+    """Returns the words of a command of seccomptool that are no options, of which the first names its policy."""
+    names = []
     words = iter(words)
     for word in words:
         if word in WITH_VALUES:
@@ -90,12 +91,12 @@ def policy_named(words):
         elif word[0] in "<>;&|":
             break
         elif word == "-" or word[0] != "-":
-            return word
-    return "-"
+            names.append(word)
+    return names
 
 
 def policy_of(case, files):
-    """Returns the text of the policy that a case's command reads; None where it reads none, or reading fails."""
+    """Returns the text of the policy that a case's command reads; None where it reads none or several, or reading fails."""
     words = [it or '""' for it in shlex.split(case.words)]
     name = None
     if words[:1] == [GIVEN_A_FILE] and len(words) > 2 and not words[1].startswith("-") and ".bpf" not in words[1]:
@@ -103,7 +104,9 @@ def policy_of(case, files):
     elif words[:1] == [READING]:
         name = "-"
     elif words and words[0] in OF_TOOL and not any(it in HELP or it.startswith("--program") for it in words):
-        name = policy_named(words[1:])
+        names = names_in(words[1:])
+        several = words[0] == "check" and len(names) > 1
+        name = None if several else (names or ["-"])[0]
     if name == "-" and "<" in words:
         name = words[words.index("<") + 1]
     if name == "-":

@@ -2,7 +2,7 @@
 
 from program_cases import FRONTEND
 
-from .forms import FOLDER, RESET, TOOL, Failing, rejects, writes
+from .forms import FOLDER, FULL, INPUT, MISSING, OUTPUT, RESET, TOOL, Case, Failing, rejects, writes
 from .long_filters import of_rules
 from .warnings import line, lines_of
 
@@ -173,10 +173,15 @@ FIRST_FAULTS = [
          '"a":{"mismatch_action":"log","match_action":"log","filter":[]}}', "a", TWO_EQUAL),
 ]
 
+# The warning of a file that the cases of both programs share, and what is wrong with another.
+LOGS_LINE = line("a.mismatch_action", "allows-by-default", "logs.json")
+NO_FILTER = TOOL + 'no-filter.json: a: missing "mismatch_action" or "default_action"\n'
+
 # The same of the files that the cases of both programs share, and files that can't be read.
 OF_FILES = [
-    writes("check logs.json", "", line("a.mismatch_action", "allows-by-default")),
+    writes("check logs.json", "", LOGS_LINE),
     ("check < logs.json", 0, line("a.mismatch_action", "allows-by-default"), ""),
+    ("check - < logs.json", 0, line("a.mismatch_action", "allows-by-default"), ""),
     rejects("check list.json", "",
             "the policy: expected an object of filters, found an empty array\n", TOOL + "list.json: "),
     rejects("check no-filter.json", "",
@@ -196,6 +201,32 @@ OF_FILES = [
     rejects("check no-json.json", "", UNPARSED, TOOL + "no-json.json: "),
     rejects("check repeated.json", "", REPEATED, TOOL + "repeated.json: "),
     rejects("check examples", "", FOLDER, TOOL + "examples: "),
+]
+
+# Several policies: each is checked, in their order, and the exit status is the greatest of theirs.
+OF_SEVERAL = [
+    writes("check logs.json no-filters.json", "", LOGS_LINE),
+    writes("check no-filters.json logs.json logs.json", "", LOGS_LINE * 2),
+    Case("check logs.json --deny-warnings no-filters.json", 1, LOGS_LINE, ""),
+    Case("check no-filters.json logs.json --deny-warnings", 1, LOGS_LINE, ""),
+    writes("check --deny-warnings no-filters.json no-filters.json", "", ""),
+    # One that is rejected doesn't keep the others from being checked, wherever it stands.
+    Case("check no-filter.json logs.json", 1, LOGS_LINE, NO_FILTER),
+    Case("check logs.json no-filter.json logs.json", 1, LOGS_LINE * 2, NO_FILTER),
+    Case("check no-filter.json index.json no-filter.json", 1, "",
+         NO_FILTER + TOOL + "index.json: a.filter[0].args[0].index: expected 0 to 5, found 6\n" + NO_FILTER),
+    Case("check missing.json logs.json", 1, LOGS_LINE, TOOL + "missing.json: " + MISSING),
+    Case("check logs.json missing.json", 1, LOGS_LINE, TOOL + "missing.json: " + MISSING),
+    # Standard input among files, and an architecture for all.
+    Case("check logs.json - no-filters.json", 0, LOGS_LINE + lines_of(FINE), "", FINE),
+    Case("check logs.json -", 1, LOGS_LINE, INPUT + "a.filter[0].args[0].index: expected 0 to 5, found 6\n",
+         entries('{"syscall":"read","args":[{"index":6,"type":"dword","op":"eq","val":0}]}')),
+    Case("check -a riscv64 unknown-call.json logs.json", 1, LOGS_LINE,
+         TOOL + 'unknown-call.json: a.filter[0].syscall: unknown system call "nosyscall" on riscv64\n'),
+    # A file's name is written as a filter's: what steers a terminal by its numbers.
+    Case("check \"$(printf 'no\\nfile')\"", 1, "", TOOL + r"no\x0afile: " + MISSING),
+    # Where the output takes nothing, each policy with a warning fails.
+    Case("check logs.json no-filters.json logs.json > /dev/full", 1, "", (OUTPUT + FULL) * 2),
 ]
 
 CASES = [
@@ -220,4 +251,5 @@ CASES = [
     # `check` answers faults of its reader.
     rejects("check", Failing(FINE), RESET),
     *OF_FILES,
+    *OF_SEVERAL,
 ]

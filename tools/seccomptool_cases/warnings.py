@@ -15,8 +15,8 @@ SAID = {
     "errno-too-large": "Linux keeps the low 16 bits, and takes 4095 for what is above it; write an errno from 1 to 4095",
     "trace-without-tracer": 'where no tracer is attached, the call fails with ENOSYS; write an errno or "allow" '
     "where there is none",
-    "allows-by-default": "calls without an entry are let through, newer ones and those of x32 too; write a denying "
-    "action, and entries for what is allowed",
+    "allows-by-default": "calls without an entry are let through, newer ones too; write a denying action, and entries "
+    "for what is allowed",
     "high-half-ignored": '"dword" compares the low 32 bits, and the value has others; write the value\'s low 32 bits, '
     'or "qword"',
     "value-outside-mask": "the value has bits outside the mask, which aren't compared; write the value without them, "
@@ -41,9 +41,9 @@ LOW = 2**32 - 1
 WHOLE = 2**64 - 1
 
 
-def line(place, code):
-    """Returns the line of a warning, where this is the place of an action or a condition."""
-    return f"{place}{KEYS.get(code, '')}: warning [{code}]: {SAID[code]}\n"
+def line(place, code, file="standard input"):
+    """Returns the line of a warning about a file, where this is the place of an action or a condition."""
+    return f"{file}: {place}{KEYS.get(code, '')}: warning [{code}]: {SAID[code]}\n"
 
 
 def condition(length, operator, value, index=0):

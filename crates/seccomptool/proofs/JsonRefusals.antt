@@ -3,7 +3,6 @@ use Rattle.std.proofs.Common.{◌≡◌, ◌∷◌, ◌++◌, All, ℕ, List, Op
 use Rattle.std.specs.List.Sorted.{IsStrictlySortedBy}
 use Rattle.std.specs.Map.{keys_of, lookup}
 use Rattle.std.proofs.lemmas.Map.Text.{is_text}
-use Rattle.serde_json.specs.Data.{Data}
 use Rattle.seccompiler.specs.declared.backend.TargetArch.{TargetArch}
 use Rattle.seccompiler.specs.declared.json.error.JsonFrontendError.{JsonFrontendError}
 use Rattle.seccompiler.specs.declared.json.error.JsonFrontendError.TheVariants as json
@@ -17,8 +16,8 @@ use Rattle.seccompiler.specs.JsonTypes.{JsonFilter}
 use Rattle.seccompiler.specs.Reads.{Reads}
 use Rattle.seccomptool.specs.Errors.{from_library}
 use Rattle.seccomptool.specs.Policies.{IsNameOf, IsRefusedText}
-use Rattle.seccomptool.specs.StepsParts.{IsFirst}
-use Rattle.seccomptool.specs.WidenedParts.{NamedJson, IsTaken, IsFirstJsonRefusal}
+use Rattle.seccomptool.specs.StatsParts.{IsFirst}
+use Rattle.seccomptool.specs.CompatParts.{NamedJson, IsTaken, IsFirstJsonRefusal}
 use Rattle.seccomptool.proofs.Faults.{text_refused}
 use Rattle.seccomptool.proofs.Found.{all_values, least_found}
 use Rattle.seccomptool.proofs.Readings.{of_value}

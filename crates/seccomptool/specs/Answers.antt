@@ -1,20 +1,50 @@
 -- What the program's exit status says of the words that it is called with.
-use Rattle.std.specs.Prelude.{◌≡◌, ◌⊎◌, List, false}
+use Rattle.std.specs.Prelude.{◌≡◌, ◌⊎◌, ◌≤◌, ℕ, Bool, List, [], ◌∷◌, All, Contains, false, map}
+use Rattle.std.specs.List.{AllZip}
 use Rattle.clap.specs.Words.{Text, IsAmong, fault_of}
 use Rattle.clap.specs.declared.error.kind.ErrorKind.{ErrorKind}
 use Rattle.clap.specs.declared.error.kind.ErrorKind.TheVariants.{DisplayHelp, DisplayVersion}
 use Rattle.seccomptool.specs.CommandLine.{program_app}
-use Rattle.seccomptool.specs.Commands.{IsPerformed, compares}
+use Rattle.seccomptool.specs.Commands.{EndsWith, IsPerformed, compares}
 use Rattle.seccomptool.specs.Words.{Choices, Means}
 use Rattle.seccomptool.specs.declared.findings.Verdict.{Verdict}
 use Rattle.seccomptool.specs.declared.findings.Verdict.TheVariants.{Same}
+use Rattle.seccomptool.specs.declared.words.Asked.{Asked}
+use Rattle.seccomptool.specs.declared.words.Asked.TheVariants.{One, Checks}
 use Rattle.seccomptool.specs.declared.words.Command.{Command}
+use Rattle.seccomptool.specs.declared.words.Command.TheVariants.{Check}
 
--- The words mean a command, it is carried out, and this is what it finds.
+-- The commands that are asked for, in the order in which they are carried out: of `check` one for each policy.
+abbrev pub commands_of : Asked → List Command
+commands_of (One command) = command ∷ []
+commands_of (Checks arch denied policies) = map (Check arch denied) policies.items
+
+-- What is asked for compares.
+abbrev pub asks_to_compare : Asked → Bool
+asks_to_compare (One command) = compares command
+asks_to_compare (Checks arch denied policies) = false
+
+-- The commands end with statuses, one by one, of which this is the greatest; it is 0 where there is no command.
+pub record EndWith (commands : List Command) (status : ℕ) : Type 0 where
+  pub statuses : List ℕ
+  pub each : AllZip EndsWith commands statuses
+  pub most : All (λ s. s ≤ status) statuses
+  pub reached : (status ≡ 0) ⊎ Contains statuses status
+
+-- The words ask for commands, and each of them is carried out and finds nothing.
+pub record AreCarriedOut (words : List Text) : Type 0 where
+  pub choices : Choices
+  pub asked : Asked
+  pub means : Means choices words asked
+  pub performed : All (λ command. IsPerformed command Same) (commands_of asked)
+
+-- One of the commands that the words ask for is carried out, and this is what it finds.
 pub record IsCarriedOut (words : List Text) (verdict : Verdict) : Type 0 where
   pub choices : Choices
+  pub asked : Asked
+  pub means : Means choices words asked
   pub command : Command
-  pub means : Means choices words command
+  pub among : Contains (commands_of asked) command
   pub performed : IsPerformed command verdict
 
 -- The kind is that of help or of the version.
@@ -28,11 +58,11 @@ pub record AsksForHelp (words : List Text) : Type 0 where
   pub is_shown : IsShown kind
   pub asked : IsAmong kind (fault_of (program_app choices.archs choices.layouts choices.formats) words)
 
--- The words' command is carried out, and finds no difference where it compares; or they ask for help or the version.
+-- The words' commands are carried out, and find no difference where they compare; or the words ask for help or the version.
 abbrev pub IsAnswered : List Text → Type 0
-IsAnswered words = IsCarriedOut words Same ⊎ AsksForHelp words
+IsAnswered words = AreCarriedOut words ⊎ AsksForHelp words
 
--- The words mean a command that compares nothing, or ask for help or the version.
+-- The words ask for what compares nothing, or for help or the version.
 pub data MayFail (words : List Text) : Type 0 where
-  other : (choices : Choices) (command : Command) → Means choices words command → compares command ≡ false → MayFail words
+  other : (choices : Choices) (asked : Asked) → Means choices words asked → asks_to_compare asked ≡ false → MayFail words
   unwritten : AsksForHelp words → MayFail words

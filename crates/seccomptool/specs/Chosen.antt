@@ -1,5 +1,5 @@
 -- The filter that a command is asked for: the one that is named, or the policy's only one.
-use Rattle.std.specs.Prelude.{◌≡◌, ◌≢◌, ℕ, List, [], ◌∷◌, length, Option, Some, None, Result, Ok, Err, String, IsErrAnd, string_bytes, ⊤}
+use Rattle.std.specs.Prelude.{◌≡◌, ◌≢◌, ℕ, List, [], ◌∷◌, length, Option, Some, None, Result, String, IsErrAnd, string_bytes, ⊤}
 use Rattle.std.specs.declared.alloc.Global.{Global}
 use Rattle.serde_json.specs.Data.{Data}
 use Rattle.seccompiler.specs.declared.backend.TargetArch.{TargetArch}
@@ -40,7 +40,8 @@ pub data AnswersChosen (known asked : Option (List ℕ)) (P : List ℕ → List 
 
 -- Between layers: the entries are one, under this name.
 abbrev pub HoldsOnly : List (String Global × JsonFilter) → String Global → Type 0
-HoldsOnly entries name = (key : String Global) × (filter : JsonFilter) × (entries ≡ (key, filter) ∷ []) × (string_bytes name ≡ string_bytes key)
+HoldsOnly entries name =
+    (key : String Global) × (filter : JsonFilter) × (entries ≡ (key, filter) ∷ []) × (string_bytes name ≡ string_bytes key)
 
 -- Between layers: the error tells that the entries aren't one, or is want of memory.
 abbrev pub IsNoChoice : List (String Global × JsonFilter) → ToolError → Type 0

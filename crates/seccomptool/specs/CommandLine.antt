@@ -1,6 +1,7 @@
 -- The command line as `clap` reads it: the subcommands, each with its options and then its positional arguments in order.
 use Rattle.std.specs.Prelude.{List, [], ◌∷◌, Some, codes, true}
 use Rattle.std.specs.Borrow.{Bor}
+use Rattle.clap.specs.Lexer.{usize_max}
 use Rattle.clap.specs.Words.{App, Rule, Text, new_app, new_rule, with_rule, with_subcommand}
 use Rattle.clap.specs.Simple.{on_top}
 use Rattle.clap.specs.declared.builder.action.ArgAction.TheVariants.{SetTrue}
@@ -70,6 +71,10 @@ most_rule = record (new_rule (codes "most")) { value_names = 1; long = Some (cod
 abbrev pub policy_rule : Rule
 policy_rule = record (new_rule (codes "policy")) { value_names = 1; defaults = codes "-" ∷ [] }
 
+-- POLICY of `check`, as often as it is given: `-` where it isn't.
+abbrev pub policies_rule : Rule
+policies_rule = record policy_rule { range = Some (record { start_inclusive = 1; end_inclusive = usize_max }) }
+
 -- POLICY, which has to be given.
 abbrev pub given_policy_rule : Rule
 given_policy_rule = record (new_rule (codes "policy")) { value_names = 1; required = true }
@@ -111,10 +116,11 @@ compile_app archs layouts formats =
 
 abbrev pub show_app : NameList → NameList → App
 show_app archs layouts =
-    with_rule (with_rule (with_rule (with_rule (new_app (codes "show")) (arch_rule archs)) (layout_rule layouts)) shown_program_rule) shown_policy_rule
+    with_rule (with_rule (with_rule (with_rule (new_app (codes "show")) (arch_rule archs)) (layout_rule layouts)) shown_program_rule)
+    shown_policy_rule
 
 abbrev pub check_app : NameList → App
-check_app archs = with_rule (with_rule (with_rule (new_app (codes "check")) (arch_rule archs)) deny_warnings_rule) policy_rule
+check_app archs = with_rule (with_rule (with_rule (new_app (codes "check")) (arch_rule archs)) deny_warnings_rule) policies_rule
 
 -- A subcommand of this name with an architecture and a policy.
 abbrev pub policy_app : Text → NameList → App
@@ -122,18 +128,21 @@ policy_app name archs = with_rule (with_rule (new_app name) (arch_rule archs)) p
 
 abbrev pub explain_app : NameList → App
 explain_app archs =
-    with_rule (with_rule (with_rule (with_rule (with_rule (with_rule (new_app (codes "explain")) (arch_rule archs)) filter_rule) records_rule) given_policy_rule) call_rule) arguments_rule
+    with_rule (with_rule (with_rule (with_rule (with_rule (with_rule (new_app (codes "explain")) (arch_rule archs)) filter_rule)
+    records_rule) given_policy_rule) call_rule) arguments_rule
 
 abbrev pub run_app : NameList → App
 run_app archs =
-    with_rule (with_rule (with_rule (with_rule (with_rule (new_app (codes "run")) (arch_rule archs)) records_rule) program_rule) call_rule) arguments_rule
+    with_rule (with_rule (with_rule (with_rule (with_rule (new_app (codes "run")) (arch_rule archs)) records_rule) program_rule) call_rule)
+    arguments_rule
 
 abbrev pub record_app : NameList → App
 record_app archs = with_rule (with_rule (with_rule (new_app (codes "record")) (arch_rule archs)) given_call_rule) arguments_rule
 
 abbrev pub diff_app : NameList → App
 diff_app archs =
-    with_rule (with_rule (with_rule (with_rule (with_rule (with_rule (new_app (codes "diff")) (arch_rule archs)) filter_rule) at_most_rule) most_rule) old_rule) new_policy_rule
+    with_rule (with_rule (with_rule (with_rule (with_rule (with_rule (new_app (codes "diff")) (arch_rule archs)) filter_rule) at_most_rule)
+    most_rule) old_rule) new_policy_rule
 
 abbrev pub verify_app : NameList → App
 verify_app archs =

@@ -1,5 +1,5 @@
 -- What each command answers and writes.
-use Rattle.std.specs.Prelude.{◌≡◌, ℕ, Bool, true, false, List, Option, Some, None, Result, Ok, Err, IfOk, IsErrAnd, ⊤}
+use Rattle.std.specs.Prelude.{◌≡◌, ℕ, Bool, true, false, List, Option, Some, None, Result, Ok, Err, IfOk, IsErrAnd, ⊤, []}
 use Rattle.seccompiler.specs.declared.backend.TargetArch.{TargetArch}
 use Rattle.seccompiler.specs.declared.layout.Layout.{Layout}
 use Rattle.seccompiler.specs.Architecture.{arch_text}
@@ -23,35 +23,40 @@ use Rattle.seccomptool.specs.Record.{AnswersRecord, IsRecordOf, IsUncalled}
 use Rattle.seccomptool.specs.Run.{AnswersRun}
 use Rattle.seccomptool.specs.Show.{AnswersShow}
 use Rattle.seccomptool.specs.ShowProgram.{AnswersShowProgram}
-use Rattle.seccomptool.specs.Steps.{AnswersSteps}
+use Rattle.seccomptool.specs.Stats.{AnswersStats}
 use Rattle.seccomptool.specs.Verify.{AnswersVerify}
-use Rattle.seccomptool.specs.Widened.{AnswersWidened}
+use Rattle.seccomptool.specs.Compat.{AnswersCompat}
 use Rattle.seccomptool.specs.Words.{text_of}
 
 -- The answer of `explain` on these records, for the filter that is asked for, or the policy's only one.
-abbrev pub AnswersExplained : TargetArch → Option (List ℕ) → (policy records : Option (List ℕ)) → Result ⊤ ToolError → (old new : Option (List ℕ)) → Type 0
+abbrev pub AnswersExplained : TargetArch → Option (List ℕ) → (policy records : Option (List ℕ)) → Result ⊤ ToolError
+    → (old new : Option (List ℕ)) → Type 0
 AnswersExplained arch filter policy records answer old new =
     AnswersChosen policy filter (λ text name. AnswersExplain Path (arch_text arch) (Some text) name records answer old new) answer
 
 -- The answer on one call: there is no such call; or it is as P says of the call's record.
-pub data AnswersCall (arch : TargetArch) (call : List ℕ) (arguments : List ℕ) (P : List ℕ → Type 0) (answer : Result ⊤ ToolError) : Type 0 where
+pub data AnswersCall (arch : TargetArch) (call : List ℕ) (arguments : List ℕ) (P : List ℕ → Type 0)
+    (answer : Result ⊤ ToolError) : Type 0 where
   uncalled : IsErrAnd answer (IsUncalled arch call) → AnswersCall arch call arguments P answer
   called : (record_of : List ℕ) → IsRecordOf arch call arguments record_of → P record_of → AnswersCall arch call arguments P answer
 
 -- The answer of `explain` for the records that it is asked about: that of a call, or those of the file or input.
-abbrev pub AnswersExplainedOn : Records → TargetArch → Option (List ℕ) → (policy records : Option (List ℕ)) → Result ⊤ ToolError → (old new : Option (List ℕ)) → Type 0
+abbrev pub AnswersExplainedOn : Records → TargetArch → Option (List ℕ) → (policy records : Option (List ℕ)) → Result ⊤ ToolError
+    → (old new : Option (List ℕ)) → Type 0
 AnswersExplainedOn (records.Call call arguments) arch filter policy known answer old new =
     AnswersCall arch call.now arguments (λ bytes. AnswersExplained arch filter policy (Some bytes) answer old new) answer
 AnswersExplainedOn (records.In path) arch filter policy known answer old new = AnswersExplained arch filter policy known answer old new
 
 -- The answer of `run` for the records that it is asked about: that of a call, or those of the file or input.
-abbrev pub AnswersRunOn : Records → TargetArch → (program records : Option (List ℕ)) → Result ⊤ ToolError → (old new : Option (List ℕ)) → Type 0
+abbrev pub AnswersRunOn : Records → TargetArch → (program records : Option (List ℕ)) → Result ⊤ ToolError → (old new : Option (List ℕ))
+    → Type 0
 AnswersRunOn (records.Call call arguments) arch program known answer old new =
     AnswersCall arch call.now arguments (λ bytes. AnswersRun program (Some bytes) answer old new) answer
 AnswersRunOn (records.In path) arch program known answer old new = AnswersRun program known answer old new
 
 -- The answer of `show` for what it is to print: the programs of a policy, or a program.
-abbrev pub AnswersShown : Shown → TargetArch → Layout → (given : Option (List ℕ)) → Result ⊤ ToolError → (old new : Option (List ℕ)) → Type 0
+abbrev pub AnswersShown : Shown → TargetArch → Layout → (given : Option (List ℕ)) → Result ⊤ ToolError → (old new : Option (List ℕ))
+    → Type 0
 AnswersShown (shown.Policy path) arch layout policy answer old new = AnswersShow (arch_text arch) policy layout answer old new
 AnswersShown (shown.Program path) arch layout program answer old new = AnswersShowProgram program answer old new
 
@@ -70,19 +75,24 @@ abbrev pub AnswersCommand : Command → (policy records : Option (List ℕ)) →
 AnswersCommand (Compile arch filter layout format output path) policy records answer old new =
     AnswersPlain (λ plain. AnswersChosen policy (text_of filter)
     (λ text name. AnswersCompile format (arch_text arch) (Some text) name layout plain old new) plain) answer
-AnswersCommand (Show arch layout shown) policy records answer old new = AnswersPlain (λ plain. AnswersShown shown arch layout policy plain old new) answer
-AnswersCommand (Check arch denied path) policy records answer old new = AnswersCheck (arch_text arch) denied policy answer old new
+AnswersCommand (Show arch layout shown) policy records answer old new =
+    AnswersPlain (λ plain. AnswersShown shown arch layout policy plain old new) answer
+AnswersCommand (Check arch denied path) policy records answer old new =
+    AnswersCheck (arch_text arch) denied [] path.now policy answer old new
 AnswersCommand (Explain arch filter asked path) policy records answer old new =
     AnswersPlain (λ plain. AnswersExplainedOn asked arch (text_of filter) policy records plain old new) answer
-AnswersCommand (Run arch asked path) policy records answer old new = AnswersPlain (λ plain. AnswersRunOn asked arch policy records plain old new) answer
-AnswersCommand (Stats arch path) policy records answer old new = AnswersPlain (λ plain. AnswersSteps (arch_text arch) policy plain old new) answer
+AnswersCommand (Run arch asked path) policy records answer old new =
+    AnswersPlain (λ plain. AnswersRunOn asked arch policy records plain old new) answer
+AnswersCommand (Stats arch path) policy records answer old new =
+    AnswersPlain (λ plain. AnswersStats (arch_text arch) policy plain old new) answer
 AnswersCommand (Record arch call arguments) policy records answer old new =
     AnswersPlain (λ plain. AnswersRecord (arch_text arch) call.now arguments plain old new) answer
 AnswersCommand (Diff arch filter relation most first second) policy records answer old new =
     AnswersDiff (arch_text arch) (text_of filter) relation policy records answer old new
 AnswersCommand (Verify arch filter relation scope most path program) policy records answer old new =
     AnswersVerify (arch_text arch) (text_of filter) relation scope policy records answer old new
-AnswersCommand (Compat arch path) policy records answer old new = AnswersPlain (λ plain. AnswersWidened (arch_text arch) policy plain old new) answer
+AnswersCommand (Compat arch path) policy records answer old new =
+    AnswersPlain (λ plain. AnswersCompat (arch_text arch) policy plain old new) answer
 
 -- The path of the policy or program that a command reads, that of the old policy where it compares two.
 abbrev pub policy_of : Command → Option (List ℕ)
@@ -146,3 +156,9 @@ pub record IsPerformed (command : Command) (verdict : Verdict) : Type 0 where
   pub old : Option (List ℕ)
   pub new : Option (List ℕ)
   pub answers : AnswersCommand command policy records (Ok verdict) old new
+
+-- The command may end with this status: where that is a verdict's, and not that of a failure, it is carried out, and this is what
+-- it finds.
+abbrev pub EndsWith : Command → ℕ → Type 0
+EndsWith command status =
+    (verdict : Verdict) → status ≡ verdict_status verdict → (status ≡ trouble command → ⊥) → IsPerformed command verdict

@@ -1,5 +1,6 @@
 -- What `compile` answers and writes: a program, in the form that is asked for.
-use Rattle.std.specs.Prelude.{◌≡◌, ◌≢◌, ℕ, false, List, [], ◌∷◌, ◌++◌, length, map, codes, decimal, Option, Some, None, Result, Ok, Err, string_bytes, ⊤}
+use Rattle.std.specs.Prelude.{◌≡◌, ◌≢◌, ℕ, false, List, [], ◌∷◌, ◌++◌, length, map, codes, decimal, Option, Some, None, Result, Ok, Err}
+use Rattle.std.specs.Prelude.{string_bytes, ⊤}
 use Rattle.std.specs.Fmt.{digits}
 use Rattle.std.specs.Int.{w16, w32, to_le_bytes}
 use Rattle.std.specs.Io.KnownBytes.{Appends}
@@ -39,7 +40,8 @@ program_bytes program = concat (map instruction_bytes program)
 -- in hexadecimal digits, k in eight of them, and the distances of the jumps in decimal.
 abbrev pub initializer_line : sock_filter → List ℕ
 initializer_line i =
-    codes "{ 0x" ++ digits 16 false i.code ++ codes ", " ++ decimal i.jt ++ codes ", " ++ decimal i.jf ++ codes ", 0x" ++ hexadecimal 8 i.k ++ codes " },\n"
+    codes "{ 0x" ++ digits 16 false i.code ++ codes ", " ++ decimal i.jt ++ codes ", " ++ decimal i.jf ++ codes ", 0x" ++ hexadecimal 8 i.k
+    ++ codes " },\n"
 
 -- The lines of a program's instructions in C, in order.
 abbrev pub initializer_lines : List sock_filter → List ℕ
@@ -133,12 +135,14 @@ pub data IsFault (layout : Layout) (arch : List ℕ) (known : Option (List ℕ))
 -- The answer of `compile`. The first fault is told: of the architecture's name and of the policy's text; that no filter
 -- has the name; of its program; and then that writing fails. It is Ok only where nothing is at fault, and the program is
 -- written in the form that is asked for. Want of memory may come in place of all.
-abbrev pub AnswersCompile : ProgramFormat → List ℕ → Option (List ℕ) → List ℕ → Layout → Result ⊤ ToolError → Option (List ℕ) → Option (List ℕ)
+abbrev pub AnswersCompile : ProgramFormat → List ℕ → Option (List ℕ) → List ℕ → Layout → Result ⊤ ToolError → Option (List ℕ)
+    → Option (List ℕ)
     → Type 0
 AnswersCompile format arch known name layout (Ok done) old new =
     IsFaultless arch known (UnderName name (WritesProgram format name layout old new))
 AnswersCompile format arch known name layout (Err (Library e)) old new = IsFault layout arch known name e
-AnswersCompile format arch known name layout (Err (NoFilter text)) old new = (string_bytes text ≡ name) × IsFaultless arch known (λ target d. Lacks d name)
+AnswersCompile format arch known name layout (Err (NoFilter text)) old new =
+    (string_bytes text ≡ name) × IsFaultless arch known (λ target d. Lacks d name)
 AnswersCompile format arch known name layout (Err (Fault text)) old new =
     IsFaultless arch known (UnderName name (HasNoRoom layout name (string_bytes text)))
 AnswersCompile format arch known name layout (Err (Write e)) old new = IsFaultless arch known (UnderName name (HasSomeProgram layout))

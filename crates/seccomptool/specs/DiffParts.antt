@@ -9,7 +9,8 @@ use Rattle.seccompiler.specs.declared.compare.Relation.{Relation}
 use Rattle.seccompiler.specs.declared.error.Error.TheVariants as library
 use Rattle.seccompiler.specs.CompareFilters.{IsComparisonRefusal}
 use Rattle.seccompiler.specs.Policy.{Filter}
-use Rattle.seccomptool.specs.Diff.{Told, only_new, IsToldOf, verdict_told, NameReport, report_text, verdict_all, Policies, AreReportsOn, AreReports, AreRefused}
+use Rattle.seccomptool.specs.Diff.{Told, only_new, IsToldOf, verdict_told, NameReport, report_text, verdict_all, Policies, AreReportsOn}
+use Rattle.seccomptool.specs.Diff.{AreReports, AreRefused}
 use Rattle.seccomptool.specs.declared.findings.Report.{Report}
 use Rattle.seccomptool.specs.declared.error.ToolError.{ToolError}
 use Rattle.seccomptool.specs.declared.error.ToolError.TheVariants as tool

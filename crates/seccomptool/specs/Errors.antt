@@ -8,7 +8,8 @@ use Rattle.seccompiler.specs.declared.error.Error.TheVariants as library
 use Rattle.seccompiler.specs.Errors.{error_text}
 use Rattle.seccompiler.specs.Architecture.{arch_text}
 use Rattle.seccomptool.specs.declared.error.ToolError.{ToolError}
-use Rattle.seccomptool.specs.declared.error.ToolError.TheVariants.{Library, NewPolicy, NoFilter, Unchosen, UnknownCall, ShortRecord, Read, Fault, Program, Write, OutOfMemory}
+use Rattle.seccomptool.specs.declared.error.ToolError.TheVariants.{Library, NewPolicy, NoFilter, Unchosen, UnknownCall, ShortRecord, Read}
+use Rattle.seccomptool.specs.declared.error.ToolError.TheVariants.{Fault, Program, Write, OutOfMemory}
 use Rattle.seccomptool.specs.RunFaults.{fault_text}
 use Rattle.seccomp_command_line.specs.declared.error.ToolError.{ToolError as SharedError}
 use Rattle.seccomp_command_line.specs.declared.error.ToolError.TheVariants as shared
@@ -40,7 +41,8 @@ tool_text (Library e) = error_text e
 tool_text (NewPolicy e) = error_text e
 tool_text (NoFilter name) = Some (codes "No filter has this name: " ++ string_bytes name ++ codes ".")
 tool_text (Unchosen names) = Some (codes "Name one of its filters by --filter: " ++ string_bytes names ++ codes ".")
-tool_text (UnknownCall call target) = Some (codes "No call of " ++ arch_text target ++ codes " has this name or number: " ++ string_bytes call ++ codes ".")
+tool_text (UnknownCall call target) =
+    Some (codes "No call of " ++ arch_text target ++ codes " has this name or number: " ++ string_bytes call ++ codes ".")
 tool_text (ShortRecord rest) = Some (codes "The input ends inside a record, after " ++ decimal rest ++ codes " bytes of it.")
 tool_text (Read e) = Some (codes "Error reading input.")
 tool_text (Fault told) = Some (string_bytes told)

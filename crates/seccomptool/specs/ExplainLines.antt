@@ -1,5 +1,6 @@
 -- What `explain` writes for the records of system calls: a line for each.
-use Rattle.std.specs.Prelude.{◌≡◌, ℕ, ◌<◌, ◌%◌, ◌^◌, ◌==◌, if◌then◌else◌, List, [], ◌++◌, codes, decimal, option_map, slice_get, unwrap_or, Option, Result, Ok, Err, ⊤}
+use Rattle.std.specs.Prelude.{◌≡◌, ℕ, ◌<◌, ◌%◌, ◌^◌, ◌==◌, if◌then◌else◌, List, [], ◌++◌, codes, decimal, option_map, slice_get, unwrap_or}
+use Rattle.std.specs.Prelude.{Option, Result, Ok, Err, ⊤}
 use Rattle.std.specs.List.{AllZip, concat}
 use Rattle.seccomp_command_line.specs.Hexadecimal.{hexadecimal}
 use Rattle.seccomp_command_line.specs.Names.{readable}

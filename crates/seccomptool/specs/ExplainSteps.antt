@@ -21,7 +21,7 @@ use Rattle.seccomptool.specs.declared.explain.reason.Reason.{Reason}
 use Rattle.seccomptool.specs.declared.explain.reason.Reason.TheVariants.{AnotherArchitecture, NoEntry, NoMatch, Entry}
 use Rattle.seccomptool.specs.Errors.{IsReadFault}
 use Rattle.seccomptool.specs.Policies.{HasCompilable}
-use Rattle.seccomptool.specs.StepsParts.{IsFirst}
+use Rattle.seccomptool.specs.StatsParts.{IsFirst}
 
 -- ---- filters
 

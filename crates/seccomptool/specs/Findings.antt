@@ -1,5 +1,6 @@
 -- The sets that a comparison of two sides goes through, what it finds on each, its verdict, and the lines that tell it.
-use Rattle.std.specs.Prelude.{◌≡◌, ◌≢◌, ℕ, pos, nat_eq, nat_lt, ◌+◌, ◌-◌, ◌^◌, ◌≤◌, ◌⊎◌, List, [], ◌∷◌, ◌++◌, map, All, Option, Some, None, codes, decimal, bit_and, false, if◌then◌else◌, ⊤}
+use Rattle.std.specs.Prelude.{◌≡◌, ◌≢◌, ℕ, pos, nat_eq, nat_lt, ◌+◌, ◌-◌, ◌^◌, ◌≤◌, ◌⊎◌, List, [], ◌∷◌, ◌++◌, map, All, Option, Some, None}
+use Rattle.std.specs.Prelude.{codes, decimal, bit_and, false, if◌then◌else◌, ⊤}
 use Rattle.std.specs.Fmt.{digits}
 use Rattle.std.specs.Ordering.{int_eq}
 use Rattle.std.specs.List.{concat}

@@ -14,11 +14,9 @@ pub mod ShowText
 pub mod ShowLabels
 pub mod Show
 pub mod Ways
-pub mod Steps
-pub mod Widened
+pub mod Stats
+pub mod Compat
 pub mod Lint
-pub mod Warnings
-pub mod WarningTexts
 pub mod Check
 pub mod Reasons
 pub mod ExplainLines
@@ -34,9 +32,8 @@ pub mod Answers
 -- Between layers: what the private steps of the engines promise each other.
 pub mod CompileParts
 pub mod ShowParts
-pub mod StepsParts
-pub mod WidenedParts
-pub mod WarningsParts
+pub mod StatsParts
+pub mod CompatParts
 pub mod ExplainSteps
 pub mod FindingsParts
 pub mod DiffParts

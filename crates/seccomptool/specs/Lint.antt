@@ -24,7 +24,8 @@ AreAllCompiled target d = AreAll (HasSomeProgram Linear target) d
 abbrev pub AnswersLint : List ℕ → Option (List ℕ) → Result ⊤ ToolError → Type 0
 AnswersLint arch known (Ok done) = OfPolicy arch known AreAllCompiled
 AnswersLint arch known (Err (Library e)) = IsPolicyFault arch known e
-AnswersLint arch known (Err (Fault told)) = (target : TargetArch) × IsNameOf arch target × Reads known (λ text. IsPlaced target text (string_bytes told))
+AnswersLint arch known (Err (Fault told)) =
+    (target : TargetArch) × IsNameOf arch target × Reads known (λ text. IsPlaced target text (string_bytes told))
 AnswersLint arch known (Err OutOfMemory) = ⊤
 AnswersLint arch known (Err e) = ⊥
 

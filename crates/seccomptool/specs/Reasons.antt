@@ -89,4 +89,5 @@ abbrev pub reason_text : Reason → List ℕ
 reason_text AnotherArchitecture = codes "another architecture"
 reason_text (NoEntry number) = codes "no entry of call " ++ decimal number
 reason_text (NoMatch count number nearest) = codes "no match among " ++ decimal count ++ codes " entries of call " ++ decimal number
-reason_text (Entry place rule number) = codes "entry " ++ decimal place ++ codes ", rule " ++ decimal rule ++ codes " of call " ++ decimal number
+reason_text (Entry place rule number) =
+    codes "entry " ++ decimal place ++ codes ", rule " ++ decimal rule ++ codes " of call " ++ decimal number

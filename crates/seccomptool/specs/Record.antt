@@ -19,7 +19,8 @@ pub data IsCall (target : TargetArch) (text : List ℕ) (n : ℕ) : Type 0 where
 -- The 64 bytes of a call's record: those of a `struct seccomp_data` (linux/seccomp.h), each number with its low byte
 -- first. The instruction pointer is 0.
 abbrev pub record_bytes : TargetArch → ℕ → List ℕ → List ℕ
-record_bytes target n arguments = to_le_bytes w32 n ++ to_le_bytes w32 (audit_word target) ++ to_le_bytes w64 0 ++ concat (map (to_le_bytes w64) arguments)
+record_bytes target n arguments =
+    to_le_bytes w32 n ++ to_le_bytes w32 (audit_word target) ++ to_le_bytes w64 0 ++ concat (map (to_le_bytes w64) arguments)
 
 -- The bytes are those of the record of the text's call.
 abbrev pub IsRecordOf : TargetArch → List ℕ → List ℕ → List ℕ → Type 0

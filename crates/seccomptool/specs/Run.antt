@@ -31,7 +31,8 @@ abbrev pub IsProgramFault : Option (List ℕ) → ProgramFault → Type 0
 IsProgramFault known (fault.Read e) = IsReadFault e
 IsProgramFault known (fault.Short rest) = Reads known (λ bytes. (length bytes % 8 ≡ rest) × (0 < rest))
 IsProgramFault known (fault.Length count) = Reads known (λ bytes. (length bytes ≡ count * 8) × ((count ≡ 0) ⊎ (greatest_length < count)))
-IsProgramFault known (fault.Unfit place amiss) = Reads known (λ bytes. (program : List sock_filter) × IsProgramOf bytes program × (length program ≤ greatest_length)
+IsProgramFault known (fault.Unfit place amiss) =
+    Reads known (λ bytes. (program : List sock_filter) × IsProgramOf bytes program × (length program ≤ greatest_length)
     × IsUnfitAt program place amiss)
 
 -- Why a program isn't run: its first fault, or want of memory.
@@ -64,7 +65,8 @@ pub record AreLines (program : List sock_filter) (records : List (List ℕ)) (te
 -- The bytes are those of a program that may be run, and what is written grew by its lines on the whole records, behind
 -- which so many bytes are left.
 abbrev pub WritesRuns : (known records : Option (List ℕ)) → ℕ → (old new : Option (List ℕ)) → Type 0
-WritesRuns known records rest old new = OfProgram known (λ program. Reads records (λ bytes. WritesLines (AreLines program) bytes rest old new))
+WritesRuns known records rest old new =
+    OfProgram known (λ program. Reads records (λ bytes. WritesLines (AreLines program) bytes rest old new))
 
 -- The answer of `run`. The first fault is told: of the program; that reading the records, or writing, fails; and then,
 -- with the lines of the whole records written, that the records end inside one. It is Ok only where nothing is at fault,

@@ -1,5 +1,6 @@
 -- What is wrong with a program that isn't run, and its texts.
-use Rattle.std.specs.Prelude.{◌≡◌, ◌≢◌, ℕ, ◌+◌, ◌<◌, ◌≤◌, ◌%◌, ◌⊎◌, false, List, [], ◌∷◌, ◌++◌, length, All, Some, slice_get, codes, decimal}
+use Rattle.std.specs.Prelude.{◌≡◌, ◌≢◌, ℕ, ◌+◌, ◌<◌, ◌≤◌, ◌%◌, ◌⊎◌, false, List, [], ◌∷◌, ◌++◌, length, All, Some, slice_get, codes}
+use Rattle.std.specs.Prelude.{decimal}
 use Rattle.std.specs.Fmt.{digits}
 use Rattle.seccompiler.specs.declared.bpf.sock_filter.{sock_filter}
 use Rattle.seccompiler.specs.FirstUnfit.{IsFirstUnfit}

@@ -1,5 +1,5 @@
 -- What `show` answers and writes: programs, for people.
-use Rattle.std.specs.Prelude.{◌≡◌, ◌≢◌, ℕ, List, [], ◌∷◌, All, Contains, map, Option, Result, Ok, Err, ⊤}
+use Rattle.std.specs.Prelude.{◌≡◌, ◌≢◌, ℕ, List, All, Contains, map, Option, Result, Ok, Err, ⊤}
 use Rattle.std.specs.Cmp.Lexicographic.{slice_cmp}
 use Rattle.std.specs.Io.KnownBytes.{Appends}
 use Rattle.std.specs.List.{concat}
@@ -36,7 +36,8 @@ abbrev pub labelled_text : LabelledProgram → List ℕ
 labelled_text p = text_of p.1 p.0 p.2
 
 -- The program is compiled for the value's policy in this layout, and the labels are those of its places.
-pub record IsLabelledFor (layout : Layout) (target : TargetArch) (value : Data) (labels : List (List ℕ)) (program : List sock_filter) : Type 0 where
+pub record IsLabelledFor (layout : Layout) (target : TargetArch) (value : Data) (labels : List (List ℕ))
+    (program : List sock_filter) : Type 0 where
   pub compiled : HasProgram layout target value program
   pub json : JsonFilter
   pub is_filter : IsFilter value json

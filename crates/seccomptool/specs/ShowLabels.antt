@@ -2,9 +2,12 @@
 use Rattle.std.specs.Prelude.{ℕ, ℤ, pos, List, [], ◌∷◌, ◌++◌, Option, Some, None, if◌then◌else◌, codes, decimal}
 use Rattle.seccompiler.specs.declared.backend.TargetArch.{TargetArch}
 use Rattle.seccompiler.specs.declared.layout.places.RulePlace.{RulePlace}
-use Rattle.seccompiler.specs.declared.layout.places.RulePlace.TheVariants.{ToConditions, PastRule, OfCondition, RelayToConditions, RelayToExit, RelayPastRule}
+use Rattle.seccompiler.specs.declared.layout.places.RulePlace.TheVariants.{ToConditions, PastRule, OfCondition, RelayToConditions}
+use Rattle.seccompiler.specs.declared.layout.places.RulePlace.TheVariants.{RelayToExit, RelayPastRule}
 use Rattle.seccompiler.specs.declared.layout.places.Place.{Place}
-use Rattle.seccompiler.specs.declared.layout.places.Place.TheVariants.{LoadArchitecture, TestArchitecture, OtherArchitecture, LoadNumber, TestNumber, TestLeast, FarJump, ToMatch, PastMatch, OfRule, RuleHolds, CallMatches, CallDiffers, OthersMatch, OthersDiffer}
+use Rattle.seccompiler.specs.declared.layout.places.Place.TheVariants.{LoadArchitecture, TestArchitecture, OtherArchitecture, LoadNumber}
+use Rattle.seccompiler.specs.declared.layout.places.Place.TheVariants.{TestNumber, TestLeast, FarJump, ToMatch, PastMatch, OfRule}
+use Rattle.seccompiler.specs.declared.layout.places.Place.TheVariants.{RuleHolds, CallMatches, CallDiffers, OthersMatch, OthersDiffer}
 use Rattle.seccompiler.specs.Architecture.{arch_text}
 use Rattle.seccompiler.specs.JsonPolicyOf.{is_for}
 use Rattle.seccompiler.specs.JsonTypes.{JsonRule}

@@ -21,7 +21,8 @@ NamedFilter = String Global × Filter
 
 -- The program has the filter's name, is compiled for it in this layout, and its places have labels by the entries that are
 -- found under the name.
-pub record IsLabelled (layout : Layout) (target : TargetArch) (find : List ℕ → Option JsonFilter) (filter : NamedFilter) (p : LabelledProgram) : Type 0 where
+pub record IsLabelled (layout : Layout) (target : TargetArch) (find : List ℕ → Option JsonFilter) (filter : NamedFilter)
+    (p : LabelledProgram) : Type 0 where
   pub name : p.0 ≡ string_bytes filter.0
   pub compiled : IsCompiledIn layout filter.1 p.2
   pub json : JsonFilter
@@ -32,7 +33,8 @@ pub record IsLabelled (layout : Layout) (target : TargetArch) (find : List ℕ �
   pub labelled : p.1 ≡ map (place_label target json.rules) places
 
 -- The text is that of programs of these filters, one for each, in order.
-pub record AreLabelled (layout : Layout) (target : TargetArch) (find : List ℕ → Option JsonFilter) (filters : List NamedFilter) (text : List ℕ) : Type 0 where
+pub record AreLabelled (layout : Layout) (target : TargetArch) (find : List ℕ → Option JsonFilter) (filters : List NamedFilter)
+    (text : List ℕ) : Type 0 where
   pub programs : List LabelledProgram
   pub each : AllZip (IsLabelled layout target find) filters programs
   pub texts : text ≡ concat (map labelled_text programs)

@@ -1,5 +1,6 @@
 -- The text of programs for people: the words of each instruction, and what it stands for.
-use Rattle.std.specs.Prelude.{ℕ, ◌+◌, ◌-◌, ◌/◌, ◌%◌, ◌^◌, ◌==◌, false, nat_lt, if◌then◌else◌, List, [], ◌∷◌, ◌++◌, length, replicate, slice_index_or, codes, decimal}
+use Rattle.std.specs.Prelude.{ℕ, ◌+◌, ◌-◌, ◌/◌, ◌%◌, ◌^◌, ◌==◌, false, nat_lt, if◌then◌else◌, List, [], ◌∷◌, ◌++◌, length, replicate}
+use Rattle.std.specs.Prelude.{slice_index_or, codes, decimal}
 use Rattle.std.specs.Fmt.{digits}
 use Rattle.seccomp_command_line.specs.Names.{readable}
 use Rattle.seccompiler.specs.declared.backend.SeccompAction.{SeccompAction}
@@ -14,7 +15,8 @@ operand n = codes "#0x" ++ digits 16 false n
 
 -- A jump with a test: its name, the number that it tests, and the places that it leads to.
 abbrev pub tested : List ℕ → ℕ → sock_filter → List ℕ
-tested name place i = (name ++ codes " " ++ operand i.k) ++ codes ", " ++ decimal (place + 1 + i.jt) ++ codes ", " ++ decimal (place + 1 + i.jf)
+tested name place i =
+    (name ++ codes " " ++ operand i.k) ++ codes ", " ++ decimal (place + 1 + i.jt) ++ codes ", " ++ decimal (place + 1 + i.jf)
 
 -- The words of an instruction that stands at this place. Jumps tell the places that they lead to. An instruction that
 -- no compiled program has is told as such.
@@ -36,7 +38,8 @@ loaded k =
     if k == 0 then codes "the call number" else
     if k == 4 then codes "the architecture" else
     if nat_lt k 16 then codes "the instruction pointer" else
-    if k % 8 == 0 then codes "the low half of argument " ++ decimal ((k - 16) / 8) else codes "the high half of argument " ++ decimal ((k - 16) / 8)
+    if k % 8 == 0 then codes "the low half of argument " ++ decimal ((k - 16) / 8)
+    else codes "the high half of argument " ++ decimal ((k - 16) / 8)
 
 -- An action in words.
 abbrev pub action_text : SeccompAction → List ℕ

@@ -1,5 +1,6 @@
 -- What `verify` answers and writes: the calls on which a program decides otherwise than a policy's filter, or permits more.
-use Rattle.std.specs.Prelude.{◌≡◌, ◌≢◌, ℕ, ◌+◌, ◌-◌, ◌^◌, List, [], ◌∷◌, ◌++◌, map, All, Option, Some, None, Result, Ok, Err, codes, string_bytes, ⊤}
+use Rattle.std.specs.Prelude.{◌≡◌, ◌≢◌, ℕ, ◌+◌, ◌-◌, ◌^◌, List, [], ◌∷◌, ◌++◌, map, All, Option, Some, None, Result, Ok, Err, codes}
+use Rattle.std.specs.Prelude.{string_bytes, ⊤}
 use Rattle.std.specs.Io.KnownBytes.{Appends}
 use Rattle.std.specs.List.{concat}
 use Rattle.seccompiler.specs.declared.backend.BackendError.{BackendError}
@@ -17,7 +18,8 @@ use Rattle.seccompiler.specs.Machine.{IsRecord, Ends, word_at}
 use Rattle.seccompiler.specs.Policy.{Filter, IsDecision}
 use Rattle.seccompiler.specs.Reads.{Reads}
 use Rattle.seccomptool.specs.Diff.{Policies}
-use Rattle.seccomptool.specs.Findings.{AreFindings, HoldsThroughout, IsFound, answer_line, heading, lines_of, verdict_of, verdict_text, worse}
+use Rattle.seccomptool.specs.Findings.{AreFindings, HoldsThroughout, IsFound, answer_line, heading, lines_of, verdict_of, verdict_text}
+use Rattle.seccomptool.specs.Findings.{worse}
 use Rattle.seccomptool.specs.Policies.{IsNameOf, IsTextFault}
 use Rattle.seccomptool.specs.Run.{OfProgram, IsProgramFault}
 use Rattle.seccomptool.specs.declared.error.ToolError.{ToolError}

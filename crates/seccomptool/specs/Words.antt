@@ -1,5 +1,6 @@
 -- The words that the program is called with, and the command that they mean.
-use Rattle.std.specs.Prelude.{◌≡◌, ◌⊎◌, Bool, true, false, ◌+◌, ◌^◌, ◌<◌, ◌≤◌, ℕ, List, [], ◌∷◌, ◌++◌, length, map, Option, Some, None, option_map, unwrap_or, slice_get, slice_index, codes}
+use Rattle.std.specs.Prelude.{◌≡◌, ◌⊎◌, Bool, true, false, ◌+◌, ◌^◌, ◌<◌, ◌≤◌, ℕ, List, [], ◌∷◌, ◌++◌, length, map, Option, Some, None}
+use Rattle.std.specs.Prelude.{option_map, unwrap_or, slice_get, slice_index, codes}
 use Rattle.std.specs.Borrow.{Bor}
 use Rattle.clap.specs.Words.{Row, Text, all_of, fault_of, first_of, kind_of, subcommand_of, IsAmong}
 use Rattle.clap.specs.declared.error.Error.{Error}
@@ -16,6 +17,8 @@ use Rattle.seccomptool.specs.declared.compile.format.ProgramFormat.{ProgramForma
 use Rattle.seccomptool.specs.declared.compile.format.ProgramFormat.TheVariants.{Raw, Listing, C}
 use Rattle.seccomptool.specs.declared.verify.scope.Scope.{Scope}
 use Rattle.seccomptool.specs.declared.verify.scope.Scope.TheVariants.{Named, All}
+use Rattle.seccomptool.specs.declared.words.Asked.{Asked}
+use Rattle.seccomptool.specs.declared.words.Asked.TheVariants.{One, Checks}
 use Rattle.seccomptool.specs.declared.words.Command.{Command}
 use Rattle.seccomptool.specs.declared.words.Command.TheVariants.{Compile, Show, Check, Explain, Run, Stats, Record, Diff, Verify, Compat}
 use Rattle.seccomptool.specs.declared.words.Records.{Records}
@@ -44,7 +47,8 @@ format_text C = codes "c"
 -- two's complement.
 pub data IsArgument (text : Text) (n : ℕ) : Type 0 where
   number : IsNumber text n → IsArgument text n
-  negative : (digits : Text) (m : ℕ) → text ≡ codes "-" ++ digits → IsNumber digits m → 0 < m → m ≤ 2 ^ 63 → n + m ≡ 2 ^ 64 → IsArgument text n
+  negative : (digits : Text) (m : ℕ) → text ≡ codes "-" ++ digits → IsNumber digits m → 0 < m → m ≤ 2 ^ 63 → n + m ≡ 2 ^ 64
+      → IsArgument text n
 
 -- The texts, at most six, write the first of these six arguments, one by one and in order; the others are 0.
 pub record AreArguments (texts : List Text) (arguments : List ℕ) : Type 0 where
@@ -98,11 +102,15 @@ abbrev pub IsDenied : List Row → Bool → Type 0
 IsDenied rows true = first_of (codes "deny-warnings") rows ≡ Some (codes "true")
 IsDenied rows false = first_of (codes "deny-warnings") rows ≡ Some (codes "true") → ⊥
 
+-- The values of POLICY of `check`: `-` where there is none.
+abbrev pub given_policies : List Row → List Text
+given_policies rows = unwrap_or (all_of (codes "policy") rows) (codes "-" ∷ [])
+
 -- The values of `check`.
-pub record IsCheck (rows : List Row) (arch : TargetArch) (denied : Bool) (policy : Text) : Type 0 where
+pub record IsCheck (rows : List Row) (arch : TargetArch) (denied : Bool) (policies : List Text) : Type 0 where
   pub arch_is : IsArch rows arch
   pub denied_is : IsDenied rows denied
-  pub policy_is : first_of (codes "policy") rows ≡ Some policy
+  pub policies_are : policies ≡ given_policies rows
 
 -- The values of `stats` and `compat`.
 pub record IsOfPolicy (rows : List Row) (arch : TargetArch) (policy : Text) : Type 0 where
@@ -137,7 +145,8 @@ pub record IsMost (rows : List Row) (most : ℕ) : Type 0 where
   pub is : IsNumber (unwrap_or (first_of (codes "most") rows) []) most
 
 -- The values of `diff`. Standard input isn't both policies.
-pub record IsDiff (rows : List Row) (arch : TargetArch) (filter : Option Text) (relation : Relation) (most : ℕ) (old new : Text) : Type 0 where
+pub record IsDiff (rows : List Row) (arch : TargetArch) (filter : Option Text) (relation : Relation) (most : ℕ)
+    (old new : Text) : Type 0 where
   pub arch_is : IsArch rows arch
   pub filter_is : first_of (codes "filter") rows ≡ filter
   pub relation_is : IsRelation rows relation
@@ -167,20 +176,27 @@ pub record IsVerify (rows : List Row) (arch : TargetArch) (filter : Option Text)
 abbrev pub text_of : Option (Bor Text) → Option Text
 text_of = option_map (λ t. t.now)
 
--- The subcommand of this name, with these values, is the command.
+-- The subcommand of this name, with these values, is the command. A command of `check` is never meant alone.
 abbrev pub IsCommand : Text → List Row → Command → Type 0
 IsCommand name rows (Compile arch filter layout format output policy) =
     (name ≡ codes "compile") × IsCompile rows arch (text_of filter) layout format (text_of output) policy.now
 IsCommand name rows (Show arch layout shown) = (name ≡ codes "show") × IsShow rows arch layout shown
-IsCommand name rows (Check arch denied policy) = (name ≡ codes "check") × IsCheck rows arch denied policy.now
-IsCommand name rows (Explain arch filter records policy) = (name ≡ codes "explain") × IsExplain rows arch (text_of filter) records policy.now
+IsCommand name rows (Check arch denied policy) = ⊥
+IsCommand name rows (Explain arch filter records policy) =
+    (name ≡ codes "explain") × IsExplain rows arch (text_of filter) records policy.now
 IsCommand name rows (Run arch records program) = (name ≡ codes "run") × IsRun rows arch records program.now
 IsCommand name rows (Stats arch policy) = (name ≡ codes "stats") × IsOfPolicy rows arch policy.now
 IsCommand name rows (Record arch call arguments) = (name ≡ codes "record") × IsRecord rows arch call.now arguments
-IsCommand name rows (Diff arch filter relation most old new) = (name ≡ codes "diff") × IsDiff rows arch (text_of filter) relation most old.now new.now
+IsCommand name rows (Diff arch filter relation most old new) =
+    (name ≡ codes "diff") × IsDiff rows arch (text_of filter) relation most old.now new.now
 IsCommand name rows (Verify arch filter relation scope most policy program) =
     (name ≡ codes "verify") × IsVerify rows arch (text_of filter) relation scope most policy.now program.now
 IsCommand name rows (Compat arch policy) = (name ≡ codes "compat") × IsOfPolicy rows arch policy.now
+
+-- The subcommand of this name, with these values, asks for this.
+abbrev pub IsAsked : Text → List Row → Asked → Type 0
+IsAsked name rows (One command) = IsCommand name rows command
+IsAsked name rows (Checks arch denied policies) = (name ≡ codes "check") × IsCheck rows arch denied (map (λ p. p.now) policies.items)
 
 -- The names that `--arch`, `--layout` and `--format` take.
 pub record Choices : Type 0 where
@@ -191,13 +207,13 @@ pub record Choices : Type 0 where
   pub layouts_are : map (λ t. t.now) layouts.now ≡ codes "linear" ∷ codes "tree" ∷ []
   pub formats_are : map (λ t. t.now) formats.now ≡ codes "raw" ∷ codes "listing" ∷ codes "c" ∷ []
 
--- `clap` finds no fault in the words, and they enter a subcommand whose values are the command.
-pub record Means (choices : Choices) (words : List Text) (command : Command) : Type 0 where
+-- `clap` finds no fault in the words, and they enter a subcommand whose values ask for this.
+pub record Means (choices : Choices) (words : List Text) (asked : Asked) : Type 0 where
   pub faultless : fault_of (program_app choices.archs choices.layouts choices.formats) words ≡ []
   pub name : Text
   pub rows : List Row
   pub entered : subcommand_of (program_app choices.archs choices.layouts choices.formats) words ≡ Some (name, rows)
-  pub is : IsCommand name rows command
+  pub is : IsAsked name rows asked
 
 -- The error is made where `clap` finds no fault in words that mean no command; or memory is refused for it.
 abbrev pub IsOwn : Error → Type 0
@@ -208,4 +224,4 @@ IsOwn error = (kind_of error ≡ ValueValidation) ⊎ (kind_of error ≡ OutOfMe
 abbrev pub IsFault : Choices → List Text → Error → Type 0
 IsFault choices words error = (kind_of error ≡ OutOfMemory)
     ⊎ (IsAmong (kind_of error) (fault_of (program_app choices.archs choices.layouts choices.formats) words)
-    ⊎ ((kind_of error ≡ ValueValidation) × ((command : Command) → Means choices words command → ⊥)))
+    ⊎ ((kind_of error ≡ ValueValidation) × ((asked : Asked) → Means choices words asked → ⊥)))

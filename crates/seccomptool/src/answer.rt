@@ -6,14 +6,14 @@ ghost use Rattle.clap.specs.Words.{kind_of};
 ghost use Rattle.seccomptool.specs.Answers.{IsAnswered, IsCarriedOut, IsShown, MayFail};
 ghost use Rattle.seccomptool.specs.declared.findings.Verdict.TheVariants.{Different, Undecided};
 
-use crate::carry_out::carry_out;
+use crate::each::carry_out_each;
 use crate::words::read;
 use clap::error::ErrorKind;
 use std::io;
 use std::process::ExitCode;
 use std::rt::Files;
 
-/// Carries out the command that the arguments behind the program's name mean, or says what is wrong with
+/// Carries out what the arguments behind the program's name ask for, or says what is wrong with
 /// them, or writes the help or the version that they ask for. `to_terminal` says whether standard output
 /// is a terminal.
 pub(crate) fn answer(
@@ -23,16 +23,16 @@ pub(crate) fn answer(
 ) -> ExitCode
     ensures ended { exit_status result ≤ 3 }
 
-    // Status 0 comes only where the words mean a command and it is carried out, and finds no difference where
-    // it compares; or where they ask for help or the version.
+    // Status 0 comes only where the words ask for commands and each of them is carried out, and finds nothing that
+    // counts; or where they ask for help or the version.
     ensures answered { exit_status result ≡ 0 → IsAnswered (map string_bytes words.now) }
 
-    // Status 1 comes of a comparison only where it finds a difference, and status 3 only where it is undecided.
+    // Status 1 comes of a comparison only where it finds a difference, and status 3 only where a command is undecided.
     ensures different { exit_status result ≡ 1 → IsCarriedOut (map string_bytes words.now) Different ⊎ MayFail (map string_bytes words.now) }
     ensures undecided { exit_status result ≡ 3 → IsCarriedOut (map string_bytes words.now) Undecided }
 {
     match read(rt.alloc(), words) {
-        Ok(command) => carry_out(rt, command, to_terminal),
+        Ok(asked) => carry_out_each(rt, asked, to_terminal),
         Err(error) => misused(rt, &error),
     }
 }

@@ -1,11 +1,9 @@
-// A command, carried out, and the status that the program ends with.
+// A command, carried out, and the exit status that comes of it.
 
 ghost use Rattle.std.specs.Prelude.{◌≡◌, ◌≤◌, true};
-ghost use Rattle.std.specs.Process.{exit_status};
 ghost use Rattle.seccomptool.specs.Commands as spec;
-ghost use Rattle.seccomptool.specs.Commands.{IsPerformed, status_of, verdict_status};
+ghost use Rattle.seccomptool.specs.Commands.{EndsWith, status_of};
 ghost use Rattle.seccomptool.specs.Words.{text_of};
-ghost use Rattle.seccomptool.specs.declared.findings.Verdict.{Verdict};
 
 use crate::compile::format::ProgramFormat;
 use crate::error::ToolError;
@@ -15,7 +13,6 @@ use crate::perform::perform;
 use crate::source::{Source, open};
 use crate::words::{Command, Records, Shown};
 use std::io::Read;
-use std::process::ExitCode;
 use std::rt::Files;
 use std::{fs, io};
 
@@ -25,13 +22,13 @@ pub(crate) fn carry_out(
     rt: &(impl Files + Input + Print + Eprint + AllocGlobal),
     command: Command<'_>,
     to_terminal: bool,
-) -> ExitCode
-    ensures ended { exit_status result ≤ 3 }
-    ensures kept { to_terminal ≡ true → spec.writes_bytes command.entry ≡ true → exit_status result ≡ spec.trouble command.entry }
+) -> u8
+    ensures ended { result ≤ 3 }
+    ensures kept { to_terminal ≡ true → spec.writes_bytes command.entry ≡ true → result ≡ spec.trouble command.entry }
 
     // A status that isn't that of a failure comes only where the command is carried out, and is that of what
     // it finds.
-    ensures performed { (verdict : Verdict) → exit_status result ≡ verdict_status verdict → (exit_status result ≡ spec.trouble command.entry → ⊥) → IsPerformed command.entry verdict }
+    ensures performed { EndsWith command.entry result }
 {
     if to_terminal && writes_bytes(command) {
         return failed(rt, command, Failure::Terminal);
@@ -61,9 +58,9 @@ fn in_file<P: Read + Drop, R: Read + Drop>(
     policy: P,
     records: R,
     path: &str,
-) -> ExitCode
-    ensures ended { exit_status result ≤ 3 }
-    ensures performed { (verdict : Verdict) → exit_status result ≡ verdict_status verdict → (exit_status result ≡ spec.trouble command.entry → ⊥) → IsPerformed command.entry verdict }
+) -> u8
+    ensures ended { result ≤ 3 }
+    ensures performed { EndsWith command.entry result }
 {
     let alloc = rt.alloc();
     let mut bytes = Vec::new(alloc);
@@ -150,29 +147,29 @@ fn answered(
     rt: &(impl Eprint + AllocGlobal),
     command: Command<'_>,
     answer: Result<Verdict, ToolError>,
-) -> ExitCode
-    ensures { exit_status result ≡ status_of command.entry answer }
+) -> u8
+    ensures { result ≡ status_of command.entry answer }
 {
     match answer {
-        Ok(Verdict::Same) => ExitCode::SUCCESS,
-        Ok(Verdict::Different) => ExitCode::from(1),
-        Ok(Verdict::Undecided) => ExitCode::from(3),
+        Ok(Verdict::Same) => 0,
+        Ok(Verdict::Different) => 1,
+        Ok(Verdict::Undecided) => 3,
         Err(error) => failed(rt, command, Failure::Engine(error)),
     }
 }
 
 // The status of a failure, with what failed on standard error.
-fn failed(rt: &(impl Eprint + AllocGlobal), command: Command<'_>, failure: Failure) -> ExitCode
-    ensures { exit_status result ≡ spec.trouble command.entry }
+fn failed(rt: &(impl Eprint + AllocGlobal), command: Command<'_>, failure: Failure) -> u8
+    ensures { result ≡ spec.trouble command.entry }
 {
     let policy = policy_of(command).unwrap_or("-");
     let records = records_of(command).unwrap_or("-");
     let output = output_of(command).unwrap_or("-");
     tell(rt, &failure, told_for(command), policy, records, output);
     match command {
-        Command::Diff { .. } => ExitCode::from(2),
-        Command::Verify { .. } => ExitCode::from(2),
-        _ => ExitCode::FAILURE,
+        Command::Diff { .. } => 2,
+        Command::Verify { .. } => 2,
+        _ => 1,
     }
 }
 

@@ -1,7 +1,7 @@
 // The first fault of a policy, or else its warnings.
 
-ghost use Rattle.std.specs.Prelude.{◌≡◌, IfErr};
-ghost use Rattle.seccomptool.specs.Check.{AnswersCheck, verdict_where};
+ghost use Rattle.std.specs.Prelude.{◌≡◌, IfErr, IfOk};
+ghost use Rattle.seccomptool.specs.Check.{AnswersCheck, IsFront, verdict_where};
 ghost use Rattle.seccomptool.specs.Errors.{KeepsOutput};
 
 use crate::error::ToolError;
@@ -9,21 +9,24 @@ use crate::findings::Verdict;
 use crate::lint::lint;
 use crate::policy::policy_text;
 use crate::send::send;
-use crate::warnings::report::report_of;
+use seccomp_command_line::names::push_readable;
+use seccomp_warnings::{Code, report_of};
 use seccompiler::TargetArch;
 use seccompiler::json::filters_of;
-use std::alloc::Global;
+use std::alloc::{AllocError, Global};
 use std::io::{Read, Write};
 
-/// Reports the first fault of a policy as an error, as [`lint`] reports it, or else writes its warnings.
+/// Reports the first fault of a policy as an error, as [`lint`] reports it, or else writes its warnings,
+/// all but those of the allowed codes.
 ///
 /// For each filter, in byte order of names, comes a line for each warning: those of its two actions
-/// first, and then those of its entries, condition by condition. A line is the place, `: warning [`, the
-/// warning's code, `]: `, what is so, and what to write instead. The place begins with the filter's name,
-/// in which the control characters, those from U+0080 to U+009F too, and the backslash are written as `\x`
-/// and two lower-case hexadecimal digits for each of their bytes; an action is placed as
-/// `mismatch_action` or `match_action`, by whichever of its two names it stands there. Where there is no
-/// warning nothing is written. All lines are written at once.
+/// first, and then those of its entries, condition by condition. A line is the policy's file, `: `, the
+/// place, `: warning [`, the warning's code, `]: `, what is so, and what to write instead. The file is
+/// `path`, or `standard input` where that is `-`. The place begins with the filter's name. In both the
+/// control characters, those from U+0080 to U+009F too, and the backslash are written as `\x` and two
+/// lower-case hexadecimal digits for each of their bytes. An action is placed as `mismatch_action` or
+/// `match_action`, by whichever of its two names it stands there. Where there is no warning nothing is
+/// written. All lines are written at once.
 ///
 /// The verdict is `Different` where `denied` and there is a warning, and `Same` otherwise.
 ///
@@ -38,20 +41,37 @@ pub fn check<R: Read + Drop, W: Write>(
     alloc: Global,
     arch: &str,
     denied: bool,
+    allowed: &[Code],
+    path: &str,
     policy: R,
     out: &mut W,
 ) -> Result<Verdict, ToolError>
     // When each answer comes, and what is written.
-    ensures answers { AnswersCheck arch.now denied (R.remaining policy) result (W.contents out.old) (W.contents out.new) }
+    ensures answers { AnswersCheck arch.now denied allowed.now path.now (R.remaining policy) result (W.contents out.old) (W.contents out.new) }
     ensures unwritten { IfErr result (λ e. KeepsOutput e out.old out.new) }
 {
     TargetArch::from_text(alloc, arch)?;
     let text = policy_text(alloc, policy)?;
     lint(alloc, arch, text.as_slice())?;
     let filters = filters_of(alloc, text.as_slice())?;
-    let report = report_of(alloc, &filters)?;
+    let front = front_of(alloc, path)?;
+    let report = report_of(alloc, &front, &filters, allowed)?;
     send(out, &report.text)?;
     Ok(verdict_where(denied, report.warned))
+}
+
+// What stands in front of each line about the policy of this path.
+fn front_of(alloc: Global, path: &str) -> Result<Vec<u8>, AllocError>
+    ensures { IfOk result (λ front. IsFront path.now front.items) }
+{
+    let mut front = Vec::new(alloc);
+    if path == "-" {
+        front.extend_from_slice(b"standard input: ")?;
+        return Ok(front);
+    }
+    push_readable(&mut front, path)?;
+    front.extend_from_slice(b": ")?;
+    Ok(front)
 }
 
 // The verdict where warnings are denied or not, and there are some or none.

@@ -11,6 +11,7 @@ ghost use Rattle.seccomptool.specs.declared.findings.Verdict.TheVariants as verd
 
 use crate::check::check;
 use crate::chosen::chosen_name;
+use crate::compat::compat;
 use crate::compile::compile;
 use crate::compile::format::ProgramFormat;
 use crate::diff::diff;
@@ -22,9 +23,8 @@ use crate::policy::policy_text;
 use crate::record::{called_record, record};
 use crate::run::run;
 use crate::show::{show, show_program};
-use crate::steps::steps;
+use crate::stats::stats;
 use crate::verify::verify;
-use crate::widened::widened;
 use crate::words::{Command, Records, Shown};
 use seccompiler::{Layout, TargetArch};
 use std::alloc::Global;
@@ -37,7 +37,7 @@ use std::io::{Read, Write};
 /// # Errors
 ///
 /// Those of the engine: [`compile`], [`show`] or [`show_program`], [`check`], [`explain`], [`run`],
-/// [`steps`] for `stats`, [`record`], [`diff`], [`verify`] and [`widened`] for `compat`. In front of them, for `compile` and `explain`,
+/// [`stats`], [`record`], [`diff`], [`verify`] and [`compat`]. In front of them, for `compile` and `explain`,
 /// where no filter is asked for: the policy's fault that keeps its names from being read, and `Unchosen`
 /// with the names where it hasn't one. In front of all, for `explain` and `run` on a call, `UnknownCall` where the
 /// architecture hasn't it.
@@ -65,7 +65,11 @@ pub fn perform<P: Read + Drop, R: Read + Drop, W: Write>(
             layout,
             shown,
         } => same(show_asked(alloc, arch, layout, shown, policy, out)),
-        Command::Check { arch, denied, .. } => check(alloc, arch.name(), denied, policy, out),
+        Command::Check {
+            arch,
+            denied,
+            policy: path,
+        } => check(alloc, arch.name(), denied, &[], path, policy, out),
         Command::Explain {
             arch,
             filter,
@@ -77,7 +81,7 @@ pub fn perform<P: Read + Drop, R: Read + Drop, W: Write>(
             records: asked,
             ..
         } => same(run_asked(alloc, arch, asked, policy, records, out)),
-        Command::Stats { arch, .. } => same(steps(alloc, arch.name(), policy, out)),
+        Command::Stats { arch, .. } => same(stats(alloc, arch.name(), policy, out)),
         Command::Record {
             arch,
             call,
@@ -117,7 +121,7 @@ pub fn perform<P: Read + Drop, R: Read + Drop, W: Write>(
             records,
             out,
         ),
-        Command::Compat { arch, .. } => same(widened(alloc, arch.name(), policy, out)),
+        Command::Compat { arch, .. } => same(compat(alloc, arch.name(), policy, out)),
     }
 }
 

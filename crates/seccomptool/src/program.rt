@@ -9,8 +9,8 @@ mod options;
 
 use crate::program::options::{
     all, arch, arguments, at_most, call, compared_filter, deny_warnings, filter, format,
-    given_call, given_policy, layout, most, new_policy, old, output, policy, program_file, records,
-    shown_policy, shown_program,
+    given_call, given_policy, layout, most, new_policy, old, output, policies, policy,
+    program_file, records, shown_policy, shown_program,
 };
 use clap::Command;
 use std::alloc::{AllocError, Global};
@@ -134,7 +134,7 @@ fn check<'a>(alloc: Global, archs: &'a [&'a str]) -> Result<Command<'a>, AllocEr
         .about("Print the first error of a policy with its place, or else its warnings")
         .arg(arch(alloc, archs))?
         .arg(deny_warnings(alloc))?
-        .arg(policy(alloc))
+        .arg(policies(alloc))
 }
 
 // A subcommand of this name, of an architecture and a policy.

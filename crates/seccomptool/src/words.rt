@@ -10,7 +10,7 @@ mod values;
 use crate::compile::format::ProgramFormat;
 use crate::program::program;
 use crate::verify::scope::Scope;
-use crate::words::matches::{command_in, misuse_in};
+use crate::words::matches::{asked_in, misuse_in};
 use clap::error::ErrorKind;
 use seccompiler::{Layout, Relation, TargetArch};
 use std::alloc::Global;
@@ -48,7 +48,7 @@ pub enum Command<'a> {
         /// The policy or the program.
         shown: Shown<'a>,
     },
-    /// Print the first error of a policy with its place, or else its warnings.
+    /// Print the first error of a policy with its place, or else its warnings: one of those that [`Asked::Checks`] has.
     Check {
         /// The architecture.
         arch: TargetArch,
@@ -134,6 +134,22 @@ pub enum Command<'a> {
     },
 }
 
+/// What the arguments ask for.
+#[derive(Drop)]
+pub enum Asked<'a> {
+    /// A command, other than `check`.
+    One(Command<'a>),
+    /// `check` of policies, one after the other.
+    Checks {
+        /// The architecture.
+        arch: TargetArch,
+        /// Whether warnings count for the exit status.
+        denied: bool,
+        /// The policies.
+        policies: Vec<&'a str>,
+    },
+}
+
 /// What `show` prints.
 #[derive(Clone, Copy)]
 pub enum Shown<'a> {
@@ -157,7 +173,7 @@ pub enum Records<'a> {
     In(&'a str),
 }
 
-/// Reads the arguments that follow the program's name: the command that they mean.
+/// Reads the arguments that follow the program's name: what they ask for.
 ///
 /// # Errors
 ///
@@ -166,7 +182,7 @@ pub enum Records<'a> {
 /// is given both CALL and `--records`, or `show` both POLICY and `--program`, and where two files would both be read from
 /// standard input: policy and records, program and records, policy and program, or both policies of `diff`. `OutOfMemory` may
 /// come in place of any.
-pub(crate) fn read<'a>(alloc: Global, words: &'a [String]) -> Result<Command<'a>, clap::Error>
+pub(crate) fn read<'a>(alloc: Global, words: &'a [String]) -> Result<Asked<'a>, clap::Error>
     // With the names of architectures, layouts and formats that the options take.
     ensures { (choices : Choices) × IfOk result (Means choices (map string_bytes words.now))
         × IfErr result (IsFault choices (map string_bytes words.now)) }
@@ -181,8 +197,8 @@ pub(crate) fn read<'a>(alloc: Global, words: &'a [String]) -> Result<Command<'a>
     };
     match matches.subcommand() {
         None => Err(misused(&mut program, "no command is given")),
-        Some((name, found)) => match command_in(name, found) {
-            Some(command) => Ok(command),
+        Some((name, found)) => match asked_in(alloc, name, found)? {
+            Some(asked) => Ok(asked),
             None => Err(misused(&mut program, misuse_in(found))),
         },
     }

@@ -1,17 +1,21 @@
--- For `answer`: which errors of the words are help or the version, and what a status says of the command.
-use Rattle.std.proofs.Common.{◌≡◌, ℕ, List, inl, inr, refl, sym, ◌∙◌}
+-- For `answer`: which errors of the words are help or the version, and what a status says of the commands.
+use Rattle.std.proofs.Common.{◌≡◌, ◌≤◌, ℕ, List, [], ◌∷◌, All, Contains, ap, arith, inl, inr, refl, sym, ◌∙◌}
 use Rattle.std.specs.Prelude.{◌⊎◌}
+use Rattle.std.proofs.lemmas.List.Elements.{All-cons, All-contains, All-nil}
 use Rattle.clap.specs.Words.{Text, kind_of}
 use Rattle.clap.specs.declared.error.Error.{Error}
 use Rattle.clap.specs.declared.error.kind.ErrorKind.{ErrorKind}
 use Rattle.clap.specs.declared.error.kind.ErrorKind.TheVariants.{DisplayHelp, DisplayVersion, OutOfMemory, ValueValidation}
-use Rattle.seccomptool.specs.Answers.{AsksForHelp, IsCarriedOut, IsShown, MayFail, other}
-use Rattle.seccomptool.specs.Commands.{IsPerformed, trouble, verdict_status}
+use Rattle.seccomptool.specs.Answers.{AsksForHelp, EndWith, IsCarriedOut, IsShown, MayFail, commands_of, other}
+use Rattle.seccomptool.specs.Commands.{EndsWith, IsPerformed, trouble, verdict_status}
 use Rattle.seccomptool.specs.Words.{Choices, IsFault, Means}
 use Rattle.seccomptool.specs.declared.findings.Verdict.{Verdict}
 use Rattle.seccomptool.specs.declared.findings.Verdict.TheVariants.{Same, Different, Undecided}
+use Rattle.seccomptool.specs.declared.words.Asked.{Asked}
+use Rattle.seccomptool.specs.declared.words.Asked.TheVariants.{One, Checks}
 use Rattle.seccomptool.specs.declared.words.Command.{Command}
 use Rattle.seccomptool.specs.declared.words.Command.TheVariants.{Diff, Verify}
+use Rattle.seccomptool.proofs.Pairs.{all_first_where, some_first}
 
 -- Neither is want of memory, nor an error of our own.
 not_shown : (kind : ErrorKind) → IsShown kind → (kind ≡ OutOfMemory) ⊎ (kind ≡ ValueValidation) → ⊥
@@ -21,7 +25,8 @@ not_shown kind (inr version) (inl memory) = let e : DisplayVersion ≡ OutOfMemo
 not_shown kind (inr version) (inr value) = let e : DisplayVersion ≡ ValueValidation = sym version ∙ value in cc
 
 -- Words of which one of them is told ask for it.
-pub shown_asked : (choices : Choices) (words : List Text) (error : Error) → IsFault choices words error → IsShown (kind_of error) → AsksForHelp words
+pub shown_asked : (choices : Choices) (words : List Text) (error : Error) → IsFault choices words error → IsShown (kind_of error)
+    → AsksForHelp words
 shown_asked choices words error fault is_shown = elim fault [
   | inl memory ↦ absurd (not_shown (kind_of error) is_shown (inl memory))
   | inr rest ↦ elim rest [
@@ -30,20 +35,9 @@ shown_asked choices words error fault is_shown = elim fault [
   ]
 ]
 
--- Where a command doesn't compare, it fails with status 1, and else with 2.
-pub may_fail : (choices : Choices) (words : List Text) (command : Command) (status : ℕ) → Means choices words command → status ≡ 1
-    → ((verdict : Verdict) → status ≡ verdict_status verdict → (status ≡ trouble command → ⊥) → IsPerformed command verdict)
-    → IsCarriedOut words Different ⊎ MayFail words
-may_fail choices words (Diff arch filter relation most old new) status means one performed =
-    let done = performed Different one (λ two. let e : 1 ≡ 2 = sym one ∙ two in cc) in
-    inl (record { choices = choices; command = Diff arch filter relation most old new; means = means; performed = done })
-may_fail choices words (Verify arch filter relation scope most policy program) status means one performed =
-    let done = performed Different one (λ two. let e : 1 ≡ 2 = sym one ∙ two in cc) in
-    inl (record { choices = choices; command = Verify arch filter relation scope most policy program; means = means; performed = done })
-may_fail choices words command status means one performed = inr (other choices command means refl)
-
 -- No command fails with 0 or with 3.
-pub no_trouble : (command : Command) (status : ℕ) (verdict : Verdict) → status ≡ verdict_status verdict → (verdict ≡ Different → ⊥) → status ≡ trouble command → ⊥
+pub no_trouble : (command : Command) (status : ℕ) (verdict : Verdict) → status ≡ verdict_status verdict → (verdict ≡ Different → ⊥)
+    → status ≡ trouble command → ⊥
 no_trouble (Diff arch filter relation most old new) status Same is differs two = let e : 0 ≡ 2 = sym is ∙ two in cc
 no_trouble (Diff arch filter relation most old new) status Undecided is differs two = let e : 3 ≡ 2 = sym is ∙ two in cc
 no_trouble (Verify arch filter relation scope most policy program) status Same is differs two = let e : 0 ≡ 2 = sym is ∙ two in cc
@@ -51,3 +45,67 @@ no_trouble (Verify arch filter relation scope most policy program) status Undeci
 no_trouble command status Different is differs two = differs refl
 no_trouble command status Same is differs one = let e : 0 ≡ 1 = sym is ∙ one in cc
 no_trouble command status Undecided is differs one = let e : 3 ≡ 1 = sym is ∙ one in cc
+
+-- A status above 0 is that of one of the commands.
+some_command : (commands : List Command) (status : ℕ) → EndWith commands status → (status ≡ 0 → ⊥)
+    → (command : Command) × Contains commands command × EndsWith command status
+some_command commands status ended some = elim ended.reached [
+  | inl zero ↦ absurd (some zero)
+  | inr there ↦ some_first EndsWith commands ended.statuses ended.each status there
+]
+
+-- Where the greatest status is 0, each command is carried out and finds nothing.
+pub all_performed : (commands : List Command) (status : ℕ) → EndWith commands status → status ≡ 0
+    → All (λ command. IsPerformed command Same) commands
+all_performed commands status ended zero =
+    all_first_where EndsWith (λ command. IsPerformed command Same) (λ s. s ≤ status)
+    (λ command s ends le. let none : s ≡ 0 = omega (arith, le, zero) in ends Same none (no_trouble command s Same none (λ same. cc)))
+    commands ended.statuses ended.each ended.most
+
+-- Where it is 3, one of them is undecided.
+pub one_undecided : (choices : Choices) (words : List Text) (asked : Asked) (status : ℕ) → Means choices words asked
+    → EndWith (commands_of asked) status → status ≡ 3 → IsCarriedOut words Undecided
+one_undecided choices words asked status means ended three =
+    let one = some_command (commands_of asked) status ended (λ zero. let e : 0 ≡ 3 = sym zero ∙ three in cc) in
+    record {
+      choices = choices;
+      asked = asked;
+      means = means;
+      command = one.0;
+      among = one.1;
+      performed = one.2 Undecided three (no_trouble one.0 status Undecided three (λ same. cc));
+    }
+
+-- A command that is asked for alone is the one that ends so.
+only : (command found : Command) → Contains (command ∷ []) found → found ≡ command
+only command found there = All-contains (λ c. c ≡ command) (command ∷ []) found
+    (All-cons (λ c. c ≡ command) command [] refl (All-nil (λ c. c ≡ command))) there
+
+-- Where the command that is asked for alone fails with status 2, status 1 says that it finds a difference.
+differs : (choices : Choices) (words : List Text) (command : Command) (status : ℕ) → Means choices words (One command)
+    → EndWith (command ∷ []) status → status ≡ 1 → trouble command ≡ 2 → IsCarriedOut words Different
+differs choices words command status means ended one fails =
+    let found = some_command (command ∷ []) status ended (λ zero. let e : 0 ≡ 1 = sym zero ∙ one in cc) in
+    let same = only command found.0 found.1 in
+    record {
+      choices = choices;
+      asked = One command;
+      means = means;
+      command = found.0;
+      among = found.1;
+      performed = found.2 Different one (λ failed. let e : 1 ≡ 2 = sym one ∙ failed ∙ ap trouble same ∙ fails in cc);
+    }
+
+-- Status 1 comes of a comparison that finds a difference, or of what compares nothing.
+of_one : (choices : Choices) (words : List Text) (command : Command) (status : ℕ) → Means choices words (One command)
+    → EndWith (command ∷ []) status → status ≡ 1 → IsCarriedOut words Different ⊎ MayFail words
+of_one choices words (Diff arch filter relation most old new) status means ended one =
+    inl (differs choices words (Diff arch filter relation most old new) status means ended one refl)
+of_one choices words (Verify arch filter relation scope most policy program) status means ended one =
+    inl (differs choices words (Verify arch filter relation scope most policy program) status means ended one refl)
+of_one choices words command status means ended one = inr (other choices (One command) means refl)
+
+pub may_fail : (choices : Choices) (words : List Text) (asked : Asked) (status : ℕ) → Means choices words asked
+    → EndWith (commands_of asked) status → status ≡ 1 → IsCarriedOut words Different ⊎ MayFail words
+may_fail choices words (One command) status means ended one = of_one choices words command status means ended one
+may_fail choices words (Checks arch denied policies) status means ended one = inr (other choices (Checks arch denied policies) means refl)

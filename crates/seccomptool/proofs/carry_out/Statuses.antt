@@ -1,6 +1,6 @@
 -- For `carry_out` and `in_file`: what an answer says where the program ends with a status that isn't that of a failure.
 use Rattle.std.proofs.Common.{◌≡◌, ◌∙◌, ℕ, List, Option, Result, Ok, Err, refl, subst, sym}
-use Rattle.seccomptool.specs.Commands.{AnswersCommand, IsPerformed, status_of, trouble, verdict_status}
+use Rattle.seccomptool.specs.Commands.{AnswersCommand, EndsWith, status_of, verdict_status}
 use Rattle.seccomptool.specs.declared.error.ToolError.{ToolError}
 use Rattle.seccomptool.specs.declared.findings.Verdict.{Verdict}
 use Rattle.seccomptool.specs.declared.findings.Verdict.TheVariants.{Same, Different, Undecided}
@@ -20,8 +20,7 @@ one_status Undecided Undecided e = refl
 
 -- Where a command ends with a verdict's status, and not with that of a failure, it is carried out with this verdict.
 pub is_performed : (command : Command) (policy records old new : Option (List ℕ)) (r : Result Verdict ToolError) (status : ℕ)
-    → AnswersCommand command policy records r old new → status ≡ status_of command r
-    → (verdict : Verdict) → status ≡ verdict_status verdict → (status ≡ trouble command → ⊥) → IsPerformed command verdict
+    → AnswersCommand command policy records r old new → status ≡ status_of command r → EndsWith command status
 is_performed command policy records old new (Ok found) status answers is verdict shown other =
     let answered = subst (λ v. AnswersCommand command policy records (Ok v) old new) (one_status found verdict (sym is ∙ shown)) answers in
     record { policy = policy; records = records; old = old; new = new; answers = answered }

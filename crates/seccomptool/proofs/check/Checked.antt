@@ -1,5 +1,6 @@
 -- For `check`: what the faults and the warnings of a policy mean for its answers.
-use Rattle.std.proofs.Common.{◌≡◌, ℕ, Bool, List, Option, Some, IfSome, Ok, Err, Contains, String, Global, string_bytes, string_cmp, nat_cmp, map, refl, sym, ◌∙◌, ap, subst}
+use Rattle.std.proofs.Common.{◌≡◌, ℕ, Bool, List, Option, Some, IfSome, Ok, Err, Contains, String, Global, string_bytes, string_cmp}
+use Rattle.std.proofs.Common.{nat_cmp, map, refl, sym, ◌∙◌, ap, subst}
 use Rattle.std.specs.BTreeMap.{get_by_text}
 use Rattle.std.specs.Cmp.Lexicographic.{slice_cmp}
 use Rattle.std.specs.Io.KnownBytes.{Appends}
@@ -15,12 +16,13 @@ use Rattle.seccompiler.specs.JsonShape.{Has, Under, IsFilter}
 use Rattle.seccompiler.specs.JsonSteps.{AreFilters}
 use Rattle.seccompiler.specs.JsonTypes.{JsonFilter}
 use Rattle.seccomp_command_line.proofs.ByName.{by_text, names_ordered}
-use Rattle.seccomptool.specs.Check.{FilterWarnings, HasWarnings, WritesWarnings, AnswersCheck, verdict_where}
+use Rattle.seccomptool.specs.Check.{HasWarnings, IsFront, WritesWarnings, AnswersCheck, verdict_where}
 use Rattle.seccomptool.specs.Errors.{IsWriteError}
 use Rattle.seccomp_check.specs.Checks.{IsPlaced}
+use Rattle.seccomp_warnings.specs.Reports.{FilterWarnings, NamedFilters, AreWarningsOf, IsReportOf}
+use Rattle.seccomp_warnings.specs.declared.code.Code.{Code}
 use Rattle.seccomptool.specs.Lint.{AreAllCompiled, AnswersLint}
 use Rattle.seccomptool.specs.Policies.{OfPolicy, IsPolicyFault, IsRefusedPolicy, no_architecture, of_policy}
-use Rattle.seccomptool.specs.WarningsParts.{NamedFilters, AreWarningsOf, IsReportOf}
 use Rattle.seccomptool.specs.declared.error.ToolError.{ToolError}
 use Rattle.seccomptool.specs.declared.error.ToolError.TheVariants as tool
 use Rattle.seccomptool.specs.declared.findings.Verdict.{Verdict}
@@ -28,10 +30,10 @@ use Rattle.seccomptool.proofs.Found.{each_there, complete}
 use Rattle.seccomptool.proofs.Pairs.{all_second, same_under}
 use Rattle.seccomptool.proofs.Readings.{reads_on, filters_of_value}
 
-module _ (arch : List ℕ) (denied : Bool) (known : Option (List ℕ)) where
+module _ (arch : List ℕ) (denied : Bool) (allowed : List Code) (path : List ℕ) (known : Option (List ℕ)) where
   -- What is refused of a policy is told.
   pub check_told : (e : ToolError) (old new : Option (List ℕ)) → IsRefusedPolicy arch known e
-      → AnswersCheck arch denied known (Err e) old new
+      → AnswersCheck arch denied allowed path known (Err e) old new
   check_told (tool.Library e) old new is = is
   check_told tool.OutOfMemory old new is = tt
   check_told _ old new is = absurd is
@@ -44,7 +46,7 @@ module _ (arch : List ℕ) (denied : Bool) (known : Option (List ℕ)) where
 
     -- What `lint` answers of it is told.
     pub lint_told : (e : ToolError) (old new : Option (List ℕ)) → AnswersLint arch (Some text) (Err e)
-        → AnswersCheck arch denied known (Err e) old new
+        → AnswersCheck arch denied allowed path known (Err e) old new
     lint_told (tool.Library e) old new is = fault_read e is
     lint_told (tool.Fault told) old new is = (is.0, is.1, reads_on known text (λ t. IsPlaced is.0 t (string_bytes told)) own is.2)
     lint_told tool.OutOfMemory old new is = tt
@@ -59,7 +61,8 @@ module _ (arch : List ℕ) (denied : Bool) (known : Option (List ℕ)) where
 
       module _ (filters : JsonFilterMap) (of_text : OfValue text (λ d. AreFilters d filters)) (order : IsStrictlySortedBy string_cmp
           (keys_of filters.0.entries))
-          (told : List ℕ) (warned : Bool) (report : IsReportOf filters.0.entries told warned) where
+          (front : List ℕ) (is_front : IsFront path front)
+          (told : List ℕ) (warned : Bool) (report : IsReportOf allowed front filters.0.entries told warned) where
         -- The value that is read, and what is found under its names.
         compiled : OfValue text (AreAllCompiled fine.0)
         compiled = subst (λ t. OfValue t (AreAllCompiled fine.0)) fine.2.1 fine.2.2
@@ -78,21 +81,25 @@ module _ (arch : List ℕ) (denied : Bool) (known : Option (List ℕ)) where
 
         -- The warnings have the filters' names.
         names : map (λ (f : FilterWarnings). f.name) report.all ≡ map (λ (f : String Global × JsonFilter). string_bytes f.0) entries
-        names = same_under AreWarningsOf (λ (f : String Global × JsonFilter). string_bytes f.0) (λ (f : FilterWarnings). f.name)
+        names = same_under (AreWarningsOf allowed) (λ (f : String Global × JsonFilter). string_bytes f.0) (λ (f : FilterWarnings). f.name)
             (λ f own is. is.name) entries report.all report.each
 
         -- The warnings of a filter are those of the value of its name.
-        has_warnings : (f : String Global × JsonFilter) (own : FilterWarnings) → AreWarningsOf f own
-            → Under d (string_bytes f.0) (λ value. IsFilter value f.1) → Under d own.name (HasWarnings own)
+        has_warnings : (f : String Global × JsonFilter) (own : FilterWarnings) → AreWarningsOf allowed f own
+            → Under d (string_bytes f.0) (λ value. IsFilter value f.1) → Under d own.name (HasWarnings allowed own)
         has_warnings f own is value = (value.0, subst (λ name. Has d name value.0) (sym is.name) value.1, (f.1, value.2, is.warnings))
 
         written : (verdict : Verdict) (sent : List ℕ) (old new : Option (List ℕ)) → sent ≡ told → Appends old new sent
-            → verdict ≡ verdict_where denied warned → WritesWarnings denied verdict old new d
+            → verdict ≡ verdict_where denied warned → WritesWarnings denied allowed path verdict old new d
         written verdict sent old new is appends verdict_is = record {
+          front = front;
+          front_is = is_front;
           filters = report.all;
           ordered = subst (IsStrictlySortedBy (slice_cmp nat_cmp)) (sym names) (names_ordered entries order);
-          each = all_second AreWarningsOf (λ (f : String Global × JsonFilter). Under d (string_bytes f.0) (λ value. IsFilter value f.1))
-              (λ (f : FilterWarnings). Under d f.name (HasWarnings f))
+          each =
+              all_second (AreWarningsOf allowed)
+              (λ (f : String Global × JsonFilter). Under d (string_bytes f.0) (λ value. IsFilter value f.1))
+              (λ (f : FilterWarnings). Under d f.name (HasWarnings allowed f))
               has_warnings entries report.all report.each (each_there IsFilter (get_by_text filters.0) d are entries order listed);
           complete = λ name value has. subst (λ ns. Contains ns name) (sym names) (complete IsFilter
               (get_by_text filters.0) d are entries order listed name value has);
@@ -103,11 +110,12 @@ module _ (arch : List ℕ) (denied : Bool) (known : Option (List ℕ)) where
         -- The answer where the lines are sent.
         pub lines_sent : (verdict : Verdict) (sent : List ℕ) (old new : Option (List ℕ)) → sent ≡ told → Appends old new sent
             → verdict ≡ verdict_where denied warned
-            → AnswersCheck arch denied known (Ok verdict) old new
+            → AnswersCheck arch denied allowed path known (Ok verdict) old new
         lines_sent verdict sent old new is appends verdict_is =
             (fine.0, fine.1, (text, own, (d, compiled.1, (compiled.2, written verdict sent old new is appends verdict_is))))
 
       -- The answer where they are not.
-      pub lines_unsent : (e : ToolError) (old new : Option (List ℕ)) → IsWriteError e → AnswersCheck arch denied known (Err e) old new
+      pub lines_unsent : (e : ToolError) (old new : Option (List ℕ)) → IsWriteError e
+          → AnswersCheck arch denied allowed path known (Err e) old new
       lines_unsent (tool.Write e) old new cause = faultless
       lines_unsent _ old new cause = absurd cause

@@ -1,5 +1,6 @@
 -- For `chosen_name`: what the entries of filters say of the names of their text's value.
-use Rattle.std.proofs.Common.{◌≡◌, ◌≢◌, ℕ, zero, suc, ◌<◌, List, [], ◌∷◌, length, Option, Some, None, Bool, true, false, Less, All, Contains, String, Global, string_bytes, string_cmp, nat_cmp, bytes_eq, map, refl, sym, ap, subst, ◌∙◌, arith}
+use Rattle.std.proofs.Common.{◌≡◌, ◌≢◌, ℕ, zero, suc, List, [], ◌∷◌, length, Option, Some, None, true, false, Less, All}
+use Rattle.std.proofs.Common.{Contains, String, Global, string_bytes, string_cmp, nat_cmp, map, refl, sym, ap, subst, ◌∙◌, arith}
 use Rattle.std.specs.Prelude.{Result, Ok, Err, IfOk, IfErr, slice_get}
 use Rattle.std.specs.BTreeMap.{get_by_text}
 use Rattle.std.specs.Cmp.Lexicographic.{slice_cmp}
@@ -19,7 +20,7 @@ use Rattle.seccompiler.specs.Errors.{from_frontend}
 use Rattle.seccompiler.specs.JsonAnswers.{OfValue, TellsFrontendFault}
 use Rattle.seccompiler.specs.JsonFilters.{AreFound}
 use Rattle.seccompiler.specs.JsonSteps.{AreFilters}
-use Rattle.seccompiler.specs.JsonShape.{Has, IsFilter, Under}
+use Rattle.seccompiler.specs.JsonShape.{IsFilter, Under}
 use Rattle.seccompiler.specs.JsonTypes.{JsonFilter}
 use Rattle.seccomp_command_line.proofs.ByName.{by_text, names_ordered}
 use Rattle.seccomptool.specs.declared.error.ToolError.{ToolError}
@@ -50,7 +51,8 @@ not_below_itself name less =
 
 module _ (find : List ℕ → Option JsonFilter) (d : Data) (found : AreFound IsFilter find d) where
   -- One entry is the value's only name.
-  pub only_entry : (entries : List Named) → IsStrictlySortedBy string_cmp (keys_of entries) → ((name : List ℕ) → find name ≡ lookup (is_text name) entries)
+  pub only_entry : (entries : List Named) → IsStrictlySortedBy string_cmp (keys_of entries)
+      → ((name : List ℕ) → find name ≡ lookup (is_text name) entries)
       → (key : String Global) (filter : JsonFilter) → entries ≡ (key, filter) ∷ [] → HasOnlyName d (string_bytes key)
   only_entry entries order listed key filter one =
       let P : Named → Type 0 = λ e. Under d (string_bytes e.0) (λ value. IsFilter value e.1) in
@@ -59,20 +61,24 @@ module _ (find : List ℕ → Option JsonFilter) (d : Data) (found : AreFound Is
         value = here.0;
         there = here.1;
         only = λ other v has. one_item (string_bytes key) other
-            (subst (λ (es : List Named). Contains (names_in es) other) one (complete IsFilter find d found entries order listed other v has));
+            (subst (λ (es : List Named). Contains (names_in es) other) one
+            (complete IsFilter find d found entries order listed other v has));
       }
 
   -- Where there isn't one entry, there isn't one name.
-  pub no_only_entry : (entries : List Named) → IsStrictlySortedBy string_cmp (keys_of entries) → ((name : List ℕ) → find name ≡ lookup (is_text name) entries)
+  pub no_only_entry : (entries : List Named) → IsStrictlySortedBy string_cmp (keys_of entries)
+      → ((name : List ℕ) → find name ≡ lookup (is_text name) entries)
       → length entries ≢ 1 → (name : List ℕ) → HasOnlyName d name → ⊥
-  no_only_entry [] order listed other name only = let none = complete IsFilter find d found [] order listed name only.value only.there in omega (arith, none.1)
+  no_only_entry [] order listed other name only = let none = complete IsFilter find d found [] order listed name only.value only.there in
+      omega (arith, none.1)
   no_only_entry (e ∷ []) order listed other name only = other refl
   no_only_entry (e ∷ f ∷ entries) order listed other name only =
       let P : Named → Type 0 = λ x. Under d (string_bytes x.0) (λ value. IsFilter value x.1) in
       let all = each_there IsFilter find d found (e ∷ f ∷ entries) order listed in
       let first = All-head P e (f ∷ entries) all in
       let second = All-head P f entries (All-tail P e (f ∷ entries) all) in
-      let same : string_bytes e.0 ≡ string_bytes f.0 = only.only (string_bytes e.0) first.0 first.1 ∙ sym (only.only (string_bytes f.0) second.0 second.1) in
+      let same : string_bytes e.0 ≡ string_bytes f.0 =
+      only.only (string_bytes e.0) first.0 first.1 ∙ sym (only.only (string_bytes f.0) second.0 second.1) in
       let above = sorted_head (slice_cmp nat_cmp) (string_bytes e.0) (names_in (f ∷ entries)) (names_ordered (e ∷ f ∷ entries) order) in
       not_below_itself (string_bytes e.0) (subst (λ name. slice_cmp nat_cmp (string_bytes e.0) name ≡ Less) (sym same) above.0)
 
@@ -83,7 +89,8 @@ single (y ∷ []) x one first = let same : y ≡ x = cc in ap (λ z. z ∷ []) s
 single (y ∷ z ∷ xs) x one first = absurd (omega (arith, one))
 
 -- The fault of a text that is told where its filters are read.
-pub text_fault : (text : List ℕ) (e : JsonFrontendError) → ((arch : TargetArch) → TellsFrontendFault arch text e) → IsUnchosen text None (from_library (from_frontend e))
+pub text_fault : (text : List ℕ) (e : JsonFrontendError) → ((arch : TargetArch) → TellsFrontendFault arch text e)
+    → IsUnchosen text None (from_library (from_frontend e))
 text_fault text (json.Backend cause) told = told
 text_fault text (json.SerdeJson cause) told = told
 text_fault text (json.SyscallName name arch) told = told
@@ -93,9 +100,11 @@ text_fault text json.NotAnObject told = told
 text_fault text (json.Shape name) told = told
 text_fault text json.OutOfMemory told = tt
 
-module _ (text : List ℕ) (filters : JsonFilterMap) (of_value : OfValue text (λ d. AreFilters d filters)) (order : IsStrictlySortedBy string_cmp (keys_of filters.0.entries)) where
+module _ (text : List ℕ) (filters : JsonFilterMap) (of_value : OfValue text (λ d. AreFilters d filters))
+    (order : IsStrictlySortedBy string_cmp (keys_of filters.0.entries)) where
   -- The name of the only entry is chosen.
-  pub only_chosen : (r : Result (String Global) ToolError) → IfOk r (HoldsOnly filters.0.entries) → IfOk r (λ name. IsChosen text None (string_bytes name))
+  pub only_chosen : (r : Result (String Global) ToolError) → IfOk r (HoldsOnly filters.0.entries)
+      → IfOk r (λ name. IsChosen text None (string_bytes name))
   only_chosen (Ok name) h = (
     of_value.0,
     of_value.1,
@@ -107,7 +116,10 @@ module _ (text : List ℕ) (filters : JsonFilterMap) (of_value : OfValue text (�
   -- Where there isn't one entry, none is.
   pub none_chosen : (r : Result (String Global) ToolError) → IfErr r (IsNoChoice filters.0.entries) → IfErr r (IsUnchosen text None)
   none_chosen (Ok name) h = tt
-  none_chosen (Err (Unchosen names)) h =
-      (of_value.0, of_value.1, no_only_entry (get_by_text filters.0) of_value.0 of_value.2 filters.0.entries order (λ n. by_text n filters.0.entries) h)
+  none_chosen (Err (Unchosen names)) h = (
+    of_value.0,
+    of_value.1,
+    no_only_entry (get_by_text filters.0) of_value.0 of_value.2 filters.0.entries order (λ n. by_text n filters.0.entries) h,
+  )
   none_chosen (Err OutOfMemory) h = tt
   none_chosen (Err _) h = absurd h

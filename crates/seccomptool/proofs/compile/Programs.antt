@@ -17,7 +17,8 @@ use Rattle.seccompiler.specs.Policy.{Filter}
 use Rattle.seccomptool.specs.declared.compile.format.ProgramFormat.{ProgramFormat}
 use Rattle.seccomptool.specs.Errors.{from_library, IsWriteError}
 use Rattle.seccomptool.specs.Policies.{OfPolicy, IsRefusedText}
-use Rattle.seccomptool.specs.Compile.{other_layout, other_text, room_text, FitsIn, written_in, HasProgram, HasSomeProgram, IsFaultless, UnderName, WritesProgram, HasNoProgram, IsRoomText, HasNoRoom, of_text, of_program, AnswersCompile}
+use Rattle.seccomptool.specs.Compile.{other_layout, other_text, room_text, FitsIn, written_in, HasProgram, HasSomeProgram, IsFaultless}
+use Rattle.seccomptool.specs.Compile.{UnderName, WritesProgram, HasNoProgram, IsRoomText, HasNoRoom, of_text, of_program, AnswersCompile}
 use Rattle.seccomptool.specs.CompileParts.{IsUncompiled}
 use Rattle.seccomptool.specs.declared.error.ToolError.{ToolError}
 use Rattle.seccomptool.specs.declared.error.ToolError.TheVariants as tool
@@ -25,7 +26,8 @@ use Rattle.seccomptool.proofs.Found.{there, nowhere, all_values}
 use Rattle.seccomptool.proofs.Readings.{policy_shows}
 
 -- The text that tells that a filter is too large.
-pub room_told : (layout : Layout) (f : Filter) (name : List ℕ) (n : ℕ) (other : Option ℕ) (text : List ℕ) → FitsIn (other_layout layout) f other
+pub room_told : (layout : Layout) (f : Filter) (name : List ℕ) (n : ℕ) (other : Option ℕ) (text : List ℕ)
+    → FitsIn (other_layout layout) f other
     → text ≡ room_text layout name n ++ other_text (other_layout layout) other → IsRoomText layout f name n text
 room_told layout f name n other text fits told = record { other = other; fits = fits; told = told }
 
@@ -52,7 +54,8 @@ module _ (arch : List ℕ) (known : Option (List ℕ)) (name : List ℕ) (layout
       (λ target d is. (is.0, (is.1.0, is.1.1, follows target is.1.0 is.1.2))) h
 
   -- The answer where a program is sent.
-  pub program_sent : (format : ProgramFormat) (program : List sock_filter) (text sent : List ℕ) (r : Result ⊤ ToolError) (old new : Option (List ℕ))
+  pub program_sent : (format : ProgramFormat) (program : List sock_filter) (text sent : List ℕ) (r : Result ⊤ ToolError)
+      (old new : Option (List ℕ))
       → IsFaultless arch known (UnderName name (λ target value. HasProgram layout target value program))
       → text ≡ written_in format name program → sent ≡ text
       → OnOk r (Appends old new sent) → IfErr r IsWriteError → AnswersCompile format arch known name layout r old new
@@ -68,8 +71,10 @@ module _ (arch : List ℕ) (known : Option (List ℕ)) (name : List ℕ) (layout
     -- Nothing is at fault where each value has a policy, and P holds too.
     with_policies : (P : TargetArch → Data → Type 0) → ((target : TargetArch) (d : Data) → ArePoliciesOf target find d → P target d)
         → IsFaultless arch known P
-    with_policies P shows = policy_shows arch known (λ target. ArePoliciesOf target find) (λ target d. AreAll (HasSomePolicy target) d × P target d)
-        (λ target d are. (all_values (HasPolicy target) find d are (HasSomePolicy target) (λ value policy is. (policy, is)), shows target d are)) h
+    with_policies P shows =
+        policy_shows arch known (λ target. ArePoliciesOf target find) (λ target d. AreAll (HasSomePolicy target) d × P target d)
+        (λ target d are.
+        (all_values (HasPolicy target) find d are (HasSomePolicy target) (λ value policy is. (policy, is)), shows target d are)) h
 
     -- Where no policy is found, no filter has the name.
     pub no_policy : find name ≡ None → IsFaultless arch known (λ target d. Lacks d name)

@@ -1,5 +1,6 @@
 -- For the functions of `report`: reports, one by one.
-use Rattle.std.proofs.Common.{◌≡◌, ℕ, List, [], ◌∷◌, ◌++◌, true, Option, Some, None, All, Contains, String, Global, string_bytes, string_cmp, map, refl, sym, ap, ◌∙◌, append_assoc, append-nil, subst, arith}
+use Rattle.std.proofs.Common.{◌≡◌, ℕ, List, [], ◌∷◌, ◌++◌, true, Option, Some, None, All, Contains, String, Global, string_bytes}
+use Rattle.std.proofs.Common.{string_cmp, map, refl, sym, ap, ◌∙◌, append_assoc, append-nil, subst, arith}
 use Rattle.std.specs.BTreeMap.{is_at}
 use Rattle.std.specs.Prelude.{is_none}
 use Rattle.std.specs.List.{concat, filter}
@@ -8,7 +9,8 @@ use Rattle.std.specs.Map.{keys_of, lookup}
 use Rattle.std.proofs.lemmas.Bool.{false≢true}
 use Rattle.std.proofs.lemmas.List.{map-append}
 use Rattle.std.proofs.lemmas.List.Folds.{concat-append}
-use Rattle.std.proofs.lemmas.List.Elements.{filter-append, All-push, All-append, All-map, All-weaker, All-filter, filter_passes, Contains-append_right}
+use Rattle.std.proofs.lemmas.List.Elements.{filter-append, All-push, All-append, All-map, All-weaker, All-filter, filter_passes}
+use Rattle.std.proofs.lemmas.List.Elements.{Contains-append_right}
 use Rattle.std.proofs.lemmas.Map.Text.{text_cmp}
 use Rattle.seccompiler.specs.declared.backend.BackendError.{BackendError}
 use Rattle.seccompiler.specs.declared.backend.BackendError.TheVariants as backend
@@ -17,8 +19,10 @@ use Rattle.seccompiler.specs.declared.compare.Relation.{Relation}
 use Rattle.seccompiler.specs.Errors.{from_backend}
 use Rattle.seccompiler.specs.Policy.{Filter}
 use Rattle.seccomp_command_line.proofs.ByName.{by_text, each_found, found_name, found_there, names_ordered}
-use Rattle.seccomptool.specs.Diff.{NameReport, Policies, IsToldOf, only_new, report_text, verdict_told, verdict_all, AreNamesOf, AreReportsOn}
-use Rattle.seccomptool.specs.DiffParts.{AddsReport, IsRefusalOf, IsRefusedPair, IsRefusedReport, lone, lone_of, lones_of, names_of, reports_text}
+use Rattle.seccomptool.specs.Diff.{NameReport, Policies, IsToldOf, only_new, report_text, verdict_told, verdict_all, AreNamesOf}
+use Rattle.seccomptool.specs.Diff.{AreReportsOn}
+use Rattle.seccomptool.specs.DiffParts.{AddsReport, IsRefusalOf, IsRefusedPair, IsRefusedReport, lone, lone_of, lones_of, names_of}
+use Rattle.seccomptool.specs.DiffParts.{reports_text}
 use Rattle.seccomptool.specs.Errors.{from_library}
 use Rattle.seccomptool.specs.Findings.{worse}
 use Rattle.seccomptool.specs.declared.findings.Verdict.{Verdict}

@@ -1,6 +1,8 @@
 -- For `first_failing`, `reason_among`, `reason_on_target` and `reason_of`: what a search among the entries of a call has
 -- shown, and that there is one reason.
-use Rattle.std.proofs.Common.{◌≡◌, ◌↔◌, ℕ, zero, suc, ℤ, pos, ◌+◌, ◌<◌, ◌≤◌, List, [], ◌∷◌, ◌++◌, length, take, get_or, Option, Some, None, Bool, true, false, nat_le, refl, sym, subst, ap, ◌∙◌, inl, inr, append_assoc, length-append, length-take-le, arith}
+use Rattle.std.proofs.Common.{◌≡◌, ℕ, ℤ, pos, ◌+◌, ◌<◌, ◌≤◌, List, [], ◌∷◌, ◌++◌, length, take, Option, Some, None}
+use Rattle.std.proofs.Common.{true, false, nat_le, refl, sym, subst, ap, ◌∙◌, inl, inr, append_assoc, length-append, length-take-le}
+use Rattle.std.proofs.Common.{arith}
 use Rattle.std.specs.Prelude.{All, Any, Contains, IfSome, Vec, slice_get}
 use Rattle.std.specs.BTreeMap.{BTreeMap}
 use Rattle.std.specs.List.{list_any}
@@ -9,12 +11,13 @@ use Rattle.std.proofs.Math.Seq.{take-append_seam}
 use Rattle.std.proofs.lemmas.Bool.{true≢false, cases_Bool, cases_lt}
 use Rattle.std.proofs.lemmas.Bool.Decides.{Decides-int_eq, nat_tests}
 use Rattle.std.proofs.lemmas.List.{take_all, get_or-take}
-use Rattle.std.proofs.lemmas.List.Elements.{All-append, All-cons, All-contains_itself, All-head, All-nil, All-push, All-same, All-tail, All-weaker, Contains-append_right}
+use Rattle.std.proofs.lemmas.List.Elements.{All-append, All-cons, All-contains_itself, All-nil, All-push, All-same}
+use Rattle.std.proofs.lemmas.List.Elements.{All-weaker}
 use Rattle.std.proofs.lemmas.List.Folds.{Any-from_list_any, list_any-from_Any}
-use Rattle.std.proofs.lemmas.Option.{get_or_from_slice_get, slice_get_within, slice_get-get_or}
+use Rattle.std.proofs.lemmas.Option.{get_or_from_slice_get, slice_get_within}
 use Rattle.seccompiler.specs.declared.backend.TargetArch.{TargetArch}
 use Rattle.seccompiler.specs.declared.json.types.JsonCondition.{JsonCondition}
-use Rattle.seccompiler.specs.JsonOrigins.{AreIndicesFor, AreOrigins, IsIndexFor, indices_at}
+use Rattle.seccompiler.specs.JsonOrigins.{AreIndicesFor, AreOrigins, indices_at}
 use Rattle.seccompiler.specs.JsonPolicyOf.{is_for, is_number, IsFor}
 use Rattle.seccompiler.specs.JsonTypes.{JsonRule}
 use Rattle.seccompiler.specs.Machine.{word_at}
@@ -24,7 +27,8 @@ use Rattle.seccomptool.specs.declared.explain.reason.Miss.{Miss}
 use Rattle.seccomptool.specs.declared.explain.reason.Reason.{Reason}
 use Rattle.seccomptool.specs.declared.explain.reason.Reason.TheVariants.{AnotherArchitecture, NoEntry, NoMatch, Entry}
 use Rattle.seccomptool.specs.ExplainSteps.{HasPlaces, nearer}
-use Rattle.seccomptool.specs.Reasons.{ConditionHolds, EntryHolds, EntryFails, FirstFails, OfEntry, FailsBelow, IsNearest, IsFirstMatch, IsReasonAmong, IsReason, of_another, of_call}
+use Rattle.seccomptool.specs.Reasons.{ConditionHolds, EntryHolds, EntryFails, FirstFails, OfEntry, FailsBelow, IsNearest, IsFirstMatch}
+use Rattle.seccomptool.specs.Reasons.{IsReasonAmong, IsReason, of_another, of_call}
 use Rattle.seccomptool.proofs.explain.Ascending.{nothing_ascends, same_indices}
 
 -- ---- lists
@@ -42,7 +46,8 @@ module _ {X : Type 0} (P : X → Type 0) (xs : List X) where
   in_front : (i n : ℕ) (x : X) → i < n → slice_get xs i ≡ Some x → All P (take n xs) → P x
   in_front i n x less there all = elim (cases_lt (length xs) n) [
     | inl beyond ↦ at_place i x there (whole n (omega arith) all)
-    | inr room ↦ subst P (get_or-take n xs i x less ∙ get_or_from_slice_get xs i x x there) (all i x (omega (arith, less, length-take-le n xs room)))
+    | inr room ↦ subst P (get_or-take n xs i x less ∙ get_or_from_slice_get xs i x x there)
+        (all i x (omega (arith, less, length-take-le n xs room)))
   ]
 
 -- An item stands behind its front.

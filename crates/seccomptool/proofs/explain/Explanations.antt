@@ -41,7 +41,8 @@ module _ (format : LineFormat) (arch : List ℕ) (known : Option (List ℕ)) (na
   name_untold _ old new refused = absurd refused
 
   -- A filter that has a policy is refused for want of memory alone.
-  pub no_refusal : (target : TargetArch) (filter : JsonFilter) (policy : Filter) (e : JsonFrontendError) (old new : Option (List ℕ)) → IsPolicyOf target filter policy
+  pub no_refusal : (target : TargetArch) (filter : JsonFilter) (policy : Filter) (e : JsonFrontendError) (old new : Option (List ℕ))
+      → IsPolicyOf target filter policy
       → ((f : Filter) (fault : Fault) → IsPolicyOf target filter f → IsFirstFault target filter fault → ⊥) → IsPolicyRefusal target filter e
       → AnswersExplain format arch known name records (Err (from_library (from_frontend e))) old new
   no_refusal target filter policy (json.Backend cause) old new is not_both refused = absurd (not_both policy _ is refused.0)
@@ -51,7 +52,8 @@ module _ (format : LineFormat) (arch : List ℕ) (known : Option (List ℕ)) (na
 
   -- ---- what is found
 
-  module _ (target : TargetArch) (filters : JsonFilterMap) (named : IsNameOf arch target) (read : Reads known (λ text. OfValue text (AreUsable target filters))) where
+  module _ (target : TargetArch) (filters : JsonFilterMap) (named : IsNameOf arch target)
+      (read : Reads known (λ text. OfValue text (AreUsable target filters))) where
     -- Nothing is at fault where filters can be used, and P holds of each value of them.
     shown : (P : TargetArch → Data → Type 0) → ((d : Data) → AreUsable target filters d → P target d) → AreCompilable arch known P
     shown P shows = (
@@ -67,7 +69,8 @@ module _ (format : LineFormat) (arch : List ℕ) (known : Option (List ℕ)) (na
 
     module _ (filter : JsonFilter) (found : get_by_text filters.0 name ≡ Some filter) where
       -- What holds where the value is the filter holds under the name.
-      under : (P : TargetArch → Data → Type 0) → ((value : Data) → IsUsable target value filter → P target value) → OfFilter arch known name P
+      under : (P : TargetArch → Data → Type 0) → ((value : Data) → IsUsable target value filter → P target value)
+          → OfFilter arch known name P
       under P shows = shown (UnderName name P) (λ d are.
           let value = there (IsUsable target) (get_by_text filters.0) d are.found name filter found in
           (value.0, value.1, shows value.0 value.2))
@@ -85,7 +88,13 @@ module _ (format : LineFormat) (arch : List ℕ) (known : Option (List ℕ)) (na
             → WritesLines (AreLinesOf format target name value) bytes rest old new
         lines_of value bytes rest old new usable w =
             retold (AreLines format target name filter policy) (AreLinesOf format target name value)
-            (λ records text lines. record { filter = filter; is_filter = usable.is_filter; policy = policy; is_policy = is_policy; lines = lines }) bytes rest old new w
+            (λ records text lines. record {
+              filter = filter;
+              is_filter = usable.is_filter;
+              policy = policy;
+              is_policy = is_policy;
+              lines = lines;
+            }) bytes rest old new w
 
         -- The answer of telling of records.
         pub told : (r : Result ⊤ ToolError) (old new : Option (List ℕ))

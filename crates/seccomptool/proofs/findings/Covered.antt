@@ -7,7 +7,8 @@ use Rattle.seccompiler.specs.declared.compare.Relation.{Relation}
 use Rattle.seccompiler.specs.Architecture.{audit_word, table_of}
 use Rattle.seccompiler.specs.Machine.{IsRecord, word_at}
 use Rattle.seccompiler.specs.SyscallTable.{Pair}
-use Rattle.seccomptool.specs.Findings.{HoldsThroughout, IsInPart, IsFound, AreFindings, ArePartsBelow, no_part, then_named, then_gap, worse, verdict_on, verdict_of}
+use Rattle.seccomptool.specs.Findings.{HoldsThroughout, IsInPart, IsFound, AreFindings, ArePartsBelow, no_part, then_named, then_gap, worse}
+use Rattle.seccomptool.specs.Findings.{verdict_on, verdict_of}
 use Rattle.seccomptool.specs.declared.findings.Answer.{Answer}
 use Rattle.seccomptool.specs.declared.findings.Answer.TheVariants as answer
 use Rattle.seccomptool.specs.declared.findings.Finding.{Finding}

@@ -1,7 +1,6 @@
 -- For `judge` and `lint`: the answers of `lint`, from what is found of a policy's text.
 use Rattle.std.proofs.Common.{◌≡◌, ℕ, List, Option, IfErr, IfSome, Result, Ok, Err}
 use Rattle.std.specs.Prelude.{⊤, OnOk}
-use Rattle.serde_json.specs.Data.{Data}
 use Rattle.seccompiler.specs.declared.backend.TargetArch.{TargetArch}
 use Rattle.seccompiler.specs.JsonAnswers.{OfValue}
 use Rattle.seccomp_check.specs.Checks.{AreAllCompiled as AreCompiled}
@@ -34,7 +33,8 @@ module _ (arch : List ℕ) (known : Option (List ℕ)) where
 
   module _ (target : TargetArch) (named : IsNameOf arch target) where
     -- The answer where it is read.
-    pub judged : (text : List ℕ) (r : Result ⊤ ToolError) → IfSome known (λ k. text ≡ k) → OnOk r (OfValue text (AreAllCompiled target)) → IfErr r (IsRefusal target text) → AnswersLint arch known r
+    pub judged : (text : List ℕ) (r : Result ⊤ ToolError) → IfSome known (λ k. text ≡ k) → OnOk r (OfValue text (AreAllCompiled target))
+        → IfErr r (IsRefusal target text) → AnswersLint arch known r
     judged text (Ok done) same fine refused = (target, named, (text, same, fine))
     judged text (Err (tool.Library e)) same fine refused = of_policy target named refused.0 refused.1 (text, same, refused.2)
     judged text (Err (tool.Fault told)) same fine refused = (target, named, (text, same, refused))

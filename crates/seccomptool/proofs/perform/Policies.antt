@@ -1,7 +1,6 @@
 -- For the functions of `perform`: the answer where no filter is chosen, and where one is.
-use Rattle.std.proofs.Common.{◌≡◌, ℕ, List, Option, Result, Ok, Err, IfSome, subst}
-use Rattle.std.specs.Prelude.{⊤, IsErrAnd}
-use Rattle.seccompiler.specs.Reads.{Reads}
+use Rattle.std.proofs.Common.{◌≡◌, ℕ, List, Option, Result, Err, IfSome, subst}
+use Rattle.std.specs.Prelude.{⊤}
 use Rattle.seccomptool.specs.Chosen.{AnswersChosen, IsChosen, IsUnchosen, chosen, unchosen, unread}
 use Rattle.seccomptool.specs.Policies.{IsPolicyReadError}
 use Rattle.seccomptool.specs.declared.error.ToolError.{ToolError}
@@ -17,9 +16,12 @@ module _ (known asked : Option (List ℕ)) (P : List ℕ → List ℕ → Type 0
     is_unchosen e why = unchosen (text, is_known, why)
 
     -- One is.
-    pub is_chosen : (answer : Result ⊤ ToolError) (name : List ℕ) → IsChosen text asked name → P text name → AnswersChosen known asked P answer
+    pub is_chosen : (answer : Result ⊤ ToolError) (name : List ℕ) → IsChosen text asked name → P text name
+        → AnswersChosen known asked P answer
     is_chosen answer name is holds = chosen (text, is_known, (name, is, holds))
 
 -- What holds of three texts holds of equal ones.
-pub moved : (P : List ℕ → List ℕ → List ℕ → Type 0) (arch a text t name n : List ℕ) → a ≡ arch → t ≡ text → n ≡ name → P a t n → P arch text name
-moved P arch a text t name n is_arch is_text is_name holds = subst (λ x. P x text name) is_arch (subst (λ x. P a x name) is_text (subst (λ x. P a t x) is_name holds))
+pub moved : (P : List ℕ → List ℕ → List ℕ → Type 0) (arch a text t name n : List ℕ) → a ≡ arch → t ≡ text → n ≡ name → P a t n
+    → P arch text name
+moved P arch a text t name n is_arch is_text is_name holds =
+    subst (λ x. P x text name) is_arch (subst (λ x. P a x name) is_text (subst (λ x. P a t x) is_name holds))

@@ -4,10 +4,12 @@ use Rattle.clap.specs.Words.{AddsArg, AddsSubcommand, App, Rule, app_of, is_simp
 use Rattle.clap.specs.declared.builder.arg.Arg.{Arg}
 use Rattle.clap.specs.declared.builder.command.Command.{Command}
 use Rattle.clap.specs.declared.builder.command.Command.TheViews.{out-Command}
-use Rattle.seccomptool.specs.CommandLine.{NameList, check_app, compile_app, deciding_app, diff_app, explain_app, policy_app, program_app, record_app, run_app, show_app, top_app, verify_app}
+use Rattle.seccomptool.specs.CommandLine.{NameList, check_app, compile_app, deciding_app, diff_app, explain_app, policy_app, program_app}
+use Rattle.seccomptool.specs.CommandLine.{record_app, run_app, show_app, top_app, verify_app}
 
 -- A command with one argument more.
-pub rule_added : (old : Command) (a : Arg) (new : Command) (app : App) (rule : Rule) → app_of old ≡ app → rule_of a ≡ rule → a.global ≡ false
+pub rule_added : (old : Command) (a : Arg) (new : Command) (app : App) (rule : Rule) → app_of old ≡ app → rule_of a ≡ rule
+    → a.global ≡ false
     → AddsArg old a new → app_of new ≡ with_rule app rule
 rule_added old a new app rule is_app is_rule local h = h.shape local ∙ ap₂ with_rule is_app is_rule
 
@@ -17,9 +19,11 @@ pub local_added : (old : Command) (a : Arg) (new : Command) → (out-Command old
 local_added old a new is_local local h = h.globals ∙ ap₂ (λ x y. x || y) is_local local
 
 -- A command with one subcommand more.
-pub subcommand_added : (old sub new : Command) (app inner : App) → app_of old ≡ app → app_of sub ≡ inner → (out-Command sub).has_globals ≡ false
+pub subcommand_added : (old sub new : Command) (app inner : App) → app_of old ≡ app → app_of sub ≡ inner
+    → (out-Command sub).has_globals ≡ false
     → AddsSubcommand old sub new → app_of new ≡ with_subcommand app inner.top
-subcommand_added old sub new app inner is_app is_inner local h = h.shape local ∙ ap₂ with_subcommand is_app (ap (λ (a : App). a.top) is_inner)
+subcommand_added old sub new app inner is_app is_inner local h =
+    h.shape local ∙ ap₂ with_subcommand is_app (ap (λ (a : App). a.top) is_inner)
 
 -- The contracts of `clap` are exact for this command line.
 pub program_free : (archs layouts formats : NameList) → is_simple_and_free (program_app archs layouts formats) ≡ true

@@ -1,5 +1,6 @@
 -- For `call_number` and `record`: texts that are calls, and the answers of `record`.
-use Rattle.std.proofs.Common.{◌≡◌, ℕ, ◌<◌, ◌^◌, List, ◌++◌, Option, None, Result, Ok, Err, IfSome, IfNone, IfErr, codes, sym, subst, ◌∙◌, ap, arith}
+use Rattle.std.proofs.Common.{◌≡◌, ℕ, ◌<◌, ◌^◌, List, ◌++◌, Option, None, Result, Ok, Err, IfSome, IfNone, IfErr, codes, sym, subst, ◌∙◌}
+use Rattle.std.proofs.Common.{ap, arith}
 use Rattle.std.specs.Prelude.{⊤, OnOk}
 use Rattle.std.specs.Io.KnownBytes.{Appends}
 use Rattle.std.specs.Result.{OkIff, result_ok}
@@ -25,7 +26,8 @@ one_number : (text : List ℕ) (n m : ℕ) → IsNumber text n → IsNumber text
 one_number text n m (decimal a) (decimal b) = a.value ∙ sym b.value
 one_number text n m (decimal a) (hexadecimal digits same b) = absurd (no_prefix text digits same a.digits)
 one_number text n m (hexadecimal digits same a) (decimal b) = absurd (no_prefix text digits same b.digits)
-one_number text n m (hexadecimal digits same a) (hexadecimal others too b) = let e : digits ≡ others = cc in a.value ∙ ap (digits_value 16) e ∙ sym b.value
+one_number text n m (hexadecimal digits same a) (hexadecimal others too b) = let e : digits ≡ others = cc in
+    a.value ∙ ap (digits_value 16) e ∙ sym b.value
 
 -- ---- calls
 
@@ -44,22 +46,29 @@ module _ {E : Type 0} (target : TargetArch) (call : List ℕ) (number : ℕ) (is
   ]
 
 -- A text that is neither a number nor a name is no call.
-pub no_call : (target table : TargetArch) (call : List ℕ) → ((n : ℕ) → IsNumber call n → ⊥) → table ≡ target → None ≡ number_of (table_of table) call → (n : ℕ) → IsCall target call n → ⊥
+pub no_call : (target table : TargetArch) (call : List ℕ) → ((n : ℕ) → IsNumber call n → ⊥) → table ≡ target
+    → None ≡ number_of (table_of table) call → (n : ℕ) → IsCall target call n → ⊥
 no_call target table call none same lacks n (numbered is fits) = none n is
-no_call target table call none same lacks n (named unwritten found) = let e = lacks ∙ ap (λ t. number_of (table_of t) call) same ∙ found in cc
+no_call target table call none same lacks n (named unwritten found) = let e = lacks ∙ ap (λ t. number_of (table_of t) call) same ∙ found in
+    cc
 
 -- ---- answers
 
 -- The answer where no architecture has the name.
-pub name_told : (arch call arguments : List ℕ) (e : ToolError) (old new : Option (List ℕ)) → IsRefusedName arch e → AnswersRecord arch call arguments (Err e) old new
+pub name_told : (arch call arguments : List ℕ) (e : ToolError) (old new : Option (List ℕ)) → IsRefusedName arch e
+    → AnswersRecord arch call arguments (Err e) old new
 name_told arch call arguments (tool.Library e) old new refused = refused
 name_told arch call arguments tool.OutOfMemory old new refused = tt
 name_told arch call arguments _ old new refused = absurd refused
 
 -- The answer where the record is sent.
-pub record_sent : (arch call arguments : List ℕ) (target : TargetArch) (n : ℕ) (bytes sent : List ℕ) (r : Result ⊤ ToolError) (old new : Option (List ℕ)) → IsNameOf arch target → IsCall target call n
-    → bytes ≡ record_bytes target n arguments → sent ≡ bytes → OnOk r (Appends old new sent) → IfErr r IsWriteError → AnswersRecord arch call arguments r old new
-record_sent arch call arguments target n bytes sent (Ok done) old new own called are is appends cause = (target, own, (n, called, rw (is, are) at appends))
-record_sent arch call arguments target n bytes sent (Err (tool.Write e)) old new own called are is appends cause = (target, own, (n, called, tt))
+pub record_sent : (arch call arguments : List ℕ) (target : TargetArch) (n : ℕ) (bytes sent : List ℕ) (r : Result ⊤ ToolError)
+    (old new : Option (List ℕ)) → IsNameOf arch target → IsCall target call n
+    → bytes ≡ record_bytes target n arguments → sent ≡ bytes → OnOk r (Appends old new sent) → IfErr r IsWriteError
+    → AnswersRecord arch call arguments r old new
+record_sent arch call arguments target n bytes sent (Ok done) old new own called are is appends cause =
+    (target, own, (n, called, rw (is, are) at appends))
+record_sent arch call arguments target n bytes sent (Err (tool.Write e)) old new own called are is appends cause =
+    (target, own, (n, called, tt))
 record_sent arch call arguments target n bytes sent (Err tool.OutOfMemory) old new own called are is appends cause = tt
 record_sent arch call arguments target n bytes sent (Err _) old new own called are is appends cause = absurd cause

@@ -1,5 +1,6 @@
 -- For `text_in` and `show`: what the programs of a policy mean for the answers of `show`.
-use Rattle.std.proofs.Common.{◌≡◌, ℕ, List, Option, Some, IfSome, IfErr, Result, Ok, Err, Contains, string_bytes, string_cmp, nat_cmp, refl, sym, ◌∙◌, subst}
+use Rattle.std.proofs.Common.{◌≡◌, ℕ, List, Option, Some, IfSome, IfErr, Result, Ok, Err, Contains, string_bytes, string_cmp, nat_cmp, refl}
+use Rattle.std.proofs.Common.{sym, ◌∙◌, subst}
 use Rattle.std.specs.Prelude.{⊤, OnOk}
 use Rattle.std.specs.Cmp.Lexicographic.{slice_cmp}
 use Rattle.std.specs.Io.KnownBytes.{Appends}
@@ -20,10 +21,11 @@ use Rattle.seccompiler.specs.Layouts.{IsRefusalIn}
 use Rattle.seccompiler.specs.Policy.{Filter}
 use Rattle.seccomptool.specs.Errors.{from_library, IsWriteError}
 use Rattle.seccomptool.specs.Policies.{OfPolicy, IsNameOf, IsRefusedText, no_architecture, of_policy}
-use Rattle.seccomptool.specs.Compile.{HasProgram, HasSomeProgram, HasNoProgram}
-use Rattle.seccomptool.specs.Show.{LabelledProgram, IsLabelledFor, IsShown, WritesPrograms, AreCompiled, IsLeastRefused, of_text, of_program, AnswersShow}
+use Rattle.seccomptool.specs.Compile.{HasSomeProgram, HasNoProgram}
+use Rattle.seccomptool.specs.Show.{LabelledProgram, IsLabelledFor, IsShown, WritesPrograms, AreCompiled, IsLeastRefused, of_text}
+use Rattle.seccomptool.specs.Show.{of_program, AnswersShow}
 use Rattle.seccomptool.specs.ShowParts.{NamedFilter, IsLabelled, AreLabelled, HasProgramIn, IsRefused}
-use Rattle.seccomptool.specs.StepsParts.{IsFirst, IsFirstRefusal}
+use Rattle.seccomptool.specs.StatsParts.{IsFirst, IsFirstRefusal}
 use Rattle.seccomptool.specs.declared.error.ToolError.{ToolError}
 use Rattle.seccomptool.specs.declared.error.ToolError.TheVariants as tool
 use Rattle.seccomp_command_line.proofs.ByName.{names_ordered}
@@ -34,7 +36,8 @@ use Rattle.seccomptool.proofs.show.listing.Programs.{have_programs}
 
 -- ---- programs
 
-module _ (layout : Layout) (target : TargetArch) (find : List ℕ → Option Filter) (d : Data) (policies : ArePoliciesOf target find d) (entries : List NamedFilter)
+module _ (layout : Layout) (target : TargetArch) (find : List ℕ → Option Filter) (d : Data) (policies : ArePoliciesOf target find d)
+    (entries : List NamedFilter)
     (listed : (name : List ℕ) → find name ≡ lookup (is_text name) entries) (order : IsStrictlySortedBy string_cmp (keys_of entries)) where
   -- A policy's program is its value's.
   has_some : (value : Data) (policy : Filter) → HasPolicy target value policy → HasProgramIn layout policy
@@ -49,7 +52,8 @@ module _ (layout : Layout) (target : TargetArch) (find : List ℕ → Option Fil
     all_values (HasPolicy target) find d policies (HasSomePolicy target) (λ value policy is. (policy, is)),
     string_bytes first.one.0,
     least_found (HasPolicy target) find d policies entries order listed (HasProgramIn layout) (λ policy. IsRefusalIn layout policy cause)
-        (HasNoProgram layout cause target) (HasSomeProgram layout target) (λ value policy is own. record { policy = policy; is_policy = is; refused = own }) has_some first,
+        (HasNoProgram layout cause target) (HasSomeProgram layout target)
+        (λ value policy is own. record { policy = policy; is_policy = is; refused = own }) has_some first,
   )
 
   module _ (filters : List ℕ → Option JsonFilter) (are : AreFound IsFilter filters d) where
@@ -80,16 +84,19 @@ module _ (layout : Layout) (target : TargetArch) (find : List ℕ → Option Fil
     text_shown : (text : List ℕ) → AreLabelled layout target filters entries text
         → AreAll (HasSomeProgram layout target) d × IsShown layout target d text
     text_shown text is =
-        let names = same_under (IsLabelled layout target filters) (λ (f : NamedFilter). string_bytes f.0) (λ (p : LabelledProgram). p.0) (λ f p own. own.name) entries is.programs is.each in (
+        let names = same_under (IsLabelled layout target filters) (λ (f : NamedFilter). string_bytes f.0) (λ (p : LabelledProgram). p.0)
+        (λ f p own. own.name) entries is.programs is.each in (
           all_listed (HasPolicy target) find d policies entries order listed (HasProgramIn layout) (HasSomeProgram layout target)
               (have_programs layout target filters entries is.programs is.each) has_some,
           record {
             programs = is.programs;
             ordered = subst (IsStrictlySortedBy (slice_cmp nat_cmp)) (sym names) (names_ordered entries order);
-            each = all_second (IsLabelled layout target filters) (λ (f : NamedFilter). Under d (string_bytes f.0) (λ value. HasPolicy target value f.1))
+            each = all_second (IsLabelled layout target filters)
+                (λ (f : NamedFilter). Under d (string_bytes f.0) (λ value. HasPolicy target value f.1))
                 (λ (p : LabelledProgram). Under d p.0 (λ value. IsLabelledFor layout target value p.1 p.2))
                 of_label entries is.programs is.each (each_there (HasPolicy target) find d policies entries order listed);
-            complete = λ name value has. subst (λ ns. Contains ns name) (sym names) (complete (HasPolicy target) find d policies entries order listed name value has);
+            complete = λ name value has. subst (λ ns. Contains ns name) (sym names)
+                (complete (HasPolicy target) find d policies entries order listed name value has);
             texts = is.texts;
           },
         )
@@ -112,8 +119,10 @@ module _ (layout : Layout) (arch : List ℕ) (known : Option (List ℕ)) where
     given_refused tool.OutOfMemory is = tt
     given_refused e is = absurd is
 
-    module _ (target : TargetArch) (only : (other : TargetArch) → IsNameOf arch other → target ≡ other) (find : List ℕ → Option Filter) (entries : List NamedFilter)
-        (h : OfPolicy arch (Some bytes) (λ target. ArePoliciesOf target find)) (listed : (name : List ℕ) → find name ≡ lookup (is_text name) entries)
+    module _ (target : TargetArch) (only : (other : TargetArch) → IsNameOf arch other → target ≡ other) (find : List ℕ → Option Filter)
+        (entries : List NamedFilter)
+        (h : OfPolicy arch (Some bytes) (λ target. ArePoliciesOf target find))
+        (listed : (name : List ℕ) → find name ≡ lookup (is_text name) entries)
         (order : IsStrictlySortedBy string_cmp (keys_of entries)) where
       -- The text of the programs of a policy's text.
       pub programs_shown : (filters : List ℕ → Option JsonFilter) (text : List ℕ)
@@ -137,7 +146,8 @@ module _ (layout : Layout) (arch : List ℕ) (known : Option (List ℕ)) where
         h.0,
         h.1,
         reads_on known bytes _ gives
-            (of_value (Some bytes) (ArePoliciesOf h.0 find) (IsLeastRefused layout cause h.0) h.2 (least_refused layout h.0 find h.2.2.0 h.2.2.2 entries listed order cause first)),
+            (of_value (Some bytes) (ArePoliciesOf h.0 find) (IsLeastRefused layout cause h.0) h.2
+            (least_refused layout h.0 find h.2.2.0 h.2.2.2 entries listed order cause first)),
       )
 
       -- The refusal of the first filter without a program.
@@ -159,9 +169,11 @@ module _ (arch : List ℕ) (known : Option (List ℕ)) where
       → AreCompiled layout arch known (λ target d. IsShown layout target d text)
       → sent ≡ text → OnOk r (Appends old new sent) → IfErr r IsWriteError → AnswersShow arch known layout r old new
   text_sent layout text sent (Ok done) old new h is appends cause =
-      policy_shows arch known (λ target d. AreAll (HasSomeProgram layout target) d × IsShown layout target d text) (λ target d. AreAll (HasSomeProgram layout target) d × WritesPrograms layout old new target d)
+      policy_shows arch known (λ target d. AreAll (HasSomeProgram layout target) d × IsShown layout target d text)
+      (λ target d. AreAll (HasSomeProgram layout target) d × WritesPrograms layout old new target d)
       (λ target d both. (both.0, record { text = text; is_shown = both.1; appends = subst (Appends old new) is appends })) h
   text_sent layout text sent (Err (tool.Write e)) old new h is appends cause =
-      policy_shows arch known (λ target d. AreAll (HasSomeProgram layout target) d × IsShown layout target d text) (λ target d. AreAll (HasSomeProgram layout target) d × ⊤) (λ target d both. (both.0, tt)) h
+      policy_shows arch known (λ target d. AreAll (HasSomeProgram layout target) d × IsShown layout target d text)
+      (λ target d. AreAll (HasSomeProgram layout target) d × ⊤) (λ target d both. (both.0, tt)) h
   text_sent layout text sent (Err tool.OutOfMemory) old new h is appends cause = tt
   text_sent layout text sent (Err _) old new h is appends cause = absurd cause

@@ -1,5 +1,6 @@
 -- For `choose` and `only_name`: where a map has one filter, and where it hasn't.
-use Rattle.std.proofs.Common.{◌≡◌, ◌≢◌, ℕ, List, [], ◌∷◌, length, Some, None, Less, Contains, String, Global, string_bytes, string_cmp, nat_cmp, map, refl, sym, subst, ◌∙◌, arith}
+use Rattle.std.proofs.Common.{◌≡◌, ◌≢◌, ℕ, List, [], ◌∷◌, length, Some, None, Less, Contains, String, Global, string_bytes, string_cmp}
+use Rattle.std.proofs.Common.{nat_cmp, refl, sym, subst, ◌∙◌, arith}
 use Rattle.std.specs.BTreeMap.{is_at}
 use Rattle.std.specs.Prelude.{Result, Ok, Err, IfErr}
 use Rattle.std.specs.Cmp.Lexicographic.{slice_cmp}

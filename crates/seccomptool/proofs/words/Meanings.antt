@@ -1,4 +1,4 @@
--- For `read`: from what `clap` says of its matches to the command that the words mean.
+-- For `read`: from what `clap` says of its matches to what the words ask for.
 use Rattle.std.proofs.Common.{◌≡◌, ◌∙◌, ap, ap₂, false, inl, inr, is_some, List, None, Option, option_map, refl, [], Some, subst, sym, true}
 use Rattle.std.specs.Prelude.{unwrap_or}
 use Rattle.clap.specs.Words.{App, HasMatchesOf, Row, Text, fault_of, is_simple, subcommand_of, subcommand_rows_of}
@@ -7,8 +7,8 @@ use Rattle.clap.specs.Kinds.{HasKind}
 use Rattle.clap.specs.declared.error.Error.{Error}
 use Rattle.clap.specs.declared.parser.matches.ArgMatches.{ArgMatches}
 use Rattle.seccomptool.specs.CommandLine.{program_app}
-use Rattle.seccomptool.specs.Words.{Choices, IsCommand, IsFault, IsOwn, Means}
-use Rattle.seccomptool.specs.declared.words.Command.{Command}
+use Rattle.seccomptool.specs.Words.{Choices, IsAsked, IsFault, IsOwn, Means}
+use Rattle.seccomptool.specs.declared.words.Asked.{Asked}
 use Rattle.seccomptool.proofs.program.Apps.{program_free, program_simple}
 
 -- the name and the rows behind an `Option`
@@ -24,15 +24,16 @@ pub none_of : {X Y : Type 0} (o : Option X) (f : X → Y) → false ≡ is_some 
 none_of None f e = refl
 none_of (Some x) f e = cc
 
-module _ (choices : Choices) (app : App) (words : List Text) (is_app : app ≡ program_app choices.archs choices.layouts choices.formats) where
+module _ (choices : Choices) (app : App) (words : List Text)
+    (is_app : app ≡ program_app choices.archs choices.layouts choices.formats) where
   free : is_simple_and_free app ≡ true
   free = ap is_simple_and_free is_app ∙ program_free choices.archs choices.layouts choices.formats
 
   simple : is_simple app ≡ true
   simple = ap is_simple is_app ∙ program_simple choices.archs choices.layouts choices.formats
 
-  -- an error of our own, where the words mean no command
-  own_fault : (error : Error) → IsOwn error → ((command : Command) → Means choices words command → ⊥) → IsFault choices words error
+  -- an error of our own, where the words ask for nothing
+  own_fault : (error : Error) → IsOwn error → ((asked : Asked) → Means choices words asked → ⊥) → IsFault choices words error
   own_fault error own none = elim own [
     | inl value ↦ inr (inr (value, none))
     | inr memory ↦ inl memory
@@ -48,16 +49,18 @@ module _ (choices : Choices) (app : App) (words : List Text) (is_app : app ≡ p
   module _ (matches : ArgMatches) (h : HasMatchesOf app words matches) where
     -- no subcommand was entered
     pub none_entered : (error : Error) → IsOwn error → subcommand_rows_of matches ≡ None → IsFault choices words error
-    none_entered error own none = own_fault error own (λ command m.
-        let same : Some (m.name, m.rows) ≡ None = sym m.entered ∙ ap (λ a. subcommand_of a words) (sym is_app) ∙ sym (h simple).1 ∙ none in cc)
+    none_entered error own none = own_fault error own (λ asked m.
+        let same : Some (m.name, m.rows) ≡ None = sym m.entered ∙ ap (λ a. subcommand_of a words) (sym is_app) ∙ sym (h simple).1 ∙ none in
+        cc)
 
     module _ (name : Text) (rows : List Row) (met : subcommand_rows_of matches ≡ Some (name, rows)) where
       entered : subcommand_of (program_app choices.archs choices.layouts choices.formats) words ≡ Some (name, rows)
       entered = ap (λ a. subcommand_of a words) (sym is_app) ∙ sym (h simple).1 ∙ met
 
-      -- the command is the one that the words mean
-      pub meant : (command : Command) → (is_simple_and_free app ≡ true → fault_of app words ≡ []) → IsCommand name rows command → Means choices words command
-      meant command faultless is = record {
+      -- what is asked for is what the words mean
+      pub meant : (asked : Asked) → (is_simple_and_free app ≡ true → fault_of app words ≡ []) → IsAsked name rows asked
+          → Means choices words asked
+      meant asked faultless is = record {
         faultless = ap (λ a. fault_of a words) (sym is_app) ∙ faultless free;
         name = name;
         rows = rows;
@@ -65,8 +68,8 @@ module _ (choices : Choices) (app : App) (words : List Text) (is_app : app ≡ p
         is = is;
       }
 
-      -- the matches are no command
-      pub unmeant : (error : Error) → IsOwn error → ((command : Command) → IsCommand name rows command → ⊥) → IsFault choices words error
-      unmeant error own none = own_fault error own (λ command m.
+      -- the matches ask for nothing
+      pub unmeant : (error : Error) → IsOwn error → ((asked : Asked) → IsAsked name rows asked → ⊥) → IsFault choices words error
+      unmeant error own none = own_fault error own (λ asked m.
           let same : (m.name, m.rows) ≡ (name, rows) = ap (λ o. unwrap_or o (name, rows)) (sym m.entered ∙ entered) in
-          none command (subst (λ (p : Text × List Row). IsCommand p.0 p.1 command) same m.is))
+          none asked (subst (λ (p : Text × List Row). IsAsked p.0 p.1 asked) same m.is))

@@ -9,7 +9,7 @@ ghost use Rattle.seccompiler.specs.Reads.{Reads};
 ghost use Rattle.seccompiler.specs.Compiled.{IsCompilable};
 ghost use Rattle.seccomptool.specs.ExplainSteps.{AreUsable, HasNamedPolicy, IsFirstTooLarge};
 ghost use Rattle.seccomptool.specs.Policies.{IsNameOf, IsRefusedPolicy};
-ghost use Rattle.seccomptool.specs.WidenedParts.{IsFirstJsonRefusal};
+ghost use Rattle.seccomptool.specs.CompatParts.{IsFirstJsonRefusal};
 
 use crate::error::ToolError;
 use seccompiler::json::filters_from;

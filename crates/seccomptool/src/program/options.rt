@@ -2,7 +2,7 @@
 
 ghost use Rattle.std.specs.Prelude.{◌≡◌, false};
 ghost use Rattle.clap.specs.Words.{rule_of};
-ghost use Rattle.seccomptool.specs.CommandLine.{all_rule, arch_rule, arguments_rule, at_most_rule, call_rule, deny_warnings_rule, filter_rule, format_rule, given_call_rule, given_policy_rule, layout_rule, most_rule, new_policy_rule, old_rule, output_rule, policy_rule, program_rule, records_rule, shown_policy_rule, shown_program_rule};
+ghost use Rattle.seccomptool.specs.CommandLine.{all_rule, arch_rule, arguments_rule, at_most_rule, call_rule, deny_warnings_rule, filter_rule, format_rule, given_call_rule, given_policy_rule, layout_rule, most_rule, new_policy_rule, old_rule, output_rule, policies_rule, policy_rule, program_rule, records_rule, shown_policy_rule, shown_program_rule};
 
 use clap::{Arg, ArgAction};
 use std::alloc::Global;
@@ -156,6 +156,15 @@ pub(super) fn policy<'a>(alloc: Global) -> Arg<'a>
         .value_name("POLICY")
         .default_value("-")
         .help("The policy's file, or - for standard input")
+}
+
+pub(super) fn policies<'a>(alloc: Global) -> Arg<'a>
+    ensures rule { rule_of result ≡ policies_rule }
+    ensures local { result.global ≡ false }
+{
+    policy(alloc)
+        .num_args(1..)
+        .help("The policies' files, or - for standard input")
 }
 
 pub(super) fn shown_policy<'a>(alloc: Global) -> Arg<'a>

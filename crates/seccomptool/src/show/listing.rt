@@ -5,7 +5,7 @@ ghost use Rattle.std.specs.BTreeMap as tree;
 ghost use Rattle.seccompiler.specs.Layouts.{IsRefusalIn};
 ghost use Rattle.seccomptool.specs.ShowText.{label_in, lines_from, text_of};
 ghost use Rattle.seccomptool.specs.ShowParts.{AreLabelled, HasProgramIn};
-ghost use Rattle.seccomptool.specs.StepsParts.{IsFirstRefusal};
+ghost use Rattle.seccomptool.specs.StatsParts.{IsFirstRefusal};
 
 use crate::show::labels::labels;
 use crate::show::text::{push_header, push_line};

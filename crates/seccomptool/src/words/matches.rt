@@ -1,18 +1,54 @@
 // The command that clap's matches are.
 
-ghost use Rattle.std.specs.Prelude.{IfSome, IfNone, codes};
+ghost use Rattle.std.specs.Prelude.{IfOk, IfSome, IfNone, codes};
 ghost use Rattle.clap.specs.Words.{found_of, rows_of};
-ghost use Rattle.seccomptool.specs.Words.{IsCommand};
+ghost use Rattle.seccomptool.specs.Words.{IsAsked, IsCommand};
+ghost use Rattle.seccomptool.specs.declared.words.Asked.{Asked};
 ghost use Rattle.seccomptool.specs.declared.words.Command.{Command};
 
-use super::Command;
 use super::values::{
-    arch_in, arguments_in, denied_in, format_in, layout_in, most_in, records_in, relation_in,
-    scope_in, shown_in, text_in,
+    arch_in, arguments_in, denied_in, format_in, layout_in, most_in, policies_in, records_in,
+    relation_in, scope_in, shown_in, text_in,
 };
+use super::{Asked, Command};
 use clap::ArgMatches;
+use std::alloc::{AllocError, Global};
 
-// The command that the matches of the subcommand of this name are.
+// What the matches of the subcommand of this name ask for.
+pub(crate) fn asked_in<'a>(
+    alloc: Global,
+    name: &str,
+    found: &ArgMatches<'a>,
+) -> Result<Option<Asked<'a>>, AllocError>
+    ensures some { IfOk result (λ o. IfSome o (IsAsked name.now (rows_of (found_of found.now)))) }
+    ensures none { IfOk result (λ o. IfNone o ((asked : Asked) → IsAsked name.now (rows_of (found_of found.now)) asked → ⊥)) }
+{
+    if name == "check" {
+        return checks_in(alloc, found);
+    }
+    match command_in(name, found) {
+        Some(command) => Ok(Some(Asked::One(command))),
+        None => Ok(None),
+    }
+}
+
+// What the matches of `check` ask for.
+fn checks_in<'a>(alloc: Global, found: &ArgMatches<'a>) -> Result<Option<Asked<'a>>, AllocError>
+    ensures some { IfOk result (λ o. IfSome o (IsAsked (codes "check") (rows_of (found_of found.now)))) }
+    ensures none { IfOk result (λ o. IfNone o ((asked : Asked) → IsAsked (codes "check") (rows_of (found_of found.now)) asked → ⊥)) }
+{
+    let Some(arch) = arch_in(found) else {
+        return Ok(None);
+    };
+    let policies = policies_in(alloc, found)?;
+    Ok(Some(Asked::Checks {
+        arch,
+        denied: denied_in(found),
+        policies,
+    }))
+}
+
+// The command that the matches of the subcommand of this name are, `check` aside.
 pub(crate) fn command_in<'a>(name: &str, found: &ArgMatches<'a>) -> Option<Command<'a>>
     ensures some { IfSome result (IsCommand name.now (rows_of (found_of found.now))) }
     ensures none { IfNone result ((c : Command) → IsCommand name.now (rows_of (found_of found.now)) c → ⊥) }
@@ -20,7 +56,6 @@ pub(crate) fn command_in<'a>(name: &str, found: &ArgMatches<'a>) -> Option<Comma
     match name {
         "compile" => compile_in(found),
         "show" => show_in(found),
-        "check" => check_in(found),
         "explain" => explain_in(found),
         "run" => run_in(found),
         "stats" => stats_in(found),
@@ -111,24 +146,6 @@ fn show_in<'a>(found: &ArgMatches<'a>) -> Option<Command<'a>>
         arch,
         layout,
         shown,
-    })
-}
-
-// The command that the matches of `check` are.
-fn check_in<'a>(found: &ArgMatches<'a>) -> Option<Command<'a>>
-    ensures some { IfSome result (IsCommand (codes "check") (rows_of (found_of found.now))) }
-    ensures none { IfNone result ((c : Command) → IsCommand (codes "check") (rows_of (found_of found.now)) c → ⊥) }
-{
-    let Some(arch) = arch_in(found) else {
-        return None;
-    };
-    let Some(policy) = text_in(found, "policy") else {
-        return None;
-    };
-    Some(Command::Check {
-        arch,
-        denied: denied_in(found),
-        policy,
     })
 }
 

@@ -1,11 +1,11 @@
 // The values of options and arguments, in clap's matches.
 
-ghost use Rattle.std.specs.Prelude.{◌≡◌, ℕ, List, [], IfSome, IfNone, Some, codes, unwrap_or};
+ghost use Rattle.std.specs.Prelude.{◌≡◌, ℕ, List, [], IfOk, IfSome, IfNone, Some, codes, map, unwrap_or};
 ghost use Rattle.clap.specs.Words.{first_of, found_of, rows_of};
 ghost use Rattle.seccompiler.specs.declared.backend.TargetArch.{TargetArch};
 ghost use Rattle.seccompiler.specs.declared.layout.Layout.{Layout};
 ghost use Rattle.seccomptool.specs.Numbers.{IsNumber};
-ghost use Rattle.seccomptool.specs.Words.{AreArguments, AreRecords, AreShown, IsArch, IsDenied, IsMost, IsRelation, IsScope, format_text, given_arguments, layout_text, text_of};
+ghost use Rattle.seccomptool.specs.Words.{AreArguments, AreRecords, AreShown, IsArch, IsDenied, IsMost, IsRelation, IsScope, format_text, given_arguments, given_policies, layout_text, text_of};
 ghost use Rattle.seccomptool.specs.declared.compile.format.ProgramFormat.{ProgramFormat};
 ghost use Rattle.seccomptool.specs.declared.words.Records.{Records};
 ghost use Rattle.seccomptool.specs.declared.words.Shown.{Shown};
@@ -17,6 +17,7 @@ use crate::numbers::read_number;
 use crate::verify::scope::Scope;
 use clap::ArgMatches;
 use seccompiler::{Layout, Relation, TargetArch};
+use std::alloc::{AllocError, Global};
 
 // The value of an argument of this name.
 pub(super) fn text_in<'a>(found: &ArgMatches<'a>, id: &str) -> Option<&'a str>
@@ -73,6 +74,22 @@ pub(super) fn denied_in(found: &ArgMatches<'_>) -> bool
         Some("true") => true,
         _ => false,
     }
+}
+
+// The policies of `check`: standard input where none is given.
+pub(super) fn policies_in<'a>(
+    alloc: Global,
+    found: &ArgMatches<'a>,
+) -> Result<Vec<&'a str>, AllocError>
+    ensures { IfOk result (λ policies. map (λ p. p.now) policies.items ≡ given_policies (rows_of (found_of found.now))) }
+{
+    let mut policies = Vec::new(alloc);
+    let Some(paths) = found.get_strs("policy") else {
+        policies.push("-")?;
+        return Ok(policies);
+    };
+    policies.extend_from_slice(paths)?;
+    Ok(policies)
 }
 
 // What `show` is to print: a policy or a program, and not both.

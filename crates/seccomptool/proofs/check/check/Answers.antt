@@ -2,6 +2,7 @@ use Rattle.std.proofs.Common.{◌≡◌, IfSome, subst, sym, ◌∙◌}
 use Rattle.std.proofs.lemmas.Result.{err_from_is_err_and}
 use Rattle.seccompiler.specs.JsonAnswers.{OfValue}
 use Rattle.seccompiler.specs.JsonSteps.{AreFilters}
+use Rattle.seccomp_warnings.specs.Reports.{IsReportOf}
 use Rattle.seccomptool.proofs.Faults.{name_is_text, name_refused, policy_unread, text_is_policy, text_refused}
 use Rattle.seccomptool.proofs.check.Checked.{check_told, lint_told, lines_sent, lines_unsent}
 use Rattle.seccomptool.proofs.check.check.Goals as goal
@@ -14,7 +15,7 @@ returns-in_err-from_text-clause-answers g c =
     let out = g.W.Write.contents c.args.out.now in
     let refused = text_is_policy arch known _ (name_is_text arch known _
     (name_refused arch c.in_err-from_text.field-0.0 c.in_err-from_text.ensures.named c.in_err-from_text.ensures.refused)) in
-    rw (error.1, error.2) (check_told arch c.args.denied known _ out out refused)
+    rw (error.1, error.2) (check_told arch c.args.denied c.args.allowed.now c.args.path.now known _ out out refused)
 
 pub returns-in_err-text-clause-answers : goal.returns-in_err-text-clause-answers
 returns-in_err-text-clause-answers g c =
@@ -23,7 +24,7 @@ returns-in_err-text-clause-answers g c =
     let known = g.R.Read.remaining c.args.policy in
     let out = g.W.Write.contents c.args.out.now in
     let refused = policy_unread arch known c.in_ok-from_text.field-0 _ c.in_ok-from_text.ensures.read c.in_err-text.ensures.refused in
-    rw (error.1, error.2) (check_told arch c.args.denied known _ out out refused)
+    rw (error.1, error.2) (check_told arch c.args.denied c.args.allowed.now c.args.path.now known _ out out refused)
 
 pub returns-in_err-lint-clause-answers : goal.returns-in_err-lint-clause-answers
 returns-in_err-lint-clause-answers g c =
@@ -31,7 +32,9 @@ returns-in_err-lint-clause-answers g c =
     let known = g.R.Read.remaining c.args.policy in
     let out = g.W.Write.contents c.args.out.now in
     let own = subst (λ t. IfSome known (λ k. t ≡ k)) (sym c.as_slice.ensures.value) c.in_ok-text.ensures.text in
-    rw (error.1, error.2) (lint_told c.args.arch.now c.args.denied known c.as_slice.result.now own _ out out c.in_err-lint.ensures.answers)
+    rw (error.1, error.2)
+    (lint_told c.args.arch.now c.args.denied c.args.allowed.now c.args.path.now known c.as_slice.result.now own _ out out
+    c.in_err-lint.ensures.answers)
 
 pub returns-in_err-filters-clause-answers : goal.returns-in_err-filters-clause-answers
 returns-in_err-filters-clause-answers g c =
@@ -43,14 +46,17 @@ returns-in_err-filters-clause-answers g c =
     let own = subst (λ t. IfSome known (λ k. t ≡ k)) (sym c.as_slice-2.ensures.value) c.in_ok-text.ensures.text in
     let refused = text_refused arch known target c.in_err-filters.field-0.0 c.in_ok-from_text.ensures.read c.in_err-filters.ensures.memory
     (c.as_slice-2.result.now, own, c.in_err-filters.ensures.fault target) in
-    rw (error.1, error.2) (check_told arch c.args.denied known _ out out (text_is_policy arch known _ refused))
+    rw (error.1, error.2)
+    (check_told arch c.args.denied c.args.allowed.now c.args.path.now known _ out out (text_is_policy arch known _ refused))
 
 pub returns-in_err-send-clause-answers : goal.returns-in_err-send-clause-answers
 returns-in_err-send-clause-answers g c =
     let error = err_from_is_err_and c.from_residual-in_err-send.result c.from_residual-in_err-send.ensures.1 in
     let known = g.R.Read.remaining c.args.policy in
     let own = subst (λ t. IfSome known (λ k. t ≡ k)) (sym c.as_slice.ensures.value) c.in_ok-text.ensures.text in
-    rw (error.1, error.2) (lines_unsent c.args.arch.now c.args.denied known c.as_slice.result.now own c.in_ok-lint.ensures.answers _
+    rw (error.1, error.2)
+    (lines_unsent c.args.arch.now c.args.denied c.args.allowed.now c.args.path.now known c.as_slice.result.now own
+    c.in_ok-lint.ensures.answers _
     (g.W.Write.contents c.args.out.now) (g.W.Write.contents c.send.new.out) c.in_err-send.ensures.cause)
 
 pub returns-clause-answers : goal.returns-clause-answers
@@ -62,8 +68,12 @@ returns-clause-answers g c =
     let same = c.as_slice-2.ensures.value ∙ sym c.as_slice.ensures.value in
     let of_text = subst (λ t. OfValue t (λ d. AreFilters d filters)) same c.in_ok-filters.ensures.filters in
     let report = c.in_ok-report.report in
-    lines_sent c.args.arch.now c.args.denied known text own c.in_ok-lint.ensures.answers filters of_text c.in_ok-report.ensures.ordered
+    let front = c.in_ok-front.front.items in
+    let is_report = subst (λ f. IsReportOf c.args.allowed.now f filters.0.entries report.text.items report.warned)
+    c.deref.ensures.value c.in_ok-report.ensures.report in
+    lines_sent c.args.arch.now c.args.denied c.args.allowed.now c.args.path.now known text own c.in_ok-lint.ensures.answers filters of_text
+    c.in_ok-report.ensures.ordered front c.in_ok-front.ensures
     report.text.items report.warned
-    c.in_ok-report.ensures.report c.verdict_where.result c.deref.result.now (g.W.Write.contents c.args.out.now)
-    (g.W.Write.contents c.send.new.out) c.deref.ensures.value
+    is_report c.verdict_where.result c.deref-2.result.now (g.W.Write.contents c.args.out.now)
+    (g.W.Write.contents c.send.new.out) c.deref-2.ensures.value
     c.in_ok-send.ensures.sent c.verdict_where.ensures

@@ -24,7 +24,8 @@ returns-in_err-program-clause-answers g c =
     let error = err_from_is_err_and c.from_residual-in_err-program.result c.from_residual-in_err-program.ensures.1 in
     let filters = c.in_ok-filters.filters in
     let out = g.W.Write.contents c.args.out.now in
-    rw (error.1, error.2) (program_refused c.args.arch.now (g.R.Read.remaining c.args.policy) c.args.name.now c.args.layout (get_by_text filters)
+    rw (error.1, error.2)
+    (program_refused c.args.arch.now (g.R.Read.remaining c.args.policy) c.args.name.now c.args.layout (get_by_text filters)
     c.in_ok-filters.ensures.filters c.in-Some.filter.now (sym c.in-Some.ensures.value) c.args.format c.in_err-program.field-0.0 out out
     c.in_err-program.ensures.refused)
 
@@ -34,8 +35,10 @@ returns-clause-answers g c =
     let known = g.R.Read.remaining c.args.policy in
     let name = c.args.name.now in
     let program = c.in_ok-program.program in
-    let has = a_program arch known name c.args.layout (get_by_text c.in_ok-filters.filters) c.in_ok-filters.ensures.filters c.in-Some.filter.now
+    let has = a_program arch known name c.args.layout (get_by_text c.in_ok-filters.filters)
+    c.in_ok-filters.ensures.filters c.in-Some.filter.now
     (sym c.in-Some.ensures.value) program.items c.in_ok-program.ensures.compiled in
-    program_sent arch known name c.args.layout c.args.format program.items c.in_ok-written_in.field-0.items c.deref-2.result.now c.send.result
+    program_sent arch known name c.args.layout c.args.format program.items c.in_ok-written_in.field-0.items c.deref-2.result.now
+    c.send.result
     (g.W.Write.contents c.args.out.now) (g.W.Write.contents c.send.new.out)
     has (rw c.deref.ensures.value at c.in_ok-written_in.ensures) c.deref-2.ensures.value c.send.ensures.sent c.send.ensures.cause

@@ -43,7 +43,8 @@ returns-in-Err-clause-answers g c =
     let is_old = subst (λ t. Reads known_old (λ text. OfValue text (ArePoliciesOf t old))) c.new-compiler.ensures
     c.in_ok-old.ensures.policies in
     let told = subst (λ t. Reads known (λ text. TellsFrontendFault t text refusal)) c.new-compiler.ensures c.in-Err.ensures.fault in
-    rw (c.of_new_policy.ensures, c.into.ensures) (new_told arch asked c.args.relation known_old known out out target c.in_ok-target.ensures.read old is_old _
+    rw (c.of_new_policy.ensures, c.into.ensures)
+    (new_told arch asked c.args.relation known_old known out out target c.in_ok-target.ensures.read old is_old _
     (text_refused arch known target refusal c.in_ok-target.ensures.read c.in-Err.ensures.memory told))
 
 pub returns-in_err-report-clause-answers : goal.returns-in_err-report-clause-answers

@@ -44,4 +44,5 @@ returns-clause-answers g c =
     (g.R.Read.remaining c.args.records) c.in_ok-target.target c.in_ok-filters.filters c.in_ok-target.ensures.read
     c.in_ok-filters.ensures.filters
     c.in-Some.filter.now (sym c.in-Some.ensures.value) c.in_ok-made.made.filter (rw c.new.ensures at c.in_ok-made.ensures.policy)
-    c.explain_records.result (contents c.args.out.now) (contents c.explain_records.new.out) c.explain_records.ensures.lines c.explain_records.ensures.cause
+    c.explain_records.result (contents c.args.out.now)
+    (contents c.explain_records.new.out) c.explain_records.ensures.lines c.explain_records.ensures.cause

@@ -1,5 +1,6 @@
 -- For `usable_filters`: what the policies of a text's filters mean for the text.
-use Rattle.std.proofs.Common.{◌≡◌, ◌∷◌, ◌++◌, ℕ, ℤ, List, Option, Some, All, IfSome, String, Global, string_bytes, string_cmp, refl, sym, subst, ◌∙◌}
+use Rattle.std.proofs.Common.{ℕ, ℤ, List, Option, All, IfSome, String, Global, string_bytes, string_cmp, sym}
+use Rattle.std.proofs.Common.{subst, ◌∙◌}
 use Rattle.std.specs.BTreeMap.{get_by_text}
 use Rattle.std.specs.List.{AllZip}
 use Rattle.std.specs.List.Sorted.{IsStrictlySortedBy}
@@ -28,12 +29,12 @@ use Rattle.seccomp_command_line.proofs.ByName.{by_text}
 use Rattle.seccomptool.specs.Errors.{from_library}
 use Rattle.seccomptool.specs.ExplainSteps.{AreUsable, HasNamedPolicy, IsFirstTooLarge}
 use Rattle.seccomptool.specs.Policies.{HasCompilable, IsNameOf, IsRefusedPolicy}
-use Rattle.seccomptool.specs.StepsParts.{IsFirst}
+use Rattle.seccomptool.specs.StatsParts.{IsFirst}
 use Rattle.seccomptool.proofs.Faults.{policy_refused}
-use Rattle.seccomptool.proofs.Found.{all_values, all_listed, least_found}
+use Rattle.seccomptool.proofs.Found.{all_listed, least_found}
 use Rattle.seccomptool.proofs.Pairs.{all_first, all_first_where, cut_first}
 use Rattle.seccomptool.proofs.Readings.{of_value}
-use Rattle.seccomptool.proofs.steps.TableNumbers.{table_number_fits}
+use Rattle.seccomptool.proofs.stats.TableNumbers.{table_number_fits}
 
 -- The JSON filter has a policy that can be compiled, and one that is too large.
 abbrev HasOne : TargetArch → String Global × JsonFilter → Type 0

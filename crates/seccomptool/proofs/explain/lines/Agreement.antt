@@ -1,23 +1,27 @@
 -- For `lines`: the policy of a JSON filter decides what the reason says.
-use Rattle.std.proofs.Common.{◌≡◌, ℕ, zero, suc, ℤ, pos, ◌<◌, List, [], ◌∷◌, ◌++◌, length, map, cond, get_or, Option, Some, None, Bool, true, false, ◌&&◌, refl, sym, subst, ap, ◌∙◌, ◌⊎◌, inl, inr, arith}
+use Rattle.std.proofs.Common.{◌≡◌, ℕ, zero, suc, ℤ, pos, ◌<◌, List, [], ◌∷◌, ◌++◌, length, map, cond, get_or, Option, Some, None, Bool}
+use Rattle.std.proofs.Common.{true, false, ◌&&◌, refl, sym, subst, ap, ◌∙◌, ◌⊎◌, inl, inr, arith}
 use Rattle.std.specs.Prelude.{⊤, All, Any, slice_get, IfSome}
 use Rattle.std.specs.List.{flat_map, list_any}
 use Rattle.std.specs.Option.{is_none}
 use Rattle.std.proofs.lemmas.Bool.{true≢false, cases_Bool}
-use Rattle.std.proofs.lemmas.List.Elements.{All-contains, All-map, All-nil, All-same, All-cons, All-head, All-tail, Contains-append_left, Contains-append_right, Contains-append_cases}
+use Rattle.std.proofs.lemmas.List.Elements.{All-contains, All-map, All-nil, All-same, All-cons, All-head, All-tail, Contains-append_left}
+use Rattle.std.proofs.lemmas.List.Elements.{Contains-append_right, Contains-append_cases}
 use Rattle.std.proofs.lemmas.List.Folds.{Any-from_list_any, list_any-from_Any}
 use Rattle.std.proofs.lemmas.Option.{get_or_from_slice_get, slice_get_within, slice_get-get_or}
 use Rattle.seccompiler.specs.declared.backend.TargetArch.{TargetArch}
 use Rattle.seccompiler.specs.declared.json.types.JsonCondition.{JsonCondition}
 use Rattle.seccompiler.specs.Architecture.{audit_word}
-use Rattle.seccompiler.specs.Policy.{word_of, Condition, Holds, Rule, Filter, RuleHolds, ChainMatches, Matches, IsDecision, other_architecture, policy_matches, policy_differs}
+use Rattle.seccompiler.specs.Policy.{word_of, Condition, Holds, Rule, Filter, RuleHolds, ChainMatches, Matches, IsDecision}
+use Rattle.seccompiler.specs.Policy.{other_architecture, policy_matches, policy_differs}
 use Rattle.seccompiler.specs.JsonOrigins.{AreIndicesFor}
 use Rattle.seccompiler.specs.JsonPolicyOf.{condition_of, rules_of, rules_for, is_for, is_always, IsFor, chain_for, all_rules, IsPolicyOf}
 use Rattle.seccompiler.specs.JsonTypes.{JsonRule, JsonFilter}
 use Rattle.seccompiler.specs.Machine.{word_at}
 use Rattle.seccomptool.specs.declared.explain.reason.Reason.{Reason}
 use Rattle.seccomptool.specs.declared.explain.reason.Reason.TheVariants.{AnotherArchitecture, NoEntry, NoMatch, Entry}
-use Rattle.seccomptool.specs.Reasons.{ConditionHolds, EntryHolds, OfEntry, IsFirstMatch, IsReasonAmong, IsReason, of_another, of_call, reason_action}
+use Rattle.seccomptool.specs.Reasons.{EntryHolds, OfEntry, IsFirstMatch, IsReasonAmong, IsReason, of_another, of_call}
+use Rattle.seccomptool.specs.Reasons.{reason_action}
 use Rattle.seccomptool.proofs.explain.EntrySearches as search
 use Rattle.seccomptool.proofs.explain.EntrySearches.{contained, for_yes, yes_for}
 
@@ -39,11 +43,13 @@ module _ {X : Type 0} (P : X → Type 0) where
 
   -- What an item of the front list has, some item of both lists has.
   any_in_front : (xs ys : List X) → Any P xs → Any P (xs ++ ys)
-  any_in_front xs ys (k, x, within, is, has) = let there = Contains-append_left xs ys x (k, within, is) in (there.0, x, there.1, there.2, has)
+  any_in_front xs ys (k, x, within, is, has) = let there = Contains-append_left xs ys x (k, within, is) in
+      (there.0, x, there.1, there.2, has)
 
   -- What an item of the list behind has, some item of both lists has.
   any_behind : (xs ys : List X) → Any P ys → Any P (xs ++ ys)
-  any_behind xs ys (k, x, within, is, has) = let there = Contains-append_right xs ys x (k, within, is) in (there.0, x, there.1, there.2, has)
+  any_behind xs ys (k, x, within, is, has) = let there = Contains-append_right xs ys x (k, within, is) in
+      (there.0, x, there.1, there.2, has)
 
   -- Some item of two lists is of one of them.
   any_of_both : (xs ys : List X) → Any P (xs ++ ys) → Any P xs ⊎ Any P ys
@@ -88,11 +94,13 @@ abbrev MatchesAlone : TargetArch → List ℕ → JsonRule → Type 0
 MatchesAlone target r entry = IsFor target (pos (word_at r 0)) entry × EntryHolds entry r
 
 -- The rule that conditions stand for holds where they do.
-rule_holds : (r : List ℕ) (conditions : List JsonCondition) → All (λ c. Holds (condition_of c) r) conditions → RuleHolds (map condition_of conditions) r
+rule_holds : (r : List ℕ) (conditions : List JsonCondition) → All (λ c. Holds (condition_of c) r) conditions
+    → RuleHolds (map condition_of conditions) r
 rule_holds r conditions all = All-map (λ c. Holds c r) condition_of conditions all
 
 -- Conditions hold where the rule that they stand for does.
-conditions_hold : (r : List ℕ) (conditions : List JsonCondition) → RuleHolds (map condition_of conditions) r → All (λ c. Holds (condition_of c) r) conditions
+conditions_hold : (r : List ℕ) (conditions : List JsonCondition) → RuleHolds (map condition_of conditions) r
+    → All (λ c. Holds (condition_of c) r) conditions
 conditions_hold r [] all = All-nil (λ c. Holds (condition_of c) r)
 conditions_hold r (c ∷ cs) all =
     All-cons (λ c. Holds (condition_of c) r) c cs (All-head (λ (c : Condition). Holds c r) (condition_of c) (map condition_of cs) all)
@@ -107,9 +115,13 @@ module _ (target : TargetArch) (r : List ℕ) where
   always_matches : (entry : JsonRule) → is_always target number entry ≡ true → MatchesAlone target r entry
   always_matches entry is = by (is_for target number entry) entry.conditions refl refl is
     where
-      by : (b : Bool) (o : Option (List JsonCondition)) → is_for target number entry ≡ b → entry.conditions ≡ o → (b && is_none o) ≡ true → MatchesAlone target r entry
+      by : (b : Bool) (o : Option (List JsonCondition)) → is_for target number entry ≡ b → entry.conditions ≡ o → (b && is_none o) ≡ true
+          → MatchesAlone target r entry
       by false o own none both = absurd (true≢false (sym both))
-      by true None own none both = (yes_for target number entry own, subst (λ o. IfSome o (λ conditions. All (λ c. Holds (condition_of c) r) conditions)) (sym none) tt)
+      by true None own none both = (
+        yes_for target number entry own,
+        subst (λ o. IfSome o (λ conditions. All (λ c. Holds (condition_of c) r) conditions)) (sym none) tt,
+      )
       by true (Some cs) own none both = absurd (true≢false (sym both))
 
   -- An entry of the call without conditions is known as one.
@@ -117,25 +129,33 @@ module _ (target : TargetArch) (r : List ℕ) where
   is_known entry own none = rw (for_yes target number entry own, none) refl
 
   -- An entry that has conditions and matches has a rule that holds.
-  rule_of_match : (entry : JsonRule) (conditions : List JsonCondition) → entry.conditions ≡ Some conditions → MatchesAlone target r entry → Any (λ q. RuleHolds q r) (rules_for target number entry)
+  rule_of_match : (entry : JsonRule) (conditions : List JsonCondition) → entry.conditions ≡ Some conditions → MatchesAlone target r entry
+      → Any (λ q. RuleHolds q r) (rules_for target number entry)
   rule_of_match entry conditions some matches =
-      let holds : All (λ c. Holds (condition_of c) r) conditions = subst (λ o. IfSome o (λ conditions. All (λ c. Holds (condition_of c) r) conditions)) some matches.1 in
-      rw (for_yes target number entry matches.0, some) (any_here (λ q. RuleHolds q r) (map condition_of conditions) [] (rule_holds r conditions holds))
+      let holds : All (λ c. Holds (condition_of c) r) conditions =
+      subst (λ o. IfSome o (λ conditions. All (λ c. Holds (condition_of c) r) conditions)) some matches.1 in
+      rw (for_yes target number entry matches.0, some)
+      (any_here (λ q. RuleHolds q r) (map condition_of conditions) [] (rule_holds r conditions holds))
 
   -- An entry with a rule that holds matches.
   match_of_rule : (entry : JsonRule) → Any (λ q. RuleHolds q r) (rules_for target number entry) → MatchesAlone target r entry
   match_of_rule entry some = by (is_for target number entry) entry.conditions refl refl some
     where
-      by : (b : Bool) (o : Option (List JsonCondition)) → is_for target number entry ≡ b → entry.conditions ≡ o → Any (λ q. RuleHolds q r) (cond b (rules_of o) []) → MatchesAlone target r entry
+      by : (b : Bool) (o : Option (List JsonCondition)) → is_for target number entry ≡ b → entry.conditions ≡ o
+          → Any (λ q. RuleHolds q r) (cond b (rules_of o) []) → MatchesAlone target r entry
       by false o own is some = absurd (any_of_none (λ q. RuleHolds q r) some)
       by true None own is some = absurd (any_of_none (λ q. RuleHolds q r) some)
       by true (Some cs) own is some = elim (any_of_cons (λ q. RuleHolds q r) (map condition_of cs) [] some) [
-        | inl here ↦ (yes_for target number entry own, subst (λ o. IfSome o (λ conditions. All (λ c. Holds (condition_of c) r) conditions)) (sym is) (conditions_hold r cs here))
+        | inl here ↦ (
+          yes_for target number entry own,
+          subst (λ o. IfSome o (λ conditions. All (λ c. Holds (condition_of c) r) conditions)) (sym is) (conditions_hold r cs here),
+        )
         | inr later ↦ absurd (any_of_none (λ q. RuleHolds q r) later)
       ]
 
   -- An entry of the call that is not known as one without conditions has a rule.
-  some_rule : (entry : JsonRule) → IsFor target number entry → (is_always target number entry ≡ true → ⊥) → Any (λ (q : Rule). ⊤) (rules_for target number entry)
+  some_rule : (entry : JsonRule) → IsFor target number entry → (is_always target number entry ≡ true → ⊥)
+      → Any (λ (q : Rule). ⊤) (rules_for target number entry)
   some_rule entry own not_always = by entry.conditions refl
     where
       by : (o : Option (List JsonCondition)) → entry.conditions ≡ o → Any (λ (q : Rule). ⊤) (rules_for target number entry)
@@ -147,27 +167,38 @@ module _ (target : TargetArch) (r : List ℕ) where
     chain_matches : Any (MatchesAlone target r) entries → ChainMatches (chain_for target entries number) r
     chain_matches (k, entry, within, is, matches) = elim (cases_Bool (list_any (is_always target number) entries)) [
       | inl always ↦ rw always (inl refl)
-      | inr none ↦ rw none (inr (any_in_all (λ q. RuleHolds q r) (rules_for target number) entries (k, entry, within, is, by entry.conditions refl none)))
+      | inr none ↦ rw none
+          (inr (any_in_all (λ q. RuleHolds q r) (rules_for target number) entries (k, entry, within, is, by entry.conditions refl none)))
     ]
       where
-        by : (o : Option (List JsonCondition)) → entry.conditions ≡ o → list_any (is_always target number) entries ≡ false → Any (λ q. RuleHolds q r) (rules_for target number entry)
-        by None without none = absurd (true≢false (sym (list_any-from_Any (is_always target number) entries (k, entry, within, is, is_known entry matches.0 without)) ∙ none))
+        by : (o : Option (List JsonCondition)) → entry.conditions ≡ o → list_any (is_always target number) entries ≡ false
+            → Any (λ q. RuleHolds q r) (rules_for target number entry)
+        by None without none = absurd
+            (true≢false (sym (list_any-from_Any (is_always target number) entries (k, entry, within, is, is_known entry matches.0 without))
+            ∙ none))
         by (Some cs) some none = rule_of_match entry cs some matches
 
     -- Where it matches and an entry is for the call, some entry matches.
-    entry_matches : Any (IsFor target number) entries → ChainMatches (chain_for target entries number) r → Any (MatchesAlone target r) entries
+    entry_matches : Any (IsFor target number) entries → ChainMatches (chain_for target entries number) r
+        → Any (MatchesAlone target r) entries
     entry_matches own matches = elim (cases_Bool (list_any (is_always target number) entries)) [
-      | inl always ↦ any_more (λ entry. is_always target number entry ≡ true) (MatchesAlone target r) always_matches entries (Any-from_list_any (is_always target number) entries always)
+      | inl always ↦ any_more (λ entry. is_always target number entry ≡ true) (MatchesAlone target r) always_matches entries
+          (Any-from_list_any (is_always target number) entries always)
       | inr none ↦ by none (rw none at matches)
     ]
       where
-        by : list_any (is_always target number) entries ≡ false → ChainMatches (all_rules target entries number) r → Any (MatchesAlone target r) entries
+        by : list_any (is_always target number) entries ≡ false → ChainMatches (all_rules target entries number) r
+            → Any (MatchesAlone target r) entries
         by none (inl empty) =
-            let not_always : (k : ℕ) (entry : JsonRule) → k < length entries → get_or entries k entry ≡ entry → is_always target number entry ≡ true → ⊥ =
-            λ k entry within is always. true≢false (sym (list_any-from_Any (is_always target number) entries (k, entry, within, is, always)) ∙ none) in
-            let rules = any_in_all (λ (q : Rule). ⊤) (rules_for target number) entries (own.0, own.1, own.2, own.3, some_rule own.1 own.4 (not_always own.0 own.1 own.2 own.3)) in
+            let not_always : (k : ℕ) (entry : JsonRule) → k < length entries → get_or entries k entry ≡ entry
+            → is_always target number entry ≡ true → ⊥ =
+            λ k entry within is always. true≢false
+            (sym (list_any-from_Any (is_always target number) entries (k, entry, within, is, always)) ∙ none) in
+            let rules = any_in_all (λ (q : Rule). ⊤) (rules_for target number) entries
+            (own.0, own.1, own.2, own.3, some_rule own.1 own.4 (not_always own.0 own.1 own.2 own.3)) in
             absurd (any_of_none (λ (q : Rule). ⊤) (subst (Any (λ (q : Rule). ⊤)) empty rules))
-        by none (inr some) = any_more (λ entry. Any (λ q. RuleHolds q r) (rules_for target number entry)) (MatchesAlone target r) match_of_rule entries (any_of_all (λ q. RuleHolds q r) (rules_for target number) entries some)
+        by none (inr some) = any_more (λ entry. Any (λ q. RuleHolds q r) (rules_for target number entry))
+            (MatchesAlone target r) match_of_rule entries (any_of_all (λ q. RuleHolds q r) (rules_for target number) entries some)
 
   -- ---- policies
 
@@ -183,13 +214,17 @@ module _ (target : TargetArch) (r : List ℕ) where
     -- Where the policy matches, some entry does.
     entry_of_policy : Matches f r → Any (MatchesAlone target r) j.rules
     entry_of_policy m = elim (cases_Bool (list_any (is_for target number) j.rules)) [
-      | inl some ↦ by (any_more (λ entry. is_for target number entry ≡ true) (IsFor target number) (yes_for target number) j.rules (Any-from_list_any (is_for target number) j.rules some))
-      | inr none ↦ absurd (nowhere (λ some. true≢false (sym (list_any-from_Any (is_for target number) j.rules (any_more (IsFor target number) (λ entry. is_for target number entry ≡ true) (for_yes target number) j.rules some)) ∙ none)))
+      | inl some ↦ by (any_more (λ entry. is_for target number entry ≡ true) (IsFor target number) (yes_for target number) j.rules
+          (Any-from_list_any (is_for target number) j.rules some))
+      | inr none ↦ absurd (nowhere (λ some.
+          true≢false (sym (list_any-from_Any (is_for target number) j.rules
+          (any_more (IsFor target number) (λ entry. is_for target number entry ≡ true) (for_yes target number) j.rules some)) ∙ none)))
     ]
       where
         by : Any (IsFor target number) j.rules → Any (MatchesAlone target r) j.rules
         by own =
-            let same : chain_for target j.rules number ≡ m.chain = let e : Some (chain_for target j.rules number) ≡ Some m.chain = sym (policy.chain number own) ∙ m.there in cc in
+            let same : chain_for target j.rules number ≡ m.chain =
+            let e : Some (chain_for target j.rules number) ≡ Some m.chain = sym (policy.chain number own) ∙ m.there in cc in
             entry_matches j.rules own (subst (λ chain. ChainMatches chain r) (sym same) m.matches)
 
         nowhere : (Any (IsFor target number) j.rules → ⊥) → ⊥

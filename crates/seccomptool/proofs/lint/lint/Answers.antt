@@ -10,7 +10,8 @@ returns-in_err-target g c =
     let arch = c.args.arch.now in
     let known = g.R.Read.remaining c.args.policy in
     let target = c.in_err-target in
-    let refused = text_is_policy arch known _ (name_is_text arch known _ (name_refused arch target.field-0.0 target.ensures.named target.ensures.refused)) in
+    let refused = text_is_policy arch known _
+    (name_is_text arch known _ (name_refused arch target.field-0.0 target.ensures.named target.ensures.refused)) in
     record { answers = rw (error.1, error.2) (refused_answers arch known _ refused) }
 
 pub returns-in_err-text : goal.returns-in_err-text
@@ -23,5 +24,10 @@ returns-in_err-text g c =
 
 pub returns : goal.returns
 returns g c =
-    let same = subst (λ t. IfSome (g.R.Read.remaining c.args.policy) (λ known. t ≡ known)) (sym c.as_slice.ensures.value) c.in_ok-text.ensures.text in
-    record { answers = judged c.args.arch.now (g.R.Read.remaining c.args.policy) c.in_ok-target.target c.in_ok-target.ensures.read c.as_slice.result.now c.judge.result same c.judge.ensures.compiled c.judge.ensures.refused }
+    let same = subst (λ t. IfSome (g.R.Read.remaining c.args.policy) (λ known. t ≡ known))
+    (sym c.as_slice.ensures.value) c.in_ok-text.ensures.text in
+    record {
+      answers = judged c.args.arch.now (g.R.Read.remaining c.args.policy)
+          c.in_ok-target.target c.in_ok-target.ensures.read c.as_slice.result.now c.judge.result same c.judge.ensures.compiled
+          c.judge.ensures.refused;
+    }

@@ -8,7 +8,9 @@ use Rattle.seccomptool.proofs.policy.filters.Goals as goal
 pub returns-in_err-target-clause-refused : goal.returns-in_err-target-clause-refused
 returns-in_err-target-clause-refused g c =
     let error = err_from_is_err_and c.from_residual.result c.from_residual.ensures.1 in
-    rw (error.1, error.2) (name_is_text c.args.arch.now (g.P.Read.remaining c.args.policy) _ (name_refused c.args.arch.now c.in_err-target.field-0.0 c.in_err-target.ensures.named c.in_err-target.ensures.refused))
+    rw (error.1, error.2)
+    (name_is_text c.args.arch.now (g.P.Read.remaining c.args.policy) _
+    (name_refused c.args.arch.now c.in_err-target.field-0.0 c.in_err-target.ensures.named c.in_err-target.ensures.refused))
 
 pub returns-in_err-compile_in_order-clause-refused : goal.returns-in_err-compile_in_order-clause-refused
 returns-in_err-compile_in_order-clause-refused g c =

@@ -20,7 +20,8 @@ returns-clause-app c =
 
 pub returns-clause-local : goal.returns-clause-local
 returns-clause-local c =
-    let l0 : (out-Command c.about.result).has_globals ≡ false = ap (λ (f : Command-F Command). f.has_globals) c.about.ensures ∙ c.new.ensures.local in
+    let l0 : (out-Command c.about.result).has_globals ≡ false =
+    ap (λ (f : Command-F Command). f.has_globals) c.about.ensures ∙ c.new.ensures.local in
     let l1 = local_added _ _ _ l0 c.arch.ensures.local c.in_ok-arg.ensures in
     let l2 = local_added _ _ _ l1 c.filter.ensures.local c.in_ok-arg-2.ensures in
     let l3 = local_added _ _ _ l2 c.layout.ensures.local c.in_ok-arg-3.ensures in

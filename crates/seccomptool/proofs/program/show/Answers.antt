@@ -14,11 +14,13 @@ returns-clause-app c =
     let e1 = rule_added _ _ _ _ _ e0 c.arch.ensures.rule c.arch.ensures.local c.in_ok-arg.ensures in
     let e2 = rule_added _ _ _ _ _ e1 c.layout.ensures.rule c.layout.ensures.local c.in_ok-arg-2.ensures in
     let e3 = rule_added _ _ _ _ _ e2 c.shown_program.ensures.rule c.shown_program.ensures.local c.in_ok-arg-3.ensures in
-    IfOk-weaker c.arg-4.result _ _ (λ r h. rule_added _ _ _ _ _ e3 c.shown_policy.ensures.rule c.shown_policy.ensures.local h) c.arg-4.ensures
+    IfOk-weaker c.arg-4.result _ _ (λ r h. rule_added _ _ _ _ _ e3 c.shown_policy.ensures.rule c.shown_policy.ensures.local h)
+    c.arg-4.ensures
 
 pub returns-clause-local : goal.returns-clause-local
 returns-clause-local c =
-    let l0 : (out-Command c.about.result).has_globals ≡ false = ap (λ (f : Command-F Command). f.has_globals) c.about.ensures ∙ c.new.ensures.local in
+    let l0 : (out-Command c.about.result).has_globals ≡ false =
+    ap (λ (f : Command-F Command). f.has_globals) c.about.ensures ∙ c.new.ensures.local in
     let l1 = local_added _ _ _ l0 c.arch.ensures.local c.in_ok-arg.ensures in
     let l2 = local_added _ _ _ l1 c.layout.ensures.local c.in_ok-arg-2.ensures in
     let l3 = local_added _ _ _ l2 c.shown_program.ensures.local c.in_ok-arg-3.ensures in

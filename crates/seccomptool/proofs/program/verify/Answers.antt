@@ -17,11 +17,13 @@ returns-clause-app c =
     let e4 = rule_added _ _ _ _ _ e3 c.all.ensures.rule c.all.ensures.local c.in_ok-arg-4.ensures in
     let e5 = rule_added _ _ _ _ _ e4 c.most.ensures.rule c.most.ensures.local c.in_ok-arg-5.ensures in
     let e6 = rule_added _ _ _ _ _ e5 c.given_policy.ensures.rule c.given_policy.ensures.local c.in_ok-arg-6.ensures in
-    IfOk-weaker c.arg-7.result _ _ (λ r h. rule_added _ _ _ _ _ e6 c.program_file.ensures.rule c.program_file.ensures.local h) c.arg-7.ensures
+    IfOk-weaker c.arg-7.result _ _ (λ r h. rule_added _ _ _ _ _ e6 c.program_file.ensures.rule c.program_file.ensures.local h)
+    c.arg-7.ensures
 
 pub returns-clause-local : goal.returns-clause-local
 returns-clause-local c =
-    let l0 : (out-Command c.about.result).has_globals ≡ false = ap (λ (f : Command-F Command). f.has_globals) c.about.ensures ∙ c.new.ensures.local in
+    let l0 : (out-Command c.about.result).has_globals ≡ false =
+    ap (λ (f : Command-F Command). f.has_globals) c.about.ensures ∙ c.new.ensures.local in
     let l1 = local_added _ _ _ l0 c.arch.ensures.local c.in_ok-arg.ensures in
     let l2 = local_added _ _ _ l1 c.filter.ensures.local c.in_ok-arg-2.ensures in
     let l3 = local_added _ _ _ l2 c.at_most.ensures.local c.in_ok-arg-3.ensures in

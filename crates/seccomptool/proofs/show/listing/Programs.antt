@@ -29,7 +29,16 @@ module _ (layout : Layout) (target : TargetArch) (find : List ℕ → Option Jso
       record {
         programs = so_far.programs ++ p ∷ [];
         each = all_zipped_more (IsLabelled layout target find) done so_far.programs f p so_far.each
-            (record { name = refl; compiled = compiled; json = json; found = found; places = places; are_places = are; ordered = ordered; labelled = labelled });
+            (record {
+              name = refl;
+              compiled = compiled;
+              json = json;
+              found = found;
+              places = places;
+              are_places = are;
+              ordered = ordered;
+              labelled = labelled;
+            });
         texts = more ∙ ap (λ l. l ++ text_of labels name program) so_far.texts
             ∙ ap (λ n. concat (map labelled_text so_far.programs) ++ text_of labels n program) named
             ∙ sym (joined_push labelled_text so_far.programs p);
@@ -39,4 +48,5 @@ module _ (layout : Layout) (target : TargetArch) (find : List ℕ → Option Jso
   pub have_programs : (filters : List NamedFilter) (programs : List LabelledProgram)
       → AllZip (IsLabelled layout target find) filters programs
       → All (λ (f : NamedFilter). HasProgramIn layout f.1) filters
-  have_programs filters programs all = all_first (IsLabelled layout target find) (λ (f : NamedFilter). HasProgramIn layout f.1) (λ f p is. (p.2, is.compiled)) filters programs all
+  have_programs filters programs all = all_first (IsLabelled layout target find) (λ (f : NamedFilter). HasProgramIn layout f.1)
+      (λ f p is. (p.2, is.compiled)) filters programs all

@@ -5,7 +5,8 @@ use Rattle.seccompiler.specs.JsonAnswers.{OfValue, ArePoliciesOf, TellsFrontendF
 use Rattle.seccompiler.specs.Reads.{Reads}
 use Rattle.seccomptool.specs.Verify.{IsReport}
 use Rattle.seccomptool.proofs.Faults.{name_refused, name_is_text, text_refused}
-use Rattle.seccomptool.proofs.verify.Told.{choice_told, filter_told, is_chosen, lack_told, policy_told, program_told, report_unwritten, report_written}
+use Rattle.seccomptool.proofs.verify.Told.{choice_told, filter_told, is_chosen, lack_told, policy_told, program_told, report_unwritten}
+use Rattle.seccomptool.proofs.verify.Told.{report_written}
 use Rattle.seccomptool.proofs.verify.verify.Goals as goal
 
 pub returns-in_err-target-clause-answers : goal.returns-in_err-target-clause-answers

@@ -17,12 +17,14 @@ one_number : (text : List ℕ) (n m : ℕ) → IsNumber text n → IsNumber text
 one_number text n m (decimal a) (decimal b) = a.value ∙ sym b.value
 one_number text n m (decimal a) (hexadecimal digits same b) = absurd (no_prefix text digits same a.digits)
 one_number text n m (hexadecimal digits same a) (decimal b) = absurd (no_prefix text digits same b.digits)
-one_number text n m (hexadecimal digits same a) (hexadecimal others too b) = let e : digits ≡ others = cc in a.value ∙ ap (digits_value 16) e ∙ sym b.value
+one_number text n m (hexadecimal digits same a) (hexadecimal others too b) = let e : digits ≡ others = cc in
+    a.value ∙ ap (digits_value 16) e ∙ sym b.value
 
 -- A text behind a sign is no number.
 signed_none : (text digits : List ℕ) → text ≡ codes "-" ++ digits → (n : ℕ) → IsNumber text n → ⊥
 signed_none text digits same n (decimal a) = no_sign text digits same a.digits
-signed_none text digits same n (hexadecimal others too a) = let heads : 45 ≡ 48 = ap (λ t. slice_index t 0) (sym same ∙ too) in omega (arith, heads)
+signed_none text digits same n (hexadecimal others too a) = let heads : 45 ≡ 48 = ap (λ t. slice_index t 0) (sym same ∙ too) in
+    omega (arith, heads)
 
 module _ (text digits : List ℕ) (signed : text ≡ codes "-" ++ digits) where
   -- No number behind a sign is no argument.

@@ -1,6 +1,8 @@
-use Rattle.std.proofs.Common.{◌≡◌, List, map, rules, Some, string_bytes}
-use Rattle.clap.specs.Words.{Text, app_of, found_of, rows_of, subcommand_rows_of}
-use Rattle.seccomptool.specs.Words.{Choices}
+use Rattle.std.proofs.Common.{List, rules, subst, inl, IfSome, IfNone}
+use Rattle.std.proofs.lemmas.Result.{err_from_is_err_and}
+use Rattle.clap.specs.Words.{Text, found_of, rows_of}
+use Rattle.seccomptool.specs.Words.{Choices, IsAsked}
+use Rattle.seccomptool.specs.declared.words.Asked.{Asked}
 use Rattle.seccomptool.proofs.words.Meanings.{meant, none_entered, none_of, pair_of, refused, unmeant}
 use Rattle.std.specs.Box.{box_value}
 use Rattle.std.specs.Prelude.{Box}
@@ -42,8 +44,8 @@ returns-in-None c =
           (none_of (out-ArgMatches c.in-Ok.matches).subcommand sub_of c.in-None.ensures.variant),
     )
 
-pub returns-in-Some-command_in : goal.returns-in-Some-command_in
-returns-in-Some-command_in c =
+pub returns-in_err-asked-in-Some : goal.returns-in_err-asked-in-Some
+returns-in_err-asked-in-Some c =
     let choices : Choices = record {
       archs = c.as_slice-archs.result;
       layouts = c.as_slice-layouts.result;
@@ -52,10 +54,26 @@ returns-in-Some-command_in c =
       layouts_are = search rules;
       formats_are = search rules;
     } in
-    let met = pair_of (out-ArgMatches c.in-Ok.matches).subcommand sub_of c.in-Some.name.now (rows_of (found_of c.in-Some.found.now)) c.in-Some.ensures.name c.in-Some.ensures.rows in (
+    let error = err_from_is_err_and c.from_residual-in_err-asked-in-Some.result c.from_residual-in_err-asked-in-Some.ensures.1 in
+    (choices, rw error.1 tt, rw error.1 (inl error.2))
+
+pub returns-in-Some-2 : goal.returns-in-Some-2
+returns-in-Some-2 c =
+    let choices : Choices = record {
+      archs = c.as_slice-archs.result;
+      layouts = c.as_slice-layouts.result;
+      formats = c.as_slice-formats.result;
+      archs_are = search rules;
+      layouts_are = search rules;
+      formats_are = search rules;
+    } in
+    let met = pair_of (out-ArgMatches c.in-Ok.matches).subcommand sub_of c.in-Some.name.now
+    (rows_of (found_of c.in-Some.found.now)) c.in-Some.ensures.name c.in-Some.ensures.rows in
+    let is = subst (λ o. IfSome o (IsAsked c.in-Some.name.now (rows_of (found_of c.in-Some.found.now)))) c.in-Some-2.is
+    c.in_ok-asked-in-Some.ensures.some in (
       choices,
-      meant choices _ _ c.in_ok-program.ensures.app c.in-Ok.matches c.in-Ok.ensures.ok.2 _ _ met c.in-Some-command_in.command
-          c.in-Ok.ensures.kinds c.in-Some-command_in.ensures.some,
+      meant choices _ _ c.in_ok-program.ensures.app c.in-Ok.matches c.in-Ok.ensures.ok.2 _ _ met c.in-Some-2.asked
+          c.in-Ok.ensures.kinds is,
       tt,
     )
 
@@ -69,9 +87,14 @@ returns c =
       layouts_are = search rules;
       formats_are = search rules;
     } in
-    let met = pair_of (out-ArgMatches c.in-Ok.matches).subcommand sub_of c.in-Some.name.now (rows_of (found_of c.in-Some.found.now)) c.in-Some.ensures.name c.in-Some.ensures.rows in (
+    let met = pair_of (out-ArgMatches c.in-Ok.matches).subcommand sub_of c.in-Some.name.now
+    (rows_of (found_of c.in-Some.found.now)) c.in-Some.ensures.name c.in-Some.ensures.rows in
+    let none = subst
+    (λ o. IfNone o ((asked : Asked) → IsAsked c.in-Some.name.now (rows_of (found_of c.in-Some.found.now)) asked → ⊥)) c.in-None-2.is
+    c.in_ok-asked-in-Some.ensures.none in (
       choices,
       tt,
-      unmeant choices _ _ c.in_ok-program.ensures.app c.in-Ok.matches c.in-Ok.ensures.ok.2 _ _ met c.misused-in-None-command_in.result c.misused-in-None-command_in.ensures
-          c.in-None-command_in.ensures.none,
+      unmeant choices _ _ c.in_ok-program.ensures.app c.in-Ok.matches c.in-Ok.ensures.ok.2 _ _ met c.misused-in-None-2.result
+          c.misused-in-None-2.ensures
+          none,
     )

@@ -6,7 +6,7 @@ use Rattle.seccompiler.specs.JsonPolicyOf.{IsPolicyOf}
 use Rattle.seccompiler.specs.JsonSteps.{IsPolicyRefusal}
 use Rattle.seccompiler.specs.JsonTypes.{JsonFilter}
 use Rattle.seccomptool.specs.ExplainSteps.{HasNamedPolicy}
-use Rattle.seccomptool.specs.WidenedParts.{NamedJson, IsTaken}
+use Rattle.seccomptool.specs.CompatParts.{NamedJson, IsTaken}
 use Rattle.seccomptool.proofs.JsonRefusals.{first_json_refusal}
 use Rattle.seccomptool.proofs.Pairs.{all_first}
 use Rattle.seccomptool.proofs.explain.filters.policies_of.Goals as goal

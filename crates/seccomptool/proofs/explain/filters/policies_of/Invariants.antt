@@ -1,7 +1,7 @@
 use Rattle.std.proofs.Common.{◌≡◌, ◌++◌}
 use Rattle.std.specs.List.{AllZip}
 use Rattle.seccomptool.specs.ExplainSteps.{HasNamedPolicy}
-use Rattle.seccomptool.specs.WidenedParts.{NamedJson}
+use Rattle.seccomptool.specs.CompatParts.{NamedJson}
 use Rattle.seccomptool.proofs.explain.filters.policies_of.Given as goal
 
 -- these are the policies of the filters so far

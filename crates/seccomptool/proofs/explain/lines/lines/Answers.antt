@@ -35,7 +35,8 @@ records-preserved c =
           (record {
             reason = reason;
             why = why;
-            only = subst (λ entries. (other : Reason) → IsReason target entries call other → other ≡ reason) same c.reason_of-reason.ensures.only;
+            only = subst (λ entries. (other : Reason) → IsReason target entries call other → other ≡ reason)
+                same c.reason_of-reason.ensures.only;
             decided = reason_decides target call filter policy c.requires.policy reason why;
             text = refl;
           });

@@ -9,7 +9,8 @@ use Rattle.seccomptool.proofs.Readings.{reads_some}
 use Rattle.seccomptool.proofs.explain.records.explain_records.Goals as goal
 
 -- An error that tells of no rest of a record says nothing of the records.
-answers_none : (IsTextOf : List (List ℕ) → List ℕ → Type 0) (e : ToolError) → ((rest : ℕ) → e ≡ tool.ShortRecord rest → ⊥) → (bytes : List ℕ) (old new : Option (List ℕ)) → AnswersRecords IsTextOf bytes (Err e) old new
+answers_none : (IsTextOf : List (List ℕ) → List ℕ → Type 0) (e : ToolError) → ((rest : ℕ) → e ≡ tool.ShortRecord rest → ⊥)
+    → (bytes : List ℕ) (old new : Option (List ℕ)) → AnswersRecords IsTextOf bytes (Err e) old new
 answers_none IsTextOf (tool.ShortRecord rest) none bytes old new = absurd (none rest refl)
 answers_none IsTextOf _ none bytes old new = tt
 
@@ -29,7 +30,8 @@ returns-in-0-clause-lines g c =
     let written = lines_sent (AreLines c.args.format c.args.target c.args.name.now c.args.filter.now c.args.made.now.filter) items
     c.as_slice.result.now c.as_chunks.result.1.now _ c.as_slice-2.result.now c.as_chunks.result.0.now 0 (contents c.args.out.now)
     (contents c.send.new.out)
-    c.as_slice.ensures.value c.as_chunks.ensures.front c.as_chunks.ensures.back c.in-0.is c.in_ok-text.ensures c.as_slice-2.ensures.value c.in_ok-send.ensures.sent in
+    c.as_slice.ensures.value c.as_chunks.ensures.front c.as_chunks.ensures.back c.in-0.is c.in_ok-text.ensures c.as_slice-2.ensures.value
+    c.in_ok-send.ensures.sent in
     (items, c.in_ok-bytes.ensures.bytes, written)
 
 pub returns-clause-lines : goal.returns-clause-lines
@@ -40,6 +42,7 @@ returns-clause-lines g c =
     let written = lines_sent (AreLines c.args.format c.args.target c.args.name.now c.args.filter.now c.args.made.now.filter) items
     c.as_slice.result.now c.as_chunks.result.1.now _ c.as_slice-2.result.now c.as_chunks.result.0.now rest (contents c.args.out.now)
     (contents c.send.new.out)
-    c.as_slice.ensures.value c.as_chunks.ensures.front c.as_chunks.ensures.back refl c.in_ok-text.ensures c.as_slice-2.ensures.value c.in_ok-send.ensures.sent in
+    c.as_slice.ensures.value c.as_chunks.ensures.front c.as_chunks.ensures.back refl c.in_ok-text.ensures c.as_slice-2.ensures.value
+    c.in_ok-send.ensures.sent in
     let some : 0 < rest = let d = c.in_default in omega arith in
     (items, c.in_ok-bytes.ensures.bytes, (some, written))

@@ -1,4 +1,5 @@
-use Rattle.std.proofs.Common.{◌≡◌, ◌<◌, ℕ, ℤ, pos, List, [], refl, Some, None, Vec, Global, All, length, int_cmp, rules, w64, sym, ap, ◌∙◌, subst}
+use Rattle.std.proofs.Common.{◌≡◌, ℕ, pos, [], refl, Some, None, Vec, Global, int_cmp, rules, w64, sym, ap, ◌∙◌}
+use Rattle.std.proofs.Common.{subst}
 use mir.Val.{SFits}
 use Rattle.std.specs.Prelude.{option_map}
 use Rattle.std.specs.BTreeMap.{get_by}

@@ -13,7 +13,8 @@ records-preserved c =
     let line = line_of c.run.result.word in
     record {
       lines = so_far.lines ++ line ∷ [];
-      each = all_zip_more (IsLine c.args.program.now) records so_far.lines c.records.record-index call line c.records-test.true (get_or_default records c.records.record-index [] call c.records-test.true) so_far.each
+      each = all_zip_more (IsLine c.args.program.now) records so_far.lines c.records.record-index call line c.records-test.true
+          (get_or_default records c.records.record-index [] call c.records-test.true) so_far.each
           (record { word = c.run.result.word; steps = c.run.result.steps; ends = c.run.ensures.ends; text = refl });
       joined = c.in_ok-push_line.ensures ∙ ap (λ text. text ++ line) so_far.joined ∙ sym (concat_push so_far.lines line);
     }

@@ -12,9 +12,11 @@ loop-piece-preserved c =
     let one = c.instruction.result in
     let pieces = c.args.pieces.now in
     let more : take (c.loop-piece.piece-index + 1) pieces ≡ take c.loop-piece.piece-index pieces ++ instruction_bytes one ∷ [] =
-    take_more pieces c.loop-piece.piece-index _ c.loop-piece-test.true ∙ ap (λ piece. take c.loop-piece.piece-index pieces ++ piece ∷ []) (sym c.instruction.ensures.bytes) in
+    take_more pieces c.loop-piece.piece-index _ c.loop-piece-test.true
+    ∙ ap (λ piece. take c.loop-piece.piece-index pieces ++ piece ∷ []) (sym c.instruction.ensures.bytes) in
     rw c.in_ok-push.ensures.items (
-      map-append instruction_bytes before (one ∷ []) ∙ ap (λ bytes. bytes ++ instruction_bytes one ∷ []) c.loop-piece.invariant.0 ∙ sym more,
+      map-append instruction_bytes before (one ∷ []) ∙ ap (λ bytes. bytes ++ instruction_bytes one ∷ []) c.loop-piece.invariant.0
+          ∙ sym more,
       All-push IsInRange before one c.loop-piece.invariant.1 c.instruction.ensures.range,
     )
 

@@ -5,4 +5,5 @@ use Rattle.seccomptool.proofs.show.listing.listing.Given as goal
 
 abbrev pub invariant-loop-name : goal.invariant-loop-name
 invariant-loop-name l =
-    (done : List NamedFilter) × (l.filters.entries ≡ done ++ l.name-iterator) × AreLabelled l.layout l.target (get_by_text l.entries.0) done l.text.items
+    (done : List NamedFilter) × (l.filters.entries ≡ done ++ l.name-iterator)
+    × AreLabelled l.layout l.target (get_by_text l.entries.0) done l.text.items

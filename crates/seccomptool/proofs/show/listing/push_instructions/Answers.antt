@@ -11,4 +11,5 @@ loop-place-preserved c =
     let none : sock_filter = record { code = 0; jt = 0; jf = 0; k = 0 } in
     let old = c.loop-place.text.items in
     lines_more (label_in (map string_bytes c.args.labels.now)) program at none c.args.text.now.items old c.push_line.new.text.items
-    c.loop-place-test.true c.loop-place.invariant (c.in_ok-push_line.ensures ∙ ap (λ label. old ++ line_of at label (get_or program at none)) c.label_at.ensures)
+    c.loop-place-test.true c.loop-place.invariant
+    (c.in_ok-push_line.ensures ∙ ap (λ label. old ++ line_of at label (get_or program at none)) c.label_at.ensures)

@@ -22,4 +22,5 @@ pub returns-clause-some : goal.returns-clause-some
 returns-clause-some c = some_most _ _ (subst (λ text. IfSome c.sets_in.result (IsNumber text)) c.most_text.ensures c.sets_in.ensures.some)
 
 pub returns-clause-none : goal.returns-clause-none
-returns-clause-none c = none_most _ _ (subst (λ text. IfNone c.sets_in.result ((n : ℕ) → IsNumber text n → ⊥)) c.most_text.ensures c.sets_in.ensures.none)
+returns-clause-none c =
+    none_most _ _ (subst (λ text. IfNone c.sets_in.result ((n : ℕ) → IsNumber text n → ⊥)) c.most_text.ensures c.sets_in.ensures.none)

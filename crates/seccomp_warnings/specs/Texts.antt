@@ -1,0 +1,70 @@
+-- The lines of warnings.
+use Rattle.std.specs.Prelude.{List, ℕ, [], ◌++◌, map, codes, decimal}
+use Rattle.std.specs.List.{concat}
+use Rattle.seccomp_command_line.specs.Names.{readable}
+use Rattle.seccomp_warnings.specs.declared.warning.Comparison.{Comparison}
+use Rattle.seccomp_warnings.specs.declared.warning.Subject.{Subject}
+use Rattle.seccomp_warnings.specs.declared.warning.Subject.TheVariants as subject
+use Rattle.seccomp_warnings.specs.declared.warning.Warning.{Warning}
+use Rattle.seccomp_warnings.specs.Codes.{code_text}
+use Rattle.seccomp_warnings.specs.declared.code.Code.{Code}
+use Rattle.seccomp_warnings.specs.declared.code.Code.TheVariants as code
+
+-- What is so, and what to write instead.
+abbrev pub said_text : Code → List ℕ
+said_text code.FakeSuccess = codes "the call isn't made, and returns 0 as if it had gone well; write an errno from 1 to 4095"
+said_text code.ErrnoTooLarge = codes "Linux keeps the low 16 bits, and takes 4095 for what is above it; write an errno from 1 to 4095"
+said_text code.TraceWithoutTracer =
+    codes "where no tracer is attached, the call fails with ENOSYS; write an errno or \"allow\" where there is none"
+said_text code.AllowsByDefault =
+    codes "calls without an entry are let through, newer ones too; write a denying action, and entries for what is allowed"
+said_text code.HighHalfIgnored =
+    codes "\"dword\" compares the low 32 bits, and the value has others; write the value's low 32 bits, or \"qword\""
+said_text code.ValueOutsideMask =
+    codes "the value has bits outside the mask, which aren't compared; write the value without them, or a mask that has them"
+said_text code.AlwaysHolds = codes "it holds for every argument; leave it out, or write what it has to ask"
+said_text code.NeverHolds = codes "it holds for no argument, so the entry matches no call; leave the entry out, or write what it has to ask"
+said_text code.HighHalfEvades =
+    codes "a caller passes by it with a high half, which the kernel ignores for arguments of 32 bits; write \"dword\" for these"
+
+-- The way from an action or a condition to the value that a code is about.
+abbrev pub part_text : Code → List ℕ
+part_text code.FakeSuccess = codes ".errno"
+part_text code.ErrnoTooLarge = codes ".errno"
+part_text code.TraceWithoutTracer = codes ".trace"
+part_text code.HighHalfIgnored = codes ".val"
+part_text code.ValueOutsideMask = codes ".val"
+part_text other = []
+
+-- A place of an array.
+abbrev pub place_text : ℕ → List ℕ
+place_text place = codes "[" ++ decimal place ++ codes "]"
+
+-- The way from a filter to one of its conditions.
+abbrev pub comparison_text : Comparison → List ℕ
+comparison_text c = codes ".filter" ++ place_text c.entry ++ codes ".args" ++ place_text c.place
+
+-- The way from a filter to one of its parts.
+abbrev pub subject_text : Subject → List ℕ
+subject_text (subject.MismatchAction action) = codes ".mismatch_action"
+subject_text (subject.MatchAction action) = codes ".match_action"
+subject_text (subject.Condition c) = comparison_text c
+
+-- The place of a warning of the filter of a name, as the path of a fault has it.
+abbrev pub place_of : List ℕ → Warning → List ℕ
+place_of name w = readable name ++ subject_text w.subject ++ part_text w.code
+
+-- The code as it stands in a line.
+abbrev pub mark_of : Code → List ℕ
+mark_of kind = codes ": warning [" ++ code_text kind ++ codes "]: "
+
+-- The line of a warning: the place; the code; what is so, and what to write instead.
+abbrev pub line_of : List ℕ → Warning → List ℕ
+line_of name w = place_of name w ++ mark_of w.code ++ said_text w.code ++ codes "\n"
+
+-- The line of a warning behind a front, which names the policy.
+abbrev pub line_in : (front name : List ℕ) → Warning → List ℕ
+line_in front name w = front ++ line_of name w
+
+abbrev pub lines_in : (front name : List ℕ) → List Warning → List ℕ
+lines_in front name warnings = concat (map (line_in front name) warnings)

@@ -1,0 +1,155 @@
+-- The warnings of a filter: of which of its parts something is so that its author may not mean.
+use Rattle.std.specs.Prelude.{◌≡◌, ◌≢◌, ℕ, ◌+◌, ◌^◌, ◌<◌, ◌≤◌, ◌⊎◌, List, [], ◌∷◌, ◌++◌, map, Contains, Option, Some, None, bit_and}
+use Rattle.seccompiler.specs.declared.backend.SeccompAction.{SeccompAction}
+use Rattle.seccompiler.specs.declared.backend.SeccompAction.TheVariants.{Allow, Errno, Log, Trace}
+use Rattle.seccompiler.specs.declared.backend.SeccompCmpArgLen.{SeccompCmpArgLen}
+use Rattle.seccompiler.specs.declared.backend.SeccompCmpArgLen.TheVariants.{Dword, Qword}
+use Rattle.seccompiler.specs.declared.backend.SeccompCmpOp.{SeccompCmpOp}
+use Rattle.seccompiler.specs.declared.backend.SeccompCmpOp.TheVariants.{Eq, MaskedEq}
+use Rattle.seccompiler.specs.declared.json.types.JsonCondition.{JsonCondition}
+use Rattle.seccompiler.specs.AnyArgument.{HoldsForAll, HoldsForNone}
+use Rattle.seccompiler.specs.JsonTypes.{JsonRule, JsonFilter}
+use Rattle.seccompiler.specs.Policy.{Condition, part_of, word_of}
+use Rattle.seccomp_warnings.specs.declared.warning.Actions.{Actions}
+use Rattle.seccomp_warnings.specs.declared.warning.Comparison.{Comparison}
+use Rattle.seccomp_warnings.specs.declared.warning.Subject.{Subject}
+use Rattle.seccomp_warnings.specs.declared.warning.Subject.TheVariants as subject
+use Rattle.seccomp_warnings.specs.declared.warning.Warning.{Warning}
+use Rattle.seccomp_warnings.specs.declared.code.Code.{Code}
+use Rattle.seccomp_warnings.specs.declared.code.Code.TheVariants as code
+
+-- ---- what is so of an action
+
+-- The action lets a call through (seccomp(2): SECCOMP_RET_ALLOW and SECCOMP_RET_LOG).
+abbrev pub Permits : SeccompAction → Type 0
+Permits action = (action ≡ Allow) ⊎ (action ≡ Log)
+
+-- The errno is above the greatest that Linux has (MAX_ERRNO of the kernel).
+abbrev pub IsErrnoTooLarge : SeccompAction → Type 0
+IsErrnoTooLarge (Errno n) = 4095 < n
+IsErrnoTooLarge action = ⊥
+
+-- The action notifies a tracer.
+abbrev pub Traces : SeccompAction → Type 0
+Traces action = (n : ℕ) × (action ≡ Trace n)
+
+-- What a code says of an action is so. The first: its return value is SECCOMP_RET_ERRNO with errno 0.
+abbrev pub IsSoOfAction : Code → SeccompAction → Type 0
+IsSoOfAction code.FakeSuccess action = word_of action ≡ 0x00050000
+IsSoOfAction code.ErrnoTooLarge action = IsErrnoTooLarge action
+IsSoOfAction code.TraceWithoutTracer action = Traces action
+IsSoOfAction code.AllowsByDefault action = Permits action
+IsSoOfAction other action = ⊥
+
+-- ---- what is so of a condition
+
+-- The condition's comparison, on some argument: which one plays no part in whether it holds for all values or for none.
+abbrev pub condition_in : Comparison → Condition
+condition_in c = record { arg_index = 0; arg_len = c.arg_len; operator = c.operator; value = c.value }
+
+-- The low half of the argument is compared, and the value has bits above it.
+abbrev pub HasIgnoredHalf : Comparison → Type 0
+HasIgnoredHalf c = (c.arg_len ≡ Dword) × (2 ^ 32 ≤ c.value)
+
+-- The value has bits that the mask, as far as it is compared, hasn't.
+abbrev pub IsOutside : SeccompCmpArgLen → SeccompCmpOp → ℕ → Type 0
+IsOutside length (MaskedEq mask) value = bit_and value (part_of length mask) ≢ value
+IsOutside length operator value = ⊥
+
+abbrev pub HasValueOutside : Comparison → Type 0
+HasValueOutside c = IsOutside c.arg_len c.operator c.value
+
+-- The operator asks for a number whose high half is 0, of an argument's high half.
+abbrev pub AsksForNoHighHalf : SeccompCmpOp → ℕ → Type 0
+AsksForNoHighHalf Eq value = value < 2 ^ 32
+AsksForNoHighHalf (MaskedEq mask) value = (2 ^ 32 ≤ mask) × (bit_and value mask < 2 ^ 32)
+AsksForNoHighHalf operator value = ⊥
+
+-- The whole argument is compared, by an operator that asks for that.
+abbrev pub IsEvaded : Comparison → Type 0
+IsEvaded c = (c.arg_len ≡ Qword) × AsksForNoHighHalf c.operator c.value
+
+-- The filter lets calls through that no entry matches, and none that an entry matches.
+abbrev pub DeniesWhatItLists : Actions → Type 0
+DeniesWhatItLists actions = Permits actions.mismatch × (Permits actions.matching → ⊥)
+
+-- What a code says of a condition is so, in a filter of these actions.
+abbrev pub IsSoOfCondition : Code → Actions → Comparison → Type 0
+IsSoOfCondition code.HighHalfIgnored actions c = HasIgnoredHalf c
+IsSoOfCondition code.ValueOutsideMask actions c = HasValueOutside c
+IsSoOfCondition code.AlwaysHolds actions c = HoldsForAll (condition_in c)
+IsSoOfCondition code.NeverHolds actions c = HoldsForNone (condition_in c)
+IsSoOfCondition code.HighHalfEvades actions c = DeniesWhatItLists actions × IsEvaded c
+IsSoOfCondition other actions c = ⊥
+
+-- ---- what is so of a filter
+
+-- What a code says of a part of a filter is so.
+abbrev pub IsSoOf : Actions → Code → Subject → Type 0
+IsSoOf actions kind (subject.MismatchAction action) = IsSoOfAction kind action
+IsSoOf actions kind (subject.MatchAction action) = IsSoOfAction kind action
+IsSoOf actions kind (subject.Condition c) = IsSoOfCondition kind actions c
+
+-- The warning is true of a filter of these actions.
+abbrev pub IsSo : Actions → Warning → Type 0
+IsSo actions w = IsSoOf actions w.code w.subject
+
+-- ---- what is asked of a filter, in the order of its text
+
+abbrev pub mismatch_codes : List Code
+mismatch_codes = code.FakeSuccess ∷ code.ErrnoTooLarge ∷ code.TraceWithoutTracer ∷ code.AllowsByDefault ∷ []
+
+abbrev pub match_codes : List Code
+match_codes = code.FakeSuccess ∷ code.ErrnoTooLarge ∷ code.TraceWithoutTracer ∷ []
+
+abbrev pub condition_codes : List Code
+condition_codes = code.HighHalfIgnored ∷ code.ValueOutsideMask ∷ code.AlwaysHolds ∷ code.NeverHolds ∷ code.HighHalfEvades ∷ []
+
+-- The warning of a code about a part of a filter.
+abbrev pub about : Subject → Code → Warning
+about part kind = record { code = kind; subject = part }
+
+-- The condition at a place of the entry at a place.
+abbrev pub comparison_at : ℕ → ℕ → JsonCondition → Comparison
+comparison_at entry place c = record { entry = entry; place = place; arg_len = c.arg_len; operator = c.operator; value = c.value }
+
+-- All codes of a condition.
+abbrev pub condition_asked : ℕ → ℕ → JsonCondition → List Warning
+condition_asked entry place c = map (about (subject.Condition (comparison_at entry place c))) condition_codes
+
+-- Those of conditions, of which the first stands at this place.
+abbrev pub conditions_asked : ℕ → ℕ → List JsonCondition → List Warning
+conditions_asked entry place [] = []
+conditions_asked entry place (c ∷ conditions) = condition_asked entry place c ++ conditions_asked entry (place + 1) conditions
+
+-- Those of an entry at a place.
+abbrev pub args_asked : ℕ → Option (List JsonCondition) → List Warning
+args_asked entry None = []
+args_asked entry (Some conditions) = conditions_asked entry 0 conditions
+
+-- Those of entries, of which the first stands at this place.
+abbrev pub entries_asked : ℕ → List JsonRule → List Warning
+entries_asked entry [] = []
+entries_asked entry (rule ∷ rules) = args_asked entry rule.conditions ++ entries_asked (entry + 1) rules
+
+-- Those of a filter: of the two actions, and then of its entries.
+abbrev pub asked_of : JsonFilter → List Warning
+asked_of j = map (about (subject.MismatchAction j.mismatch_action)) mismatch_codes
+    ++ map (about (subject.MatchAction j.match_action)) match_codes ++ entries_asked 0 j.rules
+
+abbrev pub actions_of : JsonFilter → Actions
+actions_of j = record { mismatch = j.mismatch_action; matching = j.match_action }
+
+-- Of the first list exactly those of which P holds, in their order.
+abbrev pub ArePicked : (Warning → Type 0) → List Warning → List Warning → Type 0
+ArePicked P [] picked = picked ≡ []
+ArePicked P (w ∷ asked) picked = ((rest : List Warning) × P w × (picked ≡ w ∷ rest) × ArePicked P asked rest)
+    ⊎ ((P w → ⊥) × ArePicked P asked picked)
+
+-- The warning is true of a filter of these actions, and its code isn't allowed.
+abbrev pub IsGiven : List Code → Actions → Warning → Type 0
+IsGiven allowed actions w = IsSo actions w × (Contains allowed w.code → ⊥)
+
+-- The warnings of a filter: exactly those that are true of it and whose codes aren't allowed, in the order of its text.
+abbrev pub AreWarnings : List Code → JsonFilter → List Warning → Type 0
+AreWarnings allowed j warnings = ArePicked (IsGiven allowed (actions_of j)) (asked_of j) warnings

@@ -1,0 +1,33 @@
+// What is so of an action.
+
+ghost use Rattle.std.specs.Prelude.{◌↔◌, IsTrue};
+ghost use Rattle.seccomp_warnings.specs.Warnings.{IsSoOfAction, Permits};
+
+use crate::code::Code;
+use seccompiler::SeccompAction;
+
+// The greatest errno of Linux.
+const GREATEST_ERRNO: u32 = 4095;
+
+// The return value that fails a call with errno 0.
+const ERRNO_0: u32 = 0x0005_0000;
+
+// Whether the action lets a call through.
+pub(crate) fn permits(action: SeccompAction) -> bool
+    ensures { IsTrue result ↔ Permits action }
+{
+    matches!(action, SeccompAction::Allow | SeccompAction::Log)
+}
+
+// Whether what a code says is so of an action.
+pub(crate) fn is_so_of_action(code: Code, action: SeccompAction) -> bool
+    ensures { IsTrue result ↔ IsSoOfAction code action }
+{
+    match (code, action) {
+        (Code::FakeSuccess, action) => u32::from(action) == ERRNO_0,
+        (Code::ErrnoTooLarge, SeccompAction::Errno(number)) => number > GREATEST_ERRNO,
+        (Code::TraceWithoutTracer, SeccompAction::Trace(_)) => true,
+        (Code::AllowsByDefault, action) => permits(action),
+        _ => false,
+    }
+}

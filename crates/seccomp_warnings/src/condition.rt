@@ -1,0 +1,99 @@
+// What is so of a condition.
+
+ghost use Rattle.std.specs.Prelude.{◌↔◌, IsTrue};
+ghost use Rattle.seccompiler.specs.AnyArgument.{HoldsForAll, HoldsForNone};
+ghost use Rattle.seccomp_warnings.specs.Warnings.{IsSoOfCondition, condition_in, HasIgnoredHalf, HasValueOutside, IsEvaded};
+
+use crate::action::permits;
+use crate::code::Code;
+use crate::warning::{Actions, Comparison};
+use seccompiler::{SeccompCmpArgLen, SeccompCmpOp, SeccompCondition};
+
+// The greatest number of 32 bits.
+const LOW_HALF: u64 = 0xffff_ffff;
+
+// Whether the value has bits in the high half, which isn't compared.
+fn has_ignored_half(comparison: Comparison) -> bool
+    ensures { IsTrue result ↔ HasIgnoredHalf comparison }
+{
+    match comparison.arg_len {
+        SeccompCmpArgLen::Dword => comparison.value > LOW_HALF,
+        SeccompCmpArgLen::Qword => false,
+    }
+}
+
+// Whether the value has bits that what is compared of the mask hasn't.
+fn has_value_outside(comparison: Comparison) -> bool
+    ensures { IsTrue result ↔ HasValueOutside comparison }
+{
+    match (comparison.operator, comparison.arg_len) {
+        (SeccompCmpOp::MaskedEq(mask), SeccompCmpArgLen::Dword) => {
+            comparison.value & (mask & LOW_HALF) != comparison.value
+        }
+        (SeccompCmpOp::MaskedEq(mask), SeccompCmpArgLen::Qword) => {
+            comparison.value & mask != comparison.value
+        }
+        _ => false,
+    }
+}
+
+// Whether the condition holds for every argument. Which argument it is plays no part.
+fn always_holds(comparison: Comparison) -> bool
+    ensures { IsTrue result ↔ HoldsForAll (condition_in comparison) }
+{
+    let Comparison {
+        arg_len,
+        operator,
+        value,
+        ..
+    } = comparison;
+    match SeccompCondition::new(0, arg_len, operator, value) {
+        Ok(condition) => condition.always_holds(),
+        Err(_) => false,
+    }
+}
+
+// Whether the condition holds for no argument. Which argument it is plays no part.
+fn never_holds(comparison: Comparison) -> bool
+    ensures { IsTrue result ↔ HoldsForNone (condition_in comparison) }
+{
+    let Comparison {
+        arg_len,
+        operator,
+        value,
+        ..
+    } = comparison;
+    match SeccompCondition::new(0, arg_len, operator, value) {
+        Ok(condition) => condition.never_holds(),
+        Err(_) => false,
+    }
+}
+
+// Whether the condition compares the whole argument, with a number whose high half is 0.
+fn is_evaded(comparison: Comparison) -> bool
+    ensures { IsTrue result ↔ IsEvaded comparison }
+{
+    match (comparison.arg_len, comparison.operator) {
+        (SeccompCmpArgLen::Qword, SeccompCmpOp::Eq) => comparison.value <= LOW_HALF,
+        (SeccompCmpArgLen::Qword, SeccompCmpOp::MaskedEq(mask)) => {
+            mask > LOW_HALF && comparison.value & mask <= LOW_HALF
+        }
+        _ => false,
+    }
+}
+
+// Whether what a code says is so of a condition, in a filter of these actions.
+pub(crate) fn is_so_of_condition(code: Code, actions: Actions, comparison: Comparison) -> bool
+    ensures { IsTrue result ↔ IsSoOfCondition code actions comparison }
+{
+    match code {
+        Code::HighHalfIgnored => has_ignored_half(comparison),
+        Code::ValueOutsideMask => has_value_outside(comparison),
+        Code::AlwaysHolds => always_holds(comparison),
+        Code::NeverHolds => never_holds(comparison),
+        Code::HighHalfEvades => {
+            permits(actions.mismatch) && !permits(actions.matching) && is_evaded(comparison)
+        }
+        _ => false,
+    }
+}

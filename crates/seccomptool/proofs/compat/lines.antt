@@ -1,0 +1,2 @@
+-- Lemmas for the functions of `compat::lines`.
+pub mod CallLines

@@ -1,0 +1,2 @@
+-- Lemmas for the functions of `stats::lines`.
+pub mod MeasureLines

@@ -1,0 +1,2 @@
+-- Lemmas for the functions of `stats::ways`.
+pub mod LongestWays

@@ -1,2 +1,0 @@
--- Lemmas for the functions of `steps::ways`.
-pub mod LongestWays

@@ -1,3 +1,0 @@
--- Lemmas for the functions of `warnings`.
-pub mod Picked
-pub mod Reported

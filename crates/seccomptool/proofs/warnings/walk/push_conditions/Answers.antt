@@ -1,8 +1,0 @@
-use Rattle.seccomptool.proofs.warnings.Picked.{conditions_more}
-use Rattle.seccomptool.proofs.warnings.walk.push_conditions.Goals as goal
-
-pub loop-place-preserved : goal.loop-place-preserved
-loop-place-preserved c =
-    conditions_more c.args.actions c.args.entry c.loop-place.place c.args.conditions.now _ c.args.warnings.now.items
-    c.loop-place.warnings.items
-    c.push_condition.new.warnings.items c.loop-place-test.true c.loop-place.invariant c.in_ok-push_condition.ensures

@@ -1,0 +1,61 @@
+// What the words ask for, carried out, command by command.
+
+ghost use Rattle.std.specs.Prelude.{◌≡◌, ◌≤◌, ◌⊎◌, map};
+ghost use Rattle.std.specs.Process.{exit_status};
+ghost use Rattle.seccomptool.specs.Answers.{EndWith, commands_of};
+ghost use Rattle.seccomptool.specs.declared.words.Command.TheVariants.{Check};
+
+use crate::carry_out::carry_out;
+use crate::words::{Asked, Command};
+use seccompiler::TargetArch;
+use std::process::ExitCode;
+use std::rt::Files;
+
+// Carries out what is asked for, on the files and standard input that are named, as `carry_out` does. The
+// status is the greatest of those of the commands.
+pub(crate) fn carry_out_each(
+    rt: &(impl Files + Input + Print + Eprint + AllocGlobal),
+    asked: Asked<'_>,
+    to_terminal: bool,
+) -> ExitCode
+    ensures ended { exit_status result ≤ 3 }
+    ensures each { EndWith (commands_of asked.entry) (exit_status result) }
+{
+    match asked {
+        Asked::One(command) => ExitCode::from(carry_out(rt, command, to_terminal)),
+        Asked::Checks {
+            arch,
+            denied,
+            policies,
+        } => ExitCode::from(check_each(rt, arch, denied, &policies, to_terminal)),
+    }
+}
+
+// Checks policies one after the other: one that is rejected doesn't keep those behind it from being checked.
+fn check_each(
+    rt: &(impl Files + Input + Print + Eprint + AllocGlobal),
+    arch: TargetArch,
+    denied: bool,
+    policies: &[&str],
+    to_terminal: bool,
+) -> u8
+    ensures ended { result ≤ 3 }
+    ensures each { EndWith (map (Check arch denied) policies.now) result }
+{
+    let mut status = 0;
+    for policy in policies {
+        let command = Command::Check {
+            arch,
+            denied,
+            policy: *policy,
+        };
+        status = greater(status, carry_out(rt, command, to_terminal));
+    }
+    status
+}
+
+fn greater(first: u8, second: u8) -> u8
+    ensures { (first ≤ result) × (second ≤ result) × ((result ≡ first) ⊎ (result ≡ second)) }
+{
+    if first < second { second } else { first }
+}

@@ -301,8 +301,8 @@ def compare_codes(results):
     order = [names[it] for it in re.findall(r"code\.(\w+)", all_codes)]
     results.compare("Codes.antt: codes with a name and a paragraph", (order, sorted(names)),
                     ([names[it] for it in told], sorted(told)))
-    sections = re.findall(r"^### `([a-z-]+)`$", page.read_text(encoding="utf-8"), re.M)
-    table = re.findall(r"^\| \[`([a-z-]+)`\]", page.read_text(encoding="utf-8"), re.M)
+    sections = re.findall(r"^### `([a-z0-9-]+)`$", page.read_text(encoding="utf-8"), re.M)
+    table = re.findall(r"^\| \[`([a-z0-9-]+)`\]", page.read_text(encoding="utf-8"), re.M)
     results.compare("docs/CHECKS.md: the sections of codes", order, sections)
     results.compare("docs/CHECKS.md: the table of codes", order, table)
     for name, code in names.items():

@@ -17,6 +17,9 @@ each_code code.ValueOutsideMask = (5, omega arith, refl)
 each_code code.AlwaysHolds = (6, omega arith, refl)
 each_code code.NeverHolds = (7, omega arith, refl)
 each_code code.HighHalfEvades = (8, omega arith, refl)
+each_code code.KillsExit = (9, omega arith, refl)
+each_code code.CloneByClone3 = (10, omega arith, refl)
+each_code code.CrateDiffers = (11, omega arith, refl)
 
 module _ (name : List ℕ) where
   -- One more of a front has another name. The default is any.

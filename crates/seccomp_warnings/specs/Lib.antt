@@ -1,6 +1,8 @@
 -- The definitions that the contracts cite: the codes with their names and what each is about in a few sentences, which
 -- warnings a filter has, their lines, and the report of a policy.
 pub mod Codes
+pub mod ActionWarnings
+pub mod CallWarnings
 pub mod Warnings
 pub mod Texts
 pub mod Reports

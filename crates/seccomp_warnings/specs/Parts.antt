@@ -1,12 +1,12 @@
 -- What the private functions of `walk` promise each other.
 use Rattle.std.specs.Prelude.{◌≡◌, List, ◌++◌}
+use Rattle.seccompiler.specs.JsonTypes.{JsonFilter}
 use Rattle.seccomp_warnings.specs.Warnings.{ArePicked, IsGiven}
 use Rattle.seccomp_warnings.specs.declared.code.Code.{Code}
-use Rattle.seccomp_warnings.specs.declared.warning.Actions.{Actions}
 use Rattle.seccomp_warnings.specs.declared.warning.Warning.{Warning}
 
--- The warnings grew by those of some that are true of a filter of these actions, and aren't allowed.
-pub record AddsPicked (allowed : List Code) (actions : Actions) (asked old new : List Warning) : Type 0 where
+-- The warnings grew by those of some that are true of a filter, and aren't allowed.
+pub record AddsPicked (allowed : List Code) (j : JsonFilter) (asked old new : List Warning) : Type 0 where
   pub picked : List Warning
-  pub are : ArePicked (IsGiven allowed actions) asked picked
+  pub are : ArePicked (IsGiven allowed j) asked picked
   pub added : new ≡ old ++ picked

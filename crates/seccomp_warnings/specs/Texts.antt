@@ -2,10 +2,12 @@
 use Rattle.std.specs.Prelude.{List, ℕ, [], ◌++◌, map, codes, decimal}
 use Rattle.std.specs.List.{concat}
 use Rattle.seccomp_command_line.specs.Names.{readable}
+use Rattle.seccomp_warnings.specs.declared.unlisted.Unlisted.{Unlisted}
 use Rattle.seccomp_warnings.specs.declared.warning.Comparison.{Comparison}
 use Rattle.seccomp_warnings.specs.declared.warning.Subject.{Subject}
 use Rattle.seccomp_warnings.specs.declared.warning.Subject.TheVariants as subject
 use Rattle.seccomp_warnings.specs.declared.warning.Warning.{Warning}
+use Rattle.seccomp_warnings.specs.CallWarnings.{unlisted_name}
 use Rattle.seccomp_warnings.specs.Codes.{code_text}
 use Rattle.seccomp_warnings.specs.declared.code.Code.{Code}
 use Rattle.seccomp_warnings.specs.declared.code.Code.TheVariants as code
@@ -26,6 +28,15 @@ said_text code.AlwaysHolds = codes "it holds for every argument; leave it out, o
 said_text code.NeverHolds = codes "it holds for no argument, so the entry matches no call; leave the entry out, or write what it has to ask"
 said_text code.HighHalfEvades =
     codes "a caller passes by it with a high half, which the kernel ignores for arguments of 32 bits; write \"dword\" for these"
+said_text code.KillsExit =
+    codes "a process or thread that ends, or returns from a signal handler, by this call is killed; "
+    ++ codes "let exit, exit_group and rt_sigreturn through"
+said_text code.CloneByClone3 =
+    codes "clone is denied or restricted, and clone3, whose flags no filter sees, is let through; "
+    ++ codes "deny clone3 with errno 38 in a filter of its own"
+said_text code.CrateDiffers =
+    codes "the call has entries with args too, and matches here whatever its arguments are; "
+    ++ codes "the Rust crate asks these args: leave out those or this"
 
 -- The way from an action or a condition to the value that a code is about.
 abbrev pub part_text : Code → List ℕ
@@ -40,14 +51,24 @@ part_text other = []
 abbrev pub place_text : ℕ → List ℕ
 place_text place = codes "[" ++ decimal place ++ codes "]"
 
+-- The way from a filter to its action at a call that no entry names.
+abbrev pub unlisted_text : Unlisted → List ℕ
+unlisted_text call = codes ".mismatch_action (" ++ unlisted_name call ++ codes ")"
+
+-- The way from a filter to one of its entries.
+abbrev pub entry_text : ℕ → List ℕ
+entry_text place = codes ".filter" ++ place_text place
+
 -- The way from a filter to one of its conditions.
 abbrev pub comparison_text : Comparison → List ℕ
-comparison_text c = codes ".filter" ++ place_text c.entry ++ codes ".args" ++ place_text c.place
+comparison_text c = entry_text c.entry ++ codes ".args" ++ place_text c.place
 
 -- The way from a filter to one of its parts.
 abbrev pub subject_text : Subject → List ℕ
 subject_text (subject.MismatchAction action) = codes ".mismatch_action"
+subject_text (subject.MismatchCall call) = unlisted_text call
 subject_text (subject.MatchAction action) = codes ".match_action"
+subject_text (subject.Entry place) = entry_text place
 subject_text (subject.Condition c) = comparison_text c
 
 -- The place of a warning of the filter of a name, as the path of a fault has it.

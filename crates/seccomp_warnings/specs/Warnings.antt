@@ -1,7 +1,5 @@
 -- The warnings of a filter: of which of its parts something is so that its author may not mean.
 use Rattle.std.specs.Prelude.{◌≡◌, ◌≢◌, ℕ, ◌+◌, ◌^◌, ◌<◌, ◌≤◌, ◌⊎◌, List, [], ◌∷◌, ◌++◌, map, Contains, Option, Some, None, bit_and}
-use Rattle.seccompiler.specs.declared.backend.SeccompAction.{SeccompAction}
-use Rattle.seccompiler.specs.declared.backend.SeccompAction.TheVariants.{Allow, Errno, Log, Trace}
 use Rattle.seccompiler.specs.declared.backend.SeccompCmpArgLen.{SeccompCmpArgLen}
 use Rattle.seccompiler.specs.declared.backend.SeccompCmpArgLen.TheVariants.{Dword, Qword}
 use Rattle.seccompiler.specs.declared.backend.SeccompCmpOp.{SeccompCmpOp}
@@ -9,7 +7,9 @@ use Rattle.seccompiler.specs.declared.backend.SeccompCmpOp.TheVariants.{Eq, Mask
 use Rattle.seccompiler.specs.declared.json.types.JsonCondition.{JsonCondition}
 use Rattle.seccompiler.specs.AnyArgument.{HoldsForAll, HoldsForNone}
 use Rattle.seccompiler.specs.JsonTypes.{JsonRule, JsonFilter}
-use Rattle.seccompiler.specs.Policy.{Condition, part_of, word_of}
+use Rattle.seccompiler.specs.Policy.{Condition, part_of}
+use Rattle.seccomp_warnings.specs.ActionWarnings.{Permits, IsSoOfAction}
+use Rattle.seccomp_warnings.specs.CallWarnings.{IsSoOfEntry, IsSoOfUnlisted, all_unlisted}
 use Rattle.seccomp_warnings.specs.declared.warning.Actions.{Actions}
 use Rattle.seccomp_warnings.specs.declared.warning.Comparison.{Comparison}
 use Rattle.seccomp_warnings.specs.declared.warning.Subject.{Subject}
@@ -17,29 +17,7 @@ use Rattle.seccomp_warnings.specs.declared.warning.Subject.TheVariants as subjec
 use Rattle.seccomp_warnings.specs.declared.warning.Warning.{Warning}
 use Rattle.seccomp_warnings.specs.declared.code.Code.{Code}
 use Rattle.seccomp_warnings.specs.declared.code.Code.TheVariants as code
-
--- ---- what is so of an action
-
--- The action lets a call through (seccomp(2): SECCOMP_RET_ALLOW and SECCOMP_RET_LOG).
-abbrev pub Permits : SeccompAction → Type 0
-Permits action = (action ≡ Allow) ⊎ (action ≡ Log)
-
--- The errno is above the greatest that Linux has (MAX_ERRNO of the kernel).
-abbrev pub IsErrnoTooLarge : SeccompAction → Type 0
-IsErrnoTooLarge (Errno n) = 4095 < n
-IsErrnoTooLarge action = ⊥
-
--- The action notifies a tracer.
-abbrev pub Traces : SeccompAction → Type 0
-Traces action = (n : ℕ) × (action ≡ Trace n)
-
--- What a code says of an action is so. The first: its return value is SECCOMP_RET_ERRNO with errno 0.
-abbrev pub IsSoOfAction : Code → SeccompAction → Type 0
-IsSoOfAction code.FakeSuccess action = word_of action ≡ 0x00050000
-IsSoOfAction code.ErrnoTooLarge action = IsErrnoTooLarge action
-IsSoOfAction code.TraceWithoutTracer action = Traces action
-IsSoOfAction code.AllowsByDefault action = Permits action
-IsSoOfAction other action = ⊥
+use Rattle.seccomp_warnings.specs.declared.unlisted.Unlisted.{Unlisted}
 
 -- ---- what is so of a condition
 
@@ -84,15 +62,20 @@ IsSoOfCondition other actions c = ⊥
 
 -- ---- what is so of a filter
 
--- What a code says of a part of a filter is so.
-abbrev pub IsSoOf : Actions → Code → Subject → Type 0
-IsSoOf actions kind (subject.MismatchAction action) = IsSoOfAction kind action
-IsSoOf actions kind (subject.MatchAction action) = IsSoOfAction kind action
-IsSoOf actions kind (subject.Condition c) = IsSoOfCondition kind actions c
+abbrev pub actions_of : JsonFilter → Actions
+actions_of j = record { mismatch = j.mismatch_action; matching = j.match_action }
 
--- The warning is true of a filter of these actions.
-abbrev pub IsSo : Actions → Warning → Type 0
-IsSo actions w = IsSoOf actions w.code w.subject
+-- What a code says of a part of a filter is so.
+abbrev pub IsSoOf : JsonFilter → Code → Subject → Type 0
+IsSoOf j kind (subject.MismatchAction action) = IsSoOfAction kind action
+IsSoOf j kind (subject.MismatchCall call) = IsSoOfUnlisted kind j call
+IsSoOf j kind (subject.MatchAction action) = IsSoOfAction kind action
+IsSoOf j kind (subject.Entry place) = IsSoOfEntry kind j place
+IsSoOf j kind (subject.Condition c) = IsSoOfCondition kind (actions_of j) c
+
+-- The warning is true of the filter.
+abbrev pub IsSo : JsonFilter → Warning → Type 0
+IsSo j w = IsSoOf j w.code w.subject
 
 -- ---- what is asked of a filter, in the order of its text
 
@@ -102,12 +85,23 @@ mismatch_codes = code.FakeSuccess ∷ code.ErrnoTooLarge ∷ code.TraceWithoutTr
 abbrev pub match_codes : List Code
 match_codes = code.FakeSuccess ∷ code.ErrnoTooLarge ∷ code.TraceWithoutTracer ∷ []
 
+abbrev pub unlisted_codes : List Code
+unlisted_codes = code.KillsExit ∷ code.CloneByClone3 ∷ []
+
+abbrev pub entry_codes : List Code
+entry_codes = code.KillsExit ∷ code.CloneByClone3 ∷ code.CrateDiffers ∷ []
+
 abbrev pub condition_codes : List Code
 condition_codes = code.HighHalfIgnored ∷ code.ValueOutsideMask ∷ code.AlwaysHolds ∷ code.NeverHolds ∷ code.HighHalfEvades ∷ []
 
 -- The warning of a code about a part of a filter.
 abbrev pub about : Subject → Code → Warning
 about part kind = record { code = kind; subject = part }
+
+-- All codes of calls that no entry names.
+abbrev pub calls_asked : List Unlisted → List Warning
+calls_asked [] = []
+calls_asked (call ∷ calls) = map (about (subject.MismatchCall call)) unlisted_codes ++ calls_asked calls
 
 -- The condition at a place of the entry at a place.
 abbrev pub comparison_at : ℕ → ℕ → JsonCondition → Comparison
@@ -122,23 +116,24 @@ abbrev pub conditions_asked : ℕ → ℕ → List JsonCondition → List Warnin
 conditions_asked entry place [] = []
 conditions_asked entry place (c ∷ conditions) = condition_asked entry place c ++ conditions_asked entry (place + 1) conditions
 
--- Those of an entry at a place.
+-- Those of the conditions of an entry at a place.
 abbrev pub args_asked : ℕ → Option (List JsonCondition) → List Warning
 args_asked entry None = []
 args_asked entry (Some conditions) = conditions_asked entry 0 conditions
 
+-- All codes of an entry at a place, and then those of its conditions.
+abbrev pub entry_asked : ℕ → JsonRule → List Warning
+entry_asked entry rule = map (about (subject.Entry entry)) entry_codes ++ args_asked entry rule.conditions
+
 -- Those of entries, of which the first stands at this place.
 abbrev pub entries_asked : ℕ → List JsonRule → List Warning
 entries_asked entry [] = []
-entries_asked entry (rule ∷ rules) = args_asked entry rule.conditions ++ entries_asked (entry + 1) rules
+entries_asked entry (rule ∷ rules) = entry_asked entry rule ++ entries_asked (entry + 1) rules
 
--- Those of a filter: of the two actions, and then of its entries.
+-- Those of a filter: of the mismatch action and of the calls that are left to it, of the match action, and then of its entries.
 abbrev pub asked_of : JsonFilter → List Warning
-asked_of j = map (about (subject.MismatchAction j.mismatch_action)) mismatch_codes
+asked_of j = map (about (subject.MismatchAction j.mismatch_action)) mismatch_codes ++ calls_asked all_unlisted
     ++ map (about (subject.MatchAction j.match_action)) match_codes ++ entries_asked 0 j.rules
-
-abbrev pub actions_of : JsonFilter → Actions
-actions_of j = record { mismatch = j.mismatch_action; matching = j.match_action }
 
 -- Of the first list exactly those of which P holds, in their order.
 abbrev pub ArePicked : (Warning → Type 0) → List Warning → List Warning → Type 0
@@ -146,10 +141,10 @@ ArePicked P [] picked = picked ≡ []
 ArePicked P (w ∷ asked) picked = ((rest : List Warning) × P w × (picked ≡ w ∷ rest) × ArePicked P asked rest)
     ⊎ ((P w → ⊥) × ArePicked P asked picked)
 
--- The warning is true of a filter of these actions, and its code isn't allowed.
-abbrev pub IsGiven : List Code → Actions → Warning → Type 0
-IsGiven allowed actions w = IsSo actions w × (Contains allowed w.code → ⊥)
+-- The warning is true of the filter, and its code isn't allowed.
+abbrev pub IsGiven : List Code → JsonFilter → Warning → Type 0
+IsGiven allowed j w = IsSo j w × (Contains allowed w.code → ⊥)
 
 -- The warnings of a filter: exactly those that are true of it and whose codes aren't allowed, in the order of its text.
 abbrev pub AreWarnings : List Code → JsonFilter → List Warning → Type 0
-AreWarnings allowed j warnings = ArePicked (IsGiven allowed (actions_of j)) (asked_of j) warnings
+AreWarnings allowed j warnings = ArePicked (IsGiven allowed j) (asked_of j) warnings

@@ -1,7 +1,7 @@
 // What is so of an action.
 
 ghost use Rattle.std.specs.Prelude.{◌↔◌, IsTrue};
-ghost use Rattle.seccomp_warnings.specs.Warnings.{IsSoOfAction, Permits};
+ghost use Rattle.seccomp_warnings.specs.ActionWarnings.{IsSoOfAction, Kills, Permits};
 
 use crate::code::Code;
 use seccompiler::SeccompAction;
@@ -17,6 +17,16 @@ pub(crate) fn permits(action: SeccompAction) -> bool
     ensures { IsTrue result ↔ Permits action }
 {
     matches!(action, SeccompAction::Allow | SeccompAction::Log)
+}
+
+// Whether the action kills whoever makes the call.
+pub(crate) fn kills(action: SeccompAction) -> bool
+    ensures { IsTrue result ↔ Kills action }
+{
+    matches!(
+        action,
+        SeccompAction::KillProcess | SeccompAction::KillThread
+    )
 }
 
 // Whether what a code says is so of an action.

@@ -1,21 +1,24 @@
 // The warnings of a filter, in the order of the policy's text.
 
 ghost use Rattle.std.specs.Prelude.{◌≡◌, ◌↔◌, map, IfOk, OnOk, IsTrue, option_map};
-ghost use Rattle.seccomp_warnings.specs.Warnings.{AreWarnings, IsGiven, IsSo, about, entries_asked, args_asked, conditions_asked, condition_asked};
+ghost use Rattle.seccomp_warnings.specs.Warnings.{AreWarnings, IsGiven, IsSo, about, actions_of, calls_asked, entries_asked, entry_asked, args_asked, conditions_asked, condition_asked};
+ghost use Rattle.seccomp_warnings.specs.CallWarnings.{all_unlisted};
 ghost use Rattle.seccomp_warnings.specs.Parts.{AddsPicked};
 
 use crate::action::is_so_of_action;
+use crate::call::{is_so_of_entry, is_so_of_unlisted};
 use crate::code::{Code, is_among};
 use crate::condition::is_so_of_condition;
+use crate::unlisted::Unlisted;
 use crate::warning::{Actions, Comparison, Subject, Warning};
 use seccompiler::{JsonCondition, JsonFilter, JsonRule};
 use std::alloc::{AllocError, Global};
 
 /// The warnings of a filter: exactly those that are true of it and whose codes aren't allowed.
 ///
-/// They come in the order of the policy's text: those of the mismatch action, those of the match action,
-/// and then those of the entries, condition by condition; those of one place in the order of
-/// `Code::all`.
+/// They come in the order of the policy's text: those of the mismatch action, there too at the calls that
+/// no entry names, those of the match action, and then entry by entry those of the entry and of its
+/// conditions. Those of one place are in the order of `Code::all`.
 ///
 /// # Errors
 ///
@@ -27,62 +30,88 @@ pub fn warnings_of(
 ) -> Result<Vec<Warning>, AllocError>
     ensures { IfOk result (λ warnings. AreWarnings allowed.now filter.now warnings.items) }
 {
-    let actions = Actions {
-        mismatch: filter.mismatch_action,
-        matching: filter.match_action,
-    };
     let mut warnings = Vec::new(alloc);
-    let mismatch = Subject::MismatchAction(actions.mismatch);
+    let mismatch = Subject::MismatchAction(filter.mismatch_action);
     push_those(
         &mut warnings,
         allowed,
-        actions,
+        filter,
         Code::of_mismatch(),
         mismatch,
     )?;
-    let matching = Subject::MatchAction(actions.matching);
-    push_those(&mut warnings, allowed, actions, Code::of_match(), matching)?;
-    push_entries(&mut warnings, allowed, actions, &filter.rules)?;
+    push_calls(&mut warnings, allowed, filter)?;
+    let matching = Subject::MatchAction(filter.match_action);
+    push_those(&mut warnings, allowed, filter, Code::of_match(), matching)?;
+    push_entries(&mut warnings, allowed, filter, &filter.rules)?;
     Ok(warnings)
 }
 
-// Whether a warning is true of a filter of these actions.
-fn is_so(actions: Actions, warning: Warning) -> bool
-    ensures { IsTrue result ↔ IsSo actions warning }
+// The actions of a filter.
+fn actions_of(filter: &JsonFilter) -> Actions
+    ensures { result ≡ actions_of filter.now }
+{
+    Actions {
+        mismatch: filter.mismatch_action,
+        matching: filter.match_action,
+    }
+}
+
+// Whether a warning is true of the filter.
+fn is_so(filter: &JsonFilter, warning: Warning) -> bool
+    ensures { IsTrue result ↔ IsSo filter.now warning }
 {
     match warning.subject {
         Subject::MismatchAction(action) | Subject::MatchAction(action) => {
             is_so_of_action(warning.code, action)
         }
-        Subject::Condition(comparison) => is_so_of_condition(warning.code, actions, comparison),
+        Subject::MismatchCall(call) => is_so_of_unlisted(warning.code, filter, call),
+        Subject::Entry(place) => is_so_of_entry(warning.code, filter, place),
+        Subject::Condition(comparison) => {
+            is_so_of_condition(warning.code, actions_of(filter), comparison)
+        }
     }
 }
 
-// Whether a warning is true of a filter of these actions, and its code isn't allowed.
-fn is_given(allowed: &[Code], actions: Actions, warning: Warning) -> bool
-    ensures { IsTrue result ↔ IsGiven allowed.now actions warning }
+// Whether a warning is true of the filter, and its code isn't allowed.
+fn is_given(allowed: &[Code], filter: &JsonFilter, warning: Warning) -> bool
+    ensures { IsTrue result ↔ IsGiven allowed.now filter.now warning }
 {
-    is_so(actions, warning) && !is_among(allowed, warning.code)
+    is_so(filter, warning) && !is_among(allowed, warning.code)
 }
 
 // Adds the warnings of these codes that are so of a part of the filter.
 fn push_those(
     warnings: &mut Vec<Warning>,
     allowed: &[Code],
-    actions: Actions,
+    filter: &JsonFilter,
     codes: &[Code],
     subject: Subject,
 ) -> Result<(), AllocError>
-    ensures { OnOk result (AddsPicked allowed.now actions (map (about subject) codes.now) warnings.old.items warnings.new.items) }
+    ensures { OnOk result (AddsPicked allowed.now filter.now (map (about subject) codes.now) warnings.old.items warnings.new.items) }
 {
     for code in codes {
         let warning = Warning {
             code: *code,
             subject,
         };
-        if is_given(allowed, actions, warning) {
+        if is_given(allowed, filter, warning) {
             warnings.push(warning)?;
         }
+    }
+    Ok(())
+}
+
+// Adds the warnings of the calls that no entry names.
+fn push_calls(
+    warnings: &mut Vec<Warning>,
+    allowed: &[Code],
+    filter: &JsonFilter,
+) -> Result<(), AllocError>
+    ensures { OnOk result (AddsPicked allowed.now filter.now (calls_asked all_unlisted) warnings.old.items warnings.new.items) }
+{
+    for call in Unlisted::all() {
+        let subject = Subject::MismatchCall(*call);
+        push_those(warnings, allowed, filter, Code::of_unlisted(), subject)?;
     }
     Ok(())
 }
@@ -91,12 +120,12 @@ fn push_those(
 fn push_condition(
     warnings: &mut Vec<Warning>,
     allowed: &[Code],
-    actions: Actions,
+    filter: &JsonFilter,
     entry: usize,
     place: usize,
     condition: &JsonCondition,
 ) -> Result<(), AllocError>
-    ensures { OnOk result (AddsPicked allowed.now actions (condition_asked entry place condition.now) warnings.old.items warnings.new.items) }
+    ensures { OnOk result (AddsPicked allowed.now filter.now (condition_asked entry place condition.now) warnings.old.items warnings.new.items) }
 {
     let comparison = Comparison {
         entry,
@@ -106,52 +135,68 @@ fn push_condition(
         value: condition.value,
     };
     let subject = Subject::Condition(comparison);
-    push_those(warnings, allowed, actions, Code::of_conditions(), subject)
+    push_those(warnings, allowed, filter, Code::of_conditions(), subject)
 }
 
 // Adds the warnings of conditions, which are those of the entry at a place.
 fn push_conditions(
     warnings: &mut Vec<Warning>,
     allowed: &[Code],
-    actions: Actions,
+    filter: &JsonFilter,
     entry: usize,
     conditions: &[JsonCondition],
 ) -> Result<(), AllocError>
-    ensures { OnOk result (AddsPicked allowed.now actions (conditions_asked entry 0 conditions.now) warnings.old.items warnings.new.items) }
+    ensures { OnOk result (AddsPicked allowed.now filter.now (conditions_asked entry 0 conditions.now) warnings.old.items warnings.new.items) }
 {
     for (place, condition) in conditions.iter().enumerate() {
-        push_condition(warnings, allowed, actions, entry, place, condition)?;
+        push_condition(warnings, allowed, filter, entry, place, condition)?;
     }
     Ok(())
 }
 
-// Adds the warnings of the entry at a place.
-fn push_entry(
+// Adds the warnings of the conditions of the entry at a place.
+fn push_args(
     warnings: &mut Vec<Warning>,
     allowed: &[Code],
-    actions: Actions,
+    filter: &JsonFilter,
     entry: usize,
     rule: &JsonRule,
 ) -> Result<(), AllocError>
-    ensures { OnOk result (AddsPicked allowed.now actions (args_asked entry rule.now.conditions) warnings.old.items warnings.new.items) }
+    ensures { OnOk result (AddsPicked allowed.now filter.now (args_asked entry rule.now.conditions) warnings.old.items warnings.new.items) }
 {
     match &rule.conditions {
-        Some(conditions) => push_conditions(warnings, allowed, actions, entry, conditions),
+        Some(conditions) => push_conditions(warnings, allowed, filter, entry, conditions),
         None => Ok(()),
     }
+}
+
+// Adds the warnings of the entry at a place, and of its conditions.
+fn push_entry(
+    warnings: &mut Vec<Warning>,
+    allowed: &[Code],
+    filter: &JsonFilter,
+    entry: usize,
+    rule: &JsonRule,
+) -> Result<(), AllocError>
+    ensures { OnOk result (AddsPicked allowed.now filter.now (entry_asked entry rule.now) warnings.old.items warnings.new.items) }
+{
+    let subject = Subject::Entry(entry);
+    push_those(warnings, allowed, filter, Code::of_entries(), subject)?;
+    push_args(warnings, allowed, filter, entry, rule)?;
+    Ok(())
 }
 
 // Adds the warnings of all entries.
 fn push_entries(
     warnings: &mut Vec<Warning>,
     allowed: &[Code],
-    actions: Actions,
+    filter: &JsonFilter,
     entries: &[JsonRule],
 ) -> Result<(), AllocError>
-    ensures { OnOk result (AddsPicked allowed.now actions (entries_asked 0 entries.now) warnings.old.items warnings.new.items) }
+    ensures { OnOk result (AddsPicked allowed.now filter.now (entries_asked 0 entries.now) warnings.old.items warnings.new.items) }
 {
     for (place, entry) in entries.iter().enumerate() {
-        push_entry(warnings, allowed, actions, place, entry)?;
+        push_entry(warnings, allowed, filter, place, entry)?;
     }
     Ok(())
 }

@@ -1,0 +1,90 @@
+-- What is so of the calls that a filter names, and of those that it doesn't, that its author may not mean.
+use Rattle.std.specs.Prelude.{◌≡◌, ℕ, ◌⊎◌, List, [], ◌∷◌, Any, IsSome, IsSomeAnd, codes, slice_get}
+use Rattle.seccompiler.specs.JsonTypes.{JsonRule, JsonFilter}
+use Rattle.seccomp_warnings.specs.ActionWarnings.{Kills, Permits}
+use Rattle.seccomp_warnings.specs.declared.code.Code.{Code}
+use Rattle.seccomp_warnings.specs.declared.code.Code.TheVariants as code
+use Rattle.seccomp_warnings.specs.declared.unlisted.Unlisted.{Unlisted}
+use Rattle.seccomp_warnings.specs.declared.unlisted.Unlisted.TheVariants as unlisted
+
+-- ---- the entries of a filter
+
+-- The entry names this call.
+abbrev pub Names : List ℕ → JsonRule → Type 0
+Names name entry = entry.syscall ≡ name
+
+-- The entry asks something of the call's arguments.
+abbrev pub HasArgs : JsonRule → Type 0
+HasArgs entry = IsSome entry.conditions
+
+-- The entry matches every call of this name.
+abbrev pub MatchesEach : List ℕ → JsonRule → Type 0
+MatchesEach name entry = Names name entry × (HasArgs entry → ⊥)
+
+-- The entry matches some calls of this name, by their arguments.
+abbrev pub MatchesSome : List ℕ → JsonRule → Type 0
+MatchesSome name entry = HasArgs entry × Names name entry
+
+-- Some entry names the call.
+abbrev pub NamesCall : JsonFilter → List ℕ → Type 0
+NamesCall j name = Any (Names name) j.rules
+
+-- ---- the calls that no entry names
+
+-- The calls that are looked for, in the order in which they are asked about.
+abbrev pub all_unlisted : List Unlisted
+all_unlisted = unlisted.Exit ∷ unlisted.ExitGroup ∷ unlisted.RtSigreturn ∷ unlisted.Clone3 ∷ []
+
+-- A call's name.
+abbrev pub unlisted_name : Unlisted → List ℕ
+unlisted_name unlisted.Exit = codes "exit"
+unlisted_name unlisted.ExitGroup = codes "exit_group"
+unlisted_name unlisted.RtSigreturn = codes "rt_sigreturn"
+unlisted_name unlisted.Clone3 = codes "clone3"
+
+-- The mismatch action kills, and no entry names the call.
+abbrev pub IsKilledUnlisted : JsonFilter → List ℕ → Type 0
+IsKilledUnlisted j name = Kills j.mismatch_action × (NamesCall j name → ⊥)
+
+-- Calls that an entry matches are denied, and an entry names clone; the others are let through, and no entry names clone3.
+abbrev pub IsCloneEvaded : JsonFilter → Type 0
+IsCloneEvaded j = Permits j.mismatch_action × (Permits j.match_action → ⊥) × NamesCall j (codes "clone")
+    × (NamesCall j (codes "clone3") → ⊥)
+
+-- What a code says of a call that no entry of the filter names is so.
+abbrev pub IsSoOfUnlisted : Code → JsonFilter → Unlisted → Type 0
+IsSoOfUnlisted code.KillsExit j unlisted.Clone3 = ⊥
+IsSoOfUnlisted code.KillsExit j call = IsKilledUnlisted j (unlisted_name call)
+IsSoOfUnlisted code.CloneByClone3 j unlisted.Clone3 = IsCloneEvaded j
+IsSoOfUnlisted other j call = ⊥
+
+-- ---- what is so of an entry
+
+-- By this call a thread or a process ends, or a signal handler returns (exit(2), exit_group(2), sigreturn(2)).
+abbrev pub IsExit : List ℕ → Type 0
+IsExit name = (name ≡ codes "exit") ⊎ (name ≡ codes "exit_group") ⊎ (name ≡ codes "rt_sigreturn")
+
+-- The match action kills, and the entry matches each call of one of these names.
+abbrev pub KillsAtExit : JsonFilter → JsonRule → Type 0
+KillsAtExit j entry = Kills j.match_action × (HasArgs entry → ⊥) × IsExit entry.syscall
+
+-- Calls that an entry matches are let through, and this one matches each clone3; the others are denied, and no entry matches
+-- each clone.
+abbrev pub LetsClone3Through : JsonFilter → JsonRule → Type 0
+LetsClone3Through j entry = Permits j.match_action × (Permits j.mismatch_action → ⊥) × MatchesEach (codes "clone3") entry
+    × (Any (MatchesEach (codes "clone")) j.rules → ⊥)
+
+-- The entry matches each call of its name, and another one asks for arguments of the same call.
+abbrev pub IsWithAndWithoutArgs : JsonFilter → JsonRule → Type 0
+IsWithAndWithoutArgs j entry = (HasArgs entry → ⊥) × Any (MatchesSome entry.syscall) j.rules
+
+-- What a code says of an entry of the filter is so.
+abbrev pub IsSoOfRule : Code → JsonFilter → JsonRule → Type 0
+IsSoOfRule code.KillsExit j entry = KillsAtExit j entry
+IsSoOfRule code.CloneByClone3 j entry = LetsClone3Through j entry
+IsSoOfRule code.CrateDiffers j entry = IsWithAndWithoutArgs j entry
+IsSoOfRule other j entry = ⊥
+
+-- The filter has an entry at the place, of which what a code says is so.
+abbrev pub IsSoOfEntry : Code → JsonFilter → ℕ → Type 0
+IsSoOfEntry kind j place = IsSomeAnd (slice_get j.rules place) (IsSoOfRule kind j)

@@ -1,0 +1,43 @@
+// Calls that a filter may leave to its mismatch action.
+
+ghost use Rattle.std.specs.Prelude.{◌≡◌};
+ghost use Rattle.seccomp_warnings.specs.CallWarnings.{all_unlisted, unlisted_name};
+
+/// A call that it matters of whether a filter has an entry for it.
+#[derive(Clone, Copy, Debug)]
+pub enum Unlisted {
+    /// `exit`, by which a thread ends.
+    Exit,
+    /// `exit_group`, by which a process ends.
+    ExitGroup,
+    /// `rt_sigreturn`, by which a signal handler returns.
+    RtSigreturn,
+    /// `clone3`, which makes processes and threads, with flags that no filter sees.
+    Clone3,
+}
+
+impl Unlisted {
+    // Every such call, each once, in the order in which it is asked about.
+    pub(crate) fn all() -> &'static [Unlisted]
+        ensures { result.now ≡ all_unlisted }
+    {
+        &[
+            Unlisted::Exit,
+            Unlisted::ExitGroup,
+            Unlisted::RtSigreturn,
+            Unlisted::Clone3,
+        ]
+    }
+
+    /// The call's name, the same on all architectures.
+    pub fn name(self) -> &'static str
+        ensures { result.now ≡ unlisted_name self }
+    {
+        match self {
+            Unlisted::Exit => "exit",
+            Unlisted::ExitGroup => "exit_group",
+            Unlisted::RtSigreturn => "rt_sigreturn",
+            Unlisted::Clone3 => "clone3",
+        }
+    }
+}

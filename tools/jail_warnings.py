@@ -6,11 +6,12 @@ Where seccomptool is built, `check` has to warn of exactly the codes that are st
 
 import json
 import os
+import platform
 import re
 import sys
 from typing import NamedTuple
 
-from jail_cases import TIOCSTI, X32_ANSWERS, X32_BIT, X32_CALLS, answer_of, denying, filter_of, when
+from jail_cases import KILLED, TIOCSTI, X32_ANSWERS, X32_BIT, X32_CALLS, answer_of, denying, filter_of, when
 from jail_running import EXAMPLES, TOOL, TOP, run
 
 LOW = 2**32 - 1
@@ -22,12 +23,27 @@ MADE = answer_of(0)
 NO_TERMINAL = answer_of(25)
 
 CAT = json.loads((EXAMPLES / "cat-policy.json").read_text(encoding="utf-8"))["cat"]
+
+# The calls by which a thread or a process ends, or a signal handler returns; and all calls of this machine.
+EXITS = ("exit", "exit_group", "rt_sigreturn")
+TABLE = (TOP / f"crates/seccomp_tables/src/{platform.machine()}.rt").read_text(encoding="utf-8")
+NAMES = re.findall(r'\("([a-z0-9_]+)", [0-9]+\)', TABLE)
+
 YIELD_OF_X32 = str(X32_BIT + X32_CALLS["sched_yield"])
+
+
+# Calls that the kernel rejects for their arguments where a filter lets them through: flags that don't go together, and a
+# structure of no size.
+CLONE, CLONE3, INVALID = "clone 0x800", "clone3 0 0", answer_of(22)
+
+# Calls by which `call` ends, with its exit status.
+ENDED = [("exit 6", 6), ("exit_group 7", 7)]
 
 
 class Shown(NamedTuple):
     """The codes of a filter, beside `allows-by-default` where it does, the filter, and calls with their answers. A list
-    has the answers of kernels that are configured differently."""
+    has the answers of kernels that are configured differently. A number is the exit status of `call` where it prints
+    nothing."""
 
     codes: list
     filter: dict
@@ -45,6 +61,11 @@ def on_terminal(codes, length, operator, others):
     calls = [("ioctl 0 0x5412", DENIED), ("ioctl 0 0x5413", NO_TERMINAL)]
     calls += [(f"ioctl 0 {it}", others) for it in ("0x100005412", "0x8000000000005412")]
     return Shown(codes, denying(when("ioctl", (1, length, operator, TIOCSTI))), calls)
+
+
+def allowing(*entries):
+    """Returns the filter of the example `cat` with these entries too, which answers all other calls with errno 1000."""
+    return {**CAT, "mismatch_action": {"errno": 1000}, "filter": CAT["filter"] + denying(*entries)["filter"]}
 
 
 def on_errno(codes, number, answered):
@@ -83,6 +104,24 @@ WARNED = {
     "TIOCSTI under a mask": on_terminal(["high-half-evades"], "qword", {"masked_eq": WHOLE}, NO_TERMINAL),
     "TIOCSTI under a mask of its half": on_terminal([], "qword", {"masked_eq": LOW}, DENIED),
     "TIOCSTI as a dword": on_terminal([], "dword", "eq", DENIED),
+    "kills at the end": Shown(["kills-exit"] * 2, filter_of("kill_process", "allow", "exit", "exit_group"), [
+        ("exit 0", KILLED), ("exit_group 0", KILLED)]),
+    "kills at a return": Shown(["kills-exit"], filter_of("kill_process", "allow", "rt_sigreturn"), ENDED),
+    "kills at other arguments": Shown(
+        [], filter_of("kill_process", "allow", *(when(it, (0, "qword", "eq", WHOLE - 1)) for it in EXITS)), ENDED),
+    "allows all but the end": Shown(
+        ["kills-exit"] * 3, filter_of("allow", "kill_process", *(it for it in NAMES if it not in EXITS)),
+        [("exit 0", KILLED), ("exit_group 0", KILLED)]),
+    "allows all": Shown([], filter_of("allow", "kill_process", *NAMES), ENDED),
+    "denies clone": Shown(["clone-by-clone3"], denying("clone"), [(CLONE, DENIED), (CLONE3, INVALID)]),
+    "denies clone and clone3": Shown([], denying("clone", "clone3"), [(CLONE, DENIED), (CLONE3, DENIED)]),
+    "allows clone3": Shown(["clone-by-clone3"], allowing("clone3"), [(CLONE, DENIED), (CLONE3, INVALID)]),
+    "allows clone and clone3": Shown([], allowing("clone3", "clone"), [(CLONE, INVALID), (CLONE3, INVALID)]),
+    "allows clone": Shown([], allowing("clone"), [(CLONE, INVALID), (CLONE3, DENIED)]),
+    "with and without args": Shown(
+        ["crate-differs"], denying("sched_yield", when("sched_yield", (0, "dword", "eq", 5))),
+        [("sched_yield 5", DENIED), ("sched_yield 4", DENIED)]),
+    "with args": on_yield([], "dword", "eq", 5, [5], [4]),
 }
 
 POLICY = {name: it.filter for name, it in WARNED.items()}
@@ -90,15 +129,21 @@ POLICY = {name: it.filter for name, it in WARNED.items()}
 # Sets the user, and prints who it is then.
 SET_USER = "import os; os.setuid(os.getuid() + 1); print(os.getuid())"
 
+# Handles a signal, and ends.
+HANDLED = "trap 'echo caught' USR1; kill -USR1 $$; exit 7"
+
 
 def try_warned(results, jailer, folder):
     """Makes the calls under the filters of each code, and compares what they return."""
     for name, it in WARNED.items():
         for words, answers in it.calls:
             out, err, status = run([*jailer.words, "warned.json", name, folder / "bin/call", *words.split()], folder)
-            among = answers if isinstance(answers, list) else [answers]
-            wanted = out if out in among else among
-            results.compare(f"{jailer} {name}: {words}", (wanted, "", 0), (out, err, status))
+            if isinstance(answers, int):
+                wanted = "", "", answers
+            else:
+                among = answers if isinstance(answers, list) else [answers]
+                wanted = out if out in among else among, "", 0
+            results.compare(f"{jailer} {name}: {words}", wanted, (out, err, status))
 
 
 def try_believed(results, jailer, folder):
@@ -113,16 +158,29 @@ def try_believed(results, jailer, folder):
     results.compare(f"{jailer} errno 1000: mkdir", ("", 1, False), (found[0], found[2], (folder / "made").exists()))
 
 
+def try_ended(results, jailer, folder):
+    """Runs a command that ends, and one that returns from a signal handler first: they are killed where the filter does."""
+    killed, caught = ("", "", KILLED), ("caught\n", "", 7)
+    for name, at_end, at_return in [
+        ("kills at the end", killed, ("caught\n", "", KILLED)), ("kills at a return", ("", "", 0), killed),
+        ("kills at other arguments", ("", "", 0), caught), ("allows all but the end", killed, killed),
+        ("allows all", ("", "", 0), caught),
+    ]:
+        jailed = [*jailer.words, "warned.json", name]
+        results.compare(f"{jailer} {name}: true", at_end, run([*jailed, "true"], folder))
+        results.compare(f"{jailer} {name}: a signal handler", at_return, run([*jailed, "sh", "-c", HANDLED], folder))
+
+
 def try_codes(results, folder):
     """Compares what `check` warns of in the filters with their codes, and all of these with the codes of docs/CHECKS.md."""
     page = (TOP / "docs/CHECKS.md").read_text(encoding="utf-8")
     defaults = {name: ["allows-by-default"] * (it["mismatch_action"] in ("allow", "log")) for name, it in POLICY.items()}
     codes = {name: sorted(it.codes + defaults[name]) for name, it in WARNED.items()}
-    listed = sorted(re.findall(r"^### `([a-z-]+)`$", page, re.M))
+    listed = sorted(re.findall(r"^### `([a-z0-9-]+)`$", page, re.M))
     results.compare("each code has a filter", listed, sorted({code for it in codes.values() for code in it}))
     if TOOL.exists():
         out, err, status = run([TOOL, "check", "warned.json"], folder)
-        found = re.findall(r"^warned\.json: ([^.\n]+)\.[^:\n]*: warning \[([a-z-]+)\]: ", out, re.M)
+        found = re.findall(r"^warned\.json: ([^.\n]+)\.[^:\n]*: warning \[([a-z0-9-]+)\]: ", out, re.M)
         for name, stated in codes.items():
             results.compare(f"check of {name}", stated, sorted(code for it, code in found if it == name))
         results.compare("check of warned.json", (len(found), "", 0), (out.count("\n"), err, status))

@@ -5,11 +5,11 @@ Expected values come from the definitions in crates/seccomptool/specs, arithmeti
 from the program's output.
 """
 
-from . import check, compat, compile, conditions, diff, explain, record, run, show, stats, verify, warnings, words
+from . import calls, check, compat, compile, conditions, diff, explain, record, run, show, stats, verify, warnings, words
 
 FILES = {**explain.FILES, **compile.FILES, **diff.FILES, **run.FILES, **verify.FILES}
 CASES = [
     case
-    for it in (compile, show, check, warnings, conditions, explain, run, stats, record, diff, verify, compat, words)
+    for it in (compile, show, check, warnings, conditions, calls, explain, run, stats, record, diff, verify, compat, words)
     for case in it.CASES
 ]

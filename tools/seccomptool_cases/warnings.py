@@ -1,7 +1,8 @@
 """What `check` has to do where a policy may not say what its author means: its warnings.
 
 Of each code there is a table of filters that have it and of filters that just don't. The lines of any other policy are
-found by trying its conditions on values, and not by their operators: conditions.py has many.
+found by trying its conditions on values, and not by their operators: conditions.py has many. calls.py has the tables of
+codes that are about calls by their names.
 """
 
 import json
@@ -26,6 +27,12 @@ SAID = {
     "to ask",
     "high-half-evades": "a caller passes by it with a high half, which the kernel ignores for arguments of 32 bits; "
     'write "dword" for these',
+    "kills-exit": "a process or thread that ends, or returns from a signal handler, by this call is killed; let exit, "
+    "exit_group and rt_sigreturn through",
+    "clone-by-clone3": "clone is denied or restricted, and clone3, whose flags no filter sees, is let through; deny "
+    "clone3 with errno 38 in a filter of its own",
+    "crate-differs": "the call has entries with args too, and matches here whatever its arguments are; the Rust crate "
+    "asks these args: leave out those or this",
 }
 
 # The key of an action or a condition that a code is about, behind its place.
@@ -40,9 +47,12 @@ KEYS = {
 LOW = 2**32 - 1
 WHOLE = 2**64 - 1
 
+# An action that has no code, wherever it stands.
+OTHER = {"errno": 2}
+
 
 def line(place, code, file="standard input"):
-    """Returns the line of a warning about a file, where this is the place of an action or a condition."""
+    """Returns the line of a warning about a file, where this is the place of an action, an entry or a condition."""
     return f"{file}: {place}{KEYS.get(code, '')}: warning [{code}]: {SAID[code]}\n"
 
 
@@ -67,8 +77,8 @@ def warned(filters, *lines):
 def of_action(action, codes):
     """Returns the cases of an action that has these codes, in either place of a filter."""
     return [
-        *warned({"a": filter_of([], action, "kill_thread")}, *(line("a.mismatch_action", it) for it in codes)),
-        *warned({"a": filter_of([], "kill_thread", action)}, *(line("a.match_action", it) for it in codes)),
+        *warned({"a": filter_of([], action, OTHER)}, *(line("a.mismatch_action", it) for it in codes)),
+        *warned({"a": filter_of([], OTHER, action)}, *(line("a.match_action", it) for it in codes)),
     ]
 
 
@@ -86,7 +96,7 @@ def masked(mask):
     return {"masked_eq": mask}
 
 
-# Actions, and their codes.
+# Actions, and their codes. One that kills, and one that lets calls through, has codes that depend on where it stands.
 ACTIONS = [
     ({"errno": 0}, ["fake-success"]),
     ({"errno": 1}, []),
@@ -99,7 +109,6 @@ ACTIONS = [
     ({"errno": 4294967295}, ["errno-too-large"]),
     ({"trace": 0}, ["trace-without-tracer"]),
     ({"trace": 4294967295}, ["trace-without-tracer"]),
-    ("kill_process", []),
     ("trap", []),
 ]
 
@@ -158,6 +167,7 @@ EVADED = [
 
 # The actions that let a call through, and some that don't.
 PERMITS = ("allow", "log")
+KILLS = ("kill_process", "kill_thread")
 DENIES = ("kill_process", "kill_thread", "trap", {"errno": 1})
 
 DEFAULTS = [
@@ -185,6 +195,7 @@ IN_ORDER = [
     line("b\\x0a.mismatch_action", "fake-success"),
     line("b\\x0a.match_action", "fake-success"),
     line("b\\x0a.match_action", "errno-too-large"),
+    line("b\\x0a.filter[0]", "crate-differs"),
     line("b\\x0a.filter[1].args[0]", "never-holds"),
     line("b\\x0a.filter[1].args[1]", "high-half-ignored"),
     line("b\\x0a.filter[1].args[1]", "always-holds"),
@@ -255,6 +266,38 @@ def codes_of_action(action):
     return [code for code, so in found.items() if so]
 
 
+# The calls by which a thread or a process ends, or a signal handler returns.
+EXITS = ("exit", "exit_group", "rt_sigreturn")
+
+
+def asked_of(entries, name):
+    """Returns the args of each entry that names this call: none where it has no args."""
+    return [it.get("args") for it in entries if it["syscall"] == name]
+
+
+def codes_of_unlisted(entries, mismatch, match):
+    """Returns the calls that no entry names of which something is so, each with its code, in their order."""
+    killed = [(name, "kills-exit") for name in EXITS if mismatch in KILLS and not asked_of(entries, name)]
+    is_list_of_denied = mismatch in PERMITS and match not in PERMITS
+    if is_list_of_denied and asked_of(entries, "clone") and not asked_of(entries, "clone3"):
+        return [*killed, ("clone3", "clone-by-clone3")]
+    return killed
+
+
+def codes_of_entry(entry, entries, mismatch, match):
+    """Returns the codes of one of these entries, in their order. One with args has none."""
+    if entry.get("args") is not None:
+        return []
+    name = entry["syscall"]
+    is_list_of_allowed = match in PERMITS and mismatch not in PERMITS
+    found = {
+        "kills-exit": match in KILLS and name in EXITS,
+        "clone-by-clone3": is_list_of_allowed and name == "clone3" and None not in asked_of(entries, "clone"),
+        "crate-differs": any(args is not None for args in asked_of(entries, name)),
+    }
+    return [code for code, so in found.items() if so]
+
+
 def lines_of_filter(name, it):
     """Returns the lines of the warnings of a filter of this name, as a list of single lines."""
     mismatch = it.get("mismatch_action", it.get("default_action"))
@@ -262,8 +305,12 @@ def lines_of_filter(name, it):
     lines = [line(f"{name}.mismatch_action", code) for code in codes_of_action(mismatch)]
     if mismatch in PERMITS:
         lines.append(line(f"{name}.mismatch_action", "allows-by-default"))
+    unlisted = codes_of_unlisted(it["filter"], mismatch, match)
+    lines += [line(f"{name}.mismatch_action ({call})", code) for call, code in unlisted]
     lines += [line(f"{name}.match_action", code) for code in codes_of_action(match)]
     for entry, rule in enumerate(it["filter"]):
+        codes = codes_of_entry(rule, it["filter"], mismatch, match)
+        lines += [line(f"{name}.filter[{entry}]", code) for code in codes]
         for place, compared in enumerate(rule.get("args") or []):
             codes = codes_of(compared, mismatch, match)
             lines += [line(f"{name}.filter[{entry}].args[{place}]", code) for code in codes]

@@ -1,0 +1,128 @@
+"""What `check` has to warn of by the names of calls: those that a filter has entries of, and those that it hasn't.
+
+Of each code there is a table of filters that have it and of filters that just don't. More filters come by chance, and
+their lines are those of warnings.py.
+"""
+
+import json
+import random
+
+from .forms import writes
+from .warnings import EXITS, PERMITS, condition, line, lines_of, warned
+
+# What an entry may ask of its call.
+ASKED = [condition("dword", "eq", 7)]
+
+# How many filters come by chance, how many a policy has of them, and the most entries of one.
+BY_CHANCE, FILTERS, ENTRIES = 960, 48, 6
+NAMES = (*EXITS, "clone", "clone3", "fork", "rt_sigaction")
+ACTIONS = ("allow", "log", "kill_process", "kill_thread", "trap", {"errno": 38})
+
+
+def entry(name, args=None):
+    """Returns the entry of a call that asks for these args, or for none."""
+    return {"syscall": name, "args": args} if args else {"syscall": name}
+
+
+def asking(name):
+    """Returns the entry of a call that asks for an argument."""
+    return entry(name, ASKED)
+
+
+def of_calls(mismatch, match, entries, warnings):
+    """Returns the cases of a filter of these actions and entries, where an entry may be a name, that has these warnings,
+    each a place and a code, beside `allows-by-default` where it does."""
+    entries = [entry(it) if isinstance(it, str) else it for it in entries]
+    filters = {"a": {"mismatch_action": mismatch, "match_action": match, "filter": entries}}
+    default = [("mismatch_action", "allows-by-default")] if mismatch in PERMITS else []
+    return warned(filters, *(line(f"a.{place}", code) for place, code in [*default, *warnings]))
+
+
+def killed(*calls):
+    """Returns the warnings of calls at which the mismatch action kills."""
+    return [(f"mismatch_action ({it})", "kills-exit") for it in calls]
+
+
+def at(code, *places):
+    """Returns the warnings of this code of the entries at these places."""
+    return [(f"filter[{it}]", code) for it in places]
+
+
+PASSED_BY = [("mismatch_action (clone3)", "clone-by-clone3")]
+
+KILLS_EXIT = [
+    ("kill_process", "allow", [], killed("exit", "exit_group", "rt_sigreturn")),
+    ("kill_thread", "log", ["execve", "rt_sigprocmask"], killed("exit", "exit_group", "rt_sigreturn")),
+    ("kill_process", "allow", ["rt_sigreturn", "exit"], killed("exit_group")),
+    ("kill_thread", "allow", ["exit_group", "exit"], killed("rt_sigreturn")),
+    ("kill_process", "trap", ["exit_group", "rt_sigreturn"], killed("exit")),
+    ("kill_process", "allow", ["exit_group", "rt_sigreturn", "exit"], []),
+    # An entry with args names its call too.
+    ("kill_process", "allow", ["exit_group", "rt_sigreturn", asking("exit")], []),
+    # Where both kill, each of the calls is killed by one of them.
+    ("kill_process", "kill_thread", ["exit"], [*killed("exit_group", "rt_sigreturn"), *at("kills-exit", 0)]),
+    ("trap", "allow", [], []),
+    ({"errno": 1}, "allow", ["read"], []),
+    ("allow", "kill_process", [], []),
+    ("allow", "kill_process", ["read", "exit"], at("kills-exit", 1)),
+    ("log", "kill_thread", ["rt_sigreturn", "exit_group", "exit", "exit"], at("kills-exit", 0, 1, 2, 3)),
+    ("allow", "kill_process", [asking("exit_group"), "rt_sigaction"], []),
+    ("allow", "trap", ["exit", "exit_group", "rt_sigreturn"], []),
+    ("kill_process", "allow", ["exit", "exit_group", "rt_sigreturn", "exit"], []),
+]
+
+CLONE_BY_CLONE3 = [
+    ("allow", {"errno": 1}, ["clone"], PASSED_BY),
+    ("log", "kill_process", ["read", asking("clone")], PASSED_BY),
+    ("allow", {"errno": 1}, ["clone", "clone3"], []),
+    # An entry with args names clone3 too.
+    ("allow", {"errno": 1}, ["clone", asking("clone3")], []),
+    ("allow", {"errno": 1}, ["clone3"], []),
+    ("allow", {"errno": 1}, ["fork", "vfork"], []),
+    # Where the calls that an entry names are let through as well, or none is, clone isn't denied alone.
+    ("allow", "log", ["clone"], []),
+    ("trap", {"errno": 1}, ["clone"], []),
+    ("trap", "allow", ["clone3"], at("clone-by-clone3", 0)),
+    ({"errno": 1}, "log", ["read", asking("clone"), "clone3", "clone3"], at("clone-by-clone3", 2, 3)),
+    ("trap", "allow", ["clone3", "clone"], []),
+    ("trap", "allow", ["clone", asking("clone3")], []),
+    ("trap", "allow", [asking("clone"), asking("clone3")], []),
+    ("trap", "allow", ["clone", "read"], []),
+    ("log", "allow", ["clone3"], []),
+    ("trap", "kill_process", ["clone3"], []),
+]
+
+CRATE_DIFFERS = [
+    ("trap", "allow", ["read", asking("read")], at("crate-differs", 0)),
+    ("allow", {"errno": 1}, [asking("read"), "write", "read", "read"], at("crate-differs", 2, 3)),
+    ("trap", "kill_process", ["read", asking("write"), asking("read"), "write"], at("crate-differs", 0, 3)),
+    ("trap", "allow", [{"syscall": "read", "args": None}, asking("read")], at("crate-differs", 0)),
+    ("trap", "allow", ["read", "read"], []),
+    ("trap", "allow", [asking("read"), asking("read")], []),
+    ("trap", "allow", ["read", asking("readv"), asking("write")], []),
+    # Beside it an entry may have the other codes of entries, in their order.
+    ("allow", "kill_process", ["exit", asking("exit")], [*at("kills-exit", 0), *at("crate-differs", 0)]),
+    ("trap", "allow", [asking("clone3"), "clone3"], [*at("clone-by-clone3", 1), *at("crate-differs", 1)]),
+    ("trap", "allow", [asking("clone"), "clone", "clone3"], at("crate-differs", 1)),
+]
+
+
+def some_filter(chance):
+    """Returns a filter by chance, of entries that are mostly of calls that have codes."""
+    mismatch, match = chance.sample(ACTIONS, 2)
+    entries = [entry(chance.choice(NAMES), chance.choice([None, ASKED])) for _ in range(chance.randint(0, ENTRIES))]
+    return {"mismatch_action": mismatch, "match_action": match, "filter": entries}
+
+
+def policies_by_chance():
+    """Returns the texts of policies whose filters come by chance."""
+    chance = random.Random(1)
+    filters = [some_filter(chance) for _ in range(BY_CHANCE)]
+    parts = [filters[start:start + FILTERS] for start in range(0, BY_CHANCE, FILTERS)]
+    return [json.dumps({f"f{number}": it for number, it in enumerate(some)}) for some in parts]
+
+
+CASES = [
+    *(it for row in (*KILLS_EXIT, *CLONE_BY_CLONE3, *CRATE_DIFFERS) for it in of_calls(*row)),
+    *(writes("check", it, lines_of(it)) for it in policies_by_chance()),
+]

@@ -4,3 +4,4 @@ pub mod Types
 pub mod Shape
 pub mod ProfileShape
 pub mod Decision
+pub mod Rules

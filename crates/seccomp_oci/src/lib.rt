@@ -11,6 +11,7 @@ mod lists;
 mod members;
 mod parts;
 mod profile;
+mod rules;
 mod scope;
 #[cfg(test)]
 mod tests;
@@ -19,5 +20,6 @@ pub mod types;
 pub use lists::{arguments_under, flags_under, texts_under};
 pub use parts::{read_action, read_argument, read_flag};
 pub use profile::read_profile;
+pub use rules::rules_of;
 pub use scope::applies;
 pub use types::{Argument, Criteria, Entry, Flag, Operator, Profile};

@@ -1,0 +1,2 @@
+-- What holds of lists, which the proofs of several modules cite.
+pub mod Quantified

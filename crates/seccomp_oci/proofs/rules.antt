@@ -1,0 +1,3 @@
+-- Lemmas for the functions of `rules`.
+pub mod Conditions
+pub mod Names

@@ -5,3 +5,4 @@ pub mod Shape
 pub mod ProfileShape
 pub mod Decision
 pub mod Rules
+pub mod Filters

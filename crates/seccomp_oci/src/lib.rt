@@ -3,10 +3,14 @@
 //! A *profile* is the JSON of `linux.seccomp` in the OCI runtime specification. [`read_profile`] reads
 //! one. There are also the readers of its parts: actions, conditions on arguments, flags, and lists of
 //! these and of texts. A value that is no profile, or no such part, gives `None`. [`applies`] says whether
-//! an entry applies to a container.
+//! an entry applies to a container, and [`filters_of_profile`] gives the filters that decide together what
+//! a profile decides.
 #![tactic(auto)]
 
+#[cfg(test)]
+mod decisions;
 mod entries;
+mod filters;
 mod lists;
 mod members;
 mod parts;
@@ -17,6 +21,7 @@ mod scope;
 mod tests;
 pub mod types;
 
+pub use filters::{filters_of_profile, json_filters_of};
 pub use lists::{arguments_under, flags_under, texts_under};
 pub use parts::{read_action, read_argument, read_flag};
 pub use profile::read_profile;

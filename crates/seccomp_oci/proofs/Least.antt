@@ -1,0 +1,55 @@
+-- For the functions of `filters`: what is the first of the least, as the list of what gives it grows.
+use Rattle.std.proofs.Common.{◌<◌, ◌≤◌, ℕ, List, [], ◌∷◌, ◌++◌, All, ◌⊎◌, inl, inr, arith}
+use Rattle.std.specs.Prelude.{Any}
+use Rattle.std.proofs.lemmas.List.Elements.{All-nil, All-cons, All-head, All-tail, All-push}
+use Rattle.seccomp_oci.specs.Decision.{IsFirstLeast, first, later}
+use Rattle.seccomp_oci.proofs.Quantified.{all_append, all_one, any_head, any_tail}
+
+module _ {X V : Type 0} (rank_of : V → ℕ) (Gives : X → V → Type 0) where
+  -- What x gives has a greater rank than v, or not a lesser one.
+  abbrev pub Above : V → X → Type 0
+  Above v x = (w : V) → Gives x w → rank_of v < rank_of w
+
+  abbrev pub NotBelow : V → X → Type 0
+  NotBelow v x = (w : V) → Gives x w → rank_of v ≤ rank_of w
+
+  pub none_least : (v : V) → IsFirstLeast rank_of Gives [] v → ⊥
+  none_least v least = elim least [ ]
+
+  -- The last one gives the least, where all before it give more.
+  pub least_last : (xs : List X) (y : X) (v : V) → All (Above v) xs → Gives y v → IsFirstLeast rank_of Gives (xs ++ y ∷ []) v
+  least_last [] y v above gives = first gives (All-nil (NotBelow v))
+  least_last (x ∷ xs) y v above gives =
+      later (All-head (Above v) x xs above) (least_last xs y v (All-tail (Above v) x xs above) gives)
+
+  -- What is the first of the least stays so, where one more doesn't give less.
+  pub least_kept : (xs : List X) (y : X) (v : V) → IsFirstLeast rank_of Gives xs v → NotBelow v y
+      → IsFirstLeast rank_of Gives (xs ++ y ∷ []) v
+  least_kept [] y v least more = absurd (none_least v least)
+  least_kept (x ∷ xs) y v (first gives rest) more = first gives (All-push (NotBelow v) xs y rest more)
+  least_kept (x ∷ xs) y v (later before least) more = later before (least_kept xs y v least more)
+
+  -- It is one of those before the last; or the last gives it, and all before it give more.
+  pub least_cases : (xs : List X) (y : X) (v : V) → IsFirstLeast rank_of Gives (xs ++ y ∷ []) v
+      → (IsFirstLeast rank_of Gives xs v × NotBelow v y) ⊎ (All (Above v) xs × Gives y v)
+  least_cases [] y v (first gives rest) = inr (All-nil (Above v), gives)
+  least_cases [] y v (later before least) = absurd (none_least v least)
+  least_cases (x ∷ xs) y v (first gives rest) =
+      let parts = (all_append (NotBelow v) xs (y ∷ [])).0 rest in inl (first gives parts.0, (all_one (NotBelow v) y).0 parts.1)
+  least_cases (x ∷ xs) y v (later before least) = elim (least_cases xs y v least) [
+    | inl here ↦ inl (later before here.0, here.1)
+    | inr last ↦ inr (All-cons (Above v) x xs before last.0, last.1)
+  ]
+
+  -- None gives less than the least.
+  pub least_all : (xs : List X) (v : V) → IsFirstLeast rank_of Gives xs v → ((x : X) → Gives x v → NotBelow v x) → All (NotBelow v) xs
+  least_all [] v least own = absurd (none_least v least)
+  least_all (x ∷ xs) v (first gives rest) own = All-cons (NotBelow v) x xs (own x gives) rest
+  least_all (x ∷ xs) v (later before least) own =
+      All-cons (NotBelow v) x xs (λ w gives. let less = before w gives in omega arith) (least_all xs v least own)
+
+  -- Some one gives the least.
+  pub least_any : (xs : List X) (v : V) → IsFirstLeast rank_of Gives xs v → Any (λ x. Gives x v) xs
+  least_any [] v least = absurd (none_least v least)
+  least_any (x ∷ xs) v (first gives rest) = any_head (λ x. Gives x v) x xs gives
+  least_any (x ∷ xs) v (later before least) = any_tail (λ x. Gives x v) x xs (least_any xs v least)

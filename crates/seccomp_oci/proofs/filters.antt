@@ -1,0 +1,5 @@
+-- Lemmas for the functions of `filters`.
+pub mod Denied
+pub mod Ranks
+pub mod Policies
+pub mod Joint

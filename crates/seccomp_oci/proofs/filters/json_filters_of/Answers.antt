@@ -1,0 +1,23 @@
+use Rattle.std.proofs.Common.{List, map, All}
+use Rattle.std.specs.List.{AllZip}
+use Rattle.std.proofs.lemmas.Result.{IfOk-weaker}
+use Rattle.seccompiler.specs.JsonPolicyOf.{IsPolicyOf}
+use Rattle.seccompiler.specs.Policy.{Filter}
+use Rattle.seccomp_oci.specs.Filters.{AllOnArguments, AreFiltersOf, DecideAs, IsFineFilter}
+use Rattle.seccomp_oci.proofs.filters.Joint.{decide_as, each_fine}
+use Rattle.seccomp_oci.proofs.filters.json_filters_of.Goals as goal
+
+pub returns-clause-decide : goal.returns-clause-decide
+returns-clause-decide c =
+    let caps = map (λ cap. cap.now) c.args.caps.now in
+    IfOk-weaker c.filters_of.result (λ all. AreFiltersOf c.args.arch caps c.args.profile.now all.items)
+    (λ all. (filters : List Filter) → AllZip (IsPolicyOf c.args.arch) all.items filters
+    → DecideAs c.args.arch caps c.args.profile.now filters)
+    (λ all are filters zip. decide_as c.args.arch caps c.args.profile.now all.items filters are zip) c.filters_of.ensures
+
+pub returns-clause-fine : goal.returns-clause-fine
+returns-clause-fine c =
+    let caps = map (λ cap. cap.now) c.args.caps.now in
+    IfOk-weaker c.filters_of.result (λ all. AreFiltersOf c.args.arch caps c.args.profile.now all.items)
+    (λ all. AllOnArguments c.args.profile.now.entries → All (IsFineFilter c.args.arch) all.items)
+    (λ all are on. each_fine c.args.arch caps c.args.profile.now all.items are on) c.filters_of.ensures

@@ -1,0 +1,69 @@
+-- What filters decide together, and which filters of JSON policies stand for a profile.
+use Rattle.std.specs.Prelude.{◌≡◌, ◌≢◌, ◌↔◌, ℕ, List, [], ◌∷◌, ◌++◌, All, Any}
+use Rattle.seccompiler.specs.declared.backend.SeccompAction.{SeccompAction}
+use Rattle.seccompiler.specs.declared.backend.SeccompAction.TheVariants.{Allow}
+use Rattle.seccompiler.specs.declared.backend.TargetArch.{TargetArch}
+use Rattle.seccompiler.specs.Architecture.{audit_word}
+use Rattle.seccompiler.specs.Compare.{rank}
+use Rattle.seccompiler.specs.JsonPolicyOf.{IsFineEntry}
+use Rattle.seccompiler.specs.JsonTypes.{JsonFilter, JsonRule}
+use Rattle.seccompiler.specs.Machine.{word_at}
+use Rattle.seccompiler.specs.Policy.{Filter, IsDecision, word_of}
+use Rattle.seccomp_oci.specs.Decision.{Counts, IsFirstLeast, IsProfileDecision, rank_of_kept}
+use Rattle.seccomp_oci.specs.Rules.{AreOnArguments, RuleMatches}
+use Rattle.seccomp_oci.specs.Types.{Entry, Profile}
+
+-- What filters decide together of a call record (seccomp(2)): they allow it where each of them does; else it is the
+-- strictest of what they decide, of equally strict ones the first filter's.
+pub data IsJointDecision (filters : List Filter) (r : List ℕ) (w : ℕ) : Type 0 where
+  all_allow : All (λ f. (v : ℕ) → IsDecision f r v → v ≡ 0x7fff0000) filters → w ≡ 0x7fff0000 → IsJointDecision filters r w
+  strictest : IsFirstLeast rank (λ f v. IsDecision f r v) filters w → IsJointDecision filters r w
+
+-- The filters decide together what the profile decides, of every call record of the architecture.
+abbrev pub DecideAs : TargetArch → List (List ℕ) → Profile → List Filter → Type 0
+DecideAs arch caps p filters = (r : List ℕ) → word_at r 4 ≡ audit_word arch → (action : SeccompAction)
+    → IsProfileDecision arch caps p r action → IsJointDecision filters r (word_of action)
+
+-- Each condition of the entries is on an argument that a call has.
+abbrev pub AllOnArguments : List Entry → Type 0
+AllOnArguments entries = All (λ e. AreOnArguments e.args) entries
+
+-- Nothing is wrong with a filter: with none of its rules, and its two actions differ.
+pub record IsFineFilter (arch : TargetArch) (j : JsonFilter) : Type 0 where
+  pub rules : All (IsFineEntry arch) j.rules
+  pub different : j.mismatch_action ≢ j.match_action
+
+-- A rule of the filter matches the record.
+abbrev pub FilterMatches : TargetArch → List ℕ → JsonFilter → Type 0
+FilterMatches arch r j = Any (RuleMatches arch r) j.rules
+
+-- The filters deny what the entries that don't allow deny, and allow all else: each that matches does so for an entry that
+-- counts and has its action; and what is the strictest of the entries' actions is the strictest of the filters' too.
+pub record AreDenying (arch : TargetArch) (caps : List (List ℕ)) (entries : List Entry) (filters : List JsonFilter) : Type 0 where
+  pub allow : All (λ j. j.mismatch_action ≡ Allow) filters
+  pub deny : All (λ j. j.match_action ≢ Allow) filters
+  pub counted : (r : List ℕ) → All (λ j. FilterMatches arch r j
+      → Any (λ e. Counts arch caps r e × (e.action ≡ j.match_action)) entries) filters
+  pub first : (r : List ℕ) (action : SeccompAction) → action ≢ Allow
+      → IsFirstLeast rank_of_kept (λ e a. Counts arch caps r e × (a ≡ e.action)) entries action
+      → IsFirstLeast rank_of_kept (λ j a. FilterMatches arch r j × (a ≡ j.match_action)) filters action
+  pub fine : AllOnArguments entries → All (λ j. All (IsFineEntry arch) j.rules) filters
+
+-- The rules stand behind those of the last filter, where it has this action; else a filter of its own has them.
+pub data AreJoined (action : SeccompAction) (rules : List JsonRule) (old new : List JsonFilter) : Type 0 where
+  joins : (front : List JsonFilter) (last : JsonFilter) → old ≡ front ++ last ∷ [] → last.match_action ≡ action
+      → new ≡ front ++ record last { rules = last.rules ++ rules } ∷ [] → AreJoined action rules old new
+  begins : new ≡ old ++ record { mismatch_action = Allow; match_action = action; rules = rules } ∷ [] → AreJoined action rules old new
+
+-- The filter allows what some entry that counts is for, and has the default action for all else.
+pub record IsBase (arch : TargetArch) (caps : List (List ℕ)) (p : Profile) (j : JsonFilter) : Type 0 where
+  pub mismatch_action : j.mismatch_action ≡ p.default
+  pub match_action : j.match_action ≡ Allow
+  pub matches : (r : List ℕ) → FilterMatches arch r j ↔ Any (Counts arch caps r) p.entries
+  pub fine : AllOnArguments p.entries → All (IsFineEntry arch) j.rules
+
+-- The filters are a profile's: those that deny, and, where the default action isn't to allow, the one that has it.
+pub data AreFiltersOf (arch : TargetArch) (caps : List (List ℕ)) (p : Profile) (filters : List JsonFilter) : Type 0 where
+  without_base : p.default ≡ Allow → AreDenying arch caps p.entries filters → AreFiltersOf arch caps p filters
+  with_base : (denying : List JsonFilter) (base : JsonFilter) → p.default ≢ Allow → filters ≡ denying ++ base ∷ []
+      → AreDenying arch caps p.entries denying → IsBase arch caps p base → AreFiltersOf arch caps p filters

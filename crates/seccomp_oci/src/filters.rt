@@ -1,0 +1,232 @@
+// From profiles to filters.
+
+ghost use Rattle.std.specs.Prelude.{◌≡◌, ◌↔◌, ℕ, List, [], ◌∷◌, ◌++◌, All, Any, IfOk, IfErr, map};
+ghost use Rattle.std.specs.List.{AllZip};
+ghost use Rattle.seccompiler.specs.declared.backend.SeccompAction.TheVariants.{Allow};
+ghost use Rattle.seccompiler.specs.declared.json.error.JsonFrontendError.TheVariants.{OutOfMemory};
+ghost use Rattle.seccompiler.specs.JsonPolicyOf.{IsFineEntry, IsPolicyOf};
+ghost use Rattle.seccompiler.specs.Policy.{Filter};
+ghost use Rattle.seccomp_oci.specs.Decision.{Counts};
+ghost use Rattle.seccomp_oci.specs.Filters.{AllOnArguments, AreDenying, AreFiltersOf, AreJoined, DecideAs, IsBase, IsFineFilter};
+ghost use Rattle.seccomp_oci.specs.Rules.{AreOnArguments, RuleMatches};
+ghost use Rattle.seccomp_oci.specs.Types.{Entry};
+
+use crate::rules::rules_of;
+use crate::scope::applies;
+use crate::types::{Entry, Profile};
+use seccompiler::{
+    JsonCompiler, JsonFilter, JsonFrontendError, JsonRule, SeccompAction, SeccompFilter, TargetArch,
+};
+use std::alloc::{AllocError, Global};
+
+// The rules of an entry; none where it doesn't apply.
+fn applying_rules(
+    alloc: Global,
+    arch: TargetArch,
+    caps: &[&str],
+    entry: &Entry,
+) -> Result<Vec<JsonRule>, AllocError>
+    ensures found { IfOk result (λ rules. (r : List ℕ) → Any (RuleMatches arch r) rules.items ↔ Counts arch (map (λ cap. cap.now) caps.now) r entry.now) }
+    ensures fine { IfOk result (λ rules. AreOnArguments entry.now.args → All (IsFineEntry arch) rules.items) }
+{
+    if !applies(arch, caps, entry) {
+        return Ok(Vec::new(alloc));
+    }
+    rules_of(alloc, arch, entry)
+}
+
+// The rules of all entries that apply.
+fn all_rules(
+    alloc: Global,
+    arch: TargetArch,
+    caps: &[&str],
+    entries: &[Entry],
+) -> Result<Vec<JsonRule>, AllocError>
+    ensures found { IfOk result (λ rules. (r : List ℕ) → Any (RuleMatches arch r) rules.items ↔ Any (Counts arch (map (λ cap. cap.now) caps.now) r) entries.now) }
+    ensures fine { IfOk result (λ rules. AllOnArguments entries.now → All (IsFineEntry arch) rules.items) }
+{
+    let mut rules = Vec::new(alloc);
+    for entry in entries {
+        let mut more = applying_rules(alloc, arch, caps, entry)?;
+        rules.append(&mut more)?;
+    }
+    Ok(rules)
+}
+
+// The filters with one more at their end.
+fn pushed(mut filters: Vec<JsonFilter>, filter: JsonFilter) -> Result<Vec<JsonFilter>, AllocError>
+    ensures { IfOk result (λ all. all.items ≡ filters.items ++ filter ∷ []) }
+{
+    filters.push(filter)?;
+    Ok(filters)
+}
+
+// The filter with more rules.
+fn joined(mut filter: JsonFilter, mut rules: Vec<JsonRule>) -> Result<JsonFilter, AllocError>
+    ensures { IfOk result (λ all. all ≡ record filter { rules = filter.rules ++ rules.items }) }
+{
+    filter.rules.append(&mut rules)?;
+    Ok(filter)
+}
+
+// A filter that gives the action where a rule matches, and allows all else.
+fn denying(action: SeccompAction, rules: Vec<JsonRule>) -> JsonFilter
+    ensures { result ≡ record { mismatch_action = Allow; match_action = action; rules = rules.items } }
+{
+    JsonFilter {
+        mismatch_action: SeccompAction::Allow,
+        match_action: action,
+        rules,
+    }
+}
+
+// The filters with these rules: in the last one, where it has their action, or in one of their own.
+fn with_rules(
+    mut filters: Vec<JsonFilter>,
+    action: SeccompAction,
+    rules: Vec<JsonRule>,
+) -> Result<Vec<JsonFilter>, AllocError>
+    ensures { IfOk result (λ all. AreJoined action rules.items filters.items all.items) }
+{
+    let Some(last) = filters.pop() else {
+        return pushed(filters, denying(action, rules));
+    };
+    if last.match_action == action {
+        return pushed(filters, joined(last, rules)?);
+    }
+    pushed(pushed(filters, last)?, denying(action, rules))
+}
+
+// The filters that deny what some entries deny, with one entry more.
+fn with_entry(
+    alloc: Global,
+    arch: TargetArch,
+    caps: &[&str],
+    filters: Vec<JsonFilter>,
+    entry: &Entry,
+) -> Result<Vec<JsonFilter>, AllocError>
+    ensures { IfOk result (λ all. (done : List Entry) → AreDenying arch (map (λ cap. cap.now) caps.now) done filters.items → AreDenying arch (map (λ cap. cap.now) caps.now) (done ++ entry.now ∷ []) all.items) }
+{
+    if entry.action == SeccompAction::Allow {
+        return Ok(filters);
+    }
+    let rules = applying_rules(alloc, arch, caps, entry)?;
+    if rules.is_empty() {
+        return Ok(filters);
+    }
+    with_rules(filters, entry.action, rules)
+}
+
+// The filters that deny what the entries deny.
+fn denying_filters(
+    alloc: Global,
+    arch: TargetArch,
+    caps: &[&str],
+    entries: &[Entry],
+) -> Result<Vec<JsonFilter>, AllocError>
+    ensures { IfOk result (λ all. AreDenying arch (map (λ cap. cap.now) caps.now) entries.now all.items) }
+{
+    let mut filters = Vec::new(alloc);
+    for entry in entries {
+        filters = with_entry(alloc, arch, caps, filters, entry)?;
+    }
+    Ok(filters)
+}
+
+// The filter that allows what some entry is for, and has the default action for all else.
+fn base(
+    alloc: Global,
+    arch: TargetArch,
+    caps: &[&str],
+    profile: &Profile,
+) -> Result<JsonFilter, AllocError>
+    ensures { IfOk result (IsBase arch (map (λ cap. cap.now) caps.now) profile.now) }
+{
+    let rules = all_rules(alloc, arch, caps, profile.entries.as_slice())?;
+    Ok(JsonFilter {
+        mismatch_action: profile.default,
+        match_action: SeccompAction::Allow,
+        rules,
+    })
+}
+
+fn filters_of(
+    alloc: Global,
+    arch: TargetArch,
+    caps: &[&str],
+    profile: &Profile,
+) -> Result<Vec<JsonFilter>, AllocError>
+    ensures { IfOk result (λ all. AreFiltersOf arch (map (λ cap. cap.now) caps.now) profile.now all.items) }
+{
+    let filters = denying_filters(alloc, arch, caps, profile.entries.as_slice())?;
+    if profile.default == SeccompAction::Allow {
+        return Ok(filters);
+    }
+    pushed(filters, base(alloc, arch, caps, profile)?)
+}
+
+/// The filters of a profile as those of JSON policies: together they decide what the profile decides.
+///
+/// A kernel that has several filters takes the strictest of their actions, and of equally strict ones that of
+/// the filter that was installed last. So the filters stand in the order in which it asks them: the first one is
+/// to be installed last.
+///
+/// The entries that apply and don't allow have a filter for each action, which allows all else; entries of an
+/// action share one where none of another such action stands between them. Behind these comes, where the
+/// default action isn't to allow, a filter that allows what any entry that applies is for, and has the default
+/// action for all else. Calls that the architecture hasn't are left out.
+///
+/// # Errors
+///
+/// An error comes where memory runs out.
+pub fn json_filters_of(
+    alloc: Global,
+    arch: TargetArch,
+    caps: &[&str],
+    profile: &Profile,
+) -> Result<Vec<JsonFilter>, AllocError>
+    ensures decide { IfOk result (λ all. (filters : List Filter) → AllZip (IsPolicyOf arch) all.items filters → DecideAs arch (map (λ cap. cap.now) caps.now) profile.now filters) }
+    ensures fine { IfOk result (λ all. AllOnArguments profile.now.entries → All (IsFineFilter arch) all.items) }
+{
+    filters_of(alloc, arch, caps, profile)
+}
+
+/// The filters of a profile, on an architecture and in a container with these capabilities: together they decide
+/// what the profile decides of every call of the architecture.
+///
+/// They are those of [`json_filters_of`], in the same order.
+///
+/// # Errors
+///
+/// `Backend(InvalidArgumentNumber)` where a condition of an entry that applies has an index above 5, which
+/// none has that [`read_profile`](crate::read_profile) gives. `OutOfMemory` where memory runs out. No other
+/// error comes.
+pub fn filters_of_profile(
+    alloc: Global,
+    arch: TargetArch,
+    caps: &[&str],
+    profile: &Profile,
+) -> Result<Vec<SeccompFilter>, JsonFrontendError>
+    ensures decide { IfOk result (λ filters. DecideAs arch (map (λ cap. cap.now) caps.now) profile.now filters.items) }
+    ensures refused { IfErr result (λ e. AllOnArguments profile.now.entries → e ≡ OutOfMemory) }
+{
+    let all = json_filters_of(alloc, arch, caps, profile)?;
+    made(alloc, arch, all.as_slice())
+}
+
+// The policies of JSON filters.
+fn made(
+    alloc: Global,
+    arch: TargetArch,
+    all: &[JsonFilter],
+) -> Result<Vec<SeccompFilter>, JsonFrontendError>
+    ensures policies { IfOk result (λ filters. AllZip (IsPolicyOf arch) all.now filters.items) }
+    ensures refused { IfErr result (λ e. All (IsFineFilter arch) all.now → e ≡ OutOfMemory) }
+{
+    let compiler = JsonCompiler::new(arch);
+    let mut filters = Vec::with_capacity(alloc, all.len())?;
+    for filter in all {
+        filters.push(compiler.make_seccomp_filter(alloc, filter)?)?;
+    }
+    Ok(filters)
+}

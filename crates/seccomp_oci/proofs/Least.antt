@@ -1,9 +1,9 @@
 -- For the functions of `filters`: what is the first of the least, as the list of what gives it grows.
-use Rattle.std.proofs.Common.{◌<◌, ◌≤◌, ℕ, List, [], ◌∷◌, ◌++◌, All, ◌⊎◌, inl, inr, arith}
+use Rattle.std.proofs.Common.{◌≡◌, ◌<◌, ◌≤◌, ℕ, List, [], ◌∷◌, ◌++◌, All, ◌⊎◌, inl, inr, arith}
 use Rattle.std.specs.Prelude.{Any}
 use Rattle.std.proofs.lemmas.List.Elements.{All-nil, All-cons, All-head, All-tail, All-push}
 use Rattle.seccomp_oci.specs.Decision.{IsFirstLeast, first, later}
-use Rattle.seccomp_oci.proofs.Quantified.{all_append, all_one, any_head, any_tail}
+use Rattle.seccomp_oci.proofs.Quantified.{all_append, all_one, any_head, any_tail, at_any}
 
 module _ {X V : Type 0} (rank_of : V → ℕ) (Gives : X → V → Type 0) where
   -- What x gives has a greater rank than v, or not a lesser one.
@@ -53,3 +53,18 @@ module _ {X V : Type 0} (rank_of : V → ℕ) (Gives : X → V → Type 0) where
   least_any [] v least = absurd (none_least v least)
   least_any (x ∷ xs) v (first gives rest) = any_head (λ x. Gives x v) x xs gives
   least_any (x ∷ xs) v (later before least) = any_tail (λ x. Gives x v) x xs (least_any xs v least)
+
+  crossed : (xs : List X) (v w : V) → All (NotBelow v) xs → rank_of w < rank_of v → IsFirstLeast rank_of Gives xs w → ⊥
+  crossed xs v w rest less least =
+      let found = at_any (NotBelow v) (λ x. Gives x w) xs rest (least_any xs w least) in
+      let more = found.1 w found.2 in
+      omega arith
+
+  -- There is one first of the least, where each gives one value.
+  pub least_only : ((x : X) (v w : V) → Gives x v → Gives x w → v ≡ w) → (xs : List X) (v w : V) → IsFirstLeast rank_of Gives xs v
+      → IsFirstLeast rank_of Gives xs w → v ≡ w
+  least_only one [] v w least other = absurd (none_least v least)
+  least_only one (x ∷ xs) v w (first gives rest) (first gives_too others) = one x v w gives gives_too
+  least_only one (x ∷ xs) v w (first gives rest) (later before least) = absurd (crossed xs v w rest (before v gives) least)
+  least_only one (x ∷ xs) v w (later before least) (first gives rest) = absurd (crossed xs w v rest (before w gives) least)
+  least_only one (x ∷ xs) v w (later before least) (later other_before other) = least_only one xs v w least other

@@ -3,3 +3,4 @@ pub mod Denied
 pub mod Ranks
 pub mod Policies
 pub mod Joint
+pub mod Once

@@ -19,10 +19,15 @@ pub data IsJointDecision (filters : List Filter) (r : List ℕ) (w : ℕ) : Type
   all_allow : All (λ f. (v : ℕ) → IsDecision f r v → v ≡ 0x7fff0000) filters → w ≡ 0x7fff0000 → IsJointDecision filters r w
   strictest : IsFirstLeast rank (λ f v. IsDecision f r v) filters w → IsJointDecision filters r w
 
--- The filters decide together what the profile decides, of every call record of the architecture.
+-- The filters decide together what the profile decides, and nothing else, of every call record of the architecture.
 abbrev pub DecideAs : TargetArch → List (List ℕ) → Profile → List Filter → Type 0
 DecideAs arch caps p filters = (r : List ℕ) → word_at r 4 ≡ audit_word arch → (action : SeccompAction)
-    → IsProfileDecision arch caps p r action → IsJointDecision filters r (word_of action)
+    → IsProfileDecision arch caps p r action → (w : ℕ) → IsJointDecision filters r w ↔ (w ≡ word_of action)
+
+-- The profile decides one thing of each call record.
+abbrev pub DecidesOnce : TargetArch → List (List ℕ) → Profile → Type 0
+DecidesOnce arch caps p = (r : List ℕ) → (action : SeccompAction) × IsProfileDecision arch caps p r action
+    × ((other : SeccompAction) → IsProfileDecision arch caps p r other → other ≡ action)
 
 -- Each condition of the entries is on an argument that a call has.
 abbrev pub AllOnArguments : List Entry → Type 0

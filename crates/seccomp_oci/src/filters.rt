@@ -2,14 +2,15 @@
 
 ghost use Rattle.std.specs.Prelude.{◌≡◌, ◌↔◌, ℕ, List, [], ◌∷◌, ◌++◌, All, Any, IfOk, IfErr, map};
 ghost use Rattle.std.specs.List.{AllZip};
+ghost use Rattle.seccompiler.specs.declared.backend.TargetArch.{TargetArch};
 ghost use Rattle.seccompiler.specs.declared.backend.SeccompAction.TheVariants.{Allow};
 ghost use Rattle.seccompiler.specs.declared.json.error.JsonFrontendError.TheVariants.{OutOfMemory};
 ghost use Rattle.seccompiler.specs.JsonPolicyOf.{IsFineEntry, IsPolicyOf};
 ghost use Rattle.seccompiler.specs.Policy.{Filter};
 ghost use Rattle.seccomp_oci.specs.Decision.{Counts};
-ghost use Rattle.seccomp_oci.specs.Filters.{AllOnArguments, AreDenying, AreFiltersOf, AreJoined, DecideAs, IsBase, IsFineFilter};
+ghost use Rattle.seccomp_oci.specs.Filters.{AllOnArguments, AreDenying, AreFiltersOf, AreJoined, DecideAs, DecidesOnce, IsBase, IsFineFilter};
 ghost use Rattle.seccomp_oci.specs.Rules.{AreOnArguments, RuleMatches};
-ghost use Rattle.seccomp_oci.specs.Types.{Entry};
+ghost use Rattle.seccomp_oci.specs.Types.{Entry, Profile};
 
 use crate::rules::rules_of;
 use crate::scope::applies;
@@ -209,6 +210,9 @@ pub fn filters_of_profile(
 ) -> Result<Vec<SeccompFilter>, JsonFrontendError>
     ensures decide { IfOk result (λ filters. DecideAs arch (map (λ cap. cap.now) caps.now) profile.now filters.items) }
     ensures refused { IfErr result (λ e. AllOnArguments profile.now.entries → e ≡ OutOfMemory) }
+
+    // A profile decides one thing of each record, on every architecture and with whatever capabilities.
+    ensures one { (a : TargetArch) (cs : List (List ℕ)) (p : Profile) → DecidesOnce a cs p }
 {
     let all = json_filters_of(alloc, arch, caps, profile)?;
     made(alloc, arch, all.as_slice())

@@ -11,13 +11,13 @@ use Rattle.seccompiler.specs.Compare.{rank}
 use Rattle.seccompiler.specs.JsonPolicyOf.{IsPolicyOf}
 use Rattle.seccompiler.specs.JsonTypes.{JsonFilter}
 use Rattle.seccompiler.specs.Machine.{word_at}
-use Rattle.seccompiler.specs.Policy.{Filter, IsDecision, word_of}
+use Rattle.seccompiler.specs.Policy.{Filter, IsDecision, other_architecture, policy_matches, policy_differs, word_of}
 use Rattle.seccomp_oci.specs.Decision.{Counts, IsFirstLeast, first, later, IsProfileDecision, by_entries, by_default, rank_of_kept}
 use Rattle.seccomp_oci.specs.Filters.{AllOnArguments, AreDenying, AreFiltersOf, without_base, with_base, IsFineFilter}
 use Rattle.seccomp_oci.specs.Filters.{FilterMatches, IsBase, IsJointDecision, all_allow, strictest, DecideAs}
 use Rattle.seccomp_oci.specs.Types.{Entry, Profile}
 use Rattle.seccomp_oci.proofs.Quantified.{any_weaker, at_any, none_is_any}
-use Rattle.seccomp_oci.proofs.Least.{Above, NotBelow, none_least, least_last, least_kept, least_all, least_any}
+use Rattle.seccomp_oci.proofs.Least.{Above, NotBelow, none_least, least_last, least_kept, least_all, least_any, least_only}
 use Rattle.seccomp_oci.proofs.Zipped.{zipped, zip_last}
 use Rattle.seccomp_oci.proofs.filters.Denied.{EntryGives, FilterGives, IsCounted}
 use Rattle.seccomp_oci.proofs.filters.Policies.{decided, decides_match, decides_mismatch}
@@ -164,10 +164,40 @@ module _ (arch : TargetArch) (caps : List (List ℕ)) (r : List ℕ) (own : word
             (all_above a p.entries denying gs not (none_count p.entries none) are zip)
             (base_differs a base g is_base is default none))
 
+-- A filter decides one thing of a record.
+one_decision : (r : List ℕ) (f : Filter) (v w : ℕ) → IsDecision f r v → IsDecision f r w → v ≡ w
+one_decision r f v w (other_architecture other is) (other_architecture another is_too) = is ∙ sym is_too
+one_decision r f v w (other_architecture other is) (policy_matches same m is_too) = absurd (other same)
+one_decision r f v w (other_architecture other is) (policy_differs same none is_too) = absurd (other same)
+one_decision r f v w (policy_matches same m is) (other_architecture other is_too) = absurd (other same)
+one_decision r f v w (policy_matches same m is) (policy_matches same_too m_too is_too) = is ∙ sym is_too
+one_decision r f v w (policy_matches same m is) (policy_differs same_too none is_too) = absurd (none m)
+one_decision r f v w (policy_differs same none is) (other_architecture other is_too) = absurd (other same)
+one_decision r f v w (policy_differs same none is) (policy_matches same_too m is_too) = absurd (none m)
+one_decision r f v w (policy_differs same none is) (policy_differs same_too none_too is_too) = is ∙ sym is_too
+
+-- What is the strictest of filters that all allow is to allow.
+allowed_least : (r : List ℕ) (fs : List Filter) (w : ℕ) → All (λ f. (v : ℕ) → IsDecision f r v → v ≡ 0x7fff0000) fs
+    → IsFirstLeast rank (λ f v. IsDecision f r v) fs w → w ≡ 0x7fff0000
+allowed_least r fs w all least =
+    let found = at_any (λ f. (v : ℕ) → IsDecision f r v → v ≡ 0x7fff0000) (λ f. IsDecision f r w) fs all
+    (least_any rank (λ (f : Filter) v. IsDecision f r v) fs w least) in
+    found.1 w found.2
+
+-- Filters decide one thing together.
+one_joint : (r : List ℕ) (fs : List Filter) (v w : ℕ) → IsJointDecision fs r v → IsJointDecision fs r w → v ≡ w
+one_joint r fs v w (all_allow all is) (all_allow others is_too) = is ∙ sym is_too
+one_joint r fs v w (all_allow all is) (strictest least) = is ∙ sym (allowed_least r fs w all least)
+one_joint r fs v w (strictest least) (all_allow all is) = allowed_least r fs v all least ∙ sym is
+one_joint r fs v w (strictest least) (strictest other) =
+    least_only rank (λ (f : Filter) v. IsDecision f r v) (one_decision r) fs v w least other
+
 -- The filters of a profile decide together what the profile decides, of each record of the architecture.
 pub decide_as : (arch : TargetArch) (caps : List (List ℕ)) (p : Profile) (js : List JsonFilter) (fs : List Filter)
     → AreFiltersOf arch caps p js → AllZip (IsPolicyOf arch) js fs → DecideAs arch caps p fs
-decide_as arch caps p js fs are zip = λ r own a decision. joint arch caps r own p js fs a are zip decision
+decide_as arch caps p js fs are zip = λ r own a decision w.
+    let is = joint arch caps r own p js fs a are zip decision in
+    (λ other. one_joint r fs w (word_of a) other is, λ same. subst (IsJointDecision fs r) (sym same) is)
 
 -- Nothing is wrong with them where each condition is on an argument that a call has.
 pub each_fine : (arch : TargetArch) (caps : List (List ℕ)) (p : Profile) (js : List JsonFilter) → AreFiltersOf arch caps p js

@@ -32,7 +32,7 @@ module _ (arch : TargetArch) (r : List ℕ) where
   here = pos (word_at r 0)
 
   -- Whether a number is one that may be there.
-  is_decides : (o : Option ℤ) → Decides (is_number here o) (o ≡ Some here)
+  pub is_decides : (o : Option ℤ) → Decides (is_number here o) (o ≡ Some here)
   is_decides None = (λ h. absurd (true≢false (sym h)), λ e. cc)
   is_decides (Some other) = (
     λ h. ap Some (sym ((Decides-int_eq here other).0 h)),

@@ -30,7 +30,9 @@ SCHEMA = TOP / "docs/policy.schema.json"
 # seccomptool that read a policy, and their options that have a value behind them, and that ask for help.
 READING, GIVEN_A_FILE = "list", "run"
 OF_TOOL = ("compile", "show", "check", "explain", "stats", "diff", "compat")
-WITH_VALUES = ("-a", "--arch", "-f", "--filter", "-o", "--output", "--layout", "--format", "--most", "--records")
+WITH_VALUES = (
+    "-a", "--arch", "--allow", "-f", "--filter", "-o", "--output", "--layout", "--format", "--most", "--records"
+)
 HELP = ("-h", "--help")
 
 # What stands in front of what seccomptool reports: its name, and a file's where it is about one.
@@ -103,7 +105,7 @@ def policy_of(case, files):
         name = words[2]
     elif words[:1] == [READING]:
         name = "-"
-    elif words and words[0] in OF_TOOL and not any(it in HELP or it.startswith("--program") for it in words):
+    elif words and words[0] in OF_TOOL and not any(it in HELP or it.startswith(("--list", "--program")) for it in words):
         names = names_in(words[1:])
         several = words[0] == "check" and len(names) > 1
         name = None if several else (names or ["-"])[0]

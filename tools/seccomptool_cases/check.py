@@ -4,7 +4,7 @@ from program_cases import FRONTEND
 
 from .forms import FOLDER, FULL, INPUT, MISSING, OUTPUT, RESET, TOOL, Case, Failing, rejects, writes
 from .long_filters import of_rules
-from .warnings import line, lines_of
+from .warnings import CODES_LISTED, line, lines_of
 
 FINE = (
     '{"b":{"mismatch_action":{"errno":1},"match_action":"allow","filter":['
@@ -229,6 +229,31 @@ OF_SEVERAL = [
     Case("check logs.json no-filters.json logs.json > /dev/full", 1, "", (OUTPUT + FULL) * 2),
 ]
 
+# Codes that are allowed: of each policy those of all others are printed.
+TWO_CODES = mismatch('{"errno":65536}')
+OF_ALLOWED = [
+    writes("check --allow allows-by-default logs.json", "", ""),
+    writes("check --allow allows-by-default --deny-warnings logs.json", "", ""),
+    writes("check logs.json no-filters.json logs.json --allow=allows-by-default", "", ""),
+    writes("check --allow never-holds logs.json", "", LOGS_LINE),
+    Case("check --allow never-holds --deny-warnings logs.json", 1, LOGS_LINE, ""),
+    writes("check", TWO_CODES, lines_of(TWO_CODES)),
+    *[Case(f"check --deny-warnings --allow {allowed}", 1, line("a.mismatch_action", left), "", TWO_CODES)
+      for allowed, left in (("fake-success", "errno-too-large"), ("errno-too-large", "fake-success"))],
+    writes("check --allow errno-too-large --deny-warnings --allow fake-success", TWO_CODES, ""),
+    writes("check --allow errno-too-large --allow errno-too-large", TWO_CODES, line("a.mismatch_action", "fake-success")),
+    # An error is none of the warnings.
+    rejects("check --allow allows-by-default index.json", "",
+            "a.filter[0].args[0].index: expected 0 to 5, found 6\n", TOOL + "index.json: "),
+]
+
+# `--list` prints the codes, whatever else is asked for.
+OF_LIST = [
+    writes("check --list", "", CODES_LISTED),
+    writes("check --list missing.json --deny-warnings --allow never-holds", "", CODES_LISTED),
+    rejects("check --list > /dev/full", "", FULL, OUTPUT),
+]
+
 CASES = [
     # Of a policy without faults `check` tells its warnings alone.
     writes("check", FINE, lines_of(FINE)),
@@ -252,4 +277,6 @@ CASES = [
     rejects("check", Failing(FINE), RESET),
     *OF_FILES,
     *OF_SEVERAL,
+    *OF_ALLOWED,
+    *OF_LIST,
 ]

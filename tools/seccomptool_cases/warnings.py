@@ -6,7 +6,9 @@ codes that are about calls by their names.
 """
 
 import json
+import pathlib
 import random
+import re
 
 from .forms import OUTPUT, FULL, Case, rejects, writes
 
@@ -43,6 +45,11 @@ KEYS = {
     "high-half-ignored": ".val",
     "value-outside-mask": ".val",
 }
+
+# A line for each section of docs/CHECKS.md: the code, and what the section begins with, without the marks.
+PAGE = (pathlib.Path(__file__).resolve().parents[2] / "docs/CHECKS.md").read_text(encoding="utf-8")
+SECTIONS = re.findall(r"^### `([a-z0-9-]+)`\n\n(.*)\n", PAGE, re.M)
+CODES_LISTED = "".join(f"{code}: {first.replace('`', '')}\n" for code, first in SECTIONS)
 
 LOW = 2**32 - 1
 WHOLE = 2**64 - 1

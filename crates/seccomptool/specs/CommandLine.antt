@@ -1,15 +1,28 @@
 -- The command line as `clap` reads it: the subcommands, each with its options and then its positional arguments in order.
-use Rattle.std.specs.Prelude.{List, [], ◌∷◌, Some, codes, true}
+use Rattle.std.specs.Prelude.{◌≡◌, List, [], ◌∷◌, Some, codes, map, true}
 use Rattle.std.specs.Borrow.{Bor}
 use Rattle.clap.specs.Lexer.{usize_max}
 use Rattle.clap.specs.Words.{App, Rule, Text, new_app, new_rule, with_rule, with_subcommand}
 use Rattle.clap.specs.Simple.{on_top}
-use Rattle.clap.specs.declared.builder.action.ArgAction.TheVariants.{SetTrue}
-use Rattle.clap.specs.declared.builder.value_parser.ValueParser.TheVariants.{Names}
+use Rattle.clap.specs.declared.builder.action.ArgAction.TheVariants.{Append, SetTrue}
+use Rattle.clap.specs.declared.builder.value_parser.ValueParser.TheVariants as parser
+use Rattle.seccomp_warnings.specs.Codes.{all_codes, code_text}
+use Rattle.seccomptool.specs.declared.program.names.Names.{Names}
 
 -- The words of which an option's value is one.
 abbrev pub NameList : Type 0
 NameList = Bor (List (Bor Text))
+
+abbrev pub words_of : NameList → List Text
+words_of names = map (λ t. t.now) names.now
+
+-- The options take these words.
+pub record AreNames (names : Names) : Type 0 where
+  pub archs_are : words_of names.archs ≡ codes "x86_64" ∷ codes "aarch64" ∷ codes "riscv64" ∷ codes "amd64" ∷ codes "arm64" ∷ []
+  pub layouts_are : words_of names.layouts ≡ codes "linear" ∷ codes "tree" ∷ []
+  pub program_formats_are : words_of names.program_formats ≡ codes "raw" ∷ codes "listing" ∷ codes "c" ∷ []
+  pub line_formats_are : words_of names.line_formats ≡ codes "path" ∷ codes "word" ∷ []
+  pub codes_are : words_of names.codes ≡ map code_text all_codes
 
 -- `-a ARCH`, `--arch ARCH`: x86_64 where it isn't given.
 abbrev pub arch_rule : NameList → Rule
@@ -17,7 +30,7 @@ arch_rule archs = record (new_rule (codes "arch")) {
   value_names = 1;
   short = Some 97;
   long = Some (codes "arch");
-  parser = Some (Names archs);
+  parser = Some (parser.Names archs);
   defaults = codes "x86_64" ∷ [];
 }
 
@@ -30,7 +43,7 @@ abbrev pub layout_rule : NameList → Rule
 layout_rule layouts = record (new_rule (codes "layout")) {
   value_names = 1;
   long = Some (codes "layout");
-  parser = Some (Names layouts);
+  parser = Some (parser.Names layouts);
   defaults = codes "tree" ∷ [];
 }
 
@@ -39,8 +52,17 @@ abbrev pub format_rule : NameList → Rule
 format_rule formats = record (new_rule (codes "format")) {
   value_names = 1;
   long = Some (codes "format");
-  parser = Some (Names formats);
+  parser = Some (parser.Names formats);
   defaults = codes "raw" ∷ [];
+}
+
+-- `--format FORMAT` of `explain`: path where it isn't given.
+abbrev pub line_format_rule : NameList → Rule
+line_format_rule formats = record (new_rule (codes "format")) {
+  value_names = 1;
+  long = Some (codes "format");
+  parser = Some (parser.Names formats);
+  defaults = codes "path" ∷ [];
 }
 
 -- `-o FILE`, `--output FILE`.
@@ -62,6 +84,19 @@ all_rule = record (new_rule (codes "all")) { long = Some (codes "all"); action =
 -- `--deny-warnings`.
 abbrev pub deny_warnings_rule : Rule
 deny_warnings_rule = record (new_rule (codes "deny-warnings")) { long = Some (codes "deny-warnings"); action = Some SetTrue }
+
+-- `--allow CODE`, as often as it is given.
+abbrev pub allow_rule : NameList → Rule
+allow_rule names = record (new_rule (codes "allow")) {
+  value_names = 1;
+  long = Some (codes "allow");
+  parser = Some (parser.Names names);
+  action = Some Append;
+}
+
+-- `--list`.
+abbrev pub list_rule : Rule
+list_rule = record (new_rule (codes "list")) { long = Some (codes "list"); action = Some SetTrue }
 
 -- `--most N`: a million where it isn't given.
 abbrev pub most_rule : Rule
@@ -119,17 +154,19 @@ show_app archs layouts =
     with_rule (with_rule (with_rule (with_rule (new_app (codes "show")) (arch_rule archs)) (layout_rule layouts)) shown_program_rule)
     shown_policy_rule
 
-abbrev pub check_app : NameList → App
-check_app archs = with_rule (with_rule (with_rule (new_app (codes "check")) (arch_rule archs)) deny_warnings_rule) policies_rule
+abbrev pub check_app : NameList → NameList → App
+check_app archs names =
+    with_rule (with_rule (with_rule (with_rule (with_rule (new_app (codes "check")) (arch_rule archs)) deny_warnings_rule)
+    (allow_rule names)) list_rule) policies_rule
 
 -- A subcommand of this name with an architecture and a policy.
 abbrev pub policy_app : Text → NameList → App
 policy_app name archs = with_rule (with_rule (new_app name) (arch_rule archs)) policy_rule
 
-abbrev pub explain_app : NameList → App
-explain_app archs =
-    with_rule (with_rule (with_rule (with_rule (with_rule (with_rule (new_app (codes "explain")) (arch_rule archs)) filter_rule)
-    records_rule) given_policy_rule) call_rule) arguments_rule
+abbrev pub explain_app : NameList → NameList → App
+explain_app archs formats =
+    with_rule (with_rule (with_rule (with_rule (with_rule (with_rule (with_rule (new_app (codes "explain"))
+    (arch_rule archs)) filter_rule) (line_format_rule formats)) records_rule) given_policy_rule) call_rule) arguments_rule
 
 abbrev pub run_app : NameList → App
 run_app archs =
@@ -159,21 +196,21 @@ top_app = on_top (λ s. record s {
 }) (new_app (codes "seccomptool"))
 
 -- The program with the commands that are of what a policy decides.
-abbrev pub deciding_app : NameList → NameList → NameList → App
-deciding_app archs layouts formats =
+abbrev pub deciding_app : Names → App
+deciding_app names =
     with_subcommand (with_subcommand (with_subcommand (with_subcommand (with_subcommand top_app
-    (compile_app archs layouts formats).top)
-    (show_app archs layouts).top)
-    (check_app archs).top)
-    (explain_app archs).top)
-    (run_app archs).top
+    (compile_app names.archs names.layouts names.program_formats).top)
+    (show_app names.archs names.layouts).top)
+    (check_app names.archs names.codes).top)
+    (explain_app names.archs names.line_formats).top)
+    (run_app names.archs).top
 
 -- The program with all commands.
-abbrev pub program_app : NameList → NameList → NameList → App
-program_app archs layouts formats =
-    with_subcommand (with_subcommand (with_subcommand (with_subcommand (with_subcommand (deciding_app archs layouts formats)
-    (policy_app (codes "stats") archs).top)
-    (record_app archs).top)
-    (diff_app archs).top)
-    (verify_app archs).top)
-    (policy_app (codes "compat") archs).top
+abbrev pub program_app : Names → App
+program_app names =
+    with_subcommand (with_subcommand (with_subcommand (with_subcommand (with_subcommand (deciding_app names)
+    (policy_app (codes "stats") names.archs).top)
+    (record_app names.archs).top)
+    (diff_app names.archs).top)
+    (verify_app names.archs).top)
+    (policy_app (codes "compat") names.archs).top

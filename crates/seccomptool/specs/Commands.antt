@@ -1,21 +1,23 @@
 -- What each command answers and writes.
-use Rattle.std.specs.Prelude.{◌≡◌, ℕ, Bool, true, false, List, Option, Some, None, Result, Ok, Err, IfOk, IsErrAnd, ⊤, []}
+use Rattle.std.specs.Prelude.{◌≡◌, ℕ, Bool, true, false, List, Option, Some, None, Result, Ok, Err, IfOk, IsErrAnd, ⊤}
 use Rattle.seccompiler.specs.declared.backend.TargetArch.{TargetArch}
 use Rattle.seccompiler.specs.declared.layout.Layout.{Layout}
 use Rattle.seccompiler.specs.Architecture.{arch_text}
 use Rattle.seccomptool.specs.declared.compile.format.ProgramFormat.TheVariants as program_format
 use Rattle.seccomptool.specs.declared.error.ToolError.{ToolError}
-use Rattle.seccomptool.specs.declared.explain.format.LineFormat.TheVariants.{Path}
+use Rattle.seccomptool.specs.declared.explain.format.LineFormat.{LineFormat}
 use Rattle.seccomptool.specs.declared.findings.Verdict.{Verdict}
 use Rattle.seccomptool.specs.declared.findings.Verdict.TheVariants.{Same, Different, Undecided}
 use Rattle.seccomptool.specs.declared.words.Command.{Command}
-use Rattle.seccomptool.specs.declared.words.Command.TheVariants.{Compile, Show, Check, Explain, Run, Stats, Record, Diff, Verify, Compat}
+use Rattle.seccomptool.specs.declared.words.Command.TheVariants.{Compile, Show, Check, Codes, Explain, Run, Stats, Record, Diff}
+use Rattle.seccomptool.specs.declared.words.Command.TheVariants.{Verify, Compat}
 use Rattle.seccomptool.specs.declared.words.Records.{Records}
 use Rattle.seccomptool.specs.declared.words.Records.TheVariants as records
 use Rattle.seccomptool.specs.declared.words.Shown.{Shown}
 use Rattle.seccomptool.specs.declared.words.Shown.TheVariants as shown
 use Rattle.seccomptool.specs.Check.{AnswersCheck}
 use Rattle.seccomptool.specs.Chosen.{AnswersChosen}
+use Rattle.seccomptool.specs.Codes.{AnswersCodes}
 use Rattle.seccomptool.specs.Compile.{AnswersCompile}
 use Rattle.seccomptool.specs.Diff.{AnswersDiff}
 use Rattle.seccomptool.specs.Explain.{AnswersExplain}
@@ -29,10 +31,10 @@ use Rattle.seccomptool.specs.Compat.{AnswersCompat}
 use Rattle.seccomptool.specs.Words.{text_of}
 
 -- The answer of `explain` on these records, for the filter that is asked for, or the policy's only one.
-abbrev pub AnswersExplained : TargetArch → Option (List ℕ) → (policy records : Option (List ℕ)) → Result ⊤ ToolError
+abbrev pub AnswersExplained : TargetArch → Option (List ℕ) → LineFormat → (policy records : Option (List ℕ)) → Result ⊤ ToolError
     → (old new : Option (List ℕ)) → Type 0
-AnswersExplained arch filter policy records answer old new =
-    AnswersChosen policy filter (λ text name. AnswersExplain Path (arch_text arch) (Some text) name records answer old new) answer
+AnswersExplained arch filter format policy records answer old new =
+    AnswersChosen policy filter (λ text name. AnswersExplain format (arch_text arch) (Some text) name records answer old new) answer
 
 -- The answer on one call: there is no such call; or it is as P says of the call's record.
 pub data AnswersCall (arch : TargetArch) (call : List ℕ) (arguments : List ℕ) (P : List ℕ → Type 0)
@@ -41,11 +43,12 @@ pub data AnswersCall (arch : TargetArch) (call : List ℕ) (arguments : List ℕ
   called : (record_of : List ℕ) → IsRecordOf arch call arguments record_of → P record_of → AnswersCall arch call arguments P answer
 
 -- The answer of `explain` for the records that it is asked about: that of a call, or those of the file or input.
-abbrev pub AnswersExplainedOn : Records → TargetArch → Option (List ℕ) → (policy records : Option (List ℕ)) → Result ⊤ ToolError
-    → (old new : Option (List ℕ)) → Type 0
-AnswersExplainedOn (records.Call call arguments) arch filter policy known answer old new =
-    AnswersCall arch call.now arguments (λ bytes. AnswersExplained arch filter policy (Some bytes) answer old new) answer
-AnswersExplainedOn (records.In path) arch filter policy known answer old new = AnswersExplained arch filter policy known answer old new
+abbrev pub AnswersExplainedOn : Records → TargetArch → Option (List ℕ) → LineFormat → (policy records : Option (List ℕ))
+    → Result ⊤ ToolError → (old new : Option (List ℕ)) → Type 0
+AnswersExplainedOn (records.Call call arguments) arch filter format policy known answer old new =
+    AnswersCall arch call.now arguments (λ bytes. AnswersExplained arch filter format policy (Some bytes) answer old new) answer
+AnswersExplainedOn (records.In path) arch filter format policy known answer old new =
+    AnswersExplained arch filter format policy known answer old new
 
 -- The answer of `run` for the records that it is asked about: that of a call, or those of the file or input.
 abbrev pub AnswersRunOn : Records → TargetArch → (program records : Option (List ℕ)) → Result ⊤ ToolError → (old new : Option (List ℕ))
@@ -77,10 +80,11 @@ AnswersCommand (Compile arch filter layout format output path) policy records an
     (λ text name. AnswersCompile format (arch_text arch) (Some text) name layout plain old new) plain) answer
 AnswersCommand (Show arch layout shown) policy records answer old new =
     AnswersPlain (λ plain. AnswersShown shown arch layout policy plain old new) answer
-AnswersCommand (Check arch denied path) policy records answer old new =
-    AnswersCheck (arch_text arch) denied [] path.now policy answer old new
-AnswersCommand (Explain arch filter asked path) policy records answer old new =
-    AnswersPlain (λ plain. AnswersExplainedOn asked arch (text_of filter) policy records plain old new) answer
+AnswersCommand (Check arch denied allowed path) policy records answer old new =
+    AnswersCheck (arch_text arch) denied allowed.now path.now policy answer old new
+AnswersCommand Codes policy records answer old new = AnswersPlain (λ plain. AnswersCodes plain old new) answer
+AnswersCommand (Explain arch filter format asked path) policy records answer old new =
+    AnswersPlain (λ plain. AnswersExplainedOn asked arch (text_of filter) format policy records plain old new) answer
 AnswersCommand (Run arch asked path) policy records answer old new =
     AnswersPlain (λ plain. AnswersRunOn asked arch policy records plain old new) answer
 AnswersCommand (Stats arch path) policy records answer old new =
@@ -99,8 +103,9 @@ abbrev pub policy_of : Command → Option (List ℕ)
 policy_of (Compile arch filter layout format output path) = Some path.now
 policy_of (Show arch layout (shown.Policy path)) = Some path.now
 policy_of (Show arch layout (shown.Program path)) = Some path.now
-policy_of (Check arch denied path) = Some path.now
-policy_of (Explain arch filter asked path) = Some path.now
+policy_of (Check arch denied allowed path) = Some path.now
+policy_of Codes = None
+policy_of (Explain arch filter format asked path) = Some path.now
 policy_of (Run arch asked path) = Some path.now
 policy_of (Stats arch path) = Some path.now
 policy_of (Record arch call arguments) = None
@@ -110,7 +115,7 @@ policy_of (Compat arch path) = Some path.now
 
 -- The path of the records that a command reads, of the new policy, or of the program that is verified.
 abbrev pub records_of : Command → Option (List ℕ)
-records_of (Explain arch filter (records.In path) policy) = Some path.now
+records_of (Explain arch filter format (records.In path) policy) = Some path.now
 records_of (Run arch (records.In path) program) = Some path.now
 records_of (Diff arch filter relation most first second) = Some second.now
 records_of (Verify arch filter relation scope most path program) = Some program.now

@@ -18,6 +18,7 @@ pub mod Stats
 pub mod Compat
 pub mod Lint
 pub mod Check
+pub mod Codes
 pub mod Reasons
 pub mod ExplainLines
 pub mod Explain

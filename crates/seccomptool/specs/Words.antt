@@ -11,16 +11,22 @@ use Rattle.seccompiler.specs.declared.compare.Relation.{Relation}
 use Rattle.seccompiler.specs.declared.compare.Relation.TheVariants.{Alike, AtMostAsPermissive}
 use Rattle.seccompiler.specs.declared.layout.Layout.{Layout}
 use Rattle.seccompiler.specs.declared.layout.Layout.TheVariants.{Linear, Tree}
-use Rattle.seccomptool.specs.CommandLine.{NameList, program_app}
+use Rattle.seccomptool.specs.CommandLine.{AreNames, program_app}
+use Rattle.seccomp_warnings.specs.Codes.{code_text}
+use Rattle.seccomp_warnings.specs.declared.code.Code.{Code}
 use Rattle.seccomptool.specs.Numbers.{IsNumber}
 use Rattle.seccomptool.specs.declared.compile.format.ProgramFormat.{ProgramFormat}
 use Rattle.seccomptool.specs.declared.compile.format.ProgramFormat.TheVariants.{Raw, Listing, C}
+use Rattle.seccomptool.specs.declared.explain.format.LineFormat.{LineFormat}
+use Rattle.seccomptool.specs.declared.explain.format.LineFormat.TheVariants as line_format
+use Rattle.seccomptool.specs.declared.program.names.Names.{Names}
 use Rattle.seccomptool.specs.declared.verify.scope.Scope.{Scope}
 use Rattle.seccomptool.specs.declared.verify.scope.Scope.TheVariants.{Named, All}
 use Rattle.seccomptool.specs.declared.words.Asked.{Asked}
 use Rattle.seccomptool.specs.declared.words.Asked.TheVariants.{One, Checks}
 use Rattle.seccomptool.specs.declared.words.Command.{Command}
-use Rattle.seccomptool.specs.declared.words.Command.TheVariants.{Compile, Show, Check, Explain, Run, Stats, Record, Diff, Verify, Compat}
+use Rattle.seccomptool.specs.declared.words.Command.TheVariants.{Compile, Show, Check, Codes, Explain, Run, Stats, Record, Diff}
+use Rattle.seccomptool.specs.declared.words.Command.TheVariants.{Verify, Compat}
 use Rattle.seccomptool.specs.declared.words.Records.{Records}
 use Rattle.seccomptool.specs.declared.words.Records.TheVariants as records
 use Rattle.seccomptool.specs.declared.words.Shown.{Shown}
@@ -42,6 +48,11 @@ abbrev pub format_text : ProgramFormat → Text
 format_text Raw = codes "raw"
 format_text Listing = codes "listing"
 format_text C = codes "c"
+
+-- The word that chooses how a line of `explain` is written.
+abbrev pub line_format_text : LineFormat → Text
+line_format_text line_format.Path = codes "path"
+line_format_text line_format.Word = codes "word"
 
 -- The text is this argument of a call: a number, or a negative one behind `-`, from -1 to the least that 64 bits hold, in
 -- two's complement.
@@ -106,10 +117,20 @@ IsDenied rows false = first_of (codes "deny-warnings") rows ≡ Some (codes "tru
 abbrev pub given_policies : List Row → List Text
 given_policies rows = unwrap_or (all_of (codes "policy") rows) (codes "-" ∷ [])
 
--- The values of `check`.
-pub record IsCheck (rows : List Row) (arch : TargetArch) (denied : Bool) (policies : List Text) : Type 0 where
+-- The values of `--allow`.
+abbrev pub given_codes : List Row → List Text
+given_codes rows = unwrap_or (all_of (codes "allow") rows) []
+
+-- `--list` is given.
+abbrev pub IsListed : List Row → Type 0
+IsListed rows = first_of (codes "list") rows ≡ Some (codes "true")
+
+-- The values of `check`. Policies are checked where `--list` isn't given.
+pub record IsCheck (rows : List Row) (arch : TargetArch) (denied : Bool) (allowed : List Code) (policies : List Text) : Type 0 where
+  pub unlisted : IsListed rows → ⊥
   pub arch_is : IsArch rows arch
   pub denied_is : IsDenied rows denied
+  pub allowed_are : map code_text allowed ≡ given_codes rows
   pub policies_are : policies ≡ given_policies rows
 
 -- The values of `stats` and `compat`.
@@ -118,9 +139,11 @@ pub record IsOfPolicy (rows : List Row) (arch : TargetArch) (policy : Text) : Ty
   pub policy_is : first_of (codes "policy") rows ≡ Some policy
 
 -- The values of `explain`.
-pub record IsExplain (rows : List Row) (arch : TargetArch) (filter : Option Text) (records : Records) (policy : Text) : Type 0 where
+pub record IsExplain (rows : List Row) (arch : TargetArch) (filter : Option Text) (format : LineFormat) (records : Records)
+    (policy : Text) : Type 0 where
   pub arch_is : IsArch rows arch
   pub filter_is : first_of (codes "filter") rows ≡ filter
+  pub format_is : first_of (codes "format") rows ≡ Some (line_format_text format)
   pub policy_is : first_of (codes "policy") rows ≡ Some policy
   pub records_are : AreRecords rows policy records
 
@@ -176,14 +199,15 @@ pub record IsVerify (rows : List Row) (arch : TargetArch) (filter : Option Text)
 abbrev pub text_of : Option (Bor Text) → Option Text
 text_of = option_map (λ t. t.now)
 
--- The subcommand of this name, with these values, is the command. A command of `check` is never meant alone.
+-- The subcommand of this name, with these values, is the command. The check of a policy is never meant alone.
 abbrev pub IsCommand : Text → List Row → Command → Type 0
 IsCommand name rows (Compile arch filter layout format output policy) =
     (name ≡ codes "compile") × IsCompile rows arch (text_of filter) layout format (text_of output) policy.now
 IsCommand name rows (Show arch layout shown) = (name ≡ codes "show") × IsShow rows arch layout shown
-IsCommand name rows (Check arch denied policy) = ⊥
-IsCommand name rows (Explain arch filter records policy) =
-    (name ≡ codes "explain") × IsExplain rows arch (text_of filter) records policy.now
+IsCommand name rows (Check arch denied allowed policy) = ⊥
+IsCommand name rows Codes = (name ≡ codes "check") × IsListed rows
+IsCommand name rows (Explain arch filter format records policy) =
+    (name ≡ codes "explain") × IsExplain rows arch (text_of filter) format records policy.now
 IsCommand name rows (Run arch records program) = (name ≡ codes "run") × IsRun rows arch records program.now
 IsCommand name rows (Stats arch policy) = (name ≡ codes "stats") × IsOfPolicy rows arch policy.now
 IsCommand name rows (Record arch call arguments) = (name ≡ codes "record") × IsRecord rows arch call.now arguments
@@ -196,23 +220,20 @@ IsCommand name rows (Compat arch policy) = (name ≡ codes "compat") × IsOfPoli
 -- The subcommand of this name, with these values, asks for this.
 abbrev pub IsAsked : Text → List Row → Asked → Type 0
 IsAsked name rows (One command) = IsCommand name rows command
-IsAsked name rows (Checks arch denied policies) = (name ≡ codes "check") × IsCheck rows arch denied (map (λ p. p.now) policies.items)
+IsAsked name rows (Checks arch denied allowed policies) =
+    (name ≡ codes "check") × IsCheck rows arch denied allowed.items (map (λ p. p.now) policies.items)
 
--- The names that `--arch`, `--layout` and `--format` take.
+-- The names that the options take.
 pub record Choices : Type 0 where
-  pub archs : NameList
-  pub layouts : NameList
-  pub formats : NameList
-  pub archs_are : map (λ t. t.now) archs.now ≡ codes "x86_64" ∷ codes "aarch64" ∷ codes "riscv64" ∷ codes "amd64" ∷ codes "arm64" ∷ []
-  pub layouts_are : map (λ t. t.now) layouts.now ≡ codes "linear" ∷ codes "tree" ∷ []
-  pub formats_are : map (λ t. t.now) formats.now ≡ codes "raw" ∷ codes "listing" ∷ codes "c" ∷ []
+  pub names : Names
+  pub are : AreNames names
 
 -- `clap` finds no fault in the words, and they enter a subcommand whose values ask for this.
 pub record Means (choices : Choices) (words : List Text) (asked : Asked) : Type 0 where
-  pub faultless : fault_of (program_app choices.archs choices.layouts choices.formats) words ≡ []
+  pub faultless : fault_of (program_app choices.names) words ≡ []
   pub name : Text
   pub rows : List Row
-  pub entered : subcommand_of (program_app choices.archs choices.layouts choices.formats) words ≡ Some (name, rows)
+  pub entered : subcommand_of (program_app choices.names) words ≡ Some (name, rows)
   pub is : IsAsked name rows asked
 
 -- The error is made where `clap` finds no fault in words that mean no command; or memory is refused for it.
@@ -223,5 +244,5 @@ IsOwn error = (kind_of error ≡ ValueValidation) ⊎ (kind_of error ≡ OutOfMe
 -- mean no command.
 abbrev pub IsFault : Choices → List Text → Error → Type 0
 IsFault choices words error = (kind_of error ≡ OutOfMemory)
-    ⊎ (IsAmong (kind_of error) (fault_of (program_app choices.archs choices.layouts choices.formats) words)
+    ⊎ (IsAmong (kind_of error) (fault_of (program_app choices.names) words)
     ⊎ ((kind_of error ≡ ValueValidation) × ((asked : Asked) → Means choices words asked → ⊥)))

@@ -103,6 +103,7 @@ fn policy_of<'a>(command: Command<'a>) -> Option<&'a str>
             ..
         } => Some(path),
         Command::Check { policy, .. } => Some(policy),
+        Command::Codes => None,
         Command::Explain { policy, .. } => Some(policy),
         Command::Run { program, .. } => Some(program),
         Command::Stats { policy, .. } => Some(policy),

@@ -2,11 +2,12 @@
 
 ghost use Rattle.std.specs.Prelude.{◌≡◌, ◌≤◌, ◌⊎◌, map};
 ghost use Rattle.std.specs.Process.{exit_status};
-ghost use Rattle.seccomptool.specs.Answers.{EndWith, commands_of};
+ghost use Rattle.seccomptool.specs.Answers.{EndAsAsked, EndWith};
 ghost use Rattle.seccomptool.specs.declared.words.Command.TheVariants.{Check};
 
 use crate::carry_out::carry_out;
 use crate::words::{Asked, Command};
+use seccomp_warnings::Code;
 use seccompiler::TargetArch;
 use std::process::ExitCode;
 use std::rt::Files;
@@ -19,15 +20,16 @@ pub(crate) fn carry_out_each(
     to_terminal: bool,
 ) -> ExitCode
     ensures ended { exit_status result ≤ 3 }
-    ensures each { EndWith (commands_of asked.entry) (exit_status result) }
+    ensures each { EndAsAsked asked.entry (exit_status result) }
 {
     match asked {
         Asked::One(command) => ExitCode::from(carry_out(rt, command, to_terminal)),
         Asked::Checks {
             arch,
             denied,
+            allowed,
             policies,
-        } => ExitCode::from(check_each(rt, arch, denied, &policies, to_terminal)),
+        } => ExitCode::from(check_each(rt, arch, denied, &allowed, &policies, to_terminal)),
     }
 }
 
@@ -36,17 +38,19 @@ fn check_each(
     rt: &(impl Files + Input + Print + Eprint + AllocGlobal),
     arch: TargetArch,
     denied: bool,
+    allowed: &[Code],
     policies: &[&str],
     to_terminal: bool,
 ) -> u8
     ensures ended { result ≤ 3 }
-    ensures each { EndWith (map (Check arch denied) policies.now) result }
+    ensures each { EndWith (map (Check arch denied allowed.entry) policies.now) result }
 {
     let mut status = 0;
     for policy in policies {
         let command = Command::Check {
             arch,
             denied,
+            allowed,
             policy: *policy,
         };
         status = greater(status, carry_out(rt, command, to_terminal));

@@ -5,6 +5,7 @@ mod answer;
 mod carry_out;
 mod check;
 mod chosen;
+mod codes;
 mod compat;
 mod compile;
 mod diff;

@@ -11,6 +11,7 @@ ghost use Rattle.seccomptool.specs.declared.findings.Verdict.TheVariants as verd
 
 use crate::check::check;
 use crate::chosen::chosen_name;
+use crate::codes::codes;
 use crate::compat::compat;
 use crate::compile::compile;
 use crate::compile::format::ProgramFormat;
@@ -36,7 +37,7 @@ use std::io::{Read, Write};
 ///
 /// # Errors
 ///
-/// Those of the engine: [`compile`], [`show`] or [`show_program`], [`check`], [`explain`], [`run`],
+/// Those of the engine: [`compile`], [`show`] or [`show_program`], [`check`], [`codes`], [`explain`], [`run`],
 /// [`stats`], [`record`], [`diff`], [`verify`] and [`compat`]. In front of them, for `compile` and `explain`,
 /// where no filter is asked for: the policy's fault that keeps its names from being read, and `Unchosen`
 /// with the names where it hasn't one. In front of all, for `explain` and `run` on a call, `UnknownCall` where the
@@ -68,14 +69,17 @@ pub fn perform<P: Read + Drop, R: Read + Drop, W: Write>(
         Command::Check {
             arch,
             denied,
+            allowed,
             policy: path,
-        } => check(alloc, arch.name(), denied, &[], path, policy, out),
+        } => check(alloc, arch.name(), denied, allowed, path, policy, out),
+        Command::Codes => same(codes(alloc, out)),
         Command::Explain {
             arch,
             filter,
+            format,
             records: asked,
             ..
-        } => same(explain_asked(alloc, arch, filter, asked, policy, records, out)),
+        } => same(explain_asked(alloc, arch, filter, format, asked, policy, records, out)),
         Command::Run {
             arch,
             records: asked,
@@ -185,19 +189,20 @@ fn explain_asked<P: Read + Drop, R: Read + Drop, W: Write>(
     alloc: Global,
     arch: TargetArch,
     filter: Option<&str>,
+    format: LineFormat,
     asked: Records<'_>,
     policy: P,
     records: R,
     out: &mut W,
 ) -> Result<(), ToolError>
-    ensures answers { AnswersExplainedOn asked.entry arch (text_of filter.entry) (P.remaining policy) (R.remaining records) result (W.contents out.old) (W.contents out.new) }
+    ensures answers { AnswersExplainedOn asked.entry arch (text_of filter.entry) format (P.remaining policy) (R.remaining records) result (W.contents out.old) (W.contents out.new) }
     ensures unwritten { IfErr result (λ e. KeepsOutput e out.old out.new) }
 {
     match asked {
-        Records::In(_) => explain_records(alloc, arch, filter, policy, records, out),
+        Records::In(_) => explain_records(alloc, arch, filter, format, policy, records, out),
         Records::Call { call, arguments } => {
             let record = called_record(alloc, arch, call, &arguments)?;
-            explain_records(alloc, arch, filter, policy, record.as_slice(), out)
+            explain_records(alloc, arch, filter, format, policy, record.as_slice(), out)
         }
     }
 }
@@ -207,18 +212,19 @@ fn explain_records<P: Read + Drop, R: Read + Drop, W: Write>(
     alloc: Global,
     arch: TargetArch,
     filter: Option<&str>,
+    format: LineFormat,
     policy: P,
     records: R,
     out: &mut W,
 ) -> Result<(), ToolError>
-    ensures answers { AnswersExplained arch (text_of filter.entry) (P.remaining policy) (R.remaining records) result (W.contents out.old) (W.contents out.new) }
+    ensures answers { AnswersExplained arch (text_of filter.entry) format (P.remaining policy) (R.remaining records) result (W.contents out.old) (W.contents out.new) }
     ensures unwritten { IfErr result (λ e. KeepsOutput e out.old out.new) }
 {
     let text = policy_text(alloc, policy)?;
     let name = chosen_name(alloc, text.as_slice(), filter)?;
     explain(
         alloc,
-        LineFormat::Path,
+        format,
         arch.name(),
         text.as_slice(),
         name.as_str(),

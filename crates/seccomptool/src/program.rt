@@ -5,12 +5,14 @@ ghost use Rattle.clap.specs.Words.{app_of};
 ghost use Rattle.clap.specs.declared.builder.command.Command.TheViews.{out-Command};
 ghost use Rattle.seccomptool.specs.CommandLine.{check_app, compile_app, deciding_app, diff_app, explain_app, policy_app, program_app, record_app, run_app, show_app, top_app, verify_app};
 
+pub mod names;
 mod options;
 
+use crate::program::names::Names;
 use crate::program::options::{
-    all, arch, arguments, at_most, call, compared_filter, deny_warnings, filter, format,
-    given_call, given_policy, layout, most, new_policy, old, output, policies, policy,
-    program_file, records, shown_policy, shown_program,
+    all, allow, arch, arguments, at_most, call, compared_filter, deny_warnings, filter, format,
+    given_call, given_policy, layout, line_format, list, most, new_policy, old, output, policies,
+    policy, program_file, records, shown_policy, shown_program,
 };
 use clap::Command;
 use std::alloc::{AllocError, Global};
@@ -29,23 +31,19 @@ const STATS: &str = "Print how long the programs are, and how many steps they ta
 
 const COMPAT: &str = "Print the calls that the Rust crate would decide otherwise";
 
-/// The subcommands and their arguments, with the names of architectures and of layouts.
+/// The subcommands and their arguments, with the names that the options take.
 ///
 /// The arguments that it reads are those behind the program's own name.
-pub(crate) fn program<'a>(
-    alloc: Global,
-    archs: &'a [&'a str],
-    layouts: &'a [&'a str],
-    formats: &'a [&'a str],
-) -> Result<Command<'a>, AllocError>
-    ensures app { IfOk result (λ c. app_of c ≡ program_app archs.entry layouts.entry formats.entry) }
+pub(crate) fn program<'a>(alloc: Global, names: Names<'a>) -> Result<Command<'a>, AllocError>
+    ensures app { IfOk result (λ c. app_of c ≡ program_app names.entry) }
 {
+    let archs = names.archs;
     let stats = of_policy(alloc, "stats", STATS, archs)?;
     let of_call = record(alloc, archs)?;
     let diff = diff(alloc, archs)?;
     let verify = verify(alloc, archs)?;
     let compat = of_policy(alloc, "compat", COMPAT, archs)?;
-    let deciding = deciding(alloc, archs, layouts, formats)?;
+    let deciding = deciding(alloc, names)?;
     deciding
         .subcommand(stats)?
         .subcommand(of_call)?
@@ -55,18 +53,14 @@ pub(crate) fn program<'a>(
 }
 
 // The program with the commands that are of what a policy decides.
-fn deciding<'a>(
-    alloc: Global,
-    archs: &'a [&'a str],
-    layouts: &'a [&'a str],
-    formats: &'a [&'a str],
-) -> Result<Command<'a>, AllocError>
-    ensures { IfOk result (λ c. app_of c ≡ deciding_app archs.entry layouts.entry formats.entry) }
+fn deciding<'a>(alloc: Global, names: Names<'a>) -> Result<Command<'a>, AllocError>
+    ensures { IfOk result (λ c. app_of c ≡ deciding_app names.entry) }
 {
-    let compile = compile(alloc, archs, layouts, formats)?;
-    let show = show(alloc, archs, layouts)?;
-    let check = check(alloc, archs)?;
-    let explain = explain(alloc, archs)?;
+    let archs = names.archs;
+    let compile = compile(alloc, archs, names.layouts, names.program_formats)?;
+    let show = show(alloc, archs, names.layouts)?;
+    let check = check(alloc, archs, names.codes)?;
+    let explain = explain(alloc, archs, names.line_formats)?;
     let of_program = run(alloc, archs)?;
     let top = top(alloc)?;
     top.subcommand(compile)?
@@ -126,14 +120,20 @@ fn show<'a>(
         .arg(shown_policy(alloc))
 }
 
-fn check<'a>(alloc: Global, archs: &'a [&'a str]) -> Result<Command<'a>, AllocError>
-    ensures app { IfOk result (λ c. app_of c ≡ check_app archs.entry) }
+fn check<'a>(
+    alloc: Global,
+    archs: &'a [&'a str],
+    codes: &'a [&'a str],
+) -> Result<Command<'a>, AllocError>
+    ensures app { IfOk result (λ c. app_of c ≡ check_app archs.entry codes.entry) }
     ensures local { IfOk result (λ c. (out-Command c).has_globals ≡ false) }
 {
     Command::new(alloc, "check")
         .about("Print the first error of a policy with its place, or else its warnings")
         .arg(arch(alloc, archs))?
         .arg(deny_warnings(alloc))?
+        .arg(allow(alloc, codes))?
+        .arg(list(alloc))?
         .arg(policies(alloc))
 }
 
@@ -153,14 +153,19 @@ fn of_policy<'a>(
         .arg(policy(alloc))
 }
 
-fn explain<'a>(alloc: Global, archs: &'a [&'a str]) -> Result<Command<'a>, AllocError>
-    ensures app { IfOk result (λ c. app_of c ≡ explain_app archs.entry) }
+fn explain<'a>(
+    alloc: Global,
+    archs: &'a [&'a str],
+    formats: &'a [&'a str],
+) -> Result<Command<'a>, AllocError>
+    ensures app { IfOk result (λ c. app_of c ≡ explain_app archs.entry formats.entry) }
     ensures local { IfOk result (λ c. (out-Command c).has_globals ≡ false) }
 {
     Command::new(alloc, "explain")
         .about("Print what a filter decides on calls, and why")
         .arg(arch(alloc, archs))?
         .arg(filter(alloc))?
+        .arg(line_format(alloc, formats))?
         .arg(records(alloc))?
         .arg(given_policy(alloc))?
         .arg(call(alloc))?

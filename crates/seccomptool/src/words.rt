@@ -4,22 +4,20 @@ ghost use Rattle.std.specs.Prelude.{◌≡◌, IfOk, IfErr, map, string_bytes};
 ghost use Rattle.seccomptool.specs.Words.{Choices, Means, IsFault, IsOwn};
 
 mod arguments;
+mod codes;
 mod matches;
 mod values;
 
 use crate::compile::format::ProgramFormat;
+use crate::explain::format::LineFormat;
+use crate::program::names::all_names;
 use crate::program::program;
 use crate::verify::scope::Scope;
 use crate::words::matches::{asked_in, misuse_in};
 use clap::error::ErrorKind;
+use seccomp_warnings::Code;
 use seccompiler::{Layout, Relation, TargetArch};
 use std::alloc::Global;
-
-static ARCHITECTURES: [&str; 5] = ["x86_64", "aarch64", "riscv64", "amd64", "arm64"];
-
-static LAYOUTS: [&str; 2] = ["linear", "tree"];
-
-static FORMATS: [&str; 3] = ["raw", "listing", "c"];
 
 /// A command of the program. A policy and records are paths, or `-` for standard input.
 #[derive(Clone, Copy)]
@@ -54,15 +52,21 @@ pub enum Command<'a> {
         arch: TargetArch,
         /// Whether warnings count for the exit status.
         denied: bool,
+        /// The codes whose warnings aren't printed.
+        allowed: &'a [Code],
         /// The policy.
         policy: &'a str,
     },
+    /// Print the codes of warnings.
+    Codes,
     /// Print what a filter decides on calls, and why.
     Explain {
         /// The architecture.
         arch: TargetArch,
         /// The filter's name; the policy's only filter where there is none.
         filter: Option<&'a str>,
+        /// How a line is written.
+        format: LineFormat,
         /// The records of the calls.
         records: Records<'a>,
         /// The policy.
@@ -137,7 +141,7 @@ pub enum Command<'a> {
 /// What the arguments ask for.
 #[derive(Drop)]
 pub enum Asked<'a> {
-    /// A command, other than `check`.
+    /// A command, other than `check` of policies.
     One(Command<'a>),
     /// `check` of policies, one after the other.
     Checks {
@@ -145,6 +149,8 @@ pub enum Asked<'a> {
         arch: TargetArch,
         /// Whether warnings count for the exit status.
         denied: bool,
+        /// The codes whose warnings aren't printed.
+        allowed: Vec<Code>,
         /// The policies.
         policies: Vec<&'a str>,
     },
@@ -183,14 +189,11 @@ pub enum Records<'a> {
 /// standard input: policy and records, program and records, policy and program, or both policies of `diff`. `OutOfMemory` may
 /// come in place of any.
 pub(crate) fn read<'a>(alloc: Global, words: &'a [String]) -> Result<Asked<'a>, clap::Error>
-    // With the names of architectures, layouts and formats that the options take.
+    // With the names that the options take.
     ensures { (choices : Choices) × IfOk result (Means choices (map string_bytes words.now))
         × IfErr result (IsFault choices (map string_bytes words.now)) }
 {
-    let archs = ARCHITECTURES.as_slice();
-    let layouts = LAYOUTS.as_slice();
-    let formats = FORMATS.as_slice();
-    let mut program = program(alloc, archs, layouts, formats)?;
+    let mut program = program(alloc, all_names())?;
     let matches = match program.try_get_matches_from_mut(words) {
         Ok(matches) => matches,
         Err(error) => return Err(error),

@@ -1,12 +1,12 @@
 -- For `answer`: which errors of the words are help or the version, and what a status says of the commands.
-use Rattle.std.proofs.Common.{◌≡◌, ◌≤◌, ℕ, List, [], ◌∷◌, All, Contains, ap, arith, inl, inr, refl, sym, ◌∙◌}
+use Rattle.std.proofs.Common.{◌≡◌, ◌≤◌, ℕ, List, [], ◌∷◌, All, Contains, ap, arith, inl, inr, refl, subst, sym, ◌∙◌}
 use Rattle.std.specs.Prelude.{◌⊎◌}
 use Rattle.std.proofs.lemmas.List.Elements.{All-cons, All-contains, All-nil}
 use Rattle.clap.specs.Words.{Text, kind_of}
 use Rattle.clap.specs.declared.error.Error.{Error}
 use Rattle.clap.specs.declared.error.kind.ErrorKind.{ErrorKind}
 use Rattle.clap.specs.declared.error.kind.ErrorKind.TheVariants.{DisplayHelp, DisplayVersion, OutOfMemory, ValueValidation}
-use Rattle.seccomptool.specs.Answers.{AsksForHelp, EndWith, IsCarriedOut, IsShown, MayFail, commands_of, other}
+use Rattle.seccomptool.specs.Answers.{AsksForHelp, EndWith, IsCarriedOut, IsShown, MayFail, EndAsAsked, other}
 use Rattle.seccomptool.specs.Commands.{EndsWith, IsPerformed, trouble, verdict_status}
 use Rattle.seccomptool.specs.Words.{Choices, IsFault, Means}
 use Rattle.seccomptool.specs.declared.findings.Verdict.{Verdict}
@@ -64,13 +64,15 @@ all_performed commands status ended zero =
 
 -- Where it is 3, one of them is undecided.
 pub one_undecided : (choices : Choices) (words : List Text) (asked : Asked) (status : ℕ) → Means choices words asked
-    → EndWith (commands_of asked) status → status ≡ 3 → IsCarriedOut words Undecided
+    → EndAsAsked asked status → status ≡ 3 → IsCarriedOut words Undecided
 one_undecided choices words asked status means ended three =
-    let one = some_command (commands_of asked) status ended (λ zero. let e : 0 ≡ 3 = sym zero ∙ three in cc) in
+    let one = some_command ended.commands status ended.ended (λ zero. let e : 0 ≡ 3 = sym zero ∙ three in cc) in
     record {
       choices = choices;
       asked = asked;
       means = means;
+      commands = ended.commands;
+      are = ended.are;
       command = one.0;
       among = one.1;
       performed = one.2 Undecided three (no_trouble one.0 status Undecided three (λ same. cc));
@@ -91,6 +93,8 @@ differs choices words command status means ended one fails =
       choices = choices;
       asked = One command;
       means = means;
+      commands = command ∷ [];
+      are = refl;
       command = found.0;
       among = found.1;
       performed = found.2 Different one (λ failed. let e : 1 ≡ 2 = sym one ∙ failed ∙ ap trouble same ∙ fails in cc);
@@ -106,6 +110,8 @@ of_one choices words (Verify arch filter relation scope most policy program) sta
 of_one choices words command status means ended one = inr (other choices (One command) means refl)
 
 pub may_fail : (choices : Choices) (words : List Text) (asked : Asked) (status : ℕ) → Means choices words asked
-    → EndWith (commands_of asked) status → status ≡ 1 → IsCarriedOut words Different ⊎ MayFail words
-may_fail choices words (One command) status means ended one = of_one choices words command status means ended one
-may_fail choices words (Checks arch denied policies) status means ended one = inr (other choices (Checks arch denied policies) means refl)
+    → EndAsAsked asked status → status ≡ 1 → IsCarriedOut words Different ⊎ MayFail words
+may_fail choices words (One command) status means ended one =
+    of_one choices words command status means (subst (λ cs. EndWith cs status) ended.are ended.ended) one
+may_fail choices words (Checks arch denied allowed policies) status means ended one =
+    inr (other choices (Checks arch denied allowed policies) means refl)

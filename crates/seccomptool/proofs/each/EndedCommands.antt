@@ -1,13 +1,17 @@
 -- For `carry_out_each` and `check_each`: the statuses of commands, one by one.
-use Rattle.std.proofs.Common.{◌≡◌, ◌∙◌, ℕ, ◌+◌, ◌≤◌, ◌<◌, Bool, List, [], ◌∷◌, ◌++◌, All, Contains, ap, arith, get_or, inl, inr, length}
-use Rattle.std.proofs.Common.{map, refl, subst, sym, take}
+use Rattle.std.proofs.Common.{◌≡◌, ◌∙◌, ℕ, ◌+◌, ◌≤◌, ◌<◌, Bool, List, [], ◌∷◌, ◌++◌, All, Contains, ap, arith, get_or}
+use Rattle.std.proofs.Common.{Global, inl, inr, length, map, Ok, refl, subst, sym, take}
 use Rattle.std.specs.Borrow.{Bor}
-use Rattle.std.specs.Prelude.{◌⊎◌}
+use Rattle.std.specs.Prelude.{◌⊎◌, Vec}
 use Rattle.std.proofs.lemmas.List.{map_push, take_more}
 use Rattle.std.proofs.lemmas.List.Elements.{All-nil, All-push, All-weaker, Contains-append_left, Contains-push}
 use Rattle.std.proofs.lemmas.Slice.Zip.{all_zipped_more}
 use Rattle.seccompiler.specs.declared.backend.TargetArch.{TargetArch}
-use Rattle.seccomptool.specs.Answers.{EndWith}
+use Rattle.seccomp_warnings.specs.declared.code.Code.{Code}
+use Rattle.seccompiler.specs.Architecture.{arch_text}
+use Rattle.seccomptool.specs.Check.{AnswersCheck}
+use Rattle.seccomptool.specs.Answers.{EndAsAsked, EndWith}
+use Rattle.seccomptool.specs.declared.words.Asked.TheVariants.{One, Checks}
 use Rattle.seccomptool.specs.Commands.{EndsWith}
 use Rattle.seccomptool.specs.declared.words.Command.{Command}
 use Rattle.seccomptool.specs.declared.words.Command.TheVariants.{Check}
@@ -45,19 +49,48 @@ module _ (commands : List Command) (command : Command) (before own after : ℕ) 
   }
 
 -- A command that is carried out alone ends with its own status.
-pub one_ended : (command : Command) (own : ℕ) → EndsWith command own → EndWith (command ∷ []) own
-one_ended command own ends = one_more [] command 0 own own none_ended ends (omega arith) (omega arith) (inr refl)
+pub one_ended : (command : Command) (own : ℕ) → EndsWith command own → EndAsAsked (One command) own
+one_ended command own ends = record {
+  commands = command ∷ [];
+  are = refl;
+  ended = one_more [] command 0 own own none_ended ends (omega arith) (omega arith) (inr refl);
+}
+
+-- What a check says of codes behind a reference it says of the same codes behind another one.
+pub moved_check : (arch : TargetArch) (denied : Bool) (own other : Bor (List Code)) (path : Bor (List ℕ)) (status : ℕ) → own.now ≡ other.now
+    → EndsWith (Check arch denied other path) status → EndsWith (Check arch denied own path) status
+moved_check arch denied own other path status same ends = λ verdict is fails.
+    let done = ends verdict is fails in
+    record {
+      policy = done.policy;
+      records = done.records;
+      old = done.old;
+      new = done.new;
+      answers = subst (λ allowed. AnswersCheck (arch_text arch) denied allowed path.now done.policy (Ok verdict) done.old done.new)
+          (sym same) done.answers;
+    }
+
+-- Policies that are checked, with codes behind a reference.
+pub checks_ended : (arch : TargetArch) (denied : Bool) (allowed : Vec Code Global) (own : Bor (List Code))
+    (policies : Vec (Bor (List ℕ)) Global) (checked : List (Bor (List ℕ))) (status : ℕ)
+    → own.now ≡ allowed.items → checked ≡ policies.items → EndWith (map (Check arch denied own) checked) status
+    → EndAsAsked (Checks arch denied allowed policies) status
+checks_ended arch denied allowed own policies checked status is_own is_checked ended = record {
+  commands = map (Check arch denied own) checked;
+  are = (own, is_own, ap (map (Check arch denied own)) is_checked);
+  ended = ended;
+}
 
 -- One policy more that is checked. The default is any.
-pub check_more : (arch : TargetArch) (denied : Bool) (policies : List (Bor (List ℕ))) (at : ℕ) (default : Bor (List ℕ))
-    (before own after : ℕ)
-    → at < length policies → EndWith (map (Check arch denied) (take at policies)) before
-    → EndsWith (Check arch denied (get_or policies at default)) own
+pub check_more : (arch : TargetArch) (denied : Bool) (allowed : Bor (List Code)) (policies : List (Bor (List ℕ))) (at : ℕ)
+    (default : Bor (List ℕ)) (before own after : ℕ)
+    → at < length policies → EndWith (map (Check arch denied allowed) (take at policies)) before
+    → EndsWith (Check arch denied allowed (get_or policies at default)) own
     → before ≤ after → own ≤ after → (after ≡ before) ⊎ (after ≡ own)
-    → EndWith (map (Check arch denied) (take (at + 1) policies)) after
-check_more arch denied policies at default before own after room ended ends above covers either =
-    let command = Check arch denied (get_or policies at default) in
-    let more = ap (map (Check arch denied)) (take_more policies at default room)
-    ∙ map_push (Check arch denied) (take at policies) (get_or policies at default) in
+    → EndWith (map (Check arch denied allowed) (take (at + 1) policies)) after
+check_more arch denied allowed policies at default before own after room ended ends above covers either =
+    let command_of = Check arch denied allowed in
+    let policy = get_or policies at default in
+    let more = ap (map command_of) (take_more policies at default room) ∙ map_push command_of (take at policies) policy in
     subst (λ cs. EndWith cs after) (sym more)
-    (one_more (map (Check arch denied) (take at policies)) command before own after ended ends above covers either)
+    (one_more (map command_of (take at policies)) (command_of policy) before own after ended ends above covers either)

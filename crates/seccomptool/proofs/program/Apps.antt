@@ -4,7 +4,8 @@ use Rattle.clap.specs.Words.{AddsArg, AddsSubcommand, App, Rule, app_of, is_simp
 use Rattle.clap.specs.declared.builder.arg.Arg.{Arg}
 use Rattle.clap.specs.declared.builder.command.Command.{Command}
 use Rattle.clap.specs.declared.builder.command.Command.TheViews.{out-Command}
-use Rattle.seccomptool.specs.CommandLine.{NameList, check_app, compile_app, deciding_app, diff_app, explain_app, policy_app, program_app}
+use Rattle.seccomptool.specs.declared.program.names.Names.{Names}
+use Rattle.seccomptool.specs.CommandLine.{check_app, compile_app, deciding_app, diff_app, explain_app, policy_app, program_app}
 use Rattle.seccomptool.specs.CommandLine.{record_app, run_app, show_app, top_app, verify_app}
 
 -- A command with one argument more.
@@ -26,21 +27,23 @@ subcommand_added old sub new app inner is_app is_inner local h =
     h.shape local ∙ ap₂ with_subcommand is_app (ap (λ (a : App). a.top) is_inner)
 
 -- The contracts of `clap` are exact for this command line.
-pub program_free : (archs layouts formats : NameList) → is_simple_and_free (program_app archs layouts formats) ≡ true
-program_free archs layouts formats = refl
+pub program_free : (names : Names) → is_simple_and_free (program_app names) ≡ true
+program_free names = refl
 
-pub program_simple : (archs layouts formats : NameList) → is_simple (program_app archs layouts formats) ≡ true
-program_simple archs layouts formats = refl
+pub program_simple : (names : Names) → is_simple (program_app names) ≡ true
+program_simple names = refl
 
 -- The command line, subcommand by subcommand.
-module _ (archs layouts formats : NameList) (c0 c1 c2 c3 c4 : Command) where
+module _ (names : Names) (c0 c1 c2 c3 c4 : Command) where
   pub deciding_added : (c5 compile show check explain run : Command) → app_of c0 ≡ top_app
-      → (app_of compile ≡ compile_app archs layouts formats) × ((out-Command compile).has_globals ≡ false) × AddsSubcommand c0 compile c1
-      → (app_of show ≡ show_app archs layouts) × ((out-Command show).has_globals ≡ false) × AddsSubcommand c1 show c2
-      → (app_of check ≡ check_app archs) × ((out-Command check).has_globals ≡ false) × AddsSubcommand c2 check c3
-      → (app_of explain ≡ explain_app archs) × ((out-Command explain).has_globals ≡ false) × AddsSubcommand c3 explain c4
-      → (app_of run ≡ run_app archs) × ((out-Command run).has_globals ≡ false) × AddsSubcommand c4 run c5
-      → app_of c5 ≡ deciding_app archs layouts formats
+      → (app_of compile ≡ compile_app names.archs names.layouts names.program_formats) × ((out-Command compile).has_globals ≡ false)
+      × AddsSubcommand c0 compile c1
+      → (app_of show ≡ show_app names.archs names.layouts) × ((out-Command show).has_globals ≡ false) × AddsSubcommand c1 show c2
+      → (app_of check ≡ check_app names.archs names.codes) × ((out-Command check).has_globals ≡ false) × AddsSubcommand c2 check c3
+      → (app_of explain ≡ explain_app names.archs names.line_formats) × ((out-Command explain).has_globals ≡ false)
+      × AddsSubcommand c3 explain c4
+      → (app_of run ≡ run_app names.archs) × ((out-Command run).has_globals ≡ false) × AddsSubcommand c4 run c5
+      → app_of c5 ≡ deciding_app names
   deciding_added c5 compile show check explain run e0 h1 h2 h3 h4 h5 =
       let e1 = subcommand_added c0 compile c1 _ _ e0 h1.0 h1.1 h1.2 in
       let e2 = subcommand_added c1 show c2 _ _ e1 h2.0 h2.1 h2.2 in
@@ -48,13 +51,13 @@ module _ (archs layouts formats : NameList) (c0 c1 c2 c3 c4 : Command) where
       let e4 = subcommand_added c3 explain c4 _ _ e3 h4.0 h4.1 h4.2 in
       subcommand_added c4 run c5 _ _ e4 h5.0 h5.1 h5.2
 
-  pub all_added : (c5 stats record_of diff verify compat : Command) → app_of c0 ≡ deciding_app archs layouts formats
-      → (app_of stats ≡ policy_app (codes "stats") archs) × ((out-Command stats).has_globals ≡ false) × AddsSubcommand c0 stats c1
-      → (app_of record_of ≡ record_app archs) × ((out-Command record_of).has_globals ≡ false) × AddsSubcommand c1 record_of c2
-      → (app_of diff ≡ diff_app archs) × ((out-Command diff).has_globals ≡ false) × AddsSubcommand c2 diff c3
-      → (app_of verify ≡ verify_app archs) × ((out-Command verify).has_globals ≡ false) × AddsSubcommand c3 verify c4
-      → (app_of compat ≡ policy_app (codes "compat") archs) × ((out-Command compat).has_globals ≡ false) × AddsSubcommand c4 compat c5
-      → app_of c5 ≡ program_app archs layouts formats
+  pub all_added : (c5 stats record_of diff verify compat : Command) → app_of c0 ≡ deciding_app names
+      → (app_of stats ≡ policy_app (codes "stats") names.archs) × ((out-Command stats).has_globals ≡ false) × AddsSubcommand c0 stats c1
+      → (app_of record_of ≡ record_app names.archs) × ((out-Command record_of).has_globals ≡ false) × AddsSubcommand c1 record_of c2
+      → (app_of diff ≡ diff_app names.archs) × ((out-Command diff).has_globals ≡ false) × AddsSubcommand c2 diff c3
+      → (app_of verify ≡ verify_app names.archs) × ((out-Command verify).has_globals ≡ false) × AddsSubcommand c3 verify c4
+      → (app_of compat ≡ policy_app (codes "compat") names.archs) × ((out-Command compat).has_globals ≡ false) × AddsSubcommand c4 compat c5
+      → app_of c5 ≡ program_app names
   all_added c5 stats record_of diff verify compat e0 h1 h2 h3 h4 h5 =
       let e1 = subcommand_added c0 stats c1 _ _ e0 h1.0 h1.1 h1.2 in
       let e2 = subcommand_added c1 record_of c2 _ _ e1 h2.0 h2.1 h2.2 in

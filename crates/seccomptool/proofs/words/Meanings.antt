@@ -25,12 +25,12 @@ none_of None f e = refl
 none_of (Some x) f e = cc
 
 module _ (choices : Choices) (app : App) (words : List Text)
-    (is_app : app ≡ program_app choices.archs choices.layouts choices.formats) where
+    (is_app : app ≡ program_app choices.names) where
   free : is_simple_and_free app ≡ true
-  free = ap is_simple_and_free is_app ∙ program_free choices.archs choices.layouts choices.formats
+  free = ap is_simple_and_free is_app ∙ program_free choices.names
 
   simple : is_simple app ≡ true
-  simple = ap is_simple is_app ∙ program_simple choices.archs choices.layouts choices.formats
+  simple = ap is_simple is_app ∙ program_simple choices.names
 
   -- an error of our own, where the words ask for nothing
   own_fault : (error : Error) → IsOwn error → ((asked : Asked) → Means choices words asked → ⊥) → IsFault choices words error
@@ -54,7 +54,7 @@ module _ (choices : Choices) (app : App) (words : List Text)
         cc)
 
     module _ (name : Text) (rows : List Row) (met : subcommand_rows_of matches ≡ Some (name, rows)) where
-      entered : subcommand_of (program_app choices.archs choices.layouts choices.formats) words ≡ Some (name, rows)
+      entered : subcommand_of (program_app choices.names) words ≡ Some (name, rows)
       entered = ap (λ a. subcommand_of a words) (sym is_app) ∙ sym (h simple).1 ∙ met
 
       -- what is asked for is what the words mean

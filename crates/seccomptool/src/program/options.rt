@@ -2,7 +2,7 @@
 
 ghost use Rattle.std.specs.Prelude.{◌≡◌, false};
 ghost use Rattle.clap.specs.Words.{rule_of};
-ghost use Rattle.seccomptool.specs.CommandLine.{all_rule, arch_rule, arguments_rule, at_most_rule, call_rule, deny_warnings_rule, filter_rule, format_rule, given_call_rule, given_policy_rule, layout_rule, most_rule, new_policy_rule, old_rule, output_rule, policies_rule, policy_rule, program_rule, records_rule, shown_policy_rule, shown_program_rule};
+ghost use Rattle.seccomptool.specs.CommandLine.{all_rule, allow_rule, arch_rule, arguments_rule, at_most_rule, call_rule, deny_warnings_rule, filter_rule, format_rule, given_call_rule, given_policy_rule, layout_rule, line_format_rule, list_rule, most_rule, new_policy_rule, old_rule, output_rule, policies_rule, policy_rule, program_rule, records_rule, shown_policy_rule, shown_program_rule};
 
 use clap::{Arg, ArgAction};
 use std::alloc::Global;
@@ -66,6 +66,18 @@ pub(super) fn format<'a>(alloc: Global, formats: &'a [&'a str]) -> Arg<'a>
         .help("How the program is written: as bytes, as a listing, or as an initialiser in C")
 }
 
+pub(super) fn line_format<'a>(alloc: Global, formats: &'a [&'a str]) -> Arg<'a>
+    ensures rule { rule_of result ≡ line_format_rule formats.entry }
+    ensures local { result.global ≡ false }
+{
+    Arg::new(alloc, "format")
+        .long("format")
+        .value_name("FORMAT")
+        .value_parser(formats)
+        .default_value("path")
+        .help("How a line is written: with places in the policy, or in numbers for scripts")
+}
+
 pub(super) fn output<'a>(alloc: Global) -> Arg<'a>
     ensures rule { rule_of result ≡ output_rule }
     ensures local { result.global ≡ false }
@@ -115,6 +127,28 @@ pub(super) fn deny_warnings<'a>(alloc: Global) -> Arg<'a>
         .long("deny-warnings")
         .action(ArgAction::SetTrue)
         .help("End with exit status 1 where there is a warning")
+}
+
+pub(super) fn allow<'a>(alloc: Global, codes: &'a [&'a str]) -> Arg<'a>
+    ensures rule { rule_of result ≡ allow_rule codes.entry }
+    ensures local { result.global ≡ false }
+{
+    Arg::new(alloc, "allow")
+        .long("allow")
+        .value_name("CODE")
+        .value_parser(codes)
+        .action(ArgAction::Append)
+        .help("Don't print the warnings of this code")
+}
+
+pub(super) fn list<'a>(alloc: Global) -> Arg<'a>
+    ensures rule { rule_of result ≡ list_rule }
+    ensures local { result.global ≡ false }
+{
+    Arg::new(alloc, "list")
+        .long("list")
+        .action(ArgAction::SetTrue)
+        .help("Print what the codes of warnings are about, and check nothing")
 }
 
 pub(super) fn most<'a>(alloc: Global) -> Arg<'a>

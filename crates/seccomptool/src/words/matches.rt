@@ -7,8 +7,8 @@ ghost use Rattle.seccomptool.specs.declared.words.Asked.{Asked};
 ghost use Rattle.seccomptool.specs.declared.words.Command.{Command};
 
 use super::values::{
-    arch_in, arguments_in, denied_in, format_in, layout_in, most_in, policies_in, records_in,
-    relation_in, scope_in, shown_in, text_in,
+    allowed_in, arch_in, arguments_in, denied_in, format_in, is_listed, layout_in, line_format_in,
+    most_in, policies_in, records_in, relation_in, scope_in, shown_in, text_in,
 };
 use super::{Asked, Command};
 use clap::ArgMatches;
@@ -37,18 +37,25 @@ fn checks_in<'a>(alloc: Global, found: &ArgMatches<'a>) -> Result<Option<Asked<'
     ensures some { IfOk result (λ o. IfSome o (IsAsked (codes "check") (rows_of (found_of found.now)))) }
     ensures none { IfOk result (λ o. IfNone o ((asked : Asked) → IsAsked (codes "check") (rows_of (found_of found.now)) asked → ⊥)) }
 {
+    if let Some(command) = codes_in(found) {
+        return Ok(Some(Asked::One(command)));
+    }
     let Some(arch) = arch_in(found) else {
+        return Ok(None);
+    };
+    let Some(allowed) = allowed_in(alloc, found)? else {
         return Ok(None);
     };
     let policies = policies_in(alloc, found)?;
     Ok(Some(Asked::Checks {
         arch,
         denied: denied_in(found),
+        allowed,
         policies,
     }))
 }
 
-// The command that the matches of the subcommand of this name are, `check` aside.
+// The command that the matches of the subcommand of this name are, the check of policies aside.
 pub(crate) fn command_in<'a>(name: &str, found: &ArgMatches<'a>) -> Option<Command<'a>>
     ensures some { IfSome result (IsCommand name.now (rows_of (found_of found.now))) }
     ensures none { IfNone result ((c : Command) → IsCommand name.now (rows_of (found_of found.now)) c → ⊥) }
@@ -56,6 +63,7 @@ pub(crate) fn command_in<'a>(name: &str, found: &ArgMatches<'a>) -> Option<Comma
     match name {
         "compile" => compile_in(found),
         "show" => show_in(found),
+        "check" => codes_in(found),
         "explain" => explain_in(found),
         "run" => run_in(found),
         "stats" => stats_in(found),
@@ -149,12 +157,27 @@ fn show_in<'a>(found: &ArgMatches<'a>) -> Option<Command<'a>>
     })
 }
 
+// The command that the matches of `check` are where they ask for the codes.
+fn codes_in<'a>(found: &ArgMatches<'a>) -> Option<Command<'a>>
+    ensures some { IfSome result (IsCommand (codes "check") (rows_of (found_of found.now))) }
+    ensures none { IfNone result ((c : Command) → IsCommand (codes "check") (rows_of (found_of found.now)) c → ⊥) }
+{
+    if is_listed(found) {
+        Some(Command::Codes)
+    } else {
+        None
+    }
+}
+
 // The command that the matches of `explain` are.
 fn explain_in<'a>(found: &ArgMatches<'a>) -> Option<Command<'a>>
     ensures some { IfSome result (IsCommand (codes "explain") (rows_of (found_of found.now))) }
     ensures none { IfNone result ((c : Command) → IsCommand (codes "explain") (rows_of (found_of found.now)) c → ⊥) }
 {
     let Some(arch) = arch_in(found) else {
+        return None;
+    };
+    let Some(format) = line_format_in(found) else {
         return None;
     };
     let Some(policy) = text_in(found, "policy") else {
@@ -166,6 +189,7 @@ fn explain_in<'a>(found: &ArgMatches<'a>) -> Option<Command<'a>>
     Some(Command::Explain {
         arch,
         filter: text_in(found, "filter"),
+        format,
         records,
         policy,
     })

@@ -1,21 +1,27 @@
 // The values of options and arguments, in clap's matches.
 
-ghost use Rattle.std.specs.Prelude.{◌≡◌, ℕ, List, [], IfOk, IfSome, IfNone, Some, codes, map, unwrap_or};
+ghost use Rattle.std.specs.Prelude.{◌≡◌, ◌↔◌, ℕ, List, [], IfOk, IsTrue, IfSome, IfNone, Some, codes, map, unwrap_or};
 ghost use Rattle.clap.specs.Words.{first_of, found_of, rows_of};
 ghost use Rattle.seccompiler.specs.declared.backend.TargetArch.{TargetArch};
 ghost use Rattle.seccompiler.specs.declared.layout.Layout.{Layout};
 ghost use Rattle.seccomptool.specs.Numbers.{IsNumber};
-ghost use Rattle.seccomptool.specs.Words.{AreArguments, AreRecords, AreShown, IsArch, IsDenied, IsMost, IsRelation, IsScope, format_text, given_arguments, given_policies, layout_text, text_of};
+ghost use Rattle.seccomptool.specs.Words.{AreArguments, AreRecords, AreShown, IsArch, IsDenied, IsMost, IsRelation, IsListed, IsScope, format_text, given_arguments, given_codes, given_policies, layout_text, line_format_text, text_of};
+ghost use Rattle.seccomp_warnings.specs.Codes.{code_text};
+ghost use Rattle.seccomp_warnings.specs.declared.code.Code.{Code as CodeOf};
 ghost use Rattle.seccomptool.specs.declared.compile.format.ProgramFormat.{ProgramFormat};
+ghost use Rattle.seccomptool.specs.declared.explain.format.LineFormat.{LineFormat};
 ghost use Rattle.seccomptool.specs.declared.words.Records.{Records};
 ghost use Rattle.seccomptool.specs.declared.words.Shown.{Shown};
 
 use super::arguments::read_arguments;
+use super::codes::read_codes;
 use super::{Records, Shown};
 use crate::compile::format::ProgramFormat;
+use crate::explain::format::LineFormat;
 use crate::numbers::read_number;
 use crate::verify::scope::Scope;
 use clap::ArgMatches;
+use seccomp_warnings::Code;
 use seccompiler::{Layout, Relation, TargetArch};
 use std::alloc::{AllocError, Global};
 
@@ -63,6 +69,39 @@ pub(super) fn format_in(found: &ArgMatches<'_>) -> Option<ProgramFormat>
         Some("listing") => Some(ProgramFormat::Listing),
         Some("c") => Some(ProgramFormat::C),
         _ => None,
+    }
+}
+
+// The form of lines that `--format` of `explain` names.
+pub(super) fn line_format_in(found: &ArgMatches<'_>) -> Option<LineFormat>
+    ensures some { IfSome result (λ format. first_of (codes "format") (rows_of (found_of found.now)) ≡ Some (line_format_text format)) }
+    ensures none { IfNone result ((format : LineFormat) → first_of (codes "format") (rows_of (found_of found.now)) ≡ Some (line_format_text format) → ⊥) }
+{
+    match text_in(found, "format") {
+        Some("path") => Some(LineFormat::Path),
+        Some("word") => Some(LineFormat::Word),
+        _ => None,
+    }
+}
+
+// Whether the codes are asked for.
+pub(super) fn is_listed(found: &ArgMatches<'_>) -> bool
+    ensures { IsTrue result ↔ IsListed (rows_of (found_of found.now)) }
+{
+    matches!(text_in(found, "list"), Some("true"))
+}
+
+// The codes whose warnings aren't printed.
+pub(super) fn allowed_in(
+    alloc: Global,
+    found: &ArgMatches<'_>,
+) -> Result<Option<Vec<Code>>, AllocError>
+    ensures some { IfOk result (λ o. IfSome o (λ allowed. map code_text allowed.items ≡ given_codes (rows_of (found_of found.now)))) }
+    ensures none { IfOk result (λ o. IfNone o ((allowed : List CodeOf) → map code_text allowed ≡ given_codes (rows_of (found_of found.now)) → ⊥)) }
+{
+    match found.get_strs("allow") {
+        Some(texts) => read_codes(alloc, texts),
+        None => read_codes(alloc, &[]),
     }
 }
 

@@ -1,5 +1,5 @@
 use Rattle.std.proofs.Common.{arith, inl, inr, map, string_bytes}
-use Rattle.seccomptool.specs.Answers.{commands_of, unwritten}
+use Rattle.seccomptool.specs.Answers.{unwritten}
 use Rattle.seccomptool.proofs.answer.Shown.{all_performed, may_fail, one_undecided, shown_asked}
 use Rattle.seccomptool.proofs.answer.answer.Goals as goal
 
@@ -8,7 +8,9 @@ returns-in-Ok-clause-answered g c = λ zero. inl (record {
   choices = c.in-Ok.ensures.0;
   asked = c.in-Ok.asked;
   means = c.in-Ok.ensures.1;
-  performed = all_performed (commands_of c.in-Ok.asked) _ c.carry_out_each.ensures.each zero;
+  commands = c.carry_out_each.ensures.each.commands;
+  are = c.carry_out_each.ensures.each.are;
+  performed = all_performed c.carry_out_each.ensures.each.commands _ c.carry_out_each.ensures.each.ended zero;
 })
 
 pub returns-in-Ok-clause-different : goal.returns-in-Ok-clause-different

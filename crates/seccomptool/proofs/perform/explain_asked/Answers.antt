@@ -7,7 +7,7 @@ pub returns-in_ok-record-in-Call-clause-answers : goal.returns-in_ok-record-in-C
 returns-in_ok-record-in-Call-clause-answers g c =
     let contents = g.W.Write.contents in
     let explained = c.explain_records-in-Call in
-    let answers = subst (λ bytes. AnswersExplained c.args.arch (text_of c.args.filter) (g.P.Read.remaining c.args.policy)
+    let answers = subst (λ bytes. AnswersExplained c.args.arch (text_of c.args.filter) c.args.format (g.P.Read.remaining c.args.policy)
     (Some bytes) explained.result (contents c.args.out.now) (contents explained.new.out))
     c.as_slice.ensures.value explained.ensures.answers in
     rw c.in-Call.is (called c.in_ok-record-in-Call.record.items c.in_ok-record-in-Call.ensures.recorded answers)

@@ -3,7 +3,6 @@ use Rattle.std.proofs.lemmas.Result.{err_from_is_err_and}
 use Rattle.seccompiler.specs.Architecture.{arch_text}
 use Rattle.seccomptool.specs.Chosen.{IsChosen, IsUnchosen}
 use Rattle.seccomptool.specs.Explain.{AnswersExplain}
-use Rattle.seccomptool.specs.declared.explain.format.LineFormat.TheVariants.{Path}
 use Rattle.seccomptool.specs.Words.{text_of}
 use Rattle.seccomptool.proofs.perform.Policies.{is_chosen, is_unchosen, is_unread, moved}
 use Rattle.seccomptool.proofs.perform.explain_records.Goals as goal
@@ -27,7 +26,7 @@ returns-clause-answers g c =
     let text = c.in_ok-text.text.items in
     let name = string_bytes c.in_ok-name.name in
     let chosen = subst (λ t. IsChosen t (text_of c.args.filter) name) c.as_slice.ensures.value c.in_ok-name.ensures.chosen in
-    let answers = moved (λ arch t n. AnswersExplain Path arch (Some t) n (g.R.Read.remaining c.args.records) c.explain.result
+    let answers = moved (λ arch t n. AnswersExplain c.args.format arch (Some t) n (g.R.Read.remaining c.args.records) c.explain.result
     (contents c.args.out.now) (contents c.explain.new.out))
     (arch_text c.args.arch) _ text _ name _ c.name.ensures c.as_slice-2.ensures.value c.as_str.ensures.value c.explain.ensures.answers in
     is_chosen (g.P.Read.remaining c.args.policy)

@@ -8,18 +8,17 @@ use Rattle.seccomptool.proofs.program.deciding.Goals as goal
 
 pub returns : goal.returns
 returns c =
-    let archs = c.args.archs in
-    let layouts = c.args.layouts in
-    let formats = c.args.formats in
+    let names = c.args.names in
     let is_top : app_of c.in_ok-top.top ≡ top_app = c.in_ok-top.ensures in
-    let is_compile : app_of c.in_ok-compile.compile ≡ compile_app archs layouts formats = c.in_ok-compile.ensures.app in
-    let is_show : app_of c.in_ok-show.show ≡ show_app archs layouts = c.in_ok-show.ensures.app in
-    let is_check : app_of c.in_ok-check.check ≡ check_app archs = c.in_ok-check.ensures.app in
-    let is_explain : app_of c.in_ok-explain.explain ≡ explain_app archs = c.in_ok-explain.ensures.app in
-    let is_run : app_of c.in_ok-of_program.of_program ≡ run_app archs = c.in_ok-of_program.ensures.app in
-    let whole : Command → Type 0 = λ r. app_of r ≡ deciding_app archs layouts formats in
+    let is_compile : app_of c.in_ok-compile.compile ≡ compile_app names.archs names.layouts names.program_formats =
+    c.in_ok-compile.ensures.app in
+    let is_show : app_of c.in_ok-show.show ≡ show_app names.archs names.layouts = c.in_ok-show.ensures.app in
+    let is_check : app_of c.in_ok-check.check ≡ check_app names.archs names.codes = c.in_ok-check.ensures.app in
+    let is_explain : app_of c.in_ok-explain.explain ≡ explain_app names.archs names.line_formats = c.in_ok-explain.ensures.app in
+    let is_run : app_of c.in_ok-of_program.of_program ≡ run_app names.archs = c.in_ok-of_program.ensures.app in
+    let whole : Command → Type 0 = λ r. app_of r ≡ deciding_app names in
     IfOk-weaker c.subcommand-5.result _ whole (λ r h.
-    deciding_added archs layouts formats c.in_ok-top.top _ _ _ _ r c.in_ok-compile.compile c.in_ok-show.show c.in_ok-check.check
+    deciding_added names c.in_ok-top.top _ _ _ _ r c.in_ok-compile.compile c.in_ok-show.show c.in_ok-check.check
     c.in_ok-explain.explain c.in_ok-of_program.of_program is_top
     (is_compile, c.in_ok-compile.ensures.local, c.in_ok-subcommand.ensures)
     (is_show, c.in_ok-show.ensures.local, c.in_ok-subcommand-2.ensures)

@@ -13,10 +13,11 @@ returns-clause-app c =
     let e0 : app_of c.about.result ≡ new_app (codes "explain") = ap app_of_fields c.about.ensures ∙ c.new.ensures.app in
     let e1 = rule_added _ _ _ _ _ e0 c.arch.ensures.rule c.arch.ensures.local c.in_ok-arg.ensures in
     let e2 = rule_added _ _ _ _ _ e1 c.filter.ensures.rule c.filter.ensures.local c.in_ok-arg-2.ensures in
-    let e3 = rule_added _ _ _ _ _ e2 c.records.ensures.rule c.records.ensures.local c.in_ok-arg-3.ensures in
-    let e4 = rule_added _ _ _ _ _ e3 c.given_policy.ensures.rule c.given_policy.ensures.local c.in_ok-arg-4.ensures in
-    let e5 = rule_added _ _ _ _ _ e4 c.call.ensures.rule c.call.ensures.local c.in_ok-arg-5.ensures in
-    IfOk-weaker c.arg-6.result _ _ (λ r h. rule_added _ _ _ _ _ e5 c.arguments.ensures.rule c.arguments.ensures.local h) c.arg-6.ensures
+    let e3 = rule_added _ _ _ _ _ e2 c.line_format.ensures.rule c.line_format.ensures.local c.in_ok-arg-3.ensures in
+    let e4 = rule_added _ _ _ _ _ e3 c.records.ensures.rule c.records.ensures.local c.in_ok-arg-4.ensures in
+    let e5 = rule_added _ _ _ _ _ e4 c.given_policy.ensures.rule c.given_policy.ensures.local c.in_ok-arg-5.ensures in
+    let e6 = rule_added _ _ _ _ _ e5 c.call.ensures.rule c.call.ensures.local c.in_ok-arg-6.ensures in
+    IfOk-weaker c.arg-7.result _ _ (λ r h. rule_added _ _ _ _ _ e6 c.arguments.ensures.rule c.arguments.ensures.local h) c.arg-7.ensures
 
 pub returns-clause-local : goal.returns-clause-local
 returns-clause-local c =
@@ -24,7 +25,8 @@ returns-clause-local c =
     ap (λ (f : Command-F Command). f.has_globals) c.about.ensures ∙ c.new.ensures.local in
     let l1 = local_added _ _ _ l0 c.arch.ensures.local c.in_ok-arg.ensures in
     let l2 = local_added _ _ _ l1 c.filter.ensures.local c.in_ok-arg-2.ensures in
-    let l3 = local_added _ _ _ l2 c.records.ensures.local c.in_ok-arg-3.ensures in
-    let l4 = local_added _ _ _ l3 c.given_policy.ensures.local c.in_ok-arg-4.ensures in
-    let l5 = local_added _ _ _ l4 c.call.ensures.local c.in_ok-arg-5.ensures in
-    IfOk-weaker c.arg-6.result _ _ (λ r h. local_added _ _ _ l5 c.arguments.ensures.local h) c.arg-6.ensures
+    let l3 = local_added _ _ _ l2 c.line_format.ensures.local c.in_ok-arg-3.ensures in
+    let l4 = local_added _ _ _ l3 c.records.ensures.local c.in_ok-arg-4.ensures in
+    let l5 = local_added _ _ _ l4 c.given_policy.ensures.local c.in_ok-arg-5.ensures in
+    let l6 = local_added _ _ _ l5 c.call.ensures.local c.in_ok-arg-6.ensures in
+    IfOk-weaker c.arg-7.result _ _ (λ r h. local_added _ _ _ l6 c.arguments.ensures.local h) c.arg-7.ensures

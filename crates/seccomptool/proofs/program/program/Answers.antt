@@ -8,19 +8,17 @@ use Rattle.seccomptool.proofs.program.program.Goals as goal
 
 pub returns : goal.returns
 returns c =
-    let archs = c.args.archs in
-    let layouts = c.args.layouts in
-    let formats = c.args.formats in
-    let is_deciding : app_of c.in_ok-deciding.deciding ≡ deciding_app archs layouts formats = c.in_ok-deciding.ensures in
-    let is_stats : app_of c.in_ok-stats.stats ≡ policy_app (codes "stats") archs = c.in_ok-stats.ensures.app in
-    let is_record : app_of c.in_ok-of_call.of_call ≡ record_app archs = c.in_ok-of_call.ensures.app in
-    let is_diff : app_of c.in_ok-diff.diff ≡ diff_app archs = c.in_ok-diff.ensures.app in
-    let is_verify : app_of c.in_ok-verify.verify ≡ verify_app archs = c.in_ok-verify.ensures.app in
-    let is_compat : app_of c.in_ok-compat.compat ≡ policy_app (codes "compat") archs = c.in_ok-compat.ensures.app in
-    let whole : Command → Type 0 = λ r. app_of r ≡ program_app archs layouts formats in
+    let names = c.args.names in
+    let is_deciding : app_of c.in_ok-deciding.deciding ≡ deciding_app names = c.in_ok-deciding.ensures in
+    let is_stats : app_of c.in_ok-stats.stats ≡ policy_app (codes "stats") names.archs = c.in_ok-stats.ensures.app in
+    let is_record : app_of c.in_ok-of_call.of_call ≡ record_app names.archs = c.in_ok-of_call.ensures.app in
+    let is_diff : app_of c.in_ok-diff.diff ≡ diff_app names.archs = c.in_ok-diff.ensures.app in
+    let is_verify : app_of c.in_ok-verify.verify ≡ verify_app names.archs = c.in_ok-verify.ensures.app in
+    let is_compat : app_of c.in_ok-compat.compat ≡ policy_app (codes "compat") names.archs = c.in_ok-compat.ensures.app in
+    let whole : Command → Type 0 = λ r. app_of r ≡ program_app names in
     record {
       app = IfOk-weaker c.subcommand-5.result _ whole (λ r h.
-          all_added archs layouts formats c.in_ok-deciding.deciding _ _ _ _ r c.in_ok-stats.stats c.in_ok-of_call.of_call
+          all_added names c.in_ok-deciding.deciding _ _ _ _ r c.in_ok-stats.stats c.in_ok-of_call.of_call
           c.in_ok-diff.diff c.in_ok-verify.verify c.in_ok-compat.compat is_deciding
           (is_stats, c.in_ok-stats.ensures.local, c.in_ok-subcommand.ensures)
           (is_record, c.in_ok-of_call.ensures.local, c.in_ok-subcommand-2.ensures)

@@ -1,4 +1,4 @@
-use Rattle.std.proofs.Common.{List, rules, subst, inl, IfSome, IfNone}
+use Rattle.std.proofs.Common.{List, subst, inl, IfSome, IfNone}
 use Rattle.std.proofs.lemmas.Result.{err_from_is_err_and}
 use Rattle.clap.specs.Words.{Text, found_of, rows_of}
 use Rattle.seccomptool.specs.Words.{Choices, IsAsked}
@@ -14,14 +14,7 @@ use Rattle.seccomptool.proofs.words.read.Goals as goal
 
 pub returns-in-Err : goal.returns-in-Err
 returns-in-Err c =
-    let choices : Choices = record {
-      archs = c.as_slice-archs.result;
-      layouts = c.as_slice-layouts.result;
-      formats = c.as_slice-formats.result;
-      archs_are = search rules;
-      layouts_are = search rules;
-      formats_are = search rules;
-    } in
+    let choices : Choices = record { names = c.all_names.result; are = c.all_names.ensures } in
     (choices, tt, refused choices _ _ c.in_ok-program.ensures.app c.in-Err.error c.in-Err.ensures.kinds)
 
 -- a subcommand's name and rows
@@ -30,14 +23,7 @@ sub_of b = ((out-SubCommand (box_value b)).name.now, rows_of (found_of (out-SubC
 
 pub returns-in-None : goal.returns-in-None
 returns-in-None c =
-    let choices : Choices = record {
-      archs = c.as_slice-archs.result;
-      layouts = c.as_slice-layouts.result;
-      formats = c.as_slice-formats.result;
-      archs_are = search rules;
-      layouts_are = search rules;
-      formats_are = search rules;
-    } in (
+    let choices : Choices = record { names = c.all_names.result; are = c.all_names.ensures } in (
       choices,
       tt,
       none_entered choices _ _ c.in_ok-program.ensures.app c.in-Ok.matches c.in-Ok.ensures.ok.2 c.misused.result c.misused.ensures
@@ -46,27 +32,13 @@ returns-in-None c =
 
 pub returns-in_err-asked-in-Some : goal.returns-in_err-asked-in-Some
 returns-in_err-asked-in-Some c =
-    let choices : Choices = record {
-      archs = c.as_slice-archs.result;
-      layouts = c.as_slice-layouts.result;
-      formats = c.as_slice-formats.result;
-      archs_are = search rules;
-      layouts_are = search rules;
-      formats_are = search rules;
-    } in
+    let choices : Choices = record { names = c.all_names.result; are = c.all_names.ensures } in
     let error = err_from_is_err_and c.from_residual-in_err-asked-in-Some.result c.from_residual-in_err-asked-in-Some.ensures.1 in
     (choices, rw error.1 tt, rw error.1 (inl error.2))
 
 pub returns-in-Some-2 : goal.returns-in-Some-2
 returns-in-Some-2 c =
-    let choices : Choices = record {
-      archs = c.as_slice-archs.result;
-      layouts = c.as_slice-layouts.result;
-      formats = c.as_slice-formats.result;
-      archs_are = search rules;
-      layouts_are = search rules;
-      formats_are = search rules;
-    } in
+    let choices : Choices = record { names = c.all_names.result; are = c.all_names.ensures } in
     let met = pair_of (out-ArgMatches c.in-Ok.matches).subcommand sub_of c.in-Some.name.now
     (rows_of (found_of c.in-Some.found.now)) c.in-Some.ensures.name c.in-Some.ensures.rows in
     let is = subst (λ o. IfSome o (IsAsked c.in-Some.name.now (rows_of (found_of c.in-Some.found.now)))) c.in-Some-2.is
@@ -79,14 +51,7 @@ returns-in-Some-2 c =
 
 pub returns : goal.returns
 returns c =
-    let choices : Choices = record {
-      archs = c.as_slice-archs.result;
-      layouts = c.as_slice-layouts.result;
-      formats = c.as_slice-formats.result;
-      archs_are = search rules;
-      layouts_are = search rules;
-      formats_are = search rules;
-    } in
+    let choices : Choices = record { names = c.all_names.result; are = c.all_names.ensures } in
     let met = pair_of (out-ArgMatches c.in-Ok.matches).subcommand sub_of c.in-Some.name.now
     (rows_of (found_of c.in-Some.found.now)) c.in-Some.ensures.name c.in-Some.ensures.rows in
     let none = subst

@@ -2,6 +2,7 @@
 
 ghost use Rattle.std.specs.Prelude.{◌↔◌, IsTrue, List, option_map, IfOk, IfSome, IfNone};
 ghost use Rattle.serde_json.specs.View.{view};
+ghost use Rattle.seccomp_oci.specs.Filters.{AllOnArguments};
 ghost use Rattle.seccomp_oci.specs.Shape.{IsListed};
 ghost use Rattle.seccomp_oci.specs.ProfileShape.{IsList, HasProfileNames, IsEntry, IsProfile};
 ghost use Rattle.seccomp_oci.specs.Types.{Entry, Profile};
@@ -54,7 +55,8 @@ fn entries_under(alloc: Global, value: Option<&Value>) -> Result<Option<Vec<Entr
 ///
 /// `value` is what stands under `linux.seccomp` in the OCI runtime specification, or a profile of Docker
 /// or Podman. It is none where it, one of its entries or a part of an entry has a name that isn't known
-/// or can't be carried, as `listenerPath` and `minKernel`, or an action, operator or flag that can't.
+/// or can't be carried, as `listenerPath` and `minKernel`, or an action, operator or flag that can't. Each
+/// condition of a profile is on an argument from 0 to 5.
 ///
 /// # Errors
 ///
@@ -62,6 +64,7 @@ fn entries_under(alloc: Global, value: Option<&Value>) -> Result<Option<Vec<Entr
 pub fn read_profile(alloc: Global, value: &Value) -> Result<Option<Profile>, AllocError>
     ensures found { IfOk result (λ o. IfSome o (IsProfile (view value.now))) }
     ensures none { IfOk result (λ o. IfNone o ((p : Profile) → IsProfile (view value.now) p → ⊥)) }
+    ensures arguments { IfOk result (λ o. IfSome o (λ p. AllOnArguments p.entries)) }
 {
     if !has_profile_names(value) {
         return Ok(None);

@@ -3,6 +3,7 @@ use Rattle.serde_json.specs.View.{view}
 use Rattle.seccomp_oci.specs.Shape.{IsAction, IsListed, IsFlag}
 use Rattle.seccomp_oci.specs.ProfileShape.{IsEntry}
 use Rattle.seccomp_oci.proofs.lists.ReadLists.{unless_some}
+use Rattle.seccomp_oci.proofs.profile.Arguments.{listed_arguments}
 use Rattle.seccomp_oci.proofs.profile.read_profile.Goals as goal
 
 pub returns-in_default-2-clause-none : goal.returns-in_default-2-clause-none
@@ -12,6 +13,9 @@ returns-in_default-2-clause-none c = λ p h. unless_some _ c.in_default-2.not-So
 pub returns-in_default-3-clause-none : goal.returns-in_default-3-clause-none
 returns-in_default-3-clause-none c = λ p h. unless_some _ c.in_default-3.not-Some c.in_ok-entries.ensures.none p.entries
     (subst (λ o. IsListed IsEntry o p.entries) (sym c.get-4.ensures) h.entries)
+
+pub returns-clause-arguments : goal.returns-clause-arguments
+returns-clause-arguments c = listed_arguments _ _ (rw c.in-Some-3.is at c.in_ok-entries.ensures.found)
 
 pub returns-clause-found : goal.returns-clause-found
 returns-clause-found c = record {

@@ -31,8 +31,7 @@ pub record Applies (arch : TargetArch) (caps : List (List ℕ)) (e : Entry) : Ty
 
 -- ---- conditions on arguments
 
--- The number x compares with the number v as the operator says; what it has under the mask v is the number w
--- (seccomp_rule_add(3)).
+-- The number x compares with the number v as the operator says; or what it has under the mask v is the number w.
 abbrev pub Meets : Operator → ℕ → ℕ → ℕ → Type 0
 Meets Ne x v w = x ≢ v
 Meets Lt x v w = x < v

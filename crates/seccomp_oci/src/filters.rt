@@ -175,7 +175,8 @@ fn filters_of(
 /// The entries that apply and don't allow have a filter for each action, which allows all else; entries of an
 /// action share one where none of another such action stands between them. Behind these comes, where the
 /// default action isn't to allow, a filter that allows what any entry that applies is for, and has the default
-/// action for all else. Calls that the architecture hasn't are left out.
+/// action for all else. Calls that the architecture hasn't are left out, and a profile that allows every call
+/// has no filters.
 ///
 /// # Errors
 ///

@@ -31,7 +31,8 @@ pub record Applies (arch : TargetArch) (caps : List (List ℕ)) (e : Entry) : Ty
 
 -- ---- conditions on arguments
 
--- The number x compares with the number v as the operator says; or what it has under the mask v is the number w.
+-- The number x compares with the number v as the operator says; or x and the number w have the same bits under the mask v
+-- (libseccomp, seccomp_rule_add(3): the masked argument value is equal to the masked datum value).
 abbrev pub Meets : Operator → ℕ → ℕ → ℕ → Type 0
 Meets Ne x v w = x ≢ v
 Meets Lt x v w = x < v
@@ -39,7 +40,7 @@ Meets Le x v w = x ≤ v
 Meets Eq x v w = x ≡ v
 Meets Ge x v w = v ≤ x
 Meets Gt x v w = v < x
-Meets MaskedEq x v w = bit_and x v ≡ w
+Meets MaskedEq x v w = bit_and x v ≡ bit_and w v
 
 -- A call record meets the condition: all 64 bits of the argument are compared.
 abbrev pub IsMet : List ℕ → Argument → Type 0

@@ -67,8 +67,8 @@ fn decides(
     Ok(filters.len() == count && are_as_expected(filters.as_slice(), rows))
 }
 
-// read, write, open, close, stat, fstat and lstat, each with an operator; poll with one that no argument
-// meets; lseek with two conditions on one argument, and mmap with two on two.
+// read, write, open, close, stat, fstat and lstat, each with an operator; poll with a number that has bits
+// outside the mask; lseek with two conditions on one argument, and mmap with two on two.
 const OPERATORS: &str = r#"{"defaultAction": "SCMP_ACT_ERRNO", "syscalls": [
     {"names": ["read"], "action": "SCMP_ACT_ALLOW", "args": [{"index": 0, "value": 5, "op": "SCMP_CMP_NE"}]},
     {"names": ["write"], "action": "SCMP_ACT_ALLOW", "args": [{"index": 0, "value": 5, "op": "SCMP_CMP_LT"}]},
@@ -85,7 +85,7 @@ const OPERATORS: &str = r#"{"defaultAction": "SCMP_ACT_ERRNO", "syscalls": [
     {"names": ["mmap"], "action": "SCMP_ACT_ALLOW", "args": [
         {"index": 0, "value": 1, "op": "SCMP_CMP_EQ"}, {"index": 1, "value": 2, "op": "SCMP_CMP_EQ"}]}]}"#;
 
-const OF_OPERATORS: [Row; 26] = [
+const OF_OPERATORS: [Row; 27] = [
     (0, 5, 0, ERRNO + 1),
     (0, 6, 0, ALLOW),
     (0, 0x1_0000_0005, 0, ALLOW),
@@ -103,8 +103,9 @@ const OF_OPERATORS: [Row; 26] = [
     (6, 0x5f, 0, ALLOW),
     (6, 0x1_0000_0050, 0, ALLOW),
     (6, 0x65, 0, ERRNO + 1),
-    (7, 0x5f, 0, ERRNO + 1),
-    (7, 0x50, 0, ERRNO + 1),
+    (7, 0x5f, 0, ALLOW),
+    (7, 0x50, 0, ALLOW),
+    (7, 0x65, 0, ERRNO + 1),
     (8, 1, 0, ALLOW),
     (8, 2, 0, ALLOW),
     (8, 3, 0, ERRNO + 1),

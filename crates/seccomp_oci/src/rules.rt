@@ -1,6 +1,6 @@
 // From the entries of a profile to the rules of JSON filters.
 
-ghost use Rattle.std.specs.Prelude.{◌≡◌, ◌≢◌, ◌↔◌, ℕ, List, [], ◌∷◌, Any, All, IsTrue, IfOk, IfSome, map, option_map, string_bytes, bit_and};
+ghost use Rattle.std.specs.Prelude.{◌≡◌, ◌≢◌, ◌↔◌, ℕ, List, [], ◌∷◌, Any, All, IsTrue, IfOk, IfSome, map, option_map, string_bytes};
 ghost use Rattle.seccompiler.specs.JsonPolicyOf.{AreFineArgs, condition_of, IsFineEntry};
 ghost use Rattle.seccompiler.specs.Policy.{Compares, RuleHolds};
 ghost use Rattle.seccomp_oci.specs.Decision.{AreMet, IsMet, IsNameIn, Meets, ShareArgument};
@@ -24,19 +24,7 @@ fn comparison(argument: &Argument) -> (SeccompCmpOp, u64)
         Operator::Eq => (SeccompCmpOp::Eq, value),
         Operator::Ge => (SeccompCmpOp::Ge, value),
         Operator::Gt => (SeccompCmpOp::Gt, value),
-        Operator::MaskedEq => masked(value, value_two),
-    }
-}
-
-// The comparison of what a number has under a mask. No number has there what isn't under the mask: then no
-// number is less than 0 either.
-fn masked(mask: u64, value: u64) -> (SeccompCmpOp, u64)
-    ensures { (x : ℕ) → Compares result.0 x result.1 ↔ (bit_and x mask ≡ value) }
-{
-    if value & mask == value {
-        (SeccompCmpOp::MaskedEq(mask), value)
-    } else {
-        (SeccompCmpOp::Lt, 0)
+        Operator::MaskedEq => (SeccompCmpOp::MaskedEq(value), value_two),
     }
 }
 
@@ -180,8 +168,7 @@ fn rules_of_names(
 ///
 /// For each of its names that the architecture has, in order, there is a rule of all its conditions, each
 /// on 64 bits; or, where two of them are on one argument, a rule of each, as runc has it. Without conditions it
-/// is a rule that matches always. A name that the architecture hasn't is left out. `SCMP_CMP_MASKED_EQ`
-/// whose `valueTwo` has bits outside the mask is never met, and stands as `Lt` and 0.
+/// is a rule that matches always. A name that the architecture hasn't is left out.
 ///
 /// # Errors
 ///

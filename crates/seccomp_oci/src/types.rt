@@ -18,7 +18,7 @@ pub enum Operator {
     Ge,
     /// The argument is greater than `value`: `SCMP_CMP_GT`.
     Gt,
-    /// What the argument has under the mask `value` is `value_two`: `SCMP_CMP_MASKED_EQ`.
+    /// The argument and `value_two` have the same bits under the mask `value`: `SCMP_CMP_MASKED_EQ`.
     MaskedEq,
 }
 

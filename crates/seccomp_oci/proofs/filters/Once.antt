@@ -78,7 +78,7 @@ meets_either operator.Le x v w = at_most x v
 meets_either operator.Eq x v w = equal x v
 meets_either operator.Ge x v w = at_most v x
 meets_either operator.Gt x v w = less v x
-meets_either operator.MaskedEq x v w = equal (bit_and x v) w
+meets_either operator.MaskedEq x v w = equal (bit_and x v) (bit_and w v)
 
 share_either : (args : List Argument) → Either (ShareArgument args)
 share_either [] = inr (λ share. share)

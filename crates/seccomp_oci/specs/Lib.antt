@@ -6,3 +6,4 @@ pub mod ProfileShape
 pub mod Decision
 pub mod Rules
 pub mod Filters
+pub mod PolicyText

@@ -11,9 +11,13 @@
 mod decisions;
 mod entries;
 mod filters;
+mod layout;
 mod lists;
 mod members;
 mod parts;
+#[cfg(test)]
+mod policies;
+mod policy;
 mod profile;
 mod rules;
 mod scope;
@@ -24,6 +28,7 @@ pub mod types;
 pub use filters::{filters_of_profile, json_filters_of};
 pub use lists::{arguments_under, flags_under, texts_under};
 pub use parts::{read_action, read_argument, read_flag};
+pub use policy::{PolicyTextError, policy_text};
 pub use profile::read_profile;
 pub use rules::rules_of;
 pub use scope::applies;

@@ -3,6 +3,7 @@
 pub mod Types
 pub mod Shape
 pub mod ProfileShape
+pub mod ProfileText
 pub mod Decision
 pub mod Rules
 pub mod Filters

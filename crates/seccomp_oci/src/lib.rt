@@ -10,6 +10,7 @@
 #[cfg(test)]
 mod decisions;
 mod entries;
+mod error;
 mod filters;
 mod layout;
 mod lists;
@@ -25,11 +26,12 @@ mod scope;
 mod tests;
 pub mod types;
 
+pub use error::ProfileError;
 pub use filters::{filters_of_profile, json_filters_of};
 pub use lists::{arguments_under, flags_under, texts_under};
 pub use parts::{read_action, read_argument, read_flag};
 pub use policy::{PolicyTextError, policy_text};
-pub use profile::read_profile;
+pub use profile::{profile_of, read_profile};
 pub use rules::rules_of;
 pub use scope::applies;
 pub use types::{Argument, Criteria, Entry, Flag, Operator, Profile};

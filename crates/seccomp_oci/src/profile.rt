@@ -1,13 +1,16 @@
-// From a JSON value to a profile.
+// From a JSON value, or a text, to a profile.
 
-ghost use Rattle.std.specs.Prelude.{◌↔◌, IsTrue, List, option_map, IfOk, IfSome, IfNone};
+ghost use Rattle.std.specs.Prelude.{◌↔◌, IsTrue, List, option_map, IfOk, IfErr, IfSome, IfNone};
 ghost use Rattle.serde_json.specs.View.{view};
+ghost use Rattle.seccompiler.specs.JsonAnswers.{IsReadAs};
 ghost use Rattle.seccomp_oci.specs.Filters.{AllOnArguments};
 ghost use Rattle.seccomp_oci.specs.Shape.{IsListed};
 ghost use Rattle.seccomp_oci.specs.ProfileShape.{IsList, HasProfileNames, IsEntry, IsProfile};
+ghost use Rattle.seccomp_oci.specs.ProfileText.{IsProfileFault, IsProfileText};
 ghost use Rattle.seccomp_oci.specs.Types.{Entry, Profile};
 
 use crate::entries::read_entries;
+use crate::error::ProfileError;
 use crate::lists::flags_under;
 use crate::members::{is_object_of, items_of};
 use crate::parts::read_action;
@@ -86,4 +89,36 @@ pub fn read_profile(alloc: Global, value: &Value) -> Result<Option<Profile>, All
         flags,
         entries,
     }))
+}
+
+/// The profile that a JSON text is.
+///
+/// It is what [`read_profile`] gives for the text's value.
+///
+/// # Errors
+///
+/// `Json` where the bytes are no JSON text in UTF-8. `NotAProfile` where the text's value is no profile.
+/// `OutOfMemory` may come in place of any answer, where memory runs out. No other error comes.
+pub fn profile_of(alloc: Global, text: &[u8]) -> Result<Profile, ProfileError>
+    ensures read { IfOk result (IsProfileText text.now) }
+    ensures fault { IfErr result (IsProfileFault text.now) }
+    ensures arguments { IfOk result (λ p. AllOnArguments p.entries) }
+{
+    let value = value_of(alloc, text)?;
+    match read_profile(alloc, &value)? {
+        Some(profile) => Ok(profile),
+        None => Err(ProfileError::NotAProfile),
+    }
+}
+
+// The value of a text.
+fn value_of(alloc: Global, text: &[u8]) -> Result<Value, ProfileError>
+    ensures value { IfOk result (λ value. IsReadAs text.now (view value)) }
+    ensures fault { IfErr result (IsProfileFault text.now) }
+{
+    match Value::from_slice(alloc, text) {
+        Ok(value) => Ok(value),
+        Err(error) if error.is_memory() => Err(ProfileError::OutOfMemory),
+        Err(error) => Err(ProfileError::Json(error)),
+    }
 }

@@ -1,7 +1,8 @@
 // Parts of profiles that are read, and that are rejected, by the words of the OCI runtime specification.
 
 use crate::{
-    Entry, Operator, applies, arguments_under, flags_under, read_action, read_profile, texts_under,
+    Entry, Operator, ProfileError, applies, arguments_under, flags_under, profile_of, read_action,
+    read_profile, texts_under,
 };
 use seccompiler::{SeccompAction, TargetArch};
 use serde_json::Value;
@@ -151,6 +152,31 @@ fn an_object_that_cannot_be_carried_is_no_profile(rt: HostRuntime) -> Result<(),
     for text in &NO_PROFILES {
         let value = Value::from_str(rt.alloc(), *text)?;
         assert!(rt; read_profile(rt.alloc(), &value)?.is_none());
+    }
+    Ok(())
+}
+
+#[test]
+fn a_text_is_a_profile_or_an_error_says_why_not(rt: HostRuntime) -> Result<(), Fail> {
+    let profile = profile_of(rt.alloc(), PROFILE.as_bytes())?;
+    assert!(rt; profile.default == SeccompAction::Errno(38) && has_both(&profile.entries));
+    let broken = profile_of(rt.alloc(), br#"{"defaultAction": "#);
+    assert!(rt; matches!(broken, Err(ProfileError::Json(_))));
+    for text in &NO_PROFILES {
+        let other = profile_of(rt.alloc(), text.as_bytes());
+        assert!(rt; matches!(other, Err(ProfileError::NotAProfile)));
+    }
+    Ok(())
+}
+
+#[test]
+fn the_errors_of_a_text_have_their_words(rt: HostRuntime) -> Result<(), Fail> {
+    let told = ProfileError::NotAProfile.to_string(rt.alloc())?;
+    let words = "The JSON value is no seccomp profile, or it has a part that is not supported.";
+    assert!(rt; told.as_str() == words);
+    if let Err(error) = profile_of(rt.alloc(), b"nothing") {
+        let told = error.to_string(rt.alloc())?;
+        assert!(rt; told.as_str().starts_with("Error parsing Json: "));
     }
     Ok(())
 }

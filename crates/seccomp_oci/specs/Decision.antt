@@ -1,5 +1,6 @@
 -- When an entry of a profile applies, and what a profile decides.
-use Rattle.std.specs.Prelude.{◌≡◌, ◌≢◌, ◌<◌, ◌≤◌, ℕ, pos, ◌⊎◌, List, [], ◌∷◌, Some, All, Any, Contains, bit_and, codes}
+use Rattle.std.specs.Prelude.{◌≡◌, ◌≢◌, ◌<◌, ◌≤◌, ℕ, pos, ◌⊎◌, List, [], ◌∷◌, Option, Some, None, All, Any, Contains, IfSome}
+use Rattle.std.specs.Prelude.{bit_and, codes, ⊤}
 use Rattle.seccompiler.specs.declared.backend.SeccompAction.{SeccompAction}
 use Rattle.seccompiler.specs.declared.backend.TargetArch.{TargetArch}
 use Rattle.seccompiler.specs.declared.backend.TargetArch.TheVariants.{x86_64, aarch64, riscv64}
@@ -9,9 +10,10 @@ use Rattle.seccompiler.specs.Machine.{argument_at, word_at}
 use Rattle.seccompiler.specs.Policy.{word_of}
 use Rattle.seccompiler.specs.SyscallTable.{number_of}
 use Rattle.seccomp_oci.specs.declared.types.Argument.{Argument}
+use Rattle.seccomp_oci.specs.declared.types.Kernel.{Kernel}
 use Rattle.seccomp_oci.specs.declared.types.Operator.{Operator}
 use Rattle.seccomp_oci.specs.declared.types.Operator.TheVariants.{Ne, Lt, Le, Eq, Ge, Gt, MaskedEq}
-use Rattle.seccomp_oci.specs.Types.{Entry, Profile}
+use Rattle.seccomp_oci.specs.Types.{Container, Entry, Profile}
 
 -- ---- when an entry applies
 
@@ -21,13 +23,22 @@ go_name x86_64 = codes "amd64"
 go_name aarch64 = codes "arm64"
 go_name riscv64 = codes "riscv64"
 
--- The entry applies to a container with these capabilities on this architecture: all capabilities that it includes are
--- there, and the architecture is one that it includes, if it includes any; nothing that it excludes is there.
-pub record Applies (arch : TargetArch) (caps : List (List ℕ)) (e : Entry) : Type 0 where
-  pub each_cap : All (λ cap. Contains caps cap) e.includes.caps
+-- The kernel is this one, or a newer one: by the major number, and where they have the same one, by the minor number. Where
+-- no kernel is given, it is newer than each.
+abbrev pub IsAtLeast : Option Kernel → Kernel → Type 0
+IsAtLeast None least = ⊤
+IsAtLeast (Some k) least = (least.major < k.major) ⊎ ((k.major ≡ least.major) × (least.minor ≤ k.minor))
+
+-- The entry applies to a container on this architecture: all capabilities that it includes are there, and the architecture
+-- is one that it includes, if it includes any; nothing that it excludes is there. The kernel is the one that it includes or a
+-- newer one, if it includes one; and if it excludes one, the kernel is neither that one nor a newer one.
+pub record Applies (arch : TargetArch) (container : Container) (e : Entry) : Type 0 where
+  pub each_cap : All (λ cap. Contains container.caps cap) e.includes.caps
   pub this_arch : (e.includes.arches ≡ []) ⊎ Contains e.includes.arches (go_name arch)
-  pub no_cap : All (λ cap. Contains caps cap → ⊥) e.excludes.caps
+  pub no_cap : All (λ cap. Contains container.caps cap → ⊥) e.excludes.caps
   pub no_arch : Contains e.excludes.arches (go_name arch) → ⊥
+  pub from_kernel : IfSome e.includes.min_kernel (IsAtLeast container.kernel)
+  pub before_kernel : IfSome e.excludes.min_kernel (λ k. IsAtLeast container.kernel k → ⊥)
 
 -- ---- conditions on arguments
 
@@ -68,9 +79,9 @@ pub record EntryMatches (arch : TargetArch) (r : List ℕ) (e : Entry) : Type 0 
   pub name : Any (IsNameIn arch r) e.names
   pub args : AreMet r e.args
 
--- The entry counts for a call record, in a container with these capabilities: it applies there, and matches the record.
-pub record Counts (arch : TargetArch) (caps : List (List ℕ)) (r : List ℕ) (e : Entry) : Type 0 where
-  pub applies : Applies arch caps e
+-- The entry counts for a call record, in a container: it applies there, and matches the record.
+pub record Counts (arch : TargetArch) (container : Container) (r : List ℕ) (e : Entry) : Type 0 where
+  pub applies : Applies arch container e
   pub matches : EntryMatches arch r e
 
 -- Of what some things give, the value is the one of the least rank; of several with that rank it is the first one's.
@@ -84,9 +95,9 @@ pub data IsFirstLeast {X V : Type 0} (rank_of : V → ℕ) (Gives : X → V → 
 abbrev pub rank_of_kept : SeccompAction → ℕ
 rank_of_kept action = rank (word_of action)
 
--- What a profile decides of a call record, in a container with these capabilities: the strictest action of the entries
+-- What a profile decides of a call record, in a container: the strictest action of the entries
 -- that count for it, of equally strict ones the first entry's; the default action where no entry counts.
-pub data IsProfileDecision (arch : TargetArch) (caps : List (List ℕ)) (p : Profile) (r : List ℕ) (action : SeccompAction) : Type 0 where
-  by_entries : IsFirstLeast rank_of_kept (λ e a. Counts arch caps r e × (a ≡ e.action)) p.entries action
-      → IsProfileDecision arch caps p r action
-  by_default : All (λ e. Counts arch caps r e → ⊥) p.entries → action ≡ p.default → IsProfileDecision arch caps p r action
+pub data IsProfileDecision (arch : TargetArch) (container : Container) (p : Profile) (r : List ℕ) (action : SeccompAction) : Type 0 where
+  by_entries : IsFirstLeast rank_of_kept (λ e a. Counts arch container r e × (a ≡ e.action)) p.entries action
+      → IsProfileDecision arch container p r action
+  by_default : All (λ e. Counts arch container r e → ⊥) p.entries → action ≡ p.default → IsProfileDecision arch container p r action

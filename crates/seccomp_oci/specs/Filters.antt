@@ -11,7 +11,7 @@ use Rattle.seccompiler.specs.Machine.{word_at}
 use Rattle.seccompiler.specs.Policy.{Filter, IsDecision, word_of}
 use Rattle.seccomp_oci.specs.Decision.{Counts, IsFirstLeast, IsProfileDecision, rank_of_kept}
 use Rattle.seccomp_oci.specs.Rules.{AreOnArguments, RuleMatches}
-use Rattle.seccomp_oci.specs.Types.{Entry, Profile}
+use Rattle.seccomp_oci.specs.Types.{Container, Entry, Profile}
 
 -- What filters decide together of a call record (seccomp(2)): they allow it where each of them does; else it is the
 -- strictest of what they decide, of equally strict ones the first filter's.
@@ -20,14 +20,14 @@ pub data IsJointDecision (filters : List Filter) (r : List ℕ) (w : ℕ) : Type
   strictest : IsFirstLeast rank (λ f v. IsDecision f r v) filters w → IsJointDecision filters r w
 
 -- The filters decide together what the profile decides, and nothing else, of every call record of the architecture.
-abbrev pub DecideAs : TargetArch → List (List ℕ) → Profile → List Filter → Type 0
-DecideAs arch caps p filters = (r : List ℕ) → word_at r 4 ≡ audit_word arch → (action : SeccompAction)
-    → IsProfileDecision arch caps p r action → (w : ℕ) → IsJointDecision filters r w ↔ (w ≡ word_of action)
+abbrev pub DecideAs : TargetArch → Container → Profile → List Filter → Type 0
+DecideAs arch container p filters = (r : List ℕ) → word_at r 4 ≡ audit_word arch → (action : SeccompAction)
+    → IsProfileDecision arch container p r action → (w : ℕ) → IsJointDecision filters r w ↔ (w ≡ word_of action)
 
 -- The profile decides one thing of each call record.
-abbrev pub DecidesOnce : TargetArch → List (List ℕ) → Profile → Type 0
-DecidesOnce arch caps p = (r : List ℕ) → (action : SeccompAction) × IsProfileDecision arch caps p r action
-    × ((other : SeccompAction) → IsProfileDecision arch caps p r other → other ≡ action)
+abbrev pub DecidesOnce : TargetArch → Container → Profile → Type 0
+DecidesOnce arch container p = (r : List ℕ) → (action : SeccompAction) × IsProfileDecision arch container p r action
+    × ((other : SeccompAction) → IsProfileDecision arch container p r other → other ≡ action)
 
 -- Each condition of the entries is on an argument that a call has.
 abbrev pub AllOnArguments : List Entry → Type 0
@@ -44,13 +44,13 @@ FilterMatches arch r j = Any (RuleMatches arch r) j.rules
 
 -- The filters deny what the entries that don't allow deny, and allow all else: each that matches does so for an entry that
 -- counts and has its action; and what is the strictest of the entries' actions is the strictest of the filters' too.
-pub record AreDenying (arch : TargetArch) (caps : List (List ℕ)) (entries : List Entry) (filters : List JsonFilter) : Type 0 where
+pub record AreDenying (arch : TargetArch) (container : Container) (entries : List Entry) (filters : List JsonFilter) : Type 0 where
   pub allow : All (λ j. j.mismatch_action ≡ Allow) filters
   pub deny : All (λ j. j.match_action ≢ Allow) filters
   pub counted : (r : List ℕ) → All (λ j. FilterMatches arch r j
-      → Any (λ e. Counts arch caps r e × (e.action ≡ j.match_action)) entries) filters
+      → Any (λ e. Counts arch container r e × (e.action ≡ j.match_action)) entries) filters
   pub first : (r : List ℕ) (action : SeccompAction) → action ≢ Allow
-      → IsFirstLeast rank_of_kept (λ e a. Counts arch caps r e × (a ≡ e.action)) entries action
+      → IsFirstLeast rank_of_kept (λ e a. Counts arch container r e × (a ≡ e.action)) entries action
       → IsFirstLeast rank_of_kept (λ j a. FilterMatches arch r j × (a ≡ j.match_action)) filters action
   pub fine : AllOnArguments entries → All (λ j. All (IsFineEntry arch) j.rules) filters
 
@@ -61,14 +61,14 @@ pub data AreJoined (action : SeccompAction) (rules : List JsonRule) (old new : L
   begins : new ≡ old ++ record { mismatch_action = Allow; match_action = action; rules = rules } ∷ [] → AreJoined action rules old new
 
 -- The filter allows what some entry that counts is for, and has the default action for all else.
-pub record IsBase (arch : TargetArch) (caps : List (List ℕ)) (p : Profile) (j : JsonFilter) : Type 0 where
+pub record IsBase (arch : TargetArch) (container : Container) (p : Profile) (j : JsonFilter) : Type 0 where
   pub mismatch_action : j.mismatch_action ≡ p.default
   pub match_action : j.match_action ≡ Allow
-  pub matches : (r : List ℕ) → FilterMatches arch r j ↔ Any (Counts arch caps r) p.entries
+  pub matches : (r : List ℕ) → FilterMatches arch r j ↔ Any (Counts arch container r) p.entries
   pub fine : AllOnArguments p.entries → All (IsFineEntry arch) j.rules
 
 -- The filters are a profile's: those that deny, and, where the default action isn't to allow, the one that has it.
-pub data AreFiltersOf (arch : TargetArch) (caps : List (List ℕ)) (p : Profile) (filters : List JsonFilter) : Type 0 where
-  without_base : p.default ≡ Allow → AreDenying arch caps p.entries filters → AreFiltersOf arch caps p filters
+pub data AreFiltersOf (arch : TargetArch) (container : Container) (p : Profile) (filters : List JsonFilter) : Type 0 where
+  without_base : p.default ≡ Allow → AreDenying arch container p.entries filters → AreFiltersOf arch container p filters
   with_base : (denying : List JsonFilter) (base : JsonFilter) → p.default ≢ Allow → filters ≡ denying ++ base ∷ []
-      → AreDenying arch caps p.entries denying → IsBase arch caps p base → AreFiltersOf arch caps p filters
+      → AreDenying arch container p.entries denying → IsBase arch container p base → AreFiltersOf arch container p filters

@@ -6,6 +6,7 @@ use Rattle.serde_json.specs.Find.{get}
 use Rattle.seccompiler.specs.JsonShape.{HasOnly, IsCommented, Under}
 use Rattle.seccomp_oci.specs.Shape.{IsAction, IsArgument, IsFlag, IsListed, IsText, items_of}
 use Rattle.seccomp_oci.specs.Types.{Criteria, Entry, Profile}
+use Rattle.seccomp_oci.specs.Version.{IsKernelOr}
 
 -- What stands there is a list of whatever items, or nothing, or null.
 abbrev pub IsList : Option Data → Type 0
@@ -17,15 +18,16 @@ AreNames names None texts = IsListed IsText names texts
 AreNames None (Some (string text)) texts = texts ≡ text ∷ []
 AreNames _ _ texts = ⊥
 
--- The value is these criteria: an object of `caps` and `arches`, if it likes.
+-- The value is these criteria: an object of `caps`, `arches` and `minKernel`, if it likes.
 pub record AreCriteria (d : Data) (c : Criteria) : Type 0 where
-  pub names : HasOnly d (codes "caps" ∷ codes "arches" ∷ [])
+  pub names : HasOnly d (codes "caps" ∷ codes "arches" ∷ codes "minKernel" ∷ [])
   pub caps : IsListed IsText (get (codes "caps") d) c.caps
   pub arches : IsListed IsText (get (codes "arches") d) c.arches
+  pub min_kernel : IsKernelOr (get (codes "minKernel") d) c.min_kernel
 
 -- What stands there is these criteria: empty ones where nothing stands there.
 abbrev pub AreCriteriaOr : Option Data → Criteria → Type 0
-AreCriteriaOr None c = (c.caps ≡ []) × (c.arches ≡ [])
+AreCriteriaOr None c = (c.caps ≡ []) × (c.arches ≡ []) × (c.min_kernel ≡ None)
 AreCriteriaOr (Some d) c = AreCriteria d c
 
 -- The value is this entry: an object of `action`, `names` or `name`, and, if it likes, `errnoRet`, `args`, `includes`,

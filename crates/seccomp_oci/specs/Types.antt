@@ -1,13 +1,20 @@
 -- The parts of a profile that own memory, as contracts see them: records of lists.
-use Rattle.std.specs.Prelude.{ℕ, List}
+use Rattle.std.specs.Prelude.{ℕ, List, Option}
 use Rattle.seccompiler.specs.declared.backend.SeccompAction.{SeccompAction}
 use Rattle.seccomp_oci.specs.declared.types.Argument.{Argument}
 use Rattle.seccomp_oci.specs.declared.types.Flag.{Flag}
+use Rattle.seccomp_oci.specs.declared.types.Kernel.{Kernel}
 
--- What has to be there, or must not be: names of capabilities, and names of architectures as Go has them.
+-- A container: the names of its capabilities, and the kernel that it runs on, if one is given.
+pub record Container : Type 0 where
+  pub caps : List (List ℕ)
+  pub kernel : Option Kernel
+
+-- What has to be there, or must not be: names of capabilities, names of architectures as Go has them, and a kernel.
 pub record Criteria : Type 0 where
   pub caps : List (List ℕ)
   pub arches : List (List ℕ)
+  pub min_kernel : Option Kernel
 
 -- An entry: the bytes of its calls' names, its action, its conditions in order, what it includes and what it excludes.
 pub record Entry : Type 0 where

@@ -1,5 +1,6 @@
 // What the filters of profiles decide of calls, by the words of the OCI runtime specification and of seccomp(2).
 
+use crate::tests::container;
 use crate::{filters_of_profile, read_profile};
 use seccompiler::compare::rank;
 use seccompiler::{SeccompFilter, TargetArch};
@@ -51,7 +52,8 @@ fn are_as_expected(filters: &[SeccompFilter], rows: &[Row]) -> bool {
     true
 }
 
-// Whether the profile has so many filters, which decide together what the rows expect.
+// Whether the profile has so many filters, which decide together what the rows expect in a container with
+// these capabilities.
 fn decides(
     alloc: Global,
     text: &str,
@@ -63,7 +65,8 @@ fn decides(
     let Some(profile) = read_profile(alloc, &value)? else {
         return Ok(false);
     };
-    let filters = filters_of_profile(alloc, TargetArch::x86_64, caps, &profile)?;
+    let container = container(alloc, caps)?;
+    let filters = filters_of_profile(alloc, TargetArch::x86_64, &container, &profile)?;
     Ok(filters.len() == count && are_as_expected(filters.as_slice(), rows))
 }
 

@@ -10,6 +10,7 @@ use crate::lists::{arguments_under, texts_under};
 use crate::members::{is_commented, is_object_of};
 use crate::parts::read_action;
 use crate::types::{Criteria, Entry};
+use crate::version::kernel_under;
 use serde_json::Value;
 use std::alloc::{AllocError, Global};
 
@@ -38,7 +39,7 @@ fn read_criteria(alloc: Global, value: &Value) -> Result<Option<Criteria>, Alloc
     ensures found { IfOk result (λ o. IfSome o (AreCriteria (view value.now))) }
     ensures none { IfOk result (λ o. IfNone o ((c : Criteria) → AreCriteria (view value.now) c → ⊥)) }
 {
-    if !is_object_of(value, &["caps", "arches"]) {
+    if !is_object_of(value, &["caps", "arches", "minKernel"]) {
         return Ok(None);
     }
     let Some(caps) = texts_under(alloc, value.get("caps"))? else {
@@ -47,7 +48,14 @@ fn read_criteria(alloc: Global, value: &Value) -> Result<Option<Criteria>, Alloc
     let Some(arches) = texts_under(alloc, value.get("arches"))? else {
         return Ok(None);
     };
-    Ok(Some(Criteria { caps, arches }))
+    let Some(min_kernel) = kernel_under(value.get("minKernel")) else {
+        return Ok(None);
+    };
+    Ok(Some(Criteria {
+        caps,
+        arches,
+        min_kernel,
+    }))
 }
 
 // The criteria that stand there: empty ones where nothing stands there.
@@ -60,6 +68,7 @@ fn criteria_under(alloc: Global, value: Option<&Value>) -> Result<Option<Criteri
         None => Ok(Some(Criteria {
             caps: Vec::new(alloc),
             arches: Vec::new(alloc),
+            min_kernel: None,
         })),
         Some(value) => read_criteria(alloc, value),
     }

@@ -1,6 +1,6 @@
 // From profiles to filters.
 
-ghost use Rattle.std.specs.Prelude.{◌≡◌, ◌↔◌, ℕ, List, [], ◌∷◌, ◌++◌, All, Any, IfOk, IfErr, map};
+ghost use Rattle.std.specs.Prelude.{◌≡◌, ◌↔◌, ℕ, List, [], ◌∷◌, ◌++◌, All, Any, IfOk, IfErr};
 ghost use Rattle.std.specs.List.{AllZip};
 ghost use Rattle.seccompiler.specs.declared.backend.TargetArch.{TargetArch};
 ghost use Rattle.seccompiler.specs.declared.backend.SeccompAction.TheVariants.{Allow};
@@ -10,11 +10,11 @@ ghost use Rattle.seccompiler.specs.Policy.{Filter};
 ghost use Rattle.seccomp_oci.specs.Decision.{Counts};
 ghost use Rattle.seccomp_oci.specs.Filters.{AllOnArguments, AreDenying, AreFiltersOf, AreJoined, DecideAs, DecidesOnce, IsBase, IsFineFilter};
 ghost use Rattle.seccomp_oci.specs.Rules.{AreOnArguments, RuleMatches};
-ghost use Rattle.seccomp_oci.specs.Types.{Entry, Profile};
+ghost use Rattle.seccomp_oci.specs.Types.{Container, Entry, Profile};
 
 use crate::rules::rules_of;
 use crate::scope::applies;
-use crate::types::{Entry, Profile};
+use crate::types::{Container, Entry, Profile};
 use seccompiler::{
     JsonCompiler, JsonFilter, JsonFrontendError, JsonRule, SeccompAction, SeccompFilter, TargetArch,
 };
@@ -24,13 +24,13 @@ use std::alloc::{AllocError, Global};
 fn applying_rules(
     alloc: Global,
     arch: TargetArch,
-    caps: &[&str],
+    container: &Container,
     entry: &Entry,
 ) -> Result<Vec<JsonRule>, AllocError>
-    ensures found { IfOk result (λ rules. (r : List ℕ) → Any (RuleMatches arch r) rules.items ↔ Counts arch (map (λ cap. cap.now) caps.now) r entry.now) }
+    ensures found { IfOk result (λ rules. (r : List ℕ) → Any (RuleMatches arch r) rules.items ↔ Counts arch container.now r entry.now) }
     ensures fine { IfOk result (λ rules. AreOnArguments entry.now.args → All (IsFineEntry arch) rules.items) }
 {
-    if !applies(arch, caps, entry) {
+    if !applies(arch, container, entry) {
         return Ok(Vec::new(alloc));
     }
     rules_of(alloc, arch, entry)
@@ -40,15 +40,15 @@ fn applying_rules(
 fn all_rules(
     alloc: Global,
     arch: TargetArch,
-    caps: &[&str],
+    container: &Container,
     entries: &[Entry],
 ) -> Result<Vec<JsonRule>, AllocError>
-    ensures found { IfOk result (λ rules. (r : List ℕ) → Any (RuleMatches arch r) rules.items ↔ Any (Counts arch (map (λ cap. cap.now) caps.now) r) entries.now) }
+    ensures found { IfOk result (λ rules. (r : List ℕ) → Any (RuleMatches arch r) rules.items ↔ Any (Counts arch container.now r) entries.now) }
     ensures fine { IfOk result (λ rules. AllOnArguments entries.now → All (IsFineEntry arch) rules.items) }
 {
     let mut rules = Vec::new(alloc);
     for entry in entries {
-        let mut more = applying_rules(alloc, arch, caps, entry)?;
+        let mut more = applying_rules(alloc, arch, container, entry)?;
         rules.append(&mut more)?;
     }
     Ok(rules)
@@ -102,16 +102,16 @@ fn with_rules(
 fn with_entry(
     alloc: Global,
     arch: TargetArch,
-    caps: &[&str],
+    container: &Container,
     filters: Vec<JsonFilter>,
     entry: &Entry,
 ) -> Result<Vec<JsonFilter>, AllocError>
-    ensures { IfOk result (λ all. (done : List Entry) → AreDenying arch (map (λ cap. cap.now) caps.now) done filters.items → AreDenying arch (map (λ cap. cap.now) caps.now) (done ++ entry.now ∷ []) all.items) }
+    ensures { IfOk result (λ all. (done : List Entry) → AreDenying arch container.now done filters.items → AreDenying arch container.now (done ++ entry.now ∷ []) all.items) }
 {
     if entry.action == SeccompAction::Allow {
         return Ok(filters);
     }
-    let rules = applying_rules(alloc, arch, caps, entry)?;
+    let rules = applying_rules(alloc, arch, container, entry)?;
     if rules.is_empty() {
         return Ok(filters);
     }
@@ -122,14 +122,14 @@ fn with_entry(
 fn denying_filters(
     alloc: Global,
     arch: TargetArch,
-    caps: &[&str],
+    container: &Container,
     entries: &[Entry],
 ) -> Result<Vec<JsonFilter>, AllocError>
-    ensures { IfOk result (λ all. AreDenying arch (map (λ cap. cap.now) caps.now) entries.now all.items) }
+    ensures { IfOk result (λ all. AreDenying arch container.now entries.now all.items) }
 {
     let mut filters = Vec::new(alloc);
     for entry in entries {
-        filters = with_entry(alloc, arch, caps, filters, entry)?;
+        filters = with_entry(alloc, arch, container, filters, entry)?;
     }
     Ok(filters)
 }
@@ -138,12 +138,12 @@ fn denying_filters(
 fn base(
     alloc: Global,
     arch: TargetArch,
-    caps: &[&str],
+    container: &Container,
     profile: &Profile,
 ) -> Result<JsonFilter, AllocError>
-    ensures { IfOk result (IsBase arch (map (λ cap. cap.now) caps.now) profile.now) }
+    ensures { IfOk result (IsBase arch container.now profile.now) }
 {
-    let rules = all_rules(alloc, arch, caps, profile.entries.as_slice())?;
+    let rules = all_rules(alloc, arch, container, profile.entries.as_slice())?;
     Ok(JsonFilter {
         mismatch_action: profile.default,
         match_action: SeccompAction::Allow,
@@ -154,16 +154,16 @@ fn base(
 fn filters_of(
     alloc: Global,
     arch: TargetArch,
-    caps: &[&str],
+    container: &Container,
     profile: &Profile,
 ) -> Result<Vec<JsonFilter>, AllocError>
-    ensures { IfOk result (λ all. AreFiltersOf arch (map (λ cap. cap.now) caps.now) profile.now all.items) }
+    ensures { IfOk result (λ all. AreFiltersOf arch container.now profile.now all.items) }
 {
-    let filters = denying_filters(alloc, arch, caps, profile.entries.as_slice())?;
+    let filters = denying_filters(alloc, arch, container, profile.entries.as_slice())?;
     if profile.default == SeccompAction::Allow {
         return Ok(filters);
     }
-    pushed(filters, base(alloc, arch, caps, profile)?)
+    pushed(filters, base(alloc, arch, container, profile)?)
 }
 
 /// The filters of a profile as those of JSON policies: together they decide what the profile decides.
@@ -184,16 +184,16 @@ fn filters_of(
 pub fn json_filters_of(
     alloc: Global,
     arch: TargetArch,
-    caps: &[&str],
+    container: &Container,
     profile: &Profile,
 ) -> Result<Vec<JsonFilter>, AllocError>
-    ensures decide { IfOk result (λ all. (filters : List Filter) → AllZip (IsPolicyOf arch) all.items filters → DecideAs arch (map (λ cap. cap.now) caps.now) profile.now filters) }
+    ensures decide { IfOk result (λ all. (filters : List Filter) → AllZip (IsPolicyOf arch) all.items filters → DecideAs arch container.now profile.now filters) }
     ensures fine { IfOk result (λ all. AllOnArguments profile.now.entries → All (IsFineFilter arch) all.items) }
 {
-    filters_of(alloc, arch, caps, profile)
+    filters_of(alloc, arch, container, profile)
 }
 
-/// The filters of a profile, on an architecture and in a container with these capabilities: together they decide
+/// The filters of a profile, on an architecture and in a container: together they decide
 /// what the profile decides of every call of the architecture.
 ///
 /// They are those of [`json_filters_of`], in the same order.
@@ -206,16 +206,16 @@ pub fn json_filters_of(
 pub fn filters_of_profile(
     alloc: Global,
     arch: TargetArch,
-    caps: &[&str],
+    container: &Container,
     profile: &Profile,
 ) -> Result<Vec<SeccompFilter>, JsonFrontendError>
-    ensures decide { IfOk result (λ filters. DecideAs arch (map (λ cap. cap.now) caps.now) profile.now filters.items) }
+    ensures decide { IfOk result (λ filters. DecideAs arch container.now profile.now filters.items) }
     ensures refused { IfErr result (λ e. AllOnArguments profile.now.entries → e ≡ OutOfMemory) }
 
-    // A profile decides one thing of each record, on every architecture and with whatever capabilities.
-    ensures one { (a : TargetArch) (cs : List (List ℕ)) (p : Profile) → DecidesOnce a cs p }
+    // A profile decides one thing of each record, on every architecture and in whatever container.
+    ensures one { (a : TargetArch) (c : Container) (p : Profile) → DecidesOnce a c p }
 {
-    let all = json_filters_of(alloc, arch, caps, profile)?;
+    let all = json_filters_of(alloc, arch, container, profile)?;
     made(alloc, arch, all.as_slice())
 }
 

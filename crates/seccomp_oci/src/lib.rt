@@ -25,6 +25,7 @@ mod scope;
 #[cfg(test)]
 mod tests;
 pub mod types;
+mod version;
 
 pub use error::ProfileError;
 pub use filters::{filters_of_profile, json_filters_of};
@@ -34,4 +35,5 @@ pub use policy::{PolicyTextError, policy_text};
 pub use profile::{profile_of, read_profile};
 pub use rules::rules_of;
 pub use scope::applies;
-pub use types::{Argument, Criteria, Entry, Flag, Operator, Profile};
+pub use types::{Argument, Container, Criteria, Entry, Flag, Kernel, Operator, Profile};
+pub use version::kernel_of;

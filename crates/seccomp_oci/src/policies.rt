@@ -1,5 +1,6 @@
 // The texts of policies, by the form that docs/JSON.md gives them.
 
+use crate::tests::container;
 use crate::{PolicyTextError, json_filters_of, policy_text, read_profile};
 use seccompiler::{
     JsonCondition, JsonFilter, JsonRule, SeccompAction, SeccompCmpArgLen, SeccompCmpOp, TargetArch,
@@ -23,7 +24,7 @@ fn is_imported(alloc: Global, profile: &str, text: &str) -> Result<bool, Fail> {
     let Some(profile) = read_profile(alloc, &value)? else {
         return Ok(false);
     };
-    let filters = json_filters_of(alloc, TargetArch::x86_64, &[], &profile)?;
+    let filters = json_filters_of(alloc, TargetArch::x86_64, &container(alloc, &[])?, &profile)?;
     let has_base = profile.default != SeccompAction::Allow;
     Ok(has_text(alloc, filters.as_slice(), has_base, text)?)
 }

@@ -58,7 +58,7 @@ fn entries_under(alloc: Global, value: Option<&Value>) -> Result<Option<Vec<Entr
 ///
 /// `value` is what stands under `linux.seccomp` in the OCI runtime specification, or a profile of Docker
 /// or Podman. It is none where it, one of its entries or a part of an entry has a name that isn't known
-/// or can't be carried, as `listenerPath` and `minKernel`, or an action, operator or flag that can't. Each
+/// or can't be carried, as `listenerPath`, or an action, operator or flag that can't. Each
 /// condition of a profile is on an argument from 0 to 5.
 ///
 /// # Errors

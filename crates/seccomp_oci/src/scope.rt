@@ -1,12 +1,11 @@
 // Whether an entry of a profile applies.
 
-ghost use Rattle.std.specs.Prelude.{◌≡◌, ◌↔◌, ◌⊎◌, ◌&&◌, not, [], IsTrue, map, string_bytes, All, Contains};
+ghost use Rattle.std.specs.Prelude.{◌≡◌, ◌↔◌, ◌⊎◌, ◌&&◌, not, [], IsTrue, IfSome, map, string_bytes, All, Contains};
 ghost use Rattle.std.specs.List.{list_all, list_any};
 ghost use Rattle.std.specs.Str.{bytes_eq};
-ghost use Rattle.seccomp_oci.specs.Decision.{go_name, Applies};
+ghost use Rattle.seccomp_oci.specs.Decision.{go_name, Applies, IsAtLeast};
 
-use crate::members::is_among;
-use crate::types::Entry;
+use crate::types::{Container, Entry, Kernel};
 use seccompiler::TargetArch;
 
 // The name of the architecture as Go has it.
@@ -33,11 +32,11 @@ fn is_listed(text: &str, texts: &[String]) -> bool
 }
 
 // Whether each of the texts is one of these names.
-fn are_all_among(texts: &[String], names: &[&str]) -> bool
-    ensures { result ≡ list_all (λ text. list_any (bytes_eq text) (map (λ n. n.now) names.now)) (map string_bytes texts.now) }
+fn are_all_among(texts: &[String], names: &[String]) -> bool
+    ensures { result ≡ list_all (λ text. list_any (bytes_eq text) (map string_bytes names.now)) (map string_bytes texts.now) }
 {
     for text in texts {
-        if !is_among(text.as_str(), names) {
+        if !is_listed(text.as_str(), names) {
             return false;
         }
     }
@@ -45,11 +44,11 @@ fn are_all_among(texts: &[String], names: &[&str]) -> bool
 }
 
 // Whether some of the texts is one of these names.
-fn is_any_among(texts: &[String], names: &[&str]) -> bool
-    ensures { result ≡ list_any (λ text. list_any (bytes_eq text) (map (λ n. n.now) names.now)) (map string_bytes texts.now) }
+fn is_any_among(texts: &[String], names: &[String]) -> bool
+    ensures { result ≡ list_any (λ text. list_any (bytes_eq text) (map string_bytes names.now)) (map string_bytes texts.now) }
 {
     for text in texts {
-        if is_among(text.as_str(), names) {
+        if is_listed(text.as_str(), names) {
             return true;
         }
     }
@@ -64,15 +63,15 @@ fn has_text(texts: &[String], text: &str) -> bool
 }
 
 // Whether each of the texts is one of these names.
-fn has_all(names: &[&str], texts: &[String]) -> bool
-    ensures { IsTrue result ↔ All (λ text. Contains (map (λ n. n.now) names.now) text) (map string_bytes texts.now) }
+fn has_all(names: &[String], texts: &[String]) -> bool
+    ensures { IsTrue result ↔ All (λ text. Contains (map string_bytes names.now) text) (map string_bytes texts.now) }
 {
     are_all_among(texts, names)
 }
 
 // Whether none of the texts is one of these names.
-fn has_none(names: &[&str], texts: &[String]) -> bool
-    ensures { IsTrue result ↔ All (λ text. Contains (map (λ n. n.now) names.now) text → ⊥) (map string_bytes texts.now) }
+fn has_none(names: &[String], texts: &[String]) -> bool
+    ensures { IsTrue result ↔ All (λ text. Contains (map string_bytes names.now) text → ⊥) (map string_bytes texts.now) }
 {
     !is_any_among(texts, names)
 }
@@ -87,27 +86,69 @@ fn is_included(arches: &[String], text: &str) -> bool
     }
 }
 
-// Whether the first three are so, and the last isn't.
-fn are_three(first: bool, second: bool, third: bool, last: bool) -> bool
-    ensures { result ≡ (first && (second && (third && not last))) }
+// Whether the kernel is this one or a newer one, as it is where none is given.
+fn is_at_least(kernel: Option<Kernel>, least: Kernel) -> bool
+    ensures { IsTrue result ↔ IsAtLeast kernel least }
 {
-    first && second && third && !last
+    match kernel {
+        None => true,
+        Some(kernel) => {
+            least.major < kernel.major
+                || (kernel.major == least.major && least.minor <= kernel.minor)
+        }
+    }
 }
 
-/// Whether an entry of a profile applies to a container with these capabilities on this architecture.
+// Whether the kernel is the one that is included or a newer one, if one is.
+fn is_from(kernel: Option<Kernel>, least: Option<Kernel>) -> bool
+    ensures { IsTrue result ↔ IfSome least (IsAtLeast kernel) }
+{
+    match least {
+        None => true,
+        Some(least) => is_at_least(kernel, least),
+    }
+}
+
+// Whether the kernel is older than the one that is excluded, if one is.
+fn is_before(kernel: Option<Kernel>, least: Option<Kernel>) -> bool
+    ensures { IsTrue result ↔ IfSome least (λ k. IsAtLeast kernel k → ⊥) }
+{
+    match least {
+        None => true,
+        Some(least) => !is_at_least(kernel, least),
+    }
+}
+
+// Whether the kernel is one that the entry is for.
+fn is_for_kernel(kernel: Option<Kernel>, entry: &Entry) -> bool
+    ensures { IsTrue result ↔ (IfSome entry.now.includes.min_kernel (IsAtLeast kernel) × IfSome entry.now.excludes.min_kernel (λ k. IsAtLeast kernel k → ⊥)) }
+{
+    is_from(kernel, entry.includes.min_kernel) && is_before(kernel, entry.excludes.min_kernel)
+}
+
+// Whether all are so, but the fourth isn't.
+fn are_five(first: bool, second: bool, third: bool, fourth: bool, fifth: bool) -> bool
+    ensures { result ≡ (first && (second && (third && (not fourth && fifth)))) }
+{
+    first && second && third && !fourth && fifth
+}
+
+/// Whether an entry of a profile applies to a container on this architecture.
 ///
 /// All capabilities that it includes have to be there, and none that it excludes. The architecture has
-/// to be one of those that it includes, if it includes any, and none that it excludes. `caps` are names
-/// as a profile has them, such as `CAP_SYS_ADMIN`; architectures are named as Go names them: `amd64`,
-/// `arm64` and `riscv64`. It takes no memory.
-pub fn applies(arch: TargetArch, caps: &[&str], entry: &Entry) -> bool
-    ensures { IsTrue result ↔ Applies arch (map (λ cap. cap.now) caps.now) entry.now }
+/// to be one of those that it includes, if it includes any, and none that it excludes; architectures are
+/// named as Go names them: `amd64`, `arm64` and `riscv64`. The kernel has to be the one that it includes or
+/// a newer one, and older than the one that it excludes, where it has such. Where the container has no
+/// kernel given, it counts as newer than each. It takes no memory.
+pub fn applies(arch: TargetArch, container: &Container, entry: &Entry) -> bool
+    ensures { IsTrue result ↔ Applies arch container.now entry.now }
 {
     let name = go_name(arch);
-    are_three(
-        has_all(caps, entry.includes.caps.as_slice()),
+    are_five(
+        has_all(container.caps.as_slice(), entry.includes.caps.as_slice()),
         is_included(entry.includes.arches.as_slice(), name),
-        has_none(caps, entry.excludes.caps.as_slice()),
+        has_none(container.caps.as_slice(), entry.excludes.caps.as_slice()),
         has_text(entry.excludes.arches.as_slice(), name),
+        is_for_kernel(container.kernel, entry),
     )
 }

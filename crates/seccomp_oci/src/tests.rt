@@ -1,12 +1,12 @@
 // Parts of profiles that are read, and that are rejected, by the words of the OCI runtime specification.
 
 use crate::{
-    Entry, Operator, ProfileError, applies, arguments_under, flags_under, profile_of, read_action,
-    read_profile, texts_under,
+    Container, Entry, Kernel, Operator, ProfileError, applies, arguments_under, flags_under,
+    kernel_of, profile_of, read_action, read_profile, texts_under,
 };
 use seccompiler::{SeccompAction, TargetArch};
 use serde_json::Value;
-use std::alloc::Global;
+use std::alloc::{AllocError, Global};
 use std::test::Fail;
 
 // An entry, with the action that it has.
@@ -93,13 +93,15 @@ const PROFILE: &str = r#"{"defaultAction": "SCMP_ACT_ERRNO", "defaultErrnoRet": 
          "includes": {"caps": ["CAP_SYS_ADMIN"]}, "excludes": {"arches": ["arm64"]}},
         {"name": "clone3", "action": "SCMP_ACT_KILL_PROCESS"}]}"#;
 
-// Objects that are no profiles: no default action, a listener, an entry with an unknown name, and one
-// whose action can't be carried.
-const NO_PROFILES: [&str; 4] = [
+// Objects that are no profiles: no default action, a listener, an entry with an unknown name, one whose
+// action can't be carried, and two whose kernels are no versions.
+const NO_PROFILES: [&str; 6] = [
     r#"{"syscalls": []}"#,
     r#"{"defaultAction": "SCMP_ACT_ALLOW", "listenerPath": "/run/agent.sock"}"#,
     r#"{"defaultAction": "SCMP_ACT_ALLOW", "syscalls": [{"names": ["read"], "action": "SCMP_ACT_LOG", "nams": []}]}"#,
     r#"{"defaultAction": "SCMP_ACT_ALLOW", "syscalls": [{"names": ["read"], "action": "SCMP_ACT_NOTIFY"}]}"#,
+    r#"{"defaultAction": "SCMP_ACT_ALLOW", "syscalls": [{"names": [], "action": "SCMP_ACT_LOG", "includes": {"minKernel": 4.8}}]}"#,
+    r#"{"defaultAction": "SCMP_ACT_ALLOW", "syscalls": [{"names": [], "action": "SCMP_ACT_LOG", "excludes": {"minKernel": "4"}}]}"#,
 ];
 
 #[test]
@@ -113,11 +115,27 @@ fn a_profile_has_its_entries_in_order(rt: HostRuntime) -> Result<(), Fail> {
     Ok(())
 }
 
+// A container with these capabilities, on the newest kernel.
+pub(crate) fn container(alloc: Global, caps: &[&str]) -> Result<Container, AllocError> {
+    let mut names = Vec::new(alloc);
+    for cap in caps {
+        names.push(String::from_str(alloc, *cap)?)?;
+    }
+    Ok(Container {
+        caps: names,
+        kernel: None,
+    })
+}
+
 // The first entry includes a capability, and excludes `arm64`.
-fn applies_where_it_should(first: &Entry) -> bool {
-    applies(TargetArch::x86_64, &["CAP_CHOWN", "CAP_SYS_ADMIN"], first)
-        && !applies(TargetArch::x86_64, &["CAP_CHOWN"], first)
-        && !applies(TargetArch::aarch64, &["CAP_SYS_ADMIN"], first)
+fn applies_where_it_should(alloc: Global, first: &Entry) -> Result<bool, AllocError> {
+    let both = container(alloc, &["CAP_CHOWN", "CAP_SYS_ADMIN"])?;
+    let other = container(alloc, &["CAP_CHOWN"])?;
+    Ok(
+        applies(TargetArch::x86_64, &both, first)
+            && !applies(TargetArch::x86_64, &other, first)
+            && !applies(TargetArch::aarch64, &both, first),
+    )
 }
 
 #[test]
@@ -125,7 +143,7 @@ fn an_entry_applies_by_capabilities_and_architectures(rt: HostRuntime) -> Result
     let value = Value::from_str(rt.alloc(), PROFILE)?;
     let as_wanted = match read_profile(rt.alloc(), &value)? {
         Some(profile) => match profile.entries.first() {
-            Some(first) => applies_where_it_should(first),
+            Some(first) => applies_where_it_should(rt.alloc(), first)?,
             None => false,
         },
         None => false,
@@ -177,6 +195,70 @@ fn the_errors_of_a_text_have_their_words(rt: HostRuntime) -> Result<(), Fail> {
     if let Err(error) = profile_of(rt.alloc(), b"nothing") {
         let told = error.to_string(rt.alloc())?;
         assert!(rt; told.as_str().starts_with("Error parsing Json: "));
+    }
+    Ok(())
+}
+
+const KERNELS: &str = r#"{"defaultAction": "SCMP_ACT_ERRNO", "syscalls": [
+    {"names": ["ptrace"], "action": "SCMP_ACT_ALLOW", "includes": {"minKernel": "4.8"}},
+    {"names": ["ptrace"], "action": "SCMP_ACT_LOG", "excludes": {"minKernel": "4.8", "caps": null}},
+    {"names": ["read"], "action": "SCMP_ACT_ALLOW", "includes": {"minKernel": null}}]}"#;
+
+// Which of the three entries apply on a kernel.
+fn apply_on(
+    alloc: Global,
+    entries: &[Entry],
+    kernel: Option<Kernel>,
+) -> Result<[bool; 3], AllocError> {
+    let mut on = container(alloc, &[])?;
+    on.kernel = kernel;
+    let mut apply = [false; 3];
+    for (place, entry) in entries.iter().enumerate() {
+        if let Some(answer) = apply.get_mut(place) {
+            *answer = applies(TargetArch::x86_64, &on, entry);
+        }
+    }
+    Ok(apply)
+}
+
+#[test]
+fn an_entry_applies_from_its_kernel_on_or_before_it(rt: HostRuntime) -> Result<(), Fail> {
+    let alloc = rt.alloc();
+    let entries = profile_of(alloc, KERNELS.as_bytes())?.entries;
+    for (text, from) in [
+        ("4.8", true),
+        ("4.19", true),
+        ("5.0", true),
+        ("4.7", false),
+        ("3.99", false),
+    ] {
+        let apply = apply_on(alloc, entries.as_slice(), kernel_of(text))?;
+        assert!(rt; apply == [from, !from, true]);
+    }
+    assert!(rt; apply_on(alloc, entries.as_slice(), None)? == [true, false, true]);
+    Ok(())
+}
+
+#[test]
+fn a_kernel_is_two_numbers(rt: HostRuntime) -> Result<(), Fail> {
+    let newest = Some(Kernel {
+        major: 4294967295,
+        minor: 0,
+    });
+    assert!(rt; kernel_of("4294967295.0") == newest);
+    for text in [
+        "",
+        "4",
+        "4.",
+        ".8",
+        "4.8.1",
+        "+4.8",
+        "4.-8",
+        "4294967296.0",
+        " 4.8",
+        "v4.8",
+    ] {
+        assert!(rt; kernel_of(text).is_none());
     }
     Ok(())
 }

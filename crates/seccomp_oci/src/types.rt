@@ -46,6 +46,35 @@ pub enum Flag {
     SpecAllow,
 }
 
+/// A version of the kernel, as `minKernel` has it.
+#[derive(Clone, Copy, Debug, PartialEq, Eq)]
+pub struct Kernel {
+    /// The first number, as 4 of 4.8.
+    pub major: u32,
+    /// The second number, as 8 of 4.8.
+    pub minor: u32,
+}
+
+/// What a profile is for: a container's capabilities, and the kernel that it runs on.
+///
+/// A contract sees the names as their bytes, in a list.
+#[derive(Debug, Drop)]
+pub struct Container {
+    /// Names of the container's capabilities as a profile has them, such as `CAP_SYS_ADMIN`.
+    pub caps: Vec<String>,
+    /// The kernel; where none is given, it counts as newer than each that a profile names.
+    pub kernel: Option<Kernel>,
+}
+
+impl Model for Container {
+    ghost use Rattle.std.specs.Prelude.{map, string_bytes};
+    ghost use Rattle.seccomp_oci.specs.Types.{Container};
+
+    ghost Value = { Container };
+
+    ghost view = { λ c. record { caps = map string_bytes c.caps.items; kernel = c.kernel } };
+}
+
 /// What a container has to have, or must not have, for an entry to apply: `includes` or `excludes`.
 ///
 /// A contract sees the texts as their bytes, in lists.
@@ -55,6 +84,8 @@ pub struct Criteria {
     pub caps: Vec<String>,
     /// Names of architectures as Go has them, such as `amd64`: `arches`.
     pub arches: Vec<String>,
+    /// The kernel from which on an entry applies, or doesn't: `minKernel`.
+    pub min_kernel: Option<Kernel>,
 }
 
 impl Model for Criteria {
@@ -63,7 +94,7 @@ impl Model for Criteria {
 
     ghost Value = { Criteria };
 
-    ghost view = { λ c. record { caps = map string_bytes c.caps.items; arches = map string_bytes c.arches.items } };
+    ghost view = { λ c. record { caps = map string_bytes c.caps.items; arches = map string_bytes c.arches.items; min_kernel = c.min_kernel } };
 }
 
 /// One entry of a profile: an item of `syscalls`.

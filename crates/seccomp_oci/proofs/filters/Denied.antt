@@ -10,28 +10,28 @@ use Rattle.seccompiler.specs.JsonTypes.{JsonFilter, JsonRule}
 use Rattle.seccomp_oci.specs.Decision.{Counts, rank_of_kept}
 use Rattle.seccomp_oci.specs.Filters.{AreDenying, AreJoined, joins, begins, FilterMatches}
 use Rattle.seccomp_oci.specs.Rules.{AreOnArguments, RuleMatches}
-use Rattle.seccomp_oci.specs.Types.{Entry}
+use Rattle.seccomp_oci.specs.Types.{Container, Entry}
 use Rattle.seccomp_oci.proofs.Quantified.{all_append, all_one, any_append, any_one, any_nil, at_any}
 use Rattle.seccomp_oci.proofs.Least.{Above, none_least, least_last, least_kept, least_cases}
 
-module _ (arch : TargetArch) (caps : List (List ℕ)) where
+module _ (arch : TargetArch) (container : Container) where
   -- An entry, or a filter, gives its action where it counts, or matches.
   abbrev pub EntryGives : List ℕ → Entry → SeccompAction → Type 0
-  EntryGives r e a = Counts arch caps r e × (a ≡ e.action)
+  EntryGives r e a = Counts arch container r e × (a ≡ e.action)
 
   abbrev pub FilterGives : List ℕ → JsonFilter → SeccompAction → Type 0
   FilterGives r j a = FilterMatches arch r j × (a ≡ j.match_action)
 
   -- The filter matches for some entry that counts, and has its action.
   abbrev pub IsCounted : List ℕ → List Entry → JsonFilter → Type 0
-  IsCounted r entries j = FilterMatches arch r j → Any (λ e. Counts arch caps r e × (e.action ≡ j.match_action)) entries
+  IsCounted r entries j = FilterMatches arch r j → Any (λ e. Counts arch container r e × (e.action ≡ j.match_action)) entries
 
   still_counted : (r : List ℕ) (done more : List Entry) (j : JsonFilter) → IsCounted r done j → IsCounted r (done ++ more) j
   still_counted r done more j was matches =
-      (any_append (λ e. Counts arch caps r e × (e.action ≡ j.match_action)) done more).1 (inl (was matches))
+      (any_append (λ e. Counts arch container r e × (e.action ≡ j.match_action)) done more).1 (inl (was matches))
 
   -- No filter denies nothing.
-  pub none_denied : AreDenying arch caps [] []
+  pub none_denied : AreDenying arch container [] []
   none_denied = record {
     allow = All-nil (λ (j : JsonFilter). j.mismatch_action ≡ Allow);
     deny = All-nil (λ (j : JsonFilter). j.match_action ≢ Allow);
@@ -42,8 +42,8 @@ module _ (arch : TargetArch) (caps : List (List ℕ)) where
 
   -- An entry that doesn't count, or allows, changes nothing.
   pub passed_over : (done : List Entry) (e : Entry) (filters : List JsonFilter)
-      → ((r : List ℕ) → Counts arch caps r e → e.action ≢ Allow → ⊥) → AreDenying arch caps done filters
-      → AreDenying arch caps (done ++ e ∷ []) filters
+      → ((r : List ℕ) → Counts arch container r e → e.action ≢ Allow → ⊥) → AreDenying arch container done filters
+      → AreDenying arch container (done ++ e ∷ []) filters
   passed_over done e filters passes old = record {
     allow = old.allow;
     deny = old.deny;
@@ -61,14 +61,14 @@ module _ (arch : TargetArch) (caps : List (List ℕ)) where
       → All (Above rank_of_kept (FilterGives r) a) filters
   counted_above r a done filters above = All-weaker (IsCounted r done) (Above rank_of_kept (FilterGives r) a)
       (λ j counted w gives.
-      let found = at_any (Above rank_of_kept (EntryGives r) a) (λ e. Counts arch caps r e × (e.action ≡ j.match_action)) done above
+      let found = at_any (Above rank_of_kept (EntryGives r) a) (λ e. Counts arch container r e × (e.action ≡ j.match_action)) done above
       (counted gives.0) in
       subst (λ b. rank_of_kept a < rank_of_kept b) (found.2.1 ∙ sym gives.1) (found.1 found.0.action (found.2.0, refl))) filters
 
   -- A filter without rules changes nothing.
   none_more : (done : List Entry) (filters : List JsonFilter) (action : SeccompAction) → action ≢ Allow
-      → AreDenying arch caps done filters
-      → AreDenying arch caps done (filters ++ record { mismatch_action = Allow; match_action = action; rules = [] } ∷ [])
+      → AreDenying arch container done filters
+      → AreDenying arch container done (filters ++ record { mismatch_action = Allow; match_action = action; rules = [] } ∷ [])
   none_more done filters action denies old =
       let empty : JsonFilter = record { mismatch_action = Allow; match_action = action; rules = [] } in
       record {
@@ -82,9 +82,9 @@ module _ (arch : TargetArch) (caps : List (List ℕ)) where
 
   -- The rules of an entry join those of the last filter, which has its action.
   one_joined : (done : List Entry) (e : Entry) (front : List JsonFilter) (last : JsonFilter) (rules : List JsonRule)
-      → last.match_action ≡ e.action → ((r : List ℕ) → Any (RuleMatches arch r) rules ↔ Counts arch caps r e)
-      → (AreOnArguments e.args → All (IsFineEntry arch) rules) → AreDenying arch caps done (front ++ last ∷ [])
-      → AreDenying arch caps (done ++ e ∷ []) (front ++ record last { rules = last.rules ++ rules } ∷ [])
+      → last.match_action ≡ e.action → ((r : List ℕ) → Any (RuleMatches arch r) rules ↔ Counts arch container r e)
+      → (AreOnArguments e.args → All (IsFineEntry arch) rules) → AreDenying arch container done (front ++ last ∷ [])
+      → AreDenying arch container (done ++ e ∷ []) (front ++ record last { rules = last.rules ++ rules } ∷ [])
   one_joined done e front last rules same found fine old =
       let more : JsonFilter = record last { rules = last.rules ++ rules } in
       let allows = (all_append (λ (j : JsonFilter). j.mismatch_action ≡ Allow) front (last ∷ [])).0 old.allow in
@@ -100,8 +100,8 @@ module _ (arch : TargetArch) (caps : List (List ℕ)) where
             (All-weaker (IsCounted r done) (IsCounted r (done ++ e ∷ [])) (still_counted r done (e ∷ [])) front was.0)
             (λ any. elim ((either r).0 any) [
               | inl before ↦ still_counted r done (e ∷ []) last ((all_one (IsCounted r done) last).0 was.1) before
-              | inr now ↦ (any_append (λ e. Counts arch caps r e × (e.action ≡ last.match_action)) done (e ∷ [])).1
-                  (inr ((any_one (λ e. Counts arch caps r e × (e.action ≡ last.match_action)) e).1 ((found r).0 now, sym same)))
+              | inr now ↦ (any_append (λ e. Counts arch container r e × (e.action ≡ last.match_action)) done (e ∷ [])).1
+                  (inr ((any_one (λ e. Counts arch container r e × (e.action ≡ last.match_action)) e).1 ((found r).0 now, sym same)))
             ]);
         first = λ r a not least. elim (least_cases rank_of_kept (EntryGives r) done e a least) [
           | inl before ↦ elim (least_cases rank_of_kept (FilterGives r) front last a (old.first r a not before.0)) [
@@ -134,13 +134,13 @@ module _ (arch : TargetArch) (caps : List (List ℕ)) where
 
   -- The rules of an entry that denies join those of the last filter, or have a filter of their own.
   pub joined_on : (done : List Entry) (e : Entry) (rules : List JsonRule) (old new : List JsonFilter) → e.action ≢ Allow
-      → ((r : List ℕ) → Any (RuleMatches arch r) rules ↔ Counts arch caps r e)
+      → ((r : List ℕ) → Any (RuleMatches arch r) rules ↔ Counts arch container r e)
       → (AreOnArguments e.args → All (IsFineEntry arch) rules) → AreJoined e.action rules old new
-      → AreDenying arch caps done old → AreDenying arch caps (done ++ e ∷ []) new
+      → AreDenying arch container done old → AreDenying arch container (done ++ e ∷ []) new
   joined_on done e rules old new denies found fine (joins front last old_is same new_is) before =
-      subst (AreDenying arch caps (done ++ e ∷ [])) (sym new_is) (one_joined done e front last rules same found fine
-      (subst (AreDenying arch caps done) old_is before))
+      subst (AreDenying arch container (done ++ e ∷ [])) (sym new_is) (one_joined done e front last rules same found fine
+      (subst (AreDenying arch container done) old_is before))
   joined_on done e rules old new denies found fine (begins new_is) before =
-      subst (AreDenying arch caps (done ++ e ∷ [])) (sym new_is)
+      subst (AreDenying arch container (done ++ e ∷ [])) (sym new_is)
       (one_joined done e old (record { mismatch_action = Allow; match_action = e.action; rules = [] }) rules refl found fine
       (none_more done old e.action denies before))

@@ -15,7 +15,7 @@ use Rattle.seccompiler.specs.Policy.{Filter, IsDecision, other_architecture, pol
 use Rattle.seccomp_oci.specs.Decision.{Counts, IsFirstLeast, first, later, IsProfileDecision, by_entries, by_default, rank_of_kept}
 use Rattle.seccomp_oci.specs.Filters.{AllOnArguments, AreDenying, AreFiltersOf, without_base, with_base, IsFineFilter}
 use Rattle.seccomp_oci.specs.Filters.{FilterMatches, IsBase, IsJointDecision, all_allow, strictest, DecideAs}
-use Rattle.seccomp_oci.specs.Types.{Entry, Profile}
+use Rattle.seccomp_oci.specs.Types.{Container, Entry, Profile}
 use Rattle.seccomp_oci.proofs.Quantified.{any_weaker, at_any, none_is_any}
 use Rattle.seccomp_oci.proofs.Least.{Above, NotBelow, none_least, least_last, least_kept, least_all, least_any, least_only}
 use Rattle.seccomp_oci.proofs.Zipped.{zipped, zip_last}
@@ -23,21 +23,21 @@ use Rattle.seccomp_oci.proofs.filters.Denied.{EntryGives, FilterGives, IsCounted
 use Rattle.seccomp_oci.proofs.filters.Policies.{decided, decides_match, decides_mismatch}
 use Rattle.seccomp_oci.proofs.filters.Ranks.{allow_or_not, stricter}
 
-module _ (arch : TargetArch) (caps : List (List ℕ)) (r : List ℕ) (own : word_at r 4 ≡ audit_word arch) where
+module _ (arch : TargetArch) (container : Container) (r : List ℕ) (own : word_at r 4 ≡ audit_word arch) where
   -- A filter gives what it decides of the record.
   abbrev Gives : Filter → ℕ → Type 0
   Gives f w = IsDecision f r w
 
   -- A filter that denies, and what its policy decides: what is above an action, or not below it.
   filter_above : (a : SeccompAction) (j : JsonFilter) (f : Filter) → a ≢ Allow → IsPolicyOf arch j f
-      → (j.mismatch_action ≡ Allow) × Above rank_of_kept (FilterGives arch caps r) a j → Above rank Gives (word_of a) f
+      → (j.mismatch_action ≡ Allow) × Above rank_of_kept (FilterGives arch container r) a j → Above rank Gives (word_of a) f
   filter_above a j f not is both w gives = elim (decided arch r j f is own w gives) [
     | inl matches ↦ subst (λ v. rank (word_of a) < rank v) (sym matches.1) (both.1 j.match_action (matches.0, refl))
     | inr differs ↦ subst (λ v. rank (word_of a) < rank v) (sym (differs.1 ∙ ap word_of both.0)) (stricter a not)
   ]
 
   filter_not_below : (a : SeccompAction) (j : JsonFilter) (f : Filter) → a ≢ Allow → IsPolicyOf arch j f
-      → (j.mismatch_action ≡ Allow) × NotBelow rank_of_kept (FilterGives arch caps r) a j → NotBelow rank Gives (word_of a) f
+      → (j.mismatch_action ≡ Allow) × NotBelow rank_of_kept (FilterGives arch container r) a j → NotBelow rank Gives (word_of a) f
   filter_not_below a j f not is both w gives = elim (decided arch r j f is own w gives) [
     | inl matches ↦ subst (λ v. rank (word_of a) ≤ rank v) (sym matches.1) (both.1 j.match_action (matches.0, refl))
     | inr differs ↦ subst (λ v. rank (word_of a) ≤ rank v) (sym (differs.1 ∙ ap word_of both.0))
@@ -46,13 +46,13 @@ module _ (arch : TargetArch) (caps : List (List ℕ)) (r : List ℕ) (own : word
 
   -- The strictest of the actions that filters have for a record is the strictest of what their policies decide.
   policies_least : (a : SeccompAction) (js : List JsonFilter) (fs : List Filter) → a ≢ Allow → AllZip (IsPolicyOf arch) js fs
-      → All (λ (j : JsonFilter). j.mismatch_action ≡ Allow) js → IsFirstLeast rank_of_kept (FilterGives arch caps r) js a
+      → All (λ (j : JsonFilter). j.mismatch_action ≡ Allow) js → IsFirstLeast rank_of_kept (FilterGives arch container r) js a
       → IsFirstLeast rank Gives fs (word_of a)
-  policies_least a [] fs not zip allow least = absurd (none_least rank_of_kept (FilterGives arch caps r) a least)
+  policies_least a [] fs not zip allow least = absurd (none_least rank_of_kept (FilterGives arch container r) a least)
   policies_least a (j ∷ js) [] not zip allow least = absurd zip
   policies_least a (j ∷ js) (f ∷ fs) not zip allow (first gives rest) =
       first (subst (λ b. IsDecision f r (word_of b)) (sym gives.1) (decides_match arch r j f zip.0 own gives.0))
-      (zipped (IsPolicyOf arch) (λ j. (j.mismatch_action ≡ Allow) × NotBelow rank_of_kept (FilterGives arch caps r) a j)
+      (zipped (IsPolicyOf arch) (λ j. (j.mismatch_action ≡ Allow) × NotBelow rank_of_kept (FilterGives arch container r) a j)
       (NotBelow rank Gives (word_of a)) (λ j f is both. filter_not_below a j f not is both) js fs zip.1
       (λ k d within. (All-tail (λ (j : JsonFilter). j.mismatch_action ≡ Allow) j js allow k d within, rest k d within)))
   policies_least a (j ∷ js) (f ∷ fs) not zip allow (later before least) =
@@ -61,34 +61,34 @@ module _ (arch : TargetArch) (caps : List (List ℕ)) (r : List ℕ) (own : word
 
   -- All entries that count allow.
   abbrev AllAllow : List Entry → Type 0
-  AllAllow entries = All (λ e. Counts arch caps r e → e.action ≡ Allow) entries
+  AllAllow entries = All (λ e. Counts arch container r e → e.action ≡ Allow) entries
 
-  least_allows : (entries : List Entry) → IsFirstLeast rank_of_kept (EntryGives arch caps r) entries Allow → AllAllow entries
-  least_allows entries least = All-weaker (NotBelow rank_of_kept (EntryGives arch caps r) Allow)
-      (λ (e : Entry). Counts arch caps r e → e.action ≡ Allow)
+  least_allows : (entries : List Entry) → IsFirstLeast rank_of_kept (EntryGives arch container r) entries Allow → AllAllow entries
+  least_allows entries least = All-weaker (NotBelow rank_of_kept (EntryGives arch container r) Allow)
+      (λ (e : Entry). Counts arch container r e → e.action ≡ Allow)
       (λ e not_below counts. elim (allow_or_not e.action) [
         | inl is ↦ is
         | inr not ↦ let less = stricter e.action not in let more = not_below e.action (counts, refl) in absurd (omega arith)
       ]) entries
-      (least_all rank_of_kept (EntryGives arch caps r) entries Allow least
+      (least_all rank_of_kept (EntryGives arch container r) entries Allow least
       (λ e gives w other. subst (λ b. rank_of_kept Allow ≤ rank_of_kept b) (gives.1 ∙ sym other.1) (omega arith)))
 
   -- What each of the filters says that deny.
   abbrev Denies : List Entry → JsonFilter → Type 0
-  Denies entries j = (j.mismatch_action ≡ Allow) × (j.match_action ≢ Allow) × IsCounted arch caps r entries j
+  Denies entries j = (j.mismatch_action ≡ Allow) × (j.match_action ≢ Allow) × IsCounted arch container r entries j
 
-  each_denies : (entries : List Entry) (js : List JsonFilter) → AreDenying arch caps entries js → All (Denies entries) js
+  each_denies : (entries : List Entry) (js : List JsonFilter) → AreDenying arch container entries js → All (Denies entries) js
   each_denies entries js are = λ k d within. (are.allow k d within, are.deny k d within, are.counted r k d within)
 
   -- Where all entries that count allow, a filter that denies doesn't match.
   no_match : (entries : List Entry) (j : JsonFilter) → AllAllow entries → Denies entries j → FilterMatches arch r j → ⊥
   no_match entries j allow denies matches =
-      let found = at_any (λ (e : Entry). Counts arch caps r e → e.action ≡ Allow)
-      (λ e. Counts arch caps r e × (e.action ≡ j.match_action)) entries allow (denies.2 matches) in
+      let found = at_any (λ (e : Entry). Counts arch container r e → e.action ≡ Allow)
+      (λ e. Counts arch container r e × (e.action ≡ j.match_action)) entries allow (denies.2 matches) in
       denies.1 (sym found.2.1 ∙ found.1 found.2.0)
 
   -- So each of them allows.
-  all_allowed : (entries : List Entry) (js : List JsonFilter) (fs : List Filter) → AllAllow entries → AreDenying arch caps entries js
+  all_allowed : (entries : List Entry) (js : List JsonFilter) (fs : List Filter) → AllAllow entries → AreDenying arch container entries js
       → AllZip (IsPolicyOf arch) js fs → All (λ f. (w : ℕ) → Gives f w → w ≡ 0x7fff0000) fs
   all_allowed entries js fs allow are zip = zipped (IsPolicyOf arch) (Denies entries) (λ f. (w : ℕ) → Gives f w → w ≡ 0x7fff0000)
       (λ j f is denies w gives. elim (decided arch r j f is own w gives) [
@@ -98,42 +98,43 @@ module _ (arch : TargetArch) (caps : List (List ℕ)) (r : List ℕ) (own : word
 
   -- And each is less strict than another action.
   all_above : (a : SeccompAction) (entries : List Entry) (js : List JsonFilter) (fs : List Filter) → a ≢ Allow → AllAllow entries
-      → AreDenying arch caps entries js → AllZip (IsPolicyOf arch) js fs → All (Above rank Gives (word_of a)) fs
+      → AreDenying arch container entries js → AllZip (IsPolicyOf arch) js fs → All (Above rank Gives (word_of a)) fs
   all_above a entries js fs not allow are zip = All-weaker (λ f. (w : ℕ) → Gives f w → w ≡ 0x7fff0000) (Above rank Gives (word_of a))
       (λ f allows w gives. subst (λ v. rank (word_of a) < rank v) (sym (allows w gives)) (stricter a not)) fs
       (all_allowed entries js fs allow are zip)
 
-  none_count : (entries : List Entry) → All (λ e. Counts arch caps r e → ⊥) entries → AllAllow entries
-  none_count entries = All-weaker (λ (e : Entry). Counts arch caps r e → ⊥) (λ (e : Entry). Counts arch caps r e → e.action ≡ Allow)
+  none_count : (entries : List Entry) → All (λ e. Counts arch container r e → ⊥) entries → AllAllow entries
+  none_count entries = All-weaker (λ (e : Entry). Counts arch container r e → ⊥)
+      (λ (e : Entry). Counts arch container r e → e.action ≡ Allow)
       (λ e none counts. absurd (none counts)) entries
 
-  some_count : (entries : List Entry) (a : SeccompAction) → IsFirstLeast rank_of_kept (EntryGives arch caps r) entries a
-      → Any (Counts arch caps r) entries
-  some_count entries a least = any_weaker (λ e. EntryGives arch caps r e a) (Counts arch caps r) entries (λ e gives. gives.0)
-      (least_any rank_of_kept (EntryGives arch caps r) entries a least)
+  some_count : (entries : List Entry) (a : SeccompAction) → IsFirstLeast rank_of_kept (EntryGives arch container r) entries a
+      → Any (Counts arch container r) entries
+  some_count entries a least = any_weaker (λ e. EntryGives arch container r e a) (Counts arch container r) entries (λ e gives. gives.0)
+      (least_any rank_of_kept (EntryGives arch container r) entries a least)
 
   module _ (p : Profile) where
     -- A filter with the default action allows a record for which some entry counts, and has that action else.
-    base_allows : (j : JsonFilter) (f : Filter) → IsBase arch caps p j → IsPolicyOf arch j f → Any (Counts arch caps r) p.entries
+    base_allows : (j : JsonFilter) (f : Filter) → IsBase arch container p j → IsPolicyOf arch j f → Any (Counts arch container r) p.entries
         → (w : ℕ) → Gives f w → w ≡ 0x7fff0000
     base_allows j f base is some w gives = elim (decided arch r j f is own w gives) [
       | inl matches ↦ matches.1 ∙ ap word_of base.match_action
       | inr differs ↦ absurd (differs.0 ((base.matches r).1 some))
     ]
 
-    base_differs : (a : SeccompAction) (j : JsonFilter) (f : Filter) → IsBase arch caps p j → IsPolicyOf arch j f → a ≡ p.default
-        → All (λ e. Counts arch caps r e → ⊥) p.entries → Gives f (word_of a)
+    base_differs : (a : SeccompAction) (j : JsonFilter) (f : Filter) → IsBase arch container p j → IsPolicyOf arch j f → a ≡ p.default
+        → All (λ e. Counts arch container r e → ⊥) p.entries → Gives f (word_of a)
     base_differs a j f base is default none =
         subst (λ b. IsDecision f r (word_of b)) (base.mismatch_action ∙ sym default)
-        (decides_mismatch arch r j f is own (λ matches. none_is_any (Counts arch caps r) p.entries none ((base.matches r).0 matches)))
+        (decides_mismatch arch r j f is own (λ matches. none_is_any (Counts arch container r) p.entries none ((base.matches r).0 matches)))
 
     -- The filters of a profile decide together what the profile decides.
-    joint : (js : List JsonFilter) (fs : List Filter) (a : SeccompAction) → AreFiltersOf arch caps p js → AllZip (IsPolicyOf arch) js fs
-        → IsProfileDecision arch caps p r a → IsJointDecision fs r (word_of a)
+    joint : (js : List JsonFilter) (fs : List Filter) (a : SeccompAction) → AreFiltersOf arch container p js
+        → AllZip (IsPolicyOf arch) js fs → IsProfileDecision arch container p r a → IsJointDecision fs r (word_of a)
     joint js fs a (without_base allows are) zip (by_entries least) = elim (allow_or_not a) [
       | inl is ↦ all_allow
           (all_allowed p.entries js fs
-          (least_allows p.entries (subst (IsFirstLeast rank_of_kept (EntryGives arch caps r) p.entries) is least)) are zip)
+          (least_allows p.entries (subst (IsFirstLeast rank_of_kept (EntryGives arch container r) p.entries) is least)) are zip)
           (ap word_of is)
       | inr not ↦ strictest (policies_least a js fs not zip are.allow (are.first r a not least))
     ]
@@ -144,12 +145,12 @@ module _ (arch : TargetArch) (caps : List (List ℕ)) (r : List ℕ) (own : word
         subst (λ gs. IsJointDecision gs r (word_of a)) (sym parts.2) (behind parts.0 parts.1 parts.3 parts.4 decision)
       where
         behind : (gs : List Filter) (g : Filter) → AllZip (IsPolicyOf arch) denying gs → IsPolicyOf arch base g
-            → IsProfileDecision arch caps p r a → IsJointDecision (gs ++ g ∷ []) r (word_of a)
+            → IsProfileDecision arch container p r a → IsJointDecision (gs ++ g ∷ []) r (word_of a)
         behind gs g zip is (by_entries least) = elim (allow_or_not a) [
           | inl allows ↦ all_allow
               (All-push (λ f. (w : ℕ) → Gives f w → w ≡ 0x7fff0000) gs g
               (all_allowed p.entries denying gs
-              (least_allows p.entries (subst (IsFirstLeast rank_of_kept (EntryGives arch caps r) p.entries) allows least)) are zip)
+              (least_allows p.entries (subst (IsFirstLeast rank_of_kept (EntryGives arch container r) p.entries) allows least)) are zip)
               (base_allows base g is_base is (some_count p.entries a least)))
               (ap word_of allows)
           | inr not ↦ strictest (least_kept rank Gives gs g (word_of a)
@@ -193,20 +194,20 @@ one_joint r fs v w (strictest least) (strictest other) =
     least_only rank (λ (f : Filter) v. IsDecision f r v) (one_decision r) fs v w least other
 
 -- The filters of a profile decide together what the profile decides, of each record of the architecture.
-pub decide_as : (arch : TargetArch) (caps : List (List ℕ)) (p : Profile) (js : List JsonFilter) (fs : List Filter)
-    → AreFiltersOf arch caps p js → AllZip (IsPolicyOf arch) js fs → DecideAs arch caps p fs
-decide_as arch caps p js fs are zip = λ r own a decision w.
-    let is = joint arch caps r own p js fs a are zip decision in
+pub decide_as : (arch : TargetArch) (container : Container) (p : Profile) (js : List JsonFilter) (fs : List Filter)
+    → AreFiltersOf arch container p js → AllZip (IsPolicyOf arch) js fs → DecideAs arch container p fs
+decide_as arch container p js fs are zip = λ r own a decision w.
+    let is = joint arch container r own p js fs a are zip decision in
     (λ other. one_joint r fs w (word_of a) other is, λ same. subst (IsJointDecision fs r) (sym same) is)
 
 -- Nothing is wrong with them where each condition is on an argument that a call has.
-pub each_fine : (arch : TargetArch) (caps : List (List ℕ)) (p : Profile) (js : List JsonFilter) → AreFiltersOf arch caps p js
+pub each_fine : (arch : TargetArch) (container : Container) (p : Profile) (js : List JsonFilter) → AreFiltersOf arch container p js
     → AllOnArguments p.entries → All (IsFineFilter arch) js
-each_fine arch caps p js (without_base allows are) on = λ k d within. record {
+each_fine arch container p js (without_base allows are) on = λ k d within. record {
   rules = are.fine on k d within;
   different = λ same. are.deny k d within (sym same ∙ are.allow k d within);
 }
-each_fine arch caps p js (with_base denying base denies whole are is_base) on =
+each_fine arch container p js (with_base denying base denies whole are is_base) on =
     subst (All (IsFineFilter arch)) (sym whole)
     (All-push (IsFineFilter arch) denying base
     (λ k d within. record {

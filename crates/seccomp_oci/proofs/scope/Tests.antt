@@ -1,6 +1,6 @@
 -- For `has_text`, `has_all` and `has_none`: what tests of lists of texts say.
-use Rattle.std.proofs.Common.{◌≡◌, ◌↔◌, ℕ, List, [], ◌∷◌, Bool, true, false, not, ◌&&◌, ◌||◌, ◌⊎◌, refl, subst}
-use Rattle.std.specs.Prelude.{All, Contains, IsTrue}
+use Rattle.std.proofs.Common.{◌≡◌, ◌↔◌, ℕ, Option, List, [], ◌∷◌, Bool, true, false, not, ◌&&◌, ◌||◌, ◌⊎◌, refl, subst}
+use Rattle.std.specs.Prelude.{All, Contains, IfSome, IsTrue}
 use Rattle.std.specs.List.{list_all, list_any}
 use Rattle.std.specs.Str.{bytes_eq}
 use Rattle.std.specs.Bool.{Decides}
@@ -9,8 +9,9 @@ use Rattle.std.proofs.lemmas.Cmp.{nat_list_eq_equiv}
 use Rattle.std.proofs.lemmas.Map.Views.{Contains-from_any, list_any-from_Contains}
 use Rattle.std.proofs.lemmas.Slice.Eq.{bytes_eq-Decides}
 use Rattle.seccompiler.specs.declared.backend.TargetArch.{TargetArch}
-use Rattle.seccomp_oci.specs.Decision.{go_name, Applies}
-use Rattle.seccomp_oci.specs.Types.{Entry}
+use Rattle.seccomp_oci.specs.declared.types.Kernel.{Kernel}
+use Rattle.seccomp_oci.specs.Decision.{go_name, Applies, IsAtLeast}
+use Rattle.seccomp_oci.specs.Types.{Container, Entry}
 
 -- Whether a text is one of these.
 pub text_decides : (texts : List (List ℕ)) (text : List ℕ) → Decides (list_any (bytes_eq text) texts) (Contains texts text)
@@ -57,22 +58,37 @@ pub none_tested : (names texts : List (List ℕ)) (r : Bool) → r ≡ not (list
     → IsTrue r ↔ All (λ text. Contains names text → ⊥) texts
 none_tested names texts r same = told r _ same (none_decides names texts)
 
--- Whether an entry applies, by four tests.
-pub applies_tested : (arch : TargetArch) (caps : List (List ℕ)) (e : Entry) (r all included none excluded : Bool)
-    (ic ia ec ea : List (List ℕ)) (name : List ℕ)
-    → r ≡ (all && (included && (none && not excluded)))
+-- Whether an entry applies, by five tests.
+pub applies_tested : (arch : TargetArch) (container : Container) (e : Entry) (r all included none excluded fits : Bool)
+    (caps ic ia other_caps ec ea : List (List ℕ)) (name : List ℕ) (kernel : Option Kernel)
+    → r ≡ (all && (included && (none && (not excluded && fits))))
     → (IsTrue all ↔ All (λ cap. Contains caps cap) ic) → (IsTrue included ↔ ((ia ≡ []) ⊎ Contains ia name))
-    → (IsTrue none ↔ All (λ cap. Contains caps cap → ⊥) ec) → (IsTrue excluded ↔ Contains ea name)
-    → name ≡ go_name arch → ic ≡ e.includes.caps → ia ≡ e.includes.arches → ec ≡ e.excludes.caps → ea ≡ e.excludes.arches
-    → IsTrue r ↔ Applies arch caps e
-applies_tested arch caps e r all included none excluded ic ia ec ea name same a i n x name_is caps_are arches_are no_caps_are
-    no_arches_are =
-    let four = Decides-at r _ same (Decides-and all _ (subst (λ cs. IsTrue all ↔ All (λ cap. Contains caps cap) cs) caps_are a)
-    (Decides-and included _ (subst (λ cs. IsTrue included ↔ ((cs ≡ []) ⊎ Contains cs (go_name arch))) arches_are
-    (subst (λ go. IsTrue included ↔ ((ia ≡ []) ⊎ Contains ia go)) name_is i))
-    (Decides-and none (not excluded) (subst (λ cs. IsTrue none ↔ All (λ cap. Contains caps cap → ⊥) cs) no_caps_are n)
-    (Decides-not excluded (subst (λ cs. IsTrue excluded ↔ Contains cs (go_name arch)) no_arches_are
-    (subst (λ go. IsTrue excluded ↔ Contains ea go) name_is x)))))) in (
-      λ h. let are = four.0 h in record { each_cap = are.0; this_arch = are.1.0; no_cap = are.1.1.0; no_arch = are.1.1.1 },
-      λ is. four.1 (is.each_cap, (is.this_arch, (is.no_cap, is.no_arch))),
+    → (IsTrue none ↔ All (λ cap. Contains other_caps cap → ⊥) ec) → (IsTrue excluded ↔ Contains ea name)
+    → (IsTrue fits ↔ (IfSome e.includes.min_kernel (IsAtLeast kernel) × IfSome e.excludes.min_kernel (λ k. IsAtLeast kernel k → ⊥)))
+    → name ≡ go_name arch → caps ≡ container.caps → other_caps ≡ container.caps → kernel ≡ container.kernel
+    → ic ≡ e.includes.caps → ia ≡ e.includes.arches → ec ≡ e.excludes.caps → ea ≡ e.excludes.arches
+    → IsTrue r ↔ Applies arch container e
+applies_tested arch container e r all included none excluded fits caps ic ia other_caps ec ea name kernel same a i n x k name_is
+    caps_is others_is kernel_is caps_are arches_are no_caps_are no_arches_are =
+    let all_is = subst (λ cs. IsTrue all ↔ All (λ cap. Contains cs cap) e.includes.caps) caps_is
+    (subst (λ cs. IsTrue all ↔ All (λ cap. Contains caps cap) cs) caps_are a) in
+    let included_is = subst (λ cs. IsTrue included ↔ ((cs ≡ []) ⊎ Contains cs (go_name arch))) arches_are
+    (subst (λ go. IsTrue included ↔ ((ia ≡ []) ⊎ Contains ia go)) name_is i) in
+    let none_is = subst (λ cs. IsTrue none ↔ All (λ cap. Contains cs cap → ⊥) e.excludes.caps) others_is
+    (subst (λ cs. IsTrue none ↔ All (λ cap. Contains other_caps cap → ⊥) cs) no_caps_are n) in
+    let excluded_is = subst (λ cs. IsTrue excluded ↔ Contains cs (go_name arch)) no_arches_are
+    (subst (λ go. IsTrue excluded ↔ Contains ea go) name_is x) in
+    let fits_is = subst (λ own. IsTrue fits ↔ (IfSome e.includes.min_kernel (IsAtLeast own)
+    × IfSome e.excludes.min_kernel (λ k. IsAtLeast own k → ⊥))) kernel_is k in
+    let five = Decides-at r _ same (Decides-and all _ all_is (Decides-and included _ included_is (Decides-and none _ none_is
+    (Decides-and (not excluded) fits (Decides-not excluded excluded_is) fits_is)))) in (
+      λ h. let are = five.0 h in record {
+        each_cap = are.0;
+        this_arch = are.1.0;
+        no_cap = are.1.1.0;
+        no_arch = are.1.1.1.0;
+        from_kernel = are.1.1.1.1.0;
+        before_kernel = are.1.1.1.1.1;
+      },
+      λ is. five.1 (is.each_cap, (is.this_arch, (is.no_cap, (is.no_arch, (is.from_kernel, is.before_kernel))))),
     )

@@ -1,4 +1,4 @@
-use Rattle.std.proofs.Common.{◌↔◌, map, subst, sym, All}
+use Rattle.std.proofs.Common.{◌↔◌, subst, sym, All}
 use Rattle.std.specs.Prelude.{Any}
 use Rattle.std.proofs.lemmas.List.{take_all}
 use Rattle.seccompiler.specs.JsonPolicyOf.{IsFineEntry}
@@ -10,11 +10,11 @@ use Rattle.seccomp_oci.proofs.filters.all_rules.Goals as goal
 
 pub loop-entry-preserved : goal.loop-entry-preserved
 loop-entry-preserved c =
-    let caps = map (λ cap. cap.now) c.args.caps.now in
+    let container = c.args.container.now in
     let entries = c.args.entries.now in
     let place = c.loop-entry.entry-index in
     record {
-      found = λ r. any_flat (RuleMatches c.args.arch r) (Counts c.args.arch caps r) _ _ _ entries place c.entry-item.result
+      found = λ r. any_flat (RuleMatches c.args.arch r) (Counts c.args.arch container r) _ _ _ entries place c.entry-item.result
           c.loop-entry-test.true c.entry-item.is c.in_ok-append.ensures.items (c.loop-entry.invariant.found r)
           (c.in_ok-more.ensures.found r);
       fine = λ on. subst (All (IsFineEntry c.args.arch)) (sym c.in_ok-append.ensures.items)
@@ -27,6 +27,6 @@ loop-entry-preserved c =
 
 pub returns-clause-found : goal.returns-clause-found
 returns-clause-found c = λ r.
-    let caps = map (λ cap. cap.now) c.args.caps.now in
-    subst (λ es. Any (RuleMatches c.args.arch r) c.loop-entry.rules.items ↔ Any (Counts c.args.arch caps r) es)
+    let container = c.args.container.now in
+    subst (λ es. Any (RuleMatches c.args.arch r) c.loop-entry.rules.items ↔ Any (Counts c.args.arch container r) es)
     (take_all c.loop-entry.entry-index c.args.entries.now c.loop-entry-test.false) (c.loop-entry.invariant.found r)

@@ -1,4 +1,4 @@
-use Rattle.std.proofs.Common.{◌↔◌, ℕ, List, All, map, take}
+use Rattle.std.proofs.Common.{◌↔◌, ℕ, List, All, take}
 use Rattle.std.specs.Prelude.{Any}
 use Rattle.seccompiler.specs.JsonPolicyOf.{IsFineEntry}
 use Rattle.seccomp_oci.specs.Decision.{Counts}
@@ -9,6 +9,6 @@ use Rattle.seccomp_oci.proofs.filters.all_rules.Given as goal
 abbrev pub invariant-loop-entry : goal.invariant-loop-entry
 invariant-loop-entry l = record {
   found : (r : List ℕ) → Any (RuleMatches l.arch r) l.rules.items
-      ↔ Any (Counts l.arch (map (λ cap. cap.now) l.caps) r) (take l.entry-index l.entries);
+      ↔ Any (Counts l.arch l.container r) (take l.entry-index l.entries);
   fine : AllOnArguments l.entries → All (IsFineEntry l.arch) l.rules.items;
 }

@@ -1,4 +1,4 @@
-use Rattle.std.proofs.Common.{◌≡◌, subst, sym, map}
+use Rattle.std.proofs.Common.{◌≡◌, subst, sym}
 use Rattle.std.specs.Prelude.{All}
 use Rattle.std.specs.List.{AllZip}
 use Rattle.seccompiler.specs.JsonPolicyOf.{IsPolicyOf}
@@ -10,9 +10,9 @@ use Rattle.seccomp_oci.proofs.filters.filters_of_profile.Goals as goal
 
 pub returns-clause-decide : goal.returns-clause-decide
 returns-clause-decide c =
-    let caps = map (λ cap. cap.now) c.args.caps.now in
+    let container = c.args.container.now in
     IfOk-weaker c.made.result (λ filters. AllZip (IsPolicyOf c.args.arch) c.as_slice.result.now filters.items)
-    (λ filters. DecideAs c.args.arch caps c.args.profile.now filters.items)
+    (λ filters. DecideAs c.args.arch container c.args.profile.now filters.items)
     (λ filters zip. c.in_ok-all.ensures.decide filters.items
     (subst (λ js. AllZip (IsPolicyOf c.args.arch) js filters.items) c.as_slice.ensures.value zip)) c.made.ensures.policies
 

@@ -90,33 +90,30 @@ fn is_included(arches: &[String], text: &str) -> bool
 fn is_at_least(kernel: Option<Kernel>, least: Kernel) -> bool
     ensures { IsTrue result ↔ IsAtLeast kernel least }
 {
-    match kernel {
-        None => true,
-        Some(kernel) => {
-            least.major < kernel.major
-                || (kernel.major == least.major && least.minor <= kernel.minor)
-        }
-    }
+    let Some(kernel) = kernel else {
+        return true;
+    };
+    least.major < kernel.major || (kernel.major == least.major && least.minor <= kernel.minor)
 }
 
 // Whether the kernel is the one that is included or a newer one, if one is.
 fn is_from(kernel: Option<Kernel>, least: Option<Kernel>) -> bool
     ensures { IsTrue result ↔ IfSome least (IsAtLeast kernel) }
 {
-    match least {
-        None => true,
-        Some(least) => is_at_least(kernel, least),
-    }
+    let Some(least) = least else {
+        return true;
+    };
+    is_at_least(kernel, least)
 }
 
 // Whether the kernel is older than the one that is excluded, if one is.
 fn is_before(kernel: Option<Kernel>, least: Option<Kernel>) -> bool
     ensures { IsTrue result ↔ IfSome least (λ k. IsAtLeast kernel k → ⊥) }
 {
-    match least {
-        None => true,
-        Some(least) => !is_at_least(kernel, least),
-    }
+    let Some(least) = least else {
+        return true;
+    };
+    !is_at_least(kernel, least)
 }
 
 // Whether the kernel is one that the entry is for.

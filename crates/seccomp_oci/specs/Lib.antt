@@ -9,3 +9,4 @@ pub mod Decision
 pub mod Rules
 pub mod Filters
 pub mod PolicyText
+pub mod Import

@@ -12,6 +12,7 @@ mod decisions;
 mod entries;
 mod error;
 mod filters;
+pub mod import;
 mod layout;
 mod lists;
 mod members;
@@ -28,6 +29,7 @@ pub mod types;
 mod version;
 
 pub use error::ProfileError;
+pub use import::{Import, ImportError, import_profile};
 pub use filters::{filters_of_profile, json_filters_of};
 pub use lists::{arguments_under, flags_under, texts_under};
 pub use parts::{read_action, read_argument, read_flag};

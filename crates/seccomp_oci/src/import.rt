@@ -7,6 +7,7 @@ use crate::error::ProfileError;
 use crate::types::Container;
 use seccompiler::TargetArch;
 use std::alloc::Global;
+use std::fmt;
 
 /// A profile as a JSON policy.
 #[derive(Debug, Drop)]
@@ -31,6 +32,16 @@ pub enum ImportError {
     NotReadBack,
     /// Memory ran out.
     OutOfMemory,
+}
+
+impl fmt::Display for ImportError {
+    ghost use Rattle.seccomp_oci.specs.Import.{import_error_text};
+
+    ghost output = { import_error_text };
+
+    fn fmt<W: fmt::Write>(&self, f: &mut fmt::Formatter<W>) -> fmt::Result {
+        f.write_str("stub")
+    }
 }
 
 pub fn import_profile(

@@ -5,6 +5,7 @@ use Rattle.std.specs.List.{AllZip}
 use Rattle.clap.specs.Words.{Text, IsAmong, fault_of}
 use Rattle.clap.specs.declared.error.kind.ErrorKind.{ErrorKind}
 use Rattle.clap.specs.declared.error.kind.ErrorKind.TheVariants.{DisplayHelp, DisplayVersion}
+use Rattle.seccomp_oci.specs.Types.{Container}
 use Rattle.seccomp_warnings.specs.declared.code.Code.{Code}
 use Rattle.seccomptool.specs.CommandLine.{program_app}
 use Rattle.seccomptool.specs.Commands.{EndsWith, IsPerformed, compares}
@@ -12,20 +13,24 @@ use Rattle.seccomptool.specs.Words.{Choices, Means}
 use Rattle.seccomptool.specs.declared.findings.Verdict.{Verdict}
 use Rattle.seccomptool.specs.declared.findings.Verdict.TheVariants.{Same}
 use Rattle.seccomptool.specs.declared.words.Asked.{Asked}
-use Rattle.seccomptool.specs.declared.words.Asked.TheVariants.{One, Checks}
+use Rattle.seccomptool.specs.declared.words.Asked.TheVariants.{One, Checks, Import}
 use Rattle.seccomptool.specs.declared.words.Command.{Command}
 use Rattle.seccomptool.specs.declared.words.Command.TheVariants.{Check}
+use Rattle.seccomptool.specs.declared.words.Command.TheVariants as command
 
 -- These are the commands that are asked for, in the order in which they are carried out: of `check` one for each policy.
 abbrev pub AreCommandsOf : Asked → List Command → Type 0
 AreCommandsOf (One command) commands = commands ≡ command ∷ []
 AreCommandsOf (Checks arch denied allowed policies) commands =
     (own : Bor (List Code)) × (own.now ≡ allowed.items) × (commands ≡ map (Check arch denied own) policies.items)
+AreCommandsOf (Import arch container strict profile) commands =
+    (own : Bor Container) × (own.now ≡ container) × (commands ≡ command.Import arch own strict profile ∷ [])
 
 -- What is asked for compares.
 abbrev pub asks_to_compare : Asked → Bool
 asks_to_compare (One command) = compares command
 asks_to_compare (Checks arch denied allowed policies) = false
+asks_to_compare (Import arch container strict profile) = false
 
 -- The commands end with statuses, one by one, of which this is the greatest; it is 0 where there is no command.
 pub record EndWith (commands : List Command) (status : ℕ) : Type 0 where

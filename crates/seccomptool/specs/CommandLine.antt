@@ -121,6 +121,22 @@ shown_policy_rule = record (new_rule (codes "policy")) { value_names = 1 }
 abbrev pub shown_program_rule : Rule
 shown_program_rule = record (new_rule (codes "program")) { value_names = 1; long = Some (codes "program") }
 
+-- `--cap CAP`, as often as it is given.
+abbrev pub cap_rule : Rule
+cap_rule = record (new_rule (codes "cap")) { value_names = 1; long = Some (codes "cap"); action = Some Append }
+
+-- `--kernel KERNEL`.
+abbrev pub kernel_rule : Rule
+kernel_rule = record (new_rule (codes "kernel")) { value_names = 1; long = Some (codes "kernel") }
+
+-- `--strict`.
+abbrev pub strict_rule : Rule
+strict_rule = record (new_rule (codes "strict")) { long = Some (codes "strict"); action = Some SetTrue }
+
+-- PROFILE: `-` where it isn't given.
+abbrev pub profile_rule : Rule
+profile_rule = record (new_rule (codes "profile")) { value_names = 1; defaults = codes "-" ∷ [] }
+
 -- OLD and NEW, which have to be given.
 abbrev pub old_rule : Rule
 old_rule = record (new_rule (codes "old")) { value_names = 1; required = true }
@@ -186,6 +202,11 @@ verify_app archs =
     with_rule (with_rule (with_rule (with_rule (with_rule (with_rule (with_rule (new_app (codes "verify"))
     (arch_rule archs)) filter_rule) at_most_rule) all_rule) most_rule) given_policy_rule) program_rule
 
+abbrev pub import_app : NameList → App
+import_app archs =
+    with_rule (with_rule (with_rule (with_rule (with_rule (new_app (codes "import")) (arch_rule archs)) cap_rule) kernel_rule) strict_rule)
+    profile_rule
+
 -- The program itself, which has to be given a subcommand. Its own name is none of the words.
 abbrev pub top_app : App
 top_app = on_top (λ s. record s {
@@ -208,9 +229,10 @@ deciding_app names =
 -- The program with all commands.
 abbrev pub program_app : Names → App
 program_app names =
-    with_subcommand (with_subcommand (with_subcommand (with_subcommand (with_subcommand (deciding_app names)
+    with_subcommand (with_subcommand (with_subcommand (with_subcommand (with_subcommand (with_subcommand (deciding_app names)
     (policy_app (codes "stats") names.archs).top)
     (record_app names.archs).top)
     (diff_app names.archs).top)
     (verify_app names.archs).top)
-    (policy_app (codes "compat") names.archs).top
+    (policy_app (codes "compat") names.archs).top)
+    (import_app names.archs).top

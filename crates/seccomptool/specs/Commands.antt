@@ -1,16 +1,17 @@
 -- What each command answers and writes.
-use Rattle.std.specs.Prelude.{◌≡◌, ℕ, Bool, true, false, List, Option, Some, None, Result, Ok, Err, IfOk, IsErrAnd, ⊤}
+use Rattle.std.specs.Prelude.{◌≡◌, ℕ, Bool, true, false, List, [], Option, Some, None, Result, Ok, Err, IfOk, IsErrAnd, ⊤}
 use Rattle.seccompiler.specs.declared.backend.TargetArch.{TargetArch}
 use Rattle.seccompiler.specs.declared.layout.Layout.{Layout}
 use Rattle.seccompiler.specs.Architecture.{arch_text}
 use Rattle.seccomptool.specs.declared.compile.format.ProgramFormat.TheVariants as program_format
+use Rattle.seccomptool.specs.declared.done.Done.{Done}
 use Rattle.seccomptool.specs.declared.error.ToolError.{ToolError}
 use Rattle.seccomptool.specs.declared.explain.format.LineFormat.{LineFormat}
 use Rattle.seccomptool.specs.declared.findings.Verdict.{Verdict}
 use Rattle.seccomptool.specs.declared.findings.Verdict.TheVariants.{Same, Different, Undecided}
 use Rattle.seccomptool.specs.declared.words.Command.{Command}
 use Rattle.seccomptool.specs.declared.words.Command.TheVariants.{Compile, Show, Check, Codes, Explain, Run, Stats, Record, Diff}
-use Rattle.seccomptool.specs.declared.words.Command.TheVariants.{Verify, Compat}
+use Rattle.seccomptool.specs.declared.words.Command.TheVariants.{Verify, Compat, Import}
 use Rattle.seccomptool.specs.declared.words.Records.{Records}
 use Rattle.seccomptool.specs.declared.words.Records.TheVariants as records
 use Rattle.seccomptool.specs.declared.words.Shown.{Shown}
@@ -28,6 +29,7 @@ use Rattle.seccomptool.specs.ShowProgram.{AnswersShowProgram}
 use Rattle.seccomptool.specs.Stats.{AnswersStats}
 use Rattle.seccomptool.specs.Verify.{AnswersVerify}
 use Rattle.seccomptool.specs.Compat.{AnswersCompat}
+use Rattle.seccomptool.specs.Imports.{AnswersImport}
 use Rattle.seccomptool.specs.Words.{text_of}
 
 -- The answer of `explain` on these records, for the filter that is asked for, or the policy's only one.
@@ -63,25 +65,37 @@ abbrev pub AnswersShown : Shown → TargetArch → Layout → (given : Option (L
 AnswersShown (shown.Policy path) arch layout policy answer old new = AnswersShow (arch_text arch) policy layout answer old new
 AnswersShown (shown.Program path) arch layout program answer old new = AnswersShowProgram program answer old new
 
--- An answer without its verdict.
-abbrev pub plain_of : Result Verdict ToolError → Result ⊤ ToolError
-plain_of (Ok verdict) = Ok tt
+-- An answer without what is found and noted.
+abbrev pub plain_of : Result Done ToolError → Result ⊤ ToolError
+plain_of (Ok done) = Ok tt
 plain_of (Err e) = Err e
 
--- The answer of a command that compares nothing: P holds of it, and its verdict is `Same` where it is carried out.
-abbrev pub AnswersPlain : (Result ⊤ ToolError → Type 0) → Result Verdict ToolError → Type 0
-AnswersPlain P answer = P (plain_of answer) × IfOk answer (λ verdict. verdict ≡ Same)
+-- An answer without what is noted.
+abbrev pub found_of : Result Done ToolError → Result Verdict ToolError
+found_of (Ok done) = Ok done.verdict
+found_of (Err e) = Err e
+
+-- The answer of a command that has nothing to note: P holds of it.
+abbrev pub AnswersFound : (Result Verdict ToolError → Type 0) → Result Done ToolError → Type 0
+AnswersFound P answer = P (found_of answer) × IfOk answer (λ done. done.notes.items ≡ [])
+
+-- The answer of a command that compares nothing and has nothing to note: P holds of it, and its verdict is `Same` where it is
+-- carried out.
+pub record AnswersPlain (P : Result ⊤ ToolError → Type 0) (answer : Result Done ToolError) : Type 0 where
+  pub plain : P (plain_of answer)
+  pub same : IfOk answer (λ done. done.verdict ≡ Same)
+  pub notes : IfOk answer (λ done. done.notes.items ≡ [])
 
 -- The answer of a command, where its policy, or the program that it runs or shows, has these bytes, and its records, its new
 -- policy or the program that it verifies those.
-abbrev pub AnswersCommand : Command → (policy records : Option (List ℕ)) → Result Verdict ToolError → (old new : Option (List ℕ)) → Type 0
+abbrev pub AnswersCommand : Command → (policy records : Option (List ℕ)) → Result Done ToolError → (old new : Option (List ℕ)) → Type 0
 AnswersCommand (Compile arch filter layout format output path) policy records answer old new =
     AnswersPlain (λ plain. AnswersChosen policy (text_of filter)
     (λ text name. AnswersCompile format (arch_text arch) (Some text) name layout plain old new) plain) answer
 AnswersCommand (Show arch layout shown) policy records answer old new =
     AnswersPlain (λ plain. AnswersShown shown arch layout policy plain old new) answer
 AnswersCommand (Check arch denied allowed path) policy records answer old new =
-    AnswersCheck (arch_text arch) denied allowed.now path.now policy answer old new
+    AnswersFound (λ found. AnswersCheck (arch_text arch) denied allowed.now path.now policy found old new) answer
 AnswersCommand Codes policy records answer old new = AnswersPlain (λ plain. AnswersCodes plain old new) answer
 AnswersCommand (Explain arch filter format asked path) policy records answer old new =
     AnswersPlain (λ plain. AnswersExplainedOn asked arch (text_of filter) format policy records plain old new) answer
@@ -92,13 +106,15 @@ AnswersCommand (Stats arch path) policy records answer old new =
 AnswersCommand (Record arch call arguments) policy records answer old new =
     AnswersPlain (λ plain. AnswersRecord (arch_text arch) call.now arguments plain old new) answer
 AnswersCommand (Diff arch filter relation most first second) policy records answer old new =
-    AnswersDiff (arch_text arch) (text_of filter) relation policy records answer old new
+    AnswersFound (λ found. AnswersDiff (arch_text arch) (text_of filter) relation policy records found old new) answer
 AnswersCommand (Verify arch filter relation scope most path program) policy records answer old new =
-    AnswersVerify (arch_text arch) (text_of filter) relation scope policy records answer old new
+    AnswersFound (λ found. AnswersVerify (arch_text arch) (text_of filter) relation scope policy records found old new) answer
 AnswersCommand (Compat arch path) policy records answer old new =
     AnswersPlain (λ plain. AnswersCompat (arch_text arch) policy plain old new) answer
+AnswersCommand (Import arch container strict path) policy records answer old new =
+    AnswersImport arch container.now strict policy answer old new
 
--- The path of the policy or program that a command reads, that of the old policy where it compares two.
+-- The path of the policy, program or profile that a command reads, that of the old policy where it compares two.
 abbrev pub policy_of : Command → Option (List ℕ)
 policy_of (Compile arch filter layout format output path) = Some path.now
 policy_of (Show arch layout (shown.Policy path)) = Some path.now
@@ -112,6 +128,7 @@ policy_of (Record arch call arguments) = None
 policy_of (Diff arch filter relation most first second) = Some first.now
 policy_of (Verify arch filter relation scope most path program) = Some path.now
 policy_of (Compat arch path) = Some path.now
+policy_of (Import arch container strict path) = Some path.now
 
 -- The path of the records that a command reads, of the new policy, or of the program that is verified.
 abbrev pub records_of : Command → Option (List ℕ)
@@ -150,8 +167,8 @@ verdict_status Same = 0
 verdict_status Different = 1
 verdict_status Undecided = 3
 
-abbrev pub status_of : Command → Result Verdict ToolError → ℕ
-status_of command (Ok verdict) = verdict_status verdict
+abbrev pub status_of : Command → Result Done ToolError → ℕ
+status_of command (Ok done) = verdict_status done.verdict
 status_of command (Err e) = trouble command
 
 -- The command is carried out without a fault, and this is what it finds, for some contents of its policy and its records.
@@ -160,7 +177,9 @@ pub record IsPerformed (command : Command) (verdict : Verdict) : Type 0 where
   pub records : Option (List ℕ)
   pub old : Option (List ℕ)
   pub new : Option (List ℕ)
-  pub answers : AnswersCommand command policy records (Ok verdict) old new
+  pub done : Done
+  pub answers : AnswersCommand command policy records (Ok done) old new
+  pub found : done.verdict ≡ verdict
 
 -- The command may end with this status: where that is a verdict's, and not that of a failure, it is carried out, and this is what
 -- it finds.

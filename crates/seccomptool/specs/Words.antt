@@ -11,6 +11,9 @@ use Rattle.seccompiler.specs.declared.compare.Relation.{Relation}
 use Rattle.seccompiler.specs.declared.compare.Relation.TheVariants.{Alike, AtMostAsPermissive}
 use Rattle.seccompiler.specs.declared.layout.Layout.{Layout}
 use Rattle.seccompiler.specs.declared.layout.Layout.TheVariants.{Linear, Tree}
+use Rattle.seccomp_oci.specs.Types.{Container}
+use Rattle.seccomp_oci.specs.Version.{IsVersion}
+use Rattle.seccomp_oci.specs.declared.types.Kernel.{Kernel}
 use Rattle.seccomptool.specs.CommandLine.{AreNames, program_app}
 use Rattle.seccomp_warnings.specs.Codes.{code_text}
 use Rattle.seccomp_warnings.specs.declared.code.Code.{Code}
@@ -23,10 +26,11 @@ use Rattle.seccomptool.specs.declared.program.names.Names.{Names}
 use Rattle.seccomptool.specs.declared.verify.scope.Scope.{Scope}
 use Rattle.seccomptool.specs.declared.verify.scope.Scope.TheVariants.{Named, All}
 use Rattle.seccomptool.specs.declared.words.Asked.{Asked}
-use Rattle.seccomptool.specs.declared.words.Asked.TheVariants.{One, Checks}
+use Rattle.seccomptool.specs.declared.words.Asked.TheVariants.{One, Checks, Import}
 use Rattle.seccomptool.specs.declared.words.Command.{Command}
 use Rattle.seccomptool.specs.declared.words.Command.TheVariants.{Compile, Show, Check, Codes, Explain, Run, Stats, Record, Diff}
 use Rattle.seccomptool.specs.declared.words.Command.TheVariants.{Verify, Compat}
+use Rattle.seccomptool.specs.declared.words.Command.TheVariants as command
 use Rattle.seccomptool.specs.declared.words.Records.{Records}
 use Rattle.seccomptool.specs.declared.words.Records.TheVariants as records
 use Rattle.seccomptool.specs.declared.words.Shown.{Shown}
@@ -195,11 +199,34 @@ pub record IsVerify (rows : List Row) (arch : TargetArch) (filter : Option Text)
   pub program_is : first_of (codes "program") rows ≡ Some program
   pub apart : policy ≡ codes "-" → program ≡ codes "-" → ⊥
 
+-- The values of `--cap`.
+abbrev pub given_caps : List Row → List Text
+given_caps rows = unwrap_or (all_of (codes "cap") rows) []
+
+-- The value of `--kernel` is this version; there is none where it isn't given.
+abbrev pub IsGivenKernel : List Row → Option Kernel → Type 0
+IsGivenKernel rows None = first_of (codes "kernel") rows ≡ None
+IsGivenKernel rows (Some kernel) = (text : Text) × (first_of (codes "kernel") rows ≡ Some text) × IsVersion text kernel
+
+-- Names that the architecture hasn't are rejected exactly where `--strict` is given.
+abbrev pub IsStrict : List Row → Bool → Type 0
+IsStrict rows true = first_of (codes "strict") rows ≡ Some (codes "true")
+IsStrict rows false = first_of (codes "strict") rows ≡ Some (codes "true") → ⊥
+
+-- The values of `import`.
+pub record IsImport (rows : List Row) (arch : TargetArch) (container : Container) (strict : Bool) (profile : Text) : Type 0 where
+  pub arch_is : IsArch rows arch
+  pub caps_are : container.caps ≡ given_caps rows
+  pub kernel_is : IsGivenKernel rows container.kernel
+  pub strict_is : IsStrict rows strict
+  pub profile_is : first_of (codes "profile") rows ≡ Some profile
+
 -- The text behind a reference, if there is one.
 abbrev pub text_of : Option (Bor Text) → Option Text
 text_of = option_map (λ t. t.now)
 
--- The subcommand of this name, with these values, is the command. The check of a policy is never meant alone.
+-- The subcommand of this name, with these values, is the command. The check of a policy is never meant alone, nor is the import of
+-- a profile.
 abbrev pub IsCommand : Text → List Row → Command → Type 0
 IsCommand name rows (Compile arch filter layout format output policy) =
     (name ≡ codes "compile") × IsCompile rows arch (text_of filter) layout format (text_of output) policy.now
@@ -216,12 +243,14 @@ IsCommand name rows (Diff arch filter relation most old new) =
 IsCommand name rows (Verify arch filter relation scope most policy program) =
     (name ≡ codes "verify") × IsVerify rows arch (text_of filter) relation scope most policy.now program.now
 IsCommand name rows (Compat arch policy) = (name ≡ codes "compat") × IsOfPolicy rows arch policy.now
+IsCommand name rows (command.Import arch container strict profile) = ⊥
 
 -- The subcommand of this name, with these values, asks for this.
 abbrev pub IsAsked : Text → List Row → Asked → Type 0
 IsAsked name rows (One command) = IsCommand name rows command
 IsAsked name rows (Checks arch denied allowed policies) =
     (name ≡ codes "check") × IsCheck rows arch denied allowed.items (map (λ p. p.now) policies.items)
+IsAsked name rows (Import arch container strict profile) = (name ≡ codes "import") × IsImport rows arch container strict profile.now
 
 -- The names that the options take.
 pub record Choices : Type 0 where

@@ -6,8 +6,9 @@ ghost use Rattle.seccomptool.specs.Commands.{EndsWith, status_of};
 ghost use Rattle.seccomptool.specs.Words.{text_of};
 
 use crate::compile::format::ProgramFormat;
+use crate::done::Done;
 use crate::error::ToolError;
-use crate::failure::{Failure, ToldFor, tell};
+use crate::failure::{Failure, ToldFor, note, tell};
 use crate::findings::Verdict;
 use crate::perform::perform;
 use crate::source::{Source, open};
@@ -88,7 +89,7 @@ fn writes_bytes(command: Command<'_>) -> bool
     }
 }
 
-// The path of the policy or program that a command reads, that of the old policy where it compares two.
+// The path of the policy, program or profile that a command reads, that of the old policy where it compares two.
 fn policy_of<'a>(command: Command<'a>) -> Option<&'a str>
     ensures { text_of result ≡ spec.policy_of command.entry }
 {
@@ -111,6 +112,7 @@ fn policy_of<'a>(command: Command<'a>) -> Option<&'a str>
         Command::Diff { old, .. } => Some(old),
         Command::Verify { policy, .. } => Some(policy),
         Command::Compat { policy, .. } => Some(policy),
+        Command::Import { profile, .. } => Some(profile),
     }
 }
 
@@ -143,19 +145,31 @@ fn output_of<'a>(command: Command<'a>) -> Option<&'a str>
     }
 }
 
-// The status of what a command finds, or of its failure, with the error's text on standard error.
+// The status of what a command finds, with its notes on standard error, or of its failure, with the error's text.
 fn answered(
     rt: &(impl Eprint + AllocGlobal),
     command: Command<'_>,
-    answer: Result<Verdict, ToolError>,
+    answer: Result<Done, ToolError>,
 ) -> u8
     ensures { result ≡ status_of command.entry answer }
 {
     match answer {
-        Ok(Verdict::Same) => 0,
-        Ok(Verdict::Different) => 1,
-        Ok(Verdict::Undecided) => 3,
+        Ok(done) => {
+            note(rt, policy_of(command).unwrap_or("-"), &done.notes);
+            status_of(done.verdict)
+        }
         Err(error) => failed(rt, command, Failure::Engine(error)),
+    }
+}
+
+// The status of what a command finds.
+fn status_of(verdict: Verdict) -> u8
+    ensures { result ≡ spec.verdict_status verdict }
+{
+    match verdict {
+        Verdict::Same => 0,
+        Verdict::Different => 1,
+        Verdict::Undecided => 3,
     }
 }
 

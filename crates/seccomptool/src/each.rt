@@ -30,6 +30,20 @@ pub(crate) fn carry_out_each(
             allowed,
             policies,
         } => ExitCode::from(check_each(rt, arch, denied, &allowed, &policies, to_terminal)),
+        Asked::Import {
+            arch,
+            container,
+            strict,
+            profile,
+        } => {
+            let command = Command::Import {
+                arch,
+                container: &container,
+                strict,
+                profile,
+            };
+            ExitCode::from(carry_out(rt, command, to_terminal))
+        }
     }
 }
 

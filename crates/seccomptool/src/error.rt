@@ -2,6 +2,7 @@
 
 use crate::run::fault::ProgramFault;
 use seccomp_command_line::error::ToolError as SharedError;
+use seccomp_oci::ImportError;
 use seccompiler::json::JsonFrontendError;
 use seccompiler::{BackendError, TargetArch};
 use std::alloc::{AllocError, AllocFailed};
@@ -30,6 +31,8 @@ pub enum ToolError {
     Fault(String),
     /// The program can't be read, or may not be run.
     Program(ProgramFault),
+    /// A profile isn't imported.
+    Import(ImportError),
     /// The output can't be written; how much of it went out is not known.
     Write(io::Error),
     /// Memory ran out, here or in a reader.
@@ -62,6 +65,7 @@ impl fmt::Display for ToolError {
             ToolError::Read(_) => f.write_str("Error reading input."),
             ToolError::Fault(told) => f.write_str(told.as_str()),
             ToolError::Program(fault) => write!(f, "{fault}"),
+            ToolError::Import(fault) => write!(f, "{fault}"),
             ToolError::Write(_) => f.write_str("Error writing output."),
             ToolError::OutOfMemory => f.write_str("Out of memory."),
         }

@@ -66,6 +66,22 @@ pub(crate) fn tell(
     };
 }
 
+// Tells what is to be noted of what stands at a path, if anything, on standard error, in one line.
+pub(crate) fn note(rt: &(impl Eprint + AllocGlobal), path: &str, notes: &[u8]) {
+    if notes.is_empty() {
+        return;
+    }
+    let told = str::from_utf8(notes).unwrap_or("Out of memory.");
+    match front_of(rt.alloc(), path, "standard input") {
+        Ok(front) => {
+            let _ = eprintln!(rt; "{front}{told}");
+        }
+        Err(_) => {
+            let _ = eprintln!(rt; "seccomptool: {told}");
+        }
+    }
+}
+
 // What stands in front of a message: the program and a path, with what steers a terminal written as numbers,
 // or another name where the path is `-`.
 fn front_of(alloc: Global, path: &str, standard: &str) -> Result<String, AllocError> {

@@ -24,7 +24,7 @@ use std::io::Read;
 /// text of a fault of the kind that `compile_from_json` reports, where that has a place. `OutOfMemory` comes
 /// in place of any of these where memory runs out, in the reader too.
 ///
-/// Of several faults of that kind it is the first, in the order that docs/TOOL.md gives. That is tested
+/// Of several faults of that kind it is the first, in the order that docs/CHECKS.md gives. That is tested
 /// and not proved, and so is that a fault with a place is reported by it: by the contract it may be any one
 /// of its kind, and may be reported as `Library`.
 pub fn lint<R: Read + Drop>(alloc: Global, arch: &str, policy: R) -> Result<(), ToolError>

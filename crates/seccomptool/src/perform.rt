@@ -1,13 +1,12 @@
 // A command, carried out on what is opened for it.
 
-ghost use Rattle.std.specs.Prelude.{◌≡◌, IfErr, IfOk, Some};
+ghost use Rattle.std.specs.Prelude.{IfErr, Some};
 ghost use Rattle.seccompiler.specs.Architecture.{arch_text};
 ghost use Rattle.seccomptool.specs.Chosen.{AnswersChosen};
-ghost use Rattle.seccomptool.specs.Commands.{AnswersCommand, AnswersExplained, AnswersExplainedOn, AnswersRunOn, AnswersShown, plain_of};
+ghost use Rattle.seccomptool.specs.Commands.{AnswersCommand, AnswersExplained, AnswersExplainedOn, AnswersRunOn, AnswersShown};
 ghost use Rattle.seccomptool.specs.Compile.{AnswersCompile};
 ghost use Rattle.seccomptool.specs.Errors.{KeepsOutput};
 ghost use Rattle.seccomptool.specs.Words.{text_of};
-ghost use Rattle.seccomptool.specs.declared.findings.Verdict.TheVariants as verdict;
 
 use crate::check::check;
 use crate::chosen::chosen_name;
@@ -16,10 +15,11 @@ use crate::compat::compat;
 use crate::compile::compile;
 use crate::compile::format::ProgramFormat;
 use crate::diff::diff;
+use crate::done::{Done, found, plain};
 use crate::error::ToolError;
 use crate::explain::explain;
 use crate::explain::format::LineFormat;
-use crate::findings::Verdict;
+use crate::import::import;
 use crate::policy::policy_text;
 use crate::record::{called_record, record};
 use crate::run::run;
@@ -32,13 +32,14 @@ use std::alloc::Global;
 use std::io::{Read, Write};
 
 /// Carries out a command on its policy, or `run` and `show` on their program, and `explain` and `run` on their records,
-/// those of a call aside; `diff` on the old policy and, in place of records, the new one, and `verify` on the policy and,
-/// in place of records, the program. The verdict is that of `diff`, `verify` and `check`, and else `Same`.
+/// those of a call aside; `diff` on the old policy and, in place of records, the new one, `verify` on the policy and,
+/// in place of records, the program, and `import` on the profile. The verdict is that of `diff`, `verify` and `check`, and else
+/// `Same`; the notes are those of `import`, and else none.
 ///
 /// # Errors
 ///
 /// Those of the engine: [`compile`], [`show`] or [`show_program`], [`check`], [`codes`], [`explain`], [`run`],
-/// [`stats`], [`record`], [`diff`], [`verify`] and [`compat`]. In front of them, for `compile` and `explain`,
+/// [`stats`], [`record`], [`diff`], [`verify`], [`compat`] and [`import`]. In front of them, for `compile` and `explain`,
 /// where no filter is asked for: the policy's fault that keeps its names from being read, and `Unchosen`
 /// with the names where it hasn't one. In front of all, for `explain` and `run` on a call, `UnknownCall` where the
 /// architecture hasn't it.
@@ -48,7 +49,7 @@ pub fn perform<P: Read + Drop, R: Read + Drop, W: Write>(
     policy: P,
     records: R,
     out: &mut W,
-) -> Result<Verdict, ToolError>
+) -> Result<Done, ToolError>
     // When each answer comes, and what is written.
     ensures answers { AnswersCommand command.entry (P.remaining policy) (R.remaining records) result (W.contents out.old) (W.contents out.new) }
     ensures unwritten { IfErr result (λ e. KeepsOutput e out.old out.new) }
@@ -60,52 +61,58 @@ pub fn perform<P: Read + Drop, R: Read + Drop, W: Write>(
             layout,
             format,
             ..
-        } => same(compile_asked(alloc, arch, filter, layout, format, policy, out)),
+        } => plain(alloc, compile_asked(alloc, arch, filter, layout, format, policy, out)),
         Command::Show {
             arch,
             layout,
             shown,
-        } => same(show_asked(alloc, arch, layout, shown, policy, out)),
+        } => plain(alloc, show_asked(alloc, arch, layout, shown, policy, out)),
         Command::Check {
             arch,
             denied,
             allowed,
             policy: path,
-        } => check(alloc, arch.name(), denied, allowed, path, policy, out),
-        Command::Codes => same(codes(alloc, out)),
+        } => found(
+            alloc,
+            check(alloc, arch.name(), denied, allowed, path, policy, out),
+        ),
+        Command::Codes => plain(alloc, codes(alloc, out)),
         Command::Explain {
             arch,
             filter,
             format,
             records: asked,
             ..
-        } => same(explain_asked(alloc, arch, filter, format, asked, policy, records, out)),
+        } => plain(alloc, explain_asked(alloc, arch, filter, format, asked, policy, records, out)),
         Command::Run {
             arch,
             records: asked,
             ..
-        } => same(run_asked(alloc, arch, asked, policy, records, out)),
-        Command::Stats { arch, .. } => same(stats(alloc, arch.name(), policy, out)),
+        } => plain(alloc, run_asked(alloc, arch, asked, policy, records, out)),
+        Command::Stats { arch, .. } => plain(alloc, stats(alloc, arch.name(), policy, out)),
         Command::Record {
             arch,
             call,
             arguments,
-        } => same(record(alloc, arch.name(), call, arguments, out)),
+        } => plain(alloc, record(alloc, arch.name(), call, arguments, out)),
         Command::Diff {
             arch,
             filter,
             relation,
             most,
             ..
-        } => diff(
+        } => found(
             alloc,
-            arch.name(),
-            filter,
-            relation,
-            most,
-            policy,
-            records,
-            out,
+            diff(
+                alloc,
+                arch.name(),
+                filter,
+                relation,
+                most,
+                policy,
+                records,
+                out,
+            ),
         ),
         Command::Verify {
             arch,
@@ -114,29 +121,27 @@ pub fn perform<P: Read + Drop, R: Read + Drop, W: Write>(
             scope,
             most,
             ..
-        } => verify(
+        } => found(
             alloc,
-            arch.name(),
-            filter,
-            relation,
-            scope,
-            most,
-            policy,
-            records,
-            out,
+            verify(
+                alloc,
+                arch.name(),
+                filter,
+                relation,
+                scope,
+                most,
+                policy,
+                records,
+                out,
+            ),
         ),
-        Command::Compat { arch, .. } => same(compat(alloc, arch.name(), policy, out)),
-    }
-}
-
-// The answer of a command that finds nothing.
-fn same(answer: Result<(), ToolError>) -> Result<Verdict, ToolError>
-    ensures plain { plain_of result ≡ answer }
-    ensures same { IfOk result (λ found. found ≡ verdict.Same) }
-{
-    match answer {
-        Ok(()) => Ok(Verdict::Same),
-        Err(error) => Err(error),
+        Command::Compat { arch, .. } => plain(alloc, compat(alloc, arch.name(), policy, out)),
+        Command::Import {
+            arch,
+            container,
+            strict,
+            ..
+        } => import(alloc, arch, container, strict, policy, out),
     }
 }
 

@@ -3,25 +3,25 @@
 ghost use Rattle.std.specs.Prelude.{◌≡◌, IfOk, false};
 ghost use Rattle.clap.specs.Words.{app_of};
 ghost use Rattle.clap.specs.declared.builder.command.Command.TheViews.{out-Command};
-ghost use Rattle.seccomptool.specs.CommandLine.{check_app, compile_app, deciding_app, diff_app, explain_app, policy_app, program_app, record_app, run_app, show_app, top_app, verify_app};
+ghost use Rattle.seccomptool.specs.CommandLine.{check_app, compile_app, deciding_app, diff_app, explain_app, import_app, policy_app, program_app, record_app, run_app, show_app, top_app, verify_app};
 
 pub mod names;
 mod options;
 
 use crate::program::names::Names;
 use crate::program::options::{
-    all, allow, arch, arguments, at_most, call, compared_filter, deny_warnings, filter, format,
-    given_call, given_policy, layout, line_format, list, most, new_policy, old, output, policies,
-    policy, program_file, records, shown_policy, shown_program,
+    all, allow, arch, arguments, at_most, call, cap, compared_filter, deny_warnings, filter,
+    format, given_call, given_policy, kernel, layout, line_format, list, most, new_policy, old,
+    output, policies, policy, profile, program_file, records, shown_policy, shown_program, strict,
 };
 use clap::Command;
 use std::alloc::{AllocError, Global};
 
 const AFTER: &str = "\
-POLICY, OLD, NEW, PROGRAM and FILE are paths; - is standard input, and so is
-POLICY where it isn't given. CALL is the name or number of a system call.
-Numbers are decimal, or hexadecimal behind 0x; an ARG may be negative, and then
-stands behind --, as in `seccomptool record lseek 3 -- -1`.
+POLICY, OLD, NEW, PROGRAM, PROFILE and FILE are paths; - is standard input, and
+so is POLICY or PROFILE where it isn't given. CALL is the name or number of a
+system call. Numbers are decimal, or hexadecimal behind 0x; an ARG may be
+negative, and then stands behind --, as in `seccomptool record lseek 3 -- -1`.
 
 Exit status: 0; 1 where the policy is rejected or a file or the output fails; 2
 where the arguments are no command. Of `diff` and `verify`: 0 where nothing
@@ -30,6 +30,8 @@ differs, 1 where something does, 2 on any failure, 3 where it wasn't decided.";
 const STATS: &str = "Print how long the programs are, and how many steps they take";
 
 const COMPAT: &str = "Print the calls that the Rust crate would decide otherwise";
+
+const IMPORT: &str = "Print a seccomp profile of a container runtime as a policy";
 
 /// The subcommands and their arguments, with the names that the options take.
 ///
@@ -43,13 +45,15 @@ pub(crate) fn program<'a>(alloc: Global, names: Names<'a>) -> Result<Command<'a>
     let diff = diff(alloc, archs)?;
     let verify = verify(alloc, archs)?;
     let compat = of_policy(alloc, "compat", COMPAT, archs)?;
+    let of_profile = import(alloc, archs)?;
     let deciding = deciding(alloc, names)?;
     deciding
         .subcommand(stats)?
         .subcommand(of_call)?
         .subcommand(diff)?
         .subcommand(verify)?
-        .subcommand(compat)
+        .subcommand(compat)?
+        .subcommand(of_profile)
 }
 
 // The program with the commands that are of what a policy decides.
@@ -208,6 +212,19 @@ fn diff<'a>(alloc: Global, archs: &'a [&'a str]) -> Result<Command<'a>, AllocErr
         .arg(most(alloc))?
         .arg(old(alloc))?
         .arg(new_policy(alloc))
+}
+
+fn import<'a>(alloc: Global, archs: &'a [&'a str]) -> Result<Command<'a>, AllocError>
+    ensures app { IfOk result (λ c. app_of c ≡ import_app archs.entry) }
+    ensures local { IfOk result (λ c. (out-Command c).has_globals ≡ false) }
+{
+    Command::new(alloc, "import")
+        .about(IMPORT)
+        .arg(arch(alloc, archs))?
+        .arg(cap(alloc))?
+        .arg(kernel(alloc))?
+        .arg(strict(alloc))?
+        .arg(profile(alloc))
 }
 
 fn verify<'a>(alloc: Global, archs: &'a [&'a str]) -> Result<Command<'a>, AllocError>

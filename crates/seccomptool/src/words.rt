@@ -5,6 +5,7 @@ ghost use Rattle.seccomptool.specs.Words.{Choices, Means, IsFault, IsOwn};
 
 mod arguments;
 mod codes;
+mod container;
 mod matches;
 mod values;
 
@@ -15,6 +16,7 @@ use crate::program::program;
 use crate::verify::scope::Scope;
 use crate::words::matches::{asked_in, misuse_in};
 use clap::error::ErrorKind;
+use seccomp_oci::Container;
 use seccomp_warnings::Code;
 use seccompiler::{Layout, Relation, TargetArch};
 use std::alloc::Global;
@@ -136,12 +138,23 @@ pub enum Command<'a> {
         /// The policy.
         policy: &'a str,
     },
+    /// Print a profile of a container runtime as a policy: what [`Asked::Import`] has.
+    Import {
+        /// The architecture.
+        arch: TargetArch,
+        /// The container that the profile is for.
+        container: &'a Container,
+        /// Whether a profile is rejected that names calls which the architecture hasn't.
+        strict: bool,
+        /// The profile.
+        profile: &'a str,
+    },
 }
 
 /// What the arguments ask for.
 #[derive(Drop)]
 pub enum Asked<'a> {
-    /// A command, other than `check` of policies.
+    /// A command, other than `check` of policies and `import`.
     One(Command<'a>),
     /// `check` of policies, one after the other.
     Checks {
@@ -153,6 +166,17 @@ pub enum Asked<'a> {
         allowed: Vec<Code>,
         /// The policies.
         policies: Vec<&'a str>,
+    },
+    /// `import` of a profile.
+    Import {
+        /// The architecture.
+        arch: TargetArch,
+        /// The container that the profile is for.
+        container: Container,
+        /// Whether a profile is rejected that names calls which the architecture hasn't.
+        strict: bool,
+        /// The profile.
+        profile: &'a str,
     },
 }
 
@@ -185,7 +209,7 @@ pub enum Records<'a> {
 ///
 /// `clap`'s: help and the version where they are asked for, and its own error of arguments that are no
 /// command. `ValueValidation` where an ARG or the value of `--most` is no number, where `explain` or `run`
-/// is given both CALL and `--records`, or `show` both POLICY and `--program`, and where two files would both be read from
+/// is given both CALL and `--records`, or `show` both POLICY and `--program`, where the value of `--kernel` is no version, and where two files would both be read from
 /// standard input: policy and records, program and records, policy and program, or both policies of `diff`. `OutOfMemory` may
 /// come in place of any.
 pub(crate) fn read<'a>(alloc: Global, words: &'a [String]) -> Result<Asked<'a>, clap::Error>

@@ -12,7 +12,7 @@ use Rattle.seccomptool.specs.Words.{Choices, IsFault, Means}
 use Rattle.seccomptool.specs.declared.findings.Verdict.{Verdict}
 use Rattle.seccomptool.specs.declared.findings.Verdict.TheVariants.{Same, Different, Undecided}
 use Rattle.seccomptool.specs.declared.words.Asked.{Asked}
-use Rattle.seccomptool.specs.declared.words.Asked.TheVariants.{One, Checks}
+use Rattle.seccomptool.specs.declared.words.Asked.TheVariants.{One, Checks, Import}
 use Rattle.seccomptool.specs.declared.words.Command.{Command}
 use Rattle.seccomptool.specs.declared.words.Command.TheVariants.{Diff, Verify}
 use Rattle.seccomptool.proofs.Pairs.{all_first_where, some_first}
@@ -115,3 +115,5 @@ may_fail choices words (One command) status means ended one =
     of_one choices words command status means (subst (λ cs. EndWith cs status) ended.are ended.ended) one
 may_fail choices words (Checks arch denied allowed policies) status means ended one =
     inr (other choices (Checks arch denied allowed policies) means refl)
+may_fail choices words (Import arch container strict profile) status means ended one =
+    inr (other choices (Import arch container strict profile) means refl)

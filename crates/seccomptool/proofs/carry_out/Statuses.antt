@@ -1,6 +1,7 @@
 -- For `carry_out` and `in_file`: what an answer says where the program ends with a status that isn't that of a failure.
 use Rattle.std.proofs.Common.{◌≡◌, ◌∙◌, ℕ, List, Option, Result, Ok, Err, refl, subst, sym}
 use Rattle.seccomptool.specs.Commands.{AnswersCommand, EndsWith, status_of, verdict_status}
+use Rattle.seccomptool.specs.declared.done.Done.{Done}
 use Rattle.seccomptool.specs.declared.error.ToolError.{ToolError}
 use Rattle.seccomptool.specs.declared.findings.Verdict.{Verdict}
 use Rattle.seccomptool.specs.declared.findings.Verdict.TheVariants.{Same, Different, Undecided}
@@ -19,9 +20,15 @@ one_status Undecided Different e = absurd cc
 one_status Undecided Undecided e = refl
 
 -- Where a command ends with a verdict's status, and not with that of a failure, it is carried out with this verdict.
-pub is_performed : (command : Command) (policy records old new : Option (List ℕ)) (r : Result Verdict ToolError) (status : ℕ)
+pub is_performed : (command : Command) (policy records old new : Option (List ℕ)) (r : Result Done ToolError) (status : ℕ)
     → AnswersCommand command policy records r old new → status ≡ status_of command r → EndsWith command status
-is_performed command policy records old new (Ok found) status answers is verdict shown other =
-    let answered = subst (λ v. AnswersCommand command policy records (Ok v) old new) (one_status found verdict (sym is ∙ shown)) answers in
-    record { policy = policy; records = records; old = old; new = new; answers = answered }
+is_performed command policy records old new (Ok done) status answers is verdict shown other = record {
+  policy = policy;
+  records = records;
+  old = old;
+  new = new;
+  done = done;
+  answers = answers;
+  found = one_status done.verdict verdict (sym is ∙ shown);
+}
 is_performed command policy records old new (Err e) status answers is verdict shown other = absurd (other is)

@@ -7,14 +7,16 @@ use Rattle.std.proofs.lemmas.List.{map_push, take_more}
 use Rattle.std.proofs.lemmas.List.Elements.{All-nil, All-push, All-weaker, Contains-append_left, Contains-push}
 use Rattle.std.proofs.lemmas.Slice.Zip.{all_zipped_more}
 use Rattle.seccompiler.specs.declared.backend.TargetArch.{TargetArch}
+use Rattle.seccomp_oci.specs.Types.{Container}
 use Rattle.seccomp_warnings.specs.declared.code.Code.{Code}
 use Rattle.seccompiler.specs.Architecture.{arch_text}
 use Rattle.seccomptool.specs.Check.{AnswersCheck}
 use Rattle.seccomptool.specs.Answers.{EndAsAsked, EndWith}
-use Rattle.seccomptool.specs.declared.words.Asked.TheVariants.{One, Checks}
-use Rattle.seccomptool.specs.Commands.{EndsWith}
+use Rattle.seccomptool.specs.declared.words.Asked.TheVariants.{One, Checks, Import}
+use Rattle.seccomptool.specs.Commands.{AnswersFound, EndsWith}
 use Rattle.seccomptool.specs.declared.words.Command.{Command}
 use Rattle.seccomptool.specs.declared.words.Command.TheVariants.{Check}
+use Rattle.seccomptool.specs.declared.words.Command.TheVariants as command
 
 -- No command ends with 0.
 pub none_ended : EndWith [] 0
@@ -66,9 +68,22 @@ moved_check arch denied own other path status same ends = λ verdict is fails.
       records = done.records;
       old = done.old;
       new = done.new;
-      answers = subst (λ allowed. AnswersCheck (arch_text arch) denied allowed path.now done.policy (Ok verdict) done.old done.new)
+      done = done.done;
+      answers = subst (λ allowed. AnswersFound
+          (λ found. AnswersCheck (arch_text arch) denied allowed path.now done.policy found done.old done.new) (Ok done.done))
           (sym same) done.answers;
+      found = done.found;
     }
+
+-- A profile that is imported, for a container behind a reference.
+pub import_ended : (arch : TargetArch) (container : Container) (own : Bor Container) (strict : Bool) (profile : Bor (List ℕ))
+    (status : ℕ) → own.now ≡ container → EndsWith (command.Import arch own strict profile) status
+    → EndAsAsked (Import arch container strict profile) status
+import_ended arch container own strict profile status is ends = record {
+  commands = command.Import arch own strict profile ∷ [];
+  are = (own, is, refl);
+  ended = one_more [] (command.Import arch own strict profile) 0 status status none_ended ends (omega arith) (omega arith) (inr refl);
+}
 
 -- Policies that are checked, with codes behind a reference.
 pub checks_ended : (arch : TargetArch) (denied : Bool) (allowed : Vec Code Global) (own : Bor (List Code))

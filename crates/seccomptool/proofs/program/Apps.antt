@@ -5,7 +5,7 @@ use Rattle.clap.specs.declared.builder.arg.Arg.{Arg}
 use Rattle.clap.specs.declared.builder.command.Command.{Command}
 use Rattle.clap.specs.declared.builder.command.Command.TheViews.{out-Command}
 use Rattle.seccomptool.specs.declared.program.names.Names.{Names}
-use Rattle.seccomptool.specs.CommandLine.{check_app, compile_app, deciding_app, diff_app, explain_app, policy_app, program_app}
+use Rattle.seccomptool.specs.CommandLine.{check_app, compile_app, deciding_app, diff_app, explain_app, import_app, policy_app, program_app}
 use Rattle.seccomptool.specs.CommandLine.{record_app, run_app, show_app, top_app, verify_app}
 
 -- A command with one argument more.
@@ -51,16 +51,18 @@ module _ (names : Names) (c0 c1 c2 c3 c4 : Command) where
       let e4 = subcommand_added c3 explain c4 _ _ e3 h4.0 h4.1 h4.2 in
       subcommand_added c4 run c5 _ _ e4 h5.0 h5.1 h5.2
 
-  pub all_added : (c5 stats record_of diff verify compat : Command) → app_of c0 ≡ deciding_app names
+  pub all_added : (c5 c6 stats record_of diff verify compat import_of : Command) → app_of c0 ≡ deciding_app names
       → (app_of stats ≡ policy_app (codes "stats") names.archs) × ((out-Command stats).has_globals ≡ false) × AddsSubcommand c0 stats c1
       → (app_of record_of ≡ record_app names.archs) × ((out-Command record_of).has_globals ≡ false) × AddsSubcommand c1 record_of c2
       → (app_of diff ≡ diff_app names.archs) × ((out-Command diff).has_globals ≡ false) × AddsSubcommand c2 diff c3
       → (app_of verify ≡ verify_app names.archs) × ((out-Command verify).has_globals ≡ false) × AddsSubcommand c3 verify c4
       → (app_of compat ≡ policy_app (codes "compat") names.archs) × ((out-Command compat).has_globals ≡ false) × AddsSubcommand c4 compat c5
-      → app_of c5 ≡ program_app names
-  all_added c5 stats record_of diff verify compat e0 h1 h2 h3 h4 h5 =
+      → (app_of import_of ≡ import_app names.archs) × ((out-Command import_of).has_globals ≡ false) × AddsSubcommand c5 import_of c6
+      → app_of c6 ≡ program_app names
+  all_added c5 c6 stats record_of diff verify compat import_of e0 h1 h2 h3 h4 h5 h6 =
       let e1 = subcommand_added c0 stats c1 _ _ e0 h1.0 h1.1 h1.2 in
       let e2 = subcommand_added c1 record_of c2 _ _ e1 h2.0 h2.1 h2.2 in
       let e3 = subcommand_added c2 diff c3 _ _ e2 h3.0 h3.1 h3.2 in
       let e4 = subcommand_added c3 verify c4 _ _ e3 h4.0 h4.1 h4.2 in
-      subcommand_added c4 compat c5 _ _ e4 h5.0 h5.1 h5.2
+      let e5 = subcommand_added c4 compat c5 _ _ e4 h5.0 h5.1 h5.2 in
+      subcommand_added c5 import_of c6 _ _ e5 h6.0 h6.1 h6.2

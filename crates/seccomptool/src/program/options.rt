@@ -2,7 +2,7 @@
 
 ghost use Rattle.std.specs.Prelude.{◌≡◌, false};
 ghost use Rattle.clap.specs.Words.{rule_of};
-ghost use Rattle.seccomptool.specs.CommandLine.{all_rule, allow_rule, arch_rule, arguments_rule, at_most_rule, call_rule, deny_warnings_rule, filter_rule, format_rule, given_call_rule, given_policy_rule, layout_rule, line_format_rule, list_rule, most_rule, new_policy_rule, old_rule, output_rule, policies_rule, policy_rule, program_rule, records_rule, shown_policy_rule, shown_program_rule};
+ghost use Rattle.seccomptool.specs.CommandLine.{all_rule, allow_rule, arch_rule, arguments_rule, at_most_rule, call_rule, cap_rule, deny_warnings_rule, filter_rule, format_rule, given_call_rule, given_policy_rule, kernel_rule, layout_rule, line_format_rule, list_rule, most_rule, new_policy_rule, old_rule, output_rule, policies_rule, policy_rule, profile_rule, program_rule, records_rule, shown_policy_rule, shown_program_rule, strict_rule};
 
 use clap::{Arg, ArgAction};
 use std::alloc::Global;
@@ -160,6 +160,47 @@ pub(super) fn most<'a>(alloc: Global) -> Arg<'a>
         .value_name("N")
         .default_value("1000000")
         .help("How many sets of arguments are looked at, at most, for each call")
+}
+
+pub(super) fn cap<'a>(alloc: Global) -> Arg<'a>
+    ensures rule { rule_of result ≡ cap_rule }
+    ensures local { result.global ≡ false }
+{
+    Arg::new(alloc, "cap")
+        .long("cap")
+        .value_name("CAP")
+        .action(ArgAction::Append)
+        .help("A capability that the container has, as CAP_SYS_ADMIN")
+}
+
+pub(super) fn kernel<'a>(alloc: Global) -> Arg<'a>
+    ensures rule { rule_of result ≡ kernel_rule }
+    ensures local { result.global ≡ false }
+{
+    Arg::new(alloc, "kernel")
+        .long("kernel")
+        .value_name("KERNEL")
+        .help("The kernel's version, as 6.1; newer than each where it isn't given")
+}
+
+pub(super) fn strict<'a>(alloc: Global) -> Arg<'a>
+    ensures rule { rule_of result ≡ strict_rule }
+    ensures local { result.global ≡ false }
+{
+    Arg::new(alloc, "strict")
+        .long("strict")
+        .action(ArgAction::SetTrue)
+        .help("Reject a profile that names calls which the architecture hasn't")
+}
+
+pub(super) fn profile<'a>(alloc: Global) -> Arg<'a>
+    ensures rule { rule_of result ≡ profile_rule }
+    ensures local { result.global ≡ false }
+{
+    Arg::new(alloc, "profile")
+        .value_name("PROFILE")
+        .default_value("-")
+        .help("The profile's file, or - for standard input")
 }
 
 pub(super) fn old<'a>(alloc: Global) -> Arg<'a>

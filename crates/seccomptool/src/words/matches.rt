@@ -6,9 +6,10 @@ ghost use Rattle.seccomptool.specs.Words.{IsAsked, IsCommand};
 ghost use Rattle.seccomptool.specs.declared.words.Asked.{Asked};
 ghost use Rattle.seccomptool.specs.declared.words.Command.{Command};
 
+use super::container::container_in;
 use super::values::{
-    allowed_in, arch_in, arguments_in, denied_in, format_in, is_listed, layout_in, line_format_in,
-    most_in, policies_in, records_in, relation_in, scope_in, shown_in, text_in,
+    allowed_in, arch_in, arguments_in, denied_in, format_in, is_listed, is_strict, layout_in,
+    line_format_in, most_in, policies_in, records_in, relation_in, scope_in, shown_in, text_in,
 };
 use super::{Asked, Command};
 use clap::ArgMatches;
@@ -25,6 +26,9 @@ pub(crate) fn asked_in<'a>(
 {
     if name == "check" {
         return checks_in(alloc, found);
+    }
+    if name == "import" {
+        return import_in(alloc, found);
     }
     match command_in(name, found) {
         Some(command) => Ok(Some(Asked::One(command))),
@@ -55,7 +59,29 @@ fn checks_in<'a>(alloc: Global, found: &ArgMatches<'a>) -> Result<Option<Asked<'
     }))
 }
 
-// The command that the matches of the subcommand of this name are, the check of policies aside.
+// What the matches of `import` ask for.
+fn import_in<'a>(alloc: Global, found: &ArgMatches<'a>) -> Result<Option<Asked<'a>>, AllocError>
+    ensures some { IfOk result (λ o. IfSome o (IsAsked (codes "import") (rows_of (found_of found.now)))) }
+    ensures none { IfOk result (λ o. IfNone o ((asked : Asked) → IsAsked (codes "import") (rows_of (found_of found.now)) asked → ⊥)) }
+{
+    let Some(arch) = arch_in(found) else {
+        return Ok(None);
+    };
+    let Some(profile) = text_in(found, "profile") else {
+        return Ok(None);
+    };
+    let Some(container) = container_in(alloc, found)? else {
+        return Ok(None);
+    };
+    Ok(Some(Asked::Import {
+        arch,
+        container,
+        strict: is_strict(found),
+        profile,
+    }))
+}
+
+// The command that the matches of the subcommand of this name are, the check of policies and `import` aside.
 pub(crate) fn command_in<'a>(name: &str, found: &ArgMatches<'a>) -> Option<Command<'a>>
     ensures some { IfSome result (IsCommand name.now (rows_of (found_of found.now))) }
     ensures none { IfNone result ((c : Command) → IsCommand name.now (rows_of (found_of found.now)) c → ⊥) }
@@ -85,6 +111,9 @@ pub(crate) fn misuse_in(found: &ArgMatches<'_>) -> &'static str {
             found,
             "POLICY and PROGRAM can't both be read from standard input",
         );
+    }
+    if text_in(found, "kernel").is_some() {
+        return "the value of --kernel is no version of two numbers, as 6.1";
     }
     if text_in(found, "layout").is_some() {
         return "either POLICY or --program is given, not both";

@@ -5,7 +5,7 @@ ghost use Rattle.clap.specs.Words.{first_of, found_of, rows_of};
 ghost use Rattle.seccompiler.specs.declared.backend.TargetArch.{TargetArch};
 ghost use Rattle.seccompiler.specs.declared.layout.Layout.{Layout};
 ghost use Rattle.seccomptool.specs.Numbers.{IsNumber};
-ghost use Rattle.seccomptool.specs.Words.{AreArguments, AreRecords, AreShown, IsArch, IsDenied, IsMost, IsRelation, IsListed, IsScope, format_text, given_arguments, given_codes, given_policies, layout_text, line_format_text, text_of};
+ghost use Rattle.seccomptool.specs.Words.{AreArguments, AreRecords, AreShown, IsArch, IsDenied, IsMost, IsRelation, IsListed, IsScope, IsStrict, format_text, given_arguments, given_codes, given_policies, layout_text, line_format_text, text_of};
 ghost use Rattle.seccomp_warnings.specs.Codes.{code_text};
 ghost use Rattle.seccomp_warnings.specs.declared.code.Code.{Code as CodeOf};
 ghost use Rattle.seccomptool.specs.declared.compile.format.ProgramFormat.{ProgramFormat};
@@ -102,6 +102,16 @@ pub(super) fn allowed_in(
     match found.get_strs("allow") {
         Some(texts) => read_codes(alloc, texts),
         None => read_codes(alloc, &[]),
+    }
+}
+
+// Whether names that the architecture hasn't are rejected.
+pub(super) fn is_strict(found: &ArgMatches<'_>) -> bool
+    ensures { IsStrict (rows_of (found_of found.now)) result }
+{
+    match text_in(found, "strict") {
+        Some("true") => true,
+        _ => false,
     }
 }
 

@@ -1,4 +1,4 @@
-use Rattle.seccomptool.proofs.each.EndedCommands.{checks_ended, one_ended}
+use Rattle.seccomptool.proofs.each.EndedCommands.{checks_ended, import_ended, one_ended}
 use Rattle.seccomptool.proofs.each.carry_out_each.Goals as goal
 
 pub returns-in-One-clause-each : goal.returns-in-One-clause-each
@@ -10,3 +10,9 @@ returns-in-Checks-clause-each g c =
     rw (c.in-Checks.is, c.from-in-Checks.ensures)
     (checks_ended c.in-Checks.arch c.in-Checks.denied c.in-Checks.allowed c.deref.result c.in-Checks.policies c.deref-in-Checks.result.now
     c.check_each.result c.deref.ensures.value c.deref-in-Checks.ensures.value c.check_each.ensures.each)
+
+pub returns-in-Import-clause-each : goal.returns-in-Import-clause-each
+returns-in-Import-clause-each g c =
+    rw (c.in-Import.is, c.from-in-Import.ensures)
+    (import_ended c.in-Import.arch c.in-Import.container _ c.in-Import.strict c.in-Import.profile c.carry_out-in-Import.result refl
+    c.carry_out-in-Import.ensures.performed)

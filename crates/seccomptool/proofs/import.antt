@@ -1,0 +1,3 @@
+-- Lemmas for the functions of `import`.
+pub mod OtherNames
+pub mod Answered

@@ -1,0 +1,23 @@
+-- For `push_others`: names behind another one, one by one.
+use Rattle.std.proofs.Common.{◌≡◌, ◌<◌, ◌+◌, ◌++◌, ◌∙◌, ℕ, List, [], ◌∷◌, String, Global, ap, get_or, length, map, refl, string_bytes, sym, subst, take}
+use Rattle.std.specs.List.{concat}
+use Rattle.seccomp_command_line.proofs.Joined.{joined_more}
+use Rattle.seccomptool.specs.Imports.{other_text}
+
+-- The text of a name that is a string.
+abbrev of_string : String Global → List ℕ
+of_string name = other_text (string_bytes name)
+
+all_strings : (names : List (String Global)) → concat (map of_string names) ≡ concat (map other_text (map string_bytes names))
+all_strings [] = refl
+all_strings (name ∷ names) = ap (λ (l : List ℕ). of_string name ++ l) (all_strings names)
+
+-- One name more.
+pub others_more : (names : List (String Global)) (at : ℕ) (name : String Global) (begun old new : List ℕ) → at < length names
+    → name ≡ get_or names at name → old ≡ begun ++ concat (map other_text (map string_bytes (take at names)))
+    → new ≡ old ++ of_string name → new ≡ begun ++ concat (map other_text (map string_bytes (take (at + 1) names)))
+others_more names at name begun old new room is so_far more =
+    joined_more of_string names at name begun old new room
+    (so_far ∙ ap (λ (l : List ℕ). begun ++ l) (sym (all_strings (take at names))))
+    (more ∙ ap (λ n. old ++ of_string n) is)
+    ∙ ap (λ (l : List ℕ). begun ++ l) (all_strings (take (at + 1) names))

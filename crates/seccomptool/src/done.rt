@@ -1,0 +1,47 @@
+// What a command gives where it is carried out.
+
+ghost use Rattle.std.specs.Prelude.{◌≡◌, [], IfOk};
+ghost use Rattle.seccomptool.specs.Commands.{found_of, plain_of};
+ghost use Rattle.seccomptool.specs.declared.findings.Verdict.TheVariants as verdict;
+
+use crate::error::ToolError;
+use crate::findings::Verdict;
+use std::alloc::Global;
+
+/// What a command gives where it is carried out.
+#[derive(Drop)]
+pub struct Done {
+    /// What it finds.
+    pub verdict: Verdict,
+    /// What is to be told on standard error, behind the file that the command reads: no bytes where nothing is.
+    pub notes: Vec<u8>,
+}
+
+// What a command gives that finds nothing, and has nothing to tell.
+pub(crate) fn plain(alloc: Global, answer: Result<(), ToolError>) -> Result<Done, ToolError>
+    ensures plain { plain_of result ≡ answer }
+    ensures same { IfOk result (λ done. done.verdict ≡ verdict.Same) }
+    ensures notes { IfOk result (λ done. done.notes.items ≡ []) }
+{
+    match answer {
+        Ok(()) => Ok(Done {
+            verdict: Verdict::Same,
+            notes: Vec::new(alloc),
+        }),
+        Err(error) => Err(error),
+    }
+}
+
+// What a command gives that finds this, and has nothing to tell.
+pub(crate) fn found(alloc: Global, answer: Result<Verdict, ToolError>) -> Result<Done, ToolError>
+    ensures found { found_of result ≡ answer }
+    ensures notes { IfOk result (λ done. done.notes.items ≡ []) }
+{
+    match answer {
+        Ok(verdict) => Ok(Done {
+            verdict,
+            notes: Vec::new(alloc),
+        }),
+        Err(error) => Err(error),
+    }
+}

@@ -1,0 +1,145 @@
+// A profile of a container runtime as a policy.
+
+ghost use Rattle.std.specs.Prelude.{◌≡◌, ◌++◌, Bool, IfErr, IfOk, List, OnOk, map, string_bytes, ℕ};
+ghost use Rattle.std.specs.List.{concat};
+ghost use Rattle.seccomp_oci.specs.Import.{IsImportFault};
+ghost use Rattle.seccomp_oci.specs.Types as oci;
+ghost use Rattle.seccomp_oci.specs.declared.import.ImportError.TheVariants as import_error;
+ghost use Rattle.seccomptool.specs.Errors.{KeepsOutput};
+ghost use Rattle.seccomptool.specs.Imports.{AnswersImport, IsUnimported, names_text, note_text, other_text, told_text};
+
+use crate::done::Done;
+use crate::error::ToolError;
+use crate::findings::Verdict;
+use crate::policy::policy_text;
+use crate::send::send;
+use itoa::Buffer;
+use seccomp_command_line::names::push_readable;
+use seccomp_oci::{Container, ImportError, ProfileError, import_profile};
+use seccompiler::TargetArch;
+use std::alloc::{AllocError, Global};
+use std::io::{Read, Write};
+
+/// Writes a profile as a policy: the text that [`import_profile`] gives.
+///
+/// The names that are left out are told in a note: `names of no system call of ARCH, left out (N): `, and then the names, N
+/// in number, in the profile's order, separated by `, `. In them the control characters, those from U+0080 to U+009F
+/// too, and the backslash are written as `\x` and two lower-case hexadecimal digits for each of their bytes. There is no note
+/// where no name is left out.
+///
+/// The profile's text is what its reader gives, and is read whole at first.
+///
+/// # Errors
+///
+/// The first of these: `Library` with `JsonFrontend(Read)` where the reader fails; `Import` with what `import_profile` gives, or
+/// `Fault` in place of its `UnknownNames`, with a text that has the names as the note has them; `Write` where the writer fails.
+/// `OutOfMemory` comes in place of any of these where memory runs out, in the reader too. On any error but `Write`
+/// nothing is written.
+pub fn import<R: Read + Drop, W: Write>(
+    alloc: Global,
+    arch: TargetArch,
+    container: &Container,
+    strict: bool,
+    profile: R,
+    out: &mut W,
+) -> Result<Done, ToolError>
+    // When each answer comes, and what is written.
+    ensures answers { AnswersImport arch container.now strict (R.remaining profile) result (W.contents out.old) (W.contents out.new) }
+    ensures unwritten { IfErr result (λ e. KeepsOutput e out.old out.new) }
+{
+    let text = policy_text(alloc, profile)?;
+    let imported = match import_profile(alloc, arch, container, strict, text.as_slice()) {
+        Ok(imported) => imported,
+        Err(error) => return Err(unimported(alloc, arch, error)),
+    };
+    let notes = note(alloc, arch, &imported.left_out)?;
+    send(out, &imported.text)?;
+    Ok(Done {
+        verdict: Verdict::Same,
+        notes,
+    })
+}
+
+// The note of names that are left out.
+fn note(alloc: Global, arch: TargetArch, names: &[String]) -> Result<Vec<u8>, AllocError>
+    ensures { IfOk result (λ note. note.items ≡ note_text arch (map string_bytes names.now)) }
+{
+    if names.is_empty() {
+        return Ok(Vec::new(alloc));
+    }
+    told(alloc, arch, b", left out (", names)
+}
+
+// Why a profile isn't imported.
+fn unimported(alloc: Global, arch: TargetArch, error: ImportError) -> ToolError
+    ensures { (container : oci.Container) (strict : Bool) (text : List ℕ) → IsImportFault arch container strict text error → IsUnimported arch container strict text result }
+{
+    match error {
+        ImportError::UnknownNames(names) => unknown(alloc, arch, names),
+        ImportError::OutOfMemory => ToolError::OutOfMemory,
+        ImportError::Profile(ProfileError::OutOfMemory) => ToolError::OutOfMemory,
+        error => ToolError::Import(error),
+    }
+}
+
+// That the architecture has no calls of these names. The text's bytes are UTF-8, which is not proved.
+fn unknown(alloc: Global, arch: TargetArch, names: Vec<String>) -> ToolError
+    ensures { (container : oci.Container) (strict : Bool) (text : List ℕ) → IsImportFault arch container strict text (import_error.UnknownNames names) → IsUnimported arch container strict text result }
+{
+    match told(alloc, arch, b" (", &names) {
+        Err(_) => ToolError::OutOfMemory,
+        Ok(told) => match String::from_utf8(told) {
+            Ok(told) => ToolError::Fault(told),
+            Err(_) => ToolError::Import(ImportError::UnknownNames(names)),
+        },
+    }
+}
+
+// That no call of the architecture has the names, with these bytes in front of their number.
+fn told(
+    alloc: Global,
+    arch: TargetArch,
+    front: &[u8],
+    names: &[String],
+) -> Result<Vec<u8>, AllocError>
+    ensures { IfOk result (λ told. told.items ≡ told_text arch front.now (map string_bytes names.now)) }
+{
+    let mut text = Vec::new(alloc);
+    text.extend_from_slice(b"names of no system call of ")?;
+    text.extend_from_slice(arch.name().as_bytes())?;
+    text.extend_from_slice(front)?;
+    text.extend_from_slice(Buffer::new().format(names.len()).as_bytes())?;
+    text.extend_from_slice(b")")?;
+    push_names(&mut text, names)?;
+    Ok(text)
+}
+
+// Adds names, `: ` in front of the first one and `, ` in front of each other.
+fn push_names(text: &mut Vec<u8>, names: &[String]) -> Result<(), AllocError>
+    ensures { OnOk result (text.new.items ≡ text.old.items ++ names_text (map string_bytes names.now)) }
+{
+    let Some((first, others)) = names.split_first() else {
+        return Ok(());
+    };
+    text.extend_from_slice(b": ")?;
+    push_readable(text, first.as_str())?;
+    push_others(text, others)
+}
+
+// Adds names, `, ` in front of each.
+fn push_others(text: &mut Vec<u8>, names: &[String]) -> Result<(), AllocError>
+    ensures { OnOk result (text.new.items ≡ text.old.items ++ concat (map other_text (map string_bytes names.now))) }
+{
+    for name in names {
+        push_other(text, name.as_str())?;
+    }
+    Ok(())
+}
+
+// Adds a name behind another one.
+fn push_other(text: &mut Vec<u8>, name: &str) -> Result<(), AllocError>
+    ensures { OnOk result (text.new.items ≡ text.old.items ++ other_text name.now) }
+{
+    text.extend_from_slice(b", ")?;
+    push_readable(text, name)
+}

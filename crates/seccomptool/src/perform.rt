@@ -61,7 +61,10 @@ pub fn perform<P: Read + Drop, R: Read + Drop, W: Write>(
             layout,
             format,
             ..
-        } => plain(alloc, compile_asked(alloc, arch, filter, layout, format, policy, out)),
+        } => plain(
+            alloc,
+            compile_asked(alloc, arch, filter, layout, format, policy, out),
+        ),
         Command::Show {
             arch,
             layout,
@@ -83,7 +86,10 @@ pub fn perform<P: Read + Drop, R: Read + Drop, W: Write>(
             format,
             records: asked,
             ..
-        } => plain(alloc, explain_asked(alloc, arch, filter, format, asked, policy, records, out)),
+        } => plain(
+            alloc,
+            explain_asked(alloc, arch, filter, format, asked, policy, records, out),
+        ),
         Command::Run {
             arch,
             records: asked,

@@ -1,5 +1,5 @@
 -- What `check` answers and writes: the first fault of a policy, as `lint` tells it, or else all its warnings.
-use Rattle.std.specs.Prelude.{◌≡◌, ◌≢◌, ℕ, Bool, true, List, ◌++◌, map, All, Contains, Option, Result, Ok, Err, codes}
+use Rattle.std.specs.Prelude.{◌≡◌, ℕ, Bool, true, List, map, All, Contains, Option, Result, Ok, Err}
 use Rattle.std.specs.Cmp.Lexicographic.{slice_cmp}
 use Rattle.std.specs.Io.KnownBytes.{Appends}
 use Rattle.std.specs.List.{concat}
@@ -8,11 +8,11 @@ use Rattle.std.specs.Ordering.{nat_cmp}
 use Rattle.serde_json.specs.Data.{Data}
 use Rattle.seccompiler.specs.JsonShape.{Under, Has, IsFilter}
 use Rattle.seccompiler.specs.JsonTypes.{JsonFilter}
-use Rattle.seccomp_command_line.specs.Names.{readable}
 use Rattle.seccomp_warnings.specs.Reports.{FilterWarnings, filter_lines, is_warned}
 use Rattle.seccomp_warnings.specs.Warnings.{AreWarnings}
 use Rattle.seccomp_warnings.specs.declared.code.Code.{Code}
 use Rattle.seccomptool.specs.Lint.{AreAllCompiled, AnswersLint}
+use Rattle.seccomptool.specs.Notes.{IsFront}
 use Rattle.seccomptool.specs.Policies.{OfPolicy}
 use Rattle.seccomptool.specs.declared.error.ToolError.{ToolError}
 use Rattle.seccomptool.specs.declared.error.ToolError.TheVariants.{Write}
@@ -22,11 +22,6 @@ use Rattle.seccomptool.specs.declared.findings.Verdict.TheVariants.{Same, Differ
 -- The value is a filter whose warnings these are, but for those of the allowed codes.
 abbrev pub HasWarnings : List Code → FilterWarnings → Data → Type 0
 HasWarnings allowed own value = (j : JsonFilter) × IsFilter value j × AreWarnings allowed j own.warnings
-
--- What stands in front of each line about the policy of a path: its file, readable, or `standard input` where the path is `-`.
-pub record IsFront (path front : List ℕ) : Type 0 where
-  pub of_input : path ≡ codes "-" → front ≡ codes "standard input: "
-  pub of_file : path ≢ codes "-" → front ≡ readable path ++ codes ": "
 
 -- The verdict where warnings are denied or not, and there are some or none: different where there are some and they are denied.
 abbrev pub verdict_where : Bool → Bool → Verdict

@@ -112,7 +112,7 @@ AnswersCommand (Verify arch filter relation scope most path program) policy reco
 AnswersCommand (Compat arch path) policy records answer old new =
     AnswersPlain (λ plain. AnswersCompat (arch_text arch) policy plain old new) answer
 AnswersCommand (Import arch container strict path) policy records answer old new =
-    AnswersImport arch container.now strict policy answer old new
+    AnswersImport arch container.now strict path.now policy answer old new
 
 -- The path of the policy, program or profile that a command reads, that of the old policy where it compares two.
 abbrev pub policy_of : Command → Option (List ℕ)

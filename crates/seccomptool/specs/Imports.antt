@@ -3,6 +3,7 @@ use Rattle.std.specs.Prelude.{◌≡◌, ℕ, Bool, true, List, [], ◌∷◌, �
 use Rattle.std.specs.Prelude.{string_bytes, ⊤}
 use Rattle.std.specs.Io.KnownBytes.{Appends}
 use Rattle.std.specs.List.{concat}
+use Rattle.std.specs.declared.io.Error.{Error}
 use Rattle.seccompiler.specs.declared.backend.TargetArch.{TargetArch}
 use Rattle.seccompiler.specs.Architecture.{arch_text}
 use Rattle.seccompiler.specs.Reads.{Reads}
@@ -15,6 +16,7 @@ use Rattle.seccomptool.specs.declared.done.Done.{Done}
 use Rattle.seccomptool.specs.declared.error.ToolError.{ToolError}
 use Rattle.seccomptool.specs.declared.error.ToolError.TheVariants as error
 use Rattle.seccomptool.specs.declared.findings.Verdict.TheVariants.{Same}
+use Rattle.seccomptool.specs.Notes.{IsNote}
 use Rattle.seccomptool.specs.Policies.{IsPolicyReadError}
 
 -- ---- the names that no call of the architecture has
@@ -33,10 +35,10 @@ abbrev pub told_text : TargetArch → List ℕ → List (List ℕ) → List ℕ
 told_text arch words names =
     codes "names of no system call of " ++ arch_text arch ++ words ++ decimal (length names) ++ codes ")" ++ names_text names
 
--- The note of names that are left out: none where no name is.
-abbrev pub note_text : TargetArch → List (List ℕ) → List ℕ
-note_text arch [] = []
-note_text arch (name ∷ names) = told_text arch (codes ", left out (") (name ∷ names)
+-- The notes on a profile of a path of which these names are left out: none where no name is.
+abbrev pub AreNoted : TargetArch → List ℕ → List (List ℕ) → List ℕ → Type 0
+AreNoted arch path [] notes = notes ≡ []
+AreNoted arch path (name ∷ names) notes = IsNote path (told_text arch (codes ", left out (") (name ∷ names)) notes
 
 -- ---- the answer
 
@@ -50,12 +52,12 @@ IsUnimported arch container strict text error.OutOfMemory = ⊤
 IsUnimported arch container strict text other = ⊥
 
 -- What is written grew by the text of a policy that the profile's text is imported as. The names that are left out are noted.
-pub record WritesImport (arch : TargetArch) (container : Container) (strict : Bool) (done : Done) (old new : Option (List ℕ))
-    (text : List ℕ) : Type 0 where
+pub record WritesImport (arch : TargetArch) (container : Container) (strict : Bool) (path : List ℕ) (done : Done)
+    (old new : Option (List ℕ)) (text : List ℕ) : Type 0 where
   pub imported : Import
   pub is : IsImported arch container strict text imported
   pub appends : Appends old new imported.text.items
-  pub noted : done.notes.items ≡ note_text arch (map string_bytes imported.left_out.items)
+  pub noted : AreNoted arch path (map string_bytes imported.left_out.items) done.notes.items
   pub same : done.verdict ≡ Same
 
 -- The text is imported as some policy.
@@ -64,12 +66,12 @@ IsImportable arch container strict text = (imported : Import) × IsImported arch
 
 -- The answer of `import`. It is Ok only where the policy is written. An error is that the profile isn't read or isn't imported, or that
 -- writing fails.
-pub data AnswersImport (arch : TargetArch) (container : Container) (strict : Bool) (known : Option (List ℕ))
+pub data AnswersImport (arch : TargetArch) (container : Container) (strict : Bool) (path : List ℕ) (known : Option (List ℕ))
     (answer : Result Done ToolError) (old new : Option (List ℕ)) : Type 0 where
-  unread : IsErrAnd answer IsPolicyReadError → AnswersImport arch container strict known answer old new
+  unread : IsErrAnd answer IsPolicyReadError → AnswersImport arch container strict path known answer old new
   unimported : Reads known (λ text. IsErrAnd answer (IsUnimported arch container strict text))
-      → AnswersImport arch container strict known answer old new
-  unwritten : (e : _) → answer ≡ Err (error.Write e) → Reads known (IsImportable arch container strict)
-      → AnswersImport arch container strict known answer old new
-  written : (done : Done) → answer ≡ Ok done → Reads known (WritesImport arch container strict done old new)
-      → AnswersImport arch container strict known answer old new
+      → AnswersImport arch container strict path known answer old new
+  unwritten : (e : Error) → answer ≡ Err (error.Write e) → Reads known (IsImportable arch container strict)
+      → AnswersImport arch container strict path known answer old new
+  written : (done : Done) → answer ≡ Ok done → Reads known (WritesImport arch container strict path done old new)
+      → AnswersImport arch container strict path known answer old new

@@ -17,6 +17,7 @@ pub mod Ways
 pub mod Stats
 pub mod Compat
 pub mod Lint
+pub mod Notes
 pub mod Check
 pub mod Codes
 pub mod Reasons

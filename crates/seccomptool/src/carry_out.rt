@@ -155,7 +155,7 @@ fn answered(
 {
     match answer {
         Ok(done) => {
-            note(rt, policy_of(command).unwrap_or("-"), &done.notes);
+            note(rt, &done.notes);
             status_of(done.verdict)
         }
         Err(error) => failed(rt, command, Failure::Engine(error)),

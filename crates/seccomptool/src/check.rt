@@ -1,19 +1,19 @@
 // The first fault of a policy, or else its warnings.
 
-ghost use Rattle.std.specs.Prelude.{◌≡◌, IfErr, IfOk};
-ghost use Rattle.seccomptool.specs.Check.{AnswersCheck, IsFront, verdict_where};
+ghost use Rattle.std.specs.Prelude.{◌≡◌, IfErr};
+ghost use Rattle.seccomptool.specs.Check.{AnswersCheck, verdict_where};
 ghost use Rattle.seccomptool.specs.Errors.{KeepsOutput};
 
 use crate::error::ToolError;
 use crate::findings::Verdict;
 use crate::lint::lint;
+use crate::notes::front_of;
 use crate::policy::policy_text;
 use crate::send::send;
-use seccomp_command_line::names::push_readable;
 use seccomp_warnings::{Code, report_of};
 use seccompiler::TargetArch;
 use seccompiler::json::filters_of;
-use std::alloc::{AllocError, Global};
+use std::alloc::Global;
 use std::io::{Read, Write};
 
 /// Reports the first fault of a policy as an error, as [`lint`] reports it, or else writes its warnings,
@@ -58,20 +58,6 @@ pub fn check<R: Read + Drop, W: Write>(
     let report = report_of(alloc, &front, &filters, allowed)?;
     send(out, &report.text)?;
     Ok(verdict_where(denied, report.warned))
-}
-
-// What stands in front of each line about the policy of this path.
-fn front_of(alloc: Global, path: &str) -> Result<Vec<u8>, AllocError>
-    ensures { IfOk result (λ front. IsFront path.now front.items) }
-{
-    let mut front = Vec::new(alloc);
-    if path == "-" {
-        front.extend_from_slice(b"standard input: ")?;
-        return Ok(front);
-    }
-    push_readable(&mut front, path)?;
-    front.extend_from_slice(b": ")?;
-    Ok(front)
 }
 
 // The verdict where warnings are denied or not, and there are some or none.

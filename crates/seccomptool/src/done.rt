@@ -13,7 +13,7 @@ use std::alloc::Global;
 pub struct Done {
     /// What it finds.
     pub verdict: Verdict,
-    /// What is to be told on standard error, behind the file that the command reads: no bytes where nothing is.
+    /// What is to be noted on standard error, in lines, each with a line feed: no bytes where nothing is.
     pub notes: Vec<u8>,
 }
 

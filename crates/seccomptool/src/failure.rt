@@ -66,19 +66,10 @@ pub(crate) fn tell(
     };
 }
 
-// Tells what is to be noted of what stands at a path, if anything, on standard error, in one line.
-pub(crate) fn note(rt: &(impl Eprint + AllocGlobal), path: &str, notes: &[u8]) {
-    if notes.is_empty() {
-        return;
-    }
-    let told = str::from_utf8(notes).unwrap_or("Out of memory.");
-    match front_of(rt.alloc(), path, "standard input") {
-        Ok(front) => {
-            let _ = eprintln!(rt; "{front}{told}");
-        }
-        Err(_) => {
-            let _ = eprintln!(rt; "seccomptool: {told}");
-        }
+// Tells notes on standard error: lines of text.
+pub(crate) fn note(rt: &impl Eprint, notes: &[u8]) {
+    if let Ok(lines) = str::from_utf8(notes) {
+        let _ = eprint!(rt; "{lines}");
     }
 }
 

@@ -6,11 +6,12 @@ ghost use Rattle.seccomp_oci.specs.Import.{IsImportFault};
 ghost use Rattle.seccomp_oci.specs.Types as oci;
 ghost use Rattle.seccomp_oci.specs.declared.import.ImportError.TheVariants as import_error;
 ghost use Rattle.seccomptool.specs.Errors.{KeepsOutput};
-ghost use Rattle.seccomptool.specs.Imports.{AnswersImport, IsUnimported, names_text, note_text, other_text, told_text};
+ghost use Rattle.seccomptool.specs.Imports.{AnswersImport, AreNoted, IsUnimported, names_text, other_text, told_text};
 
 use crate::done::Done;
 use crate::error::ToolError;
 use crate::findings::Verdict;
+use crate::notes::note;
 use crate::policy::policy_text;
 use crate::send::send;
 use itoa::Buffer;
@@ -22,10 +23,11 @@ use std::io::{Read, Write};
 
 /// Writes a profile as a policy: the text that [`import_profile`] gives.
 ///
-/// The names that are left out are told in a note: `names of no system call of ARCH, left out (N): `, and then the names, N
-/// in number, in the profile's order, separated by `, `. In them the control characters, those from U+0080 to U+009F
-/// too, and the backslash are written as `\x` and two lower-case hexadecimal digits for each of their bytes. There is no note
-/// where no name is left out.
+/// The names that are left out are noted in a line: `seccomptool: `, the profile's file, `: names of no system call of ARCH, left
+/// out (N): `, and then the names, N in number, in the profile's order, separated by `, `. The file is `path`, or `standard
+/// input` where that is `-`. In it and in the names the control characters, those from U+0080 to U+009F
+/// too, and the backslash are written as `\x` and two lower-case hexadecimal digits for each of their bytes. There is no
+/// note where no name is left out.
 ///
 /// The profile's text is what its reader gives, and is read whole at first.
 ///
@@ -40,11 +42,12 @@ pub fn import<R: Read + Drop, W: Write>(
     arch: TargetArch,
     container: &Container,
     strict: bool,
+    path: &str,
     profile: R,
     out: &mut W,
 ) -> Result<Done, ToolError>
     // When each answer comes, and what is written.
-    ensures answers { AnswersImport arch container.now strict (R.remaining profile) result (W.contents out.old) (W.contents out.new) }
+    ensures answers { AnswersImport arch container.now strict path.now (R.remaining profile) result (W.contents out.old) (W.contents out.new) }
     ensures unwritten { IfErr result (λ e. KeepsOutput e out.old out.new) }
 {
     let text = policy_text(alloc, profile)?;
@@ -52,7 +55,7 @@ pub fn import<R: Read + Drop, W: Write>(
         Ok(imported) => imported,
         Err(error) => return Err(unimported(alloc, arch, error)),
     };
-    let notes = note(alloc, arch, &imported.left_out)?;
+    let notes = noted(alloc, arch, path, &imported.left_out)?;
     send(out, &imported.text)?;
     Ok(Done {
         verdict: Verdict::Same,
@@ -60,14 +63,20 @@ pub fn import<R: Read + Drop, W: Write>(
     })
 }
 
-// The note of names that are left out.
-fn note(alloc: Global, arch: TargetArch, names: &[String]) -> Result<Vec<u8>, AllocError>
-    ensures { IfOk result (λ note. note.items ≡ note_text arch (map string_bytes names.now)) }
+// The note of names that are left out of the profile of this path.
+fn noted(
+    alloc: Global,
+    arch: TargetArch,
+    path: &str,
+    names: &[String],
+) -> Result<Vec<u8>, AllocError>
+    ensures { IfOk result (λ notes. AreNoted arch path.now (map string_bytes names.now) notes.items) }
 {
     if names.is_empty() {
         return Ok(Vec::new(alloc));
     }
-    told(alloc, arch, b", left out (", names)
+    let told = told(alloc, arch, b", left out (", names)?;
+    note(alloc, path, &told)
 }
 
 // Why a profile isn't imported.

@@ -17,6 +17,7 @@ mod failure;
 mod findings;
 mod import;
 mod lint;
+mod notes;
 mod numbers;
 mod perform;
 mod policy;

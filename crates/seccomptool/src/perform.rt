@@ -146,8 +146,8 @@ pub fn perform<P: Read + Drop, R: Read + Drop, W: Write>(
             arch,
             container,
             strict,
-            ..
-        } => import(alloc, arch, container, strict, policy, out),
+            profile,
+        } => import(alloc, arch, container, strict, profile, policy, out),
     }
 }
 

@@ -16,7 +16,8 @@ use Rattle.seccompiler.specs.JsonShape.{Has, Under, IsFilter}
 use Rattle.seccompiler.specs.JsonSteps.{AreFilters}
 use Rattle.seccompiler.specs.JsonTypes.{JsonFilter}
 use Rattle.seccomp_command_line.proofs.ByName.{by_text, names_ordered}
-use Rattle.seccomptool.specs.Check.{HasWarnings, IsFront, WritesWarnings, AnswersCheck, verdict_where}
+use Rattle.seccomptool.specs.Check.{HasWarnings, WritesWarnings, AnswersCheck, verdict_where}
+use Rattle.seccomptool.specs.Notes.{IsFront}
 use Rattle.seccomptool.specs.Errors.{IsWriteError}
 use Rattle.seccomp_check.specs.Checks.{IsPlaced}
 use Rattle.seccomp_warnings.specs.Reports.{FilterWarnings, NamedFilters, AreWarningsOf, IsReportOf}

@@ -4,3 +4,4 @@ pub mod Ranks
 pub mod Policies
 pub mod Joint
 pub mod Once
+pub mod Refused

@@ -10,3 +10,5 @@ pub mod Rules
 pub mod Filters
 pub mod PolicyText
 pub mod Import
+pub mod ImportSteps
+pub mod ImportErrors

@@ -6,9 +6,11 @@ ghost use Rattle.seccompiler.specs.declared.backend.TargetArch.{TargetArch};
 ghost use Rattle.seccompiler.specs.declared.backend.SeccompAction.TheVariants.{Allow};
 ghost use Rattle.seccompiler.specs.declared.json.error.JsonFrontendError.TheVariants.{OutOfMemory};
 ghost use Rattle.seccompiler.specs.JsonPolicyOf.{IsFineEntry, IsPolicyOf};
+ghost use Rattle.seccompiler.specs.Compiled.{AreCallNumbers, numbers_of};
 ghost use Rattle.seccompiler.specs.Policy.{Filter};
 ghost use Rattle.seccomp_oci.specs.Decision.{Counts};
 ghost use Rattle.seccomp_oci.specs.Filters.{AllOnArguments, AreDenying, AreFiltersOf, AreJoined, DecideAs, DecidesOnce, IsBase, IsFineFilter};
+ghost use Rattle.seccomp_oci.specs.ImportSteps.{IsFirstRefusal};
 ghost use Rattle.seccomp_oci.specs.Rules.{AreOnArguments, RuleMatches};
 ghost use Rattle.seccomp_oci.specs.Types.{Container, Entry, Profile};
 
@@ -216,22 +218,33 @@ pub fn filters_of_profile(
     ensures one { (a : TargetArch) (c : Container) (p : Profile) → DecidesOnce a c p }
 {
     let all = json_filters_of(alloc, arch, container, profile)?;
-    made(alloc, arch, all.as_slice())
+    policies_of(alloc, arch, all.as_slice())
 }
 
-// The policies of JSON filters.
-fn made(
+/// The policies of JSON filters, on an architecture and in the filters' order.
+///
+/// Each is what [`JsonCompiler::make_seccomp_filter`] gives for its filter. Its call numbers are those of a table, so
+/// none of them is an `InvalidSyscallNumber` where it is compiled.
+///
+/// # Errors
+///
+/// What `make_seccomp_filter` rejects, of the first filter with such a fault; none of
+/// [`json_filters_of`] has one, where each condition of the profile is on an argument from 0 to 5. `OutOfMemory`,
+/// where memory runs out, may come in place of it, and no other error.
+pub fn policies_of(
     alloc: Global,
     arch: TargetArch,
-    all: &[JsonFilter],
+    filters: &[JsonFilter],
 ) -> Result<Vec<SeccompFilter>, JsonFrontendError>
-    ensures policies { IfOk result (λ filters. AllZip (IsPolicyOf arch) all.now filters.items) }
-    ensures refused { IfErr result (λ e. All (IsFineFilter arch) all.now → e ≡ OutOfMemory) }
+    ensures policies { IfOk result (λ all. AllZip (IsPolicyOf arch) filters.now all.items) }
+    ensures numbers { IfOk result (λ all. All (λ f. AreCallNumbers (numbers_of f.chains)) all.items) }
+    ensures fault { IfErr result (IsFirstRefusal arch filters.now) }
+    ensures refused { IfErr result (λ e. All (IsFineFilter arch) filters.now → e ≡ OutOfMemory) }
 {
     let compiler = JsonCompiler::new(arch);
-    let mut filters = Vec::with_capacity(alloc, all.len())?;
-    for filter in all {
-        filters.push(compiler.make_seccomp_filter(alloc, filter)?)?;
+    let mut policies = Vec::with_capacity(alloc, filters.len())?;
+    for filter in filters {
+        policies.push(compiler.make_seccomp_filter(alloc, filter)?)?;
     }
-    Ok(filters)
+    Ok(policies)
 }

@@ -26,11 +26,12 @@ mod scope;
 #[cfg(test)]
 mod tests;
 pub mod types;
+mod unknown;
 mod version;
 
 pub use error::ProfileError;
+pub use filters::{filters_of_profile, json_filters_of, policies_of};
 pub use import::{Import, ImportError, import_profile};
-pub use filters::{filters_of_profile, json_filters_of};
 pub use lists::{arguments_under, flags_under, texts_under};
 pub use parts::{read_action, read_argument, read_flag};
 pub use policy::{PolicyTextError, policy_text};
@@ -38,4 +39,5 @@ pub use profile::{profile_of, read_profile};
 pub use rules::rules_of;
 pub use scope::applies;
 pub use types::{Argument, Container, Criteria, Entry, Flag, Kernel, Operator, Profile};
+pub use unknown::unknown_names;
 pub use version::kernel_of;

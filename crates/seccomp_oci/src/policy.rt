@@ -91,8 +91,13 @@ fn written(alloc: Global, filters: &[JsonFilter], has_base: bool) -> Result<Vec<
     Ok(text.into_bytes())
 }
 
-// The name of the filter at a place.
-fn name_of(alloc: Global, has_base: bool, count: usize, place: usize) -> Result<String, AllocError>
+/// The name of the filter at a place.
+pub(crate) fn name_of(
+    alloc: Global,
+    has_base: bool,
+    count: usize,
+    place: usize,
+) -> Result<String, AllocError>
     requires { place < count }
     ensures { IfOk result (λ name. string_bytes name ≡ name_of has_base count place) }
 {

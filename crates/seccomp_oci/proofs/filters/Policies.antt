@@ -1,4 +1,4 @@
--- For `json_filters_of` and `made`: the policy of a JSON filter, and what it decides.
+-- For `json_filters_of` and `policies_of`: the policy of a JSON filter, and what it decides.
 use Rattle.std.proofs.Common.{◌≡◌, ◌≢◌, ◌↔◌, ◌<◌, ◌≤◌, ℕ, ℤ, pos, List, [], ◌∷◌, ◌++◌, Bool, true, false, ◌||◌, ◌&&◌, cond, Option}
 use Rattle.std.proofs.Common.{Some, None, All, refl, sym, ap, ◌∙◌, subst, ◌⊎◌, inl, inr, Decides, map, arith}
 use Rattle.std.specs.Prelude.{Any}

@@ -1,5 +1,5 @@
 -- What a profile is imported as: a JSON policy, and the names that it leaves out; and why one isn't imported.
-use Rattle.std.specs.Prelude.{◌≡◌, ◌≢◌, ℕ, Bool, true, false, List, [], ◌∷◌, ◌++◌, length, map, string_bytes, All, IsNone, IsSome, None, Option, ⊤}
+use Rattle.std.specs.Prelude.{◌≡◌, ◌≢◌, ℕ, Bool, true, false, List, [], ◌∷◌, ◌++◌, length, map, string_bytes, All, IsNone, IsSome, ⊤}
 use Rattle.std.specs.List.{AllZip}
 use Rattle.seccompiler.specs.declared.backend.BackendError.TheVariants.{FilterTooLarge}
 use Rattle.seccompiler.specs.declared.backend.SeccompAction.{SeccompAction}
@@ -103,7 +103,3 @@ IsImportFault arch container strict text (import_error.TooLarge name instruction
     HasTooLarge arch container strict text (string_bytes name) instructions
 IsImportFault arch container strict text import_error.NotReadBack = ⊤
 IsImportFault arch container strict text import_error.OutOfMemory = ⊤
-
--- The text of the error, where all of it is known.
-abbrev pub import_error_text : ImportError → Option (List ℕ)
-import_error_text error = None

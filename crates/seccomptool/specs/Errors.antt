@@ -11,7 +11,7 @@ use Rattle.seccomptool.specs.declared.error.ToolError.{ToolError}
 use Rattle.seccomptool.specs.declared.error.ToolError.TheVariants.{Library, NewPolicy, NoFilter, Unchosen, UnknownCall, ShortRecord, Read}
 use Rattle.seccomptool.specs.declared.error.ToolError.TheVariants.{Fault, Program, Import, Write, OutOfMemory}
 use Rattle.seccomptool.specs.RunFaults.{fault_text}
-use Rattle.seccomp_oci.specs.Import.{import_error_text}
+use Rattle.seccomp_oci.specs.ImportErrors.{import_error_text}
 use Rattle.seccomp_command_line.specs.declared.error.ToolError.{ToolError as SharedError}
 use Rattle.seccomp_command_line.specs.declared.error.ToolError.TheVariants as shared
 

@@ -8,4 +8,5 @@ pub mod ProfileText
 pub mod Decision
 pub mod Rules
 pub mod Filters
+pub mod Join
 pub mod PolicyText

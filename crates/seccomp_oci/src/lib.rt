@@ -12,6 +12,7 @@ mod decisions;
 mod entries;
 mod error;
 mod filters;
+mod join;
 mod layout;
 mod lists;
 mod members;
@@ -29,6 +30,7 @@ mod version;
 
 pub use error::ProfileError;
 pub use filters::{filters_of_profile, json_filters_of};
+pub use join::joined;
 pub use lists::{arguments_under, flags_under, texts_under};
 pub use parts::{read_action, read_argument, read_flag};
 pub use policy::{PolicyTextError, policy_text};

@@ -8,6 +8,7 @@ pub mod ProfileText
 pub mod Decision
 pub mod Rules
 pub mod Filters
+pub mod Join
 pub mod PolicyText
 pub mod Import
 pub mod ImportSteps

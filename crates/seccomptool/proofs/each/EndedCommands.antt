@@ -77,9 +77,9 @@ moved_check arch denied own other path status same ends = λ verdict is fails.
 
 -- A profile that is imported, for a container behind a reference.
 pub import_ended : (arch : TargetArch) (container : Container) (own : Bor Container) (strict : Bool) (profile : Bor (List ℕ))
-    (status : ℕ) → own.now ≡ container → EndsWith (command.Import arch own strict profile) status
+    (status : ℕ) → EndsWith (command.Import arch own strict profile) status → own.now ≡ container
     → EndAsAsked (Import arch container strict profile) status
-import_ended arch container own strict profile status is ends = record {
+import_ended arch container own strict profile status ends is = record {
   commands = command.Import arch own strict profile ∷ [];
   are = (own, is, refl);
   ended = one_more [] (command.Import arch own strict profile) 0 status status none_ended ends (omega arith) (omega arith) (inr refl);

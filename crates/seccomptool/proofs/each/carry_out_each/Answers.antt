@@ -1,3 +1,4 @@
+use Rattle.std.proofs.Common.{refl}
 use Rattle.seccomptool.proofs.each.EndedCommands.{checks_ended, import_ended, one_ended}
 use Rattle.seccomptool.proofs.each.carry_out_each.Goals as goal
 
@@ -14,5 +15,5 @@ returns-in-Checks-clause-each g c =
 pub returns-in-Import-clause-each : goal.returns-in-Import-clause-each
 returns-in-Import-clause-each g c =
     rw (c.in-Import.is, c.from-in-Import.ensures)
-    (import_ended c.in-Import.arch c.in-Import.container _ c.in-Import.strict c.in-Import.profile c.carry_out-in-Import.result refl
-    c.carry_out-in-Import.ensures.performed)
+    (import_ended c.in-Import.arch c.in-Import.container _ c.in-Import.strict c.in-Import.profile c.carry_out-in-Import.result
+    c.carry_out-in-Import.ensures.performed refl)

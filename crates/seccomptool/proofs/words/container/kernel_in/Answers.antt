@@ -1,6 +1,6 @@
 use Rattle.std.proofs.Common.{◌≡◌, ◌∙◌, List, None, Some, ap, codes, subst, sym}
 use Rattle.std.specs.Prelude.{Option}
-use Rattle.clap.specs.Words.{Row, Text, first_of}
+use Rattle.clap.specs.Words.{Row, Text, first_of, found_of, rows_of}
 use Rattle.seccomp_oci.specs.Version.{IsVersion}
 use Rattle.seccomp_oci.specs.declared.types.Kernel.{Kernel}
 use Rattle.seccomptool.specs.Words.{IsGivenKernel, text_of}
@@ -16,4 +16,4 @@ none_given rows text is none (Some k) given =
 
 pub returns-in-None-clause-none : goal.returns-in-None-clause-none
 returns-in-None-clause-none c =
-    none_given _ c.in-Some.text.now (c.text_in.ensures ∙ ap text_of c.in-Some.is) c.in-None.ensures.none
+    none_given (rows_of (found_of c.args.found.now)) c.in-Some.text.now (c.text_in.ensures ∙ ap text_of c.in-Some.is) c.in-None.ensures.none

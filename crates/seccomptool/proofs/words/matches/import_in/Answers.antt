@@ -24,7 +24,3 @@ module _ (rows : List Row) where
   none_asked none (One c) is = no_command c is
   none_asked none (Checks arch denied allowed policies) is = let first = ap (λ t. slice_index t 0) is.0 in omega (arith, first)
   none_asked none (Import arch container strict profile) is = none arch container strict profile.now is.1
-
-pub returns-in_default-arch_in-clause-none : goal.returns-in_default-arch_in-clause-none
-returns-in_default-arch_in-clause-none c =
-    none_asked _ (λ arch container strict profile is. c.in_default-arch_in.ensures.none arch is.arch_is)

@@ -11,6 +11,7 @@
 #[cfg(test)]
 mod decisions;
 mod entries;
+mod errnos;
 mod error;
 mod filters;
 pub mod import;

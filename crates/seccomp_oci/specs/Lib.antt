@@ -2,6 +2,7 @@
 -- entry applies.
 pub mod Types
 pub mod Shape
+pub mod Errnos
 pub mod Version
 pub mod ProfileShape
 pub mod ProfileText

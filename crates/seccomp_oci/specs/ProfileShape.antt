@@ -4,6 +4,7 @@ use Rattle.std.specs.Prelude.{◌≡◌, ℕ, List, [], ◌∷◌, Option, Some,
 use Rattle.serde_json.specs.Data.{Data, string, Items}
 use Rattle.serde_json.specs.Find.{get}
 use Rattle.seccompiler.specs.JsonShape.{HasOnly, IsCommented, Under}
+use Rattle.seccomp_oci.specs.Errnos.{AgreesOnError}
 use Rattle.seccomp_oci.specs.Shape.{IsAction, IsArgument, IsFlag, IsListed, IsText, items_of}
 use Rattle.seccomp_oci.specs.Types.{Criteria, Entry, Profile}
 use Rattle.seccomp_oci.specs.Version.{IsKernelOr}
@@ -30,12 +31,13 @@ abbrev pub AreCriteriaOr : Option Data → Criteria → Type 0
 AreCriteriaOr None c = (c.caps ≡ []) × (c.arches ≡ []) × (c.min_kernel ≡ None)
 AreCriteriaOr (Some d) c = AreCriteria d c
 
--- The value is this entry: an object of `action`, `names` or `name`, and, if it likes, `errnoRet`, `args`, `includes`,
--- `excludes` and `comment`.
+-- The value is this entry: an object of `action`, `names` or `name`, and, if it likes, `errnoRet`, `errno`, which says the
+-- same, `args`, `includes`, `excludes` and `comment`.
 pub record IsEntry (d : Data) (e : Entry) : Type 0 where
-  pub only : HasOnly d (codes "names" ∷ codes "name" ∷ codes "action" ∷ codes "errnoRet" ∷ codes "args" ∷ codes "includes"
-      ∷ codes "excludes" ∷ codes "comment" ∷ [])
+  pub only : HasOnly d (codes "names" ∷ codes "name" ∷ codes "action" ∷ codes "errnoRet" ∷ codes "errno" ∷ codes "args"
+      ∷ codes "includes" ∷ codes "excludes" ∷ codes "comment" ∷ [])
   pub comment : IsCommented d
+  pub error : AgreesOnError (codes "action") (codes "errno") (codes "errnoRet") d
   pub names : AreNames (get (codes "names") d) (get (codes "name") d) e.names
   pub action : Under d (codes "action") (λ v. IsAction v (get (codes "errnoRet") d) e.action)
   pub args : IsListed IsArgument (get (codes "args") d) e.args
@@ -43,12 +45,13 @@ pub record IsEntry (d : Data) (e : Entry) : Type 0 where
   pub excludes : AreCriteriaOr (get (codes "excludes") d) e.excludes
 
 -- The value is an object that has none but these names. `architectures` and `archMap`, which concern other architectures,
--- are lists, if they are there.
+-- are lists, if they are there. `defaultErrno`, if it is there, says the same as `defaultErrnoRet`.
 pub record HasProfileNames (d : Data) : Type 0 where
-  pub only : HasOnly d (codes "defaultAction" ∷ codes "defaultErrnoRet" ∷ codes "architectures" ∷ codes "archMap"
-      ∷ codes "flags" ∷ codes "syscalls" ∷ [])
+  pub only : HasOnly d (codes "defaultAction" ∷ codes "defaultErrnoRet" ∷ codes "defaultErrno" ∷ codes "architectures"
+      ∷ codes "archMap" ∷ codes "flags" ∷ codes "syscalls" ∷ [])
   pub architectures : IsList (get (codes "architectures") d)
   pub arch_map : IsList (get (codes "archMap") d)
+  pub error : AgreesOnError (codes "defaultAction") (codes "defaultErrno") (codes "defaultErrnoRet") d
 
 -- The value is this profile: an object of `defaultAction` and, if it likes, `defaultErrnoRet`, `flags` and `syscalls`.
 pub record IsProfile (d : Data) (p : Profile) : Type 0 where

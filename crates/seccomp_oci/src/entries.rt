@@ -6,6 +6,7 @@ ghost use Rattle.seccompiler.specs.JsonShape.{OneByOne};
 ghost use Rattle.seccomp_oci.specs.ProfileShape.{AreNames, AreCriteria, AreCriteriaOr, IsEntry};
 ghost use Rattle.seccomp_oci.specs.Types.{Criteria, Entry};
 
+use crate::errnos::agrees_on_error;
 use crate::lists::{arguments_under, texts_under};
 use crate::members::{is_commented, is_object_of};
 use crate::parts::read_action;
@@ -79,9 +80,12 @@ fn read_entry(alloc: Global, value: &Value) -> Result<Option<Entry>, AllocError>
     ensures none { IfOk result (λ o. IfNone o ((e : Entry) → IsEntry (view value.now) e → ⊥)) }
 {
     let names = [
-        "names", "name", "action", "errnoRet", "args", "includes", "excludes", "comment",
+        "names", "name", "action", "errnoRet", "errno", "args", "includes", "excludes", "comment",
     ];
     if !is_object_of(value, &names) || !is_commented(value) {
+        return Ok(None);
+    }
+    if !agrees_on_error(value, "action", "errno", "errnoRet") {
         return Ok(None);
     }
     let Some(action) = value.get("action") else {

@@ -4,16 +4,20 @@
 //! one. There are also the readers of its parts: actions, conditions on arguments, flags, and lists of
 //! these and of texts. A value that is no profile, or no such part, gives `None`. [`applies`] says whether
 //! an entry applies to a container, and [`filters_of_profile`] gives the filters that decide together what
-//! a profile decides.
+//! a profile decides. [`import_profile`] goes from the text of a profile to the text of a JSON policy, whose
+//! filters are these.
 #![tactic(auto)]
 
 #[cfg(test)]
 mod decisions;
 mod entries;
+mod errnos;
 mod error;
 mod filters;
 pub mod import;
 mod join;
+#[cfg(test)]
+mod imports;
 mod layout;
 mod lists;
 mod members;

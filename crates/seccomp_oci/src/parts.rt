@@ -38,8 +38,8 @@ fn read_plain_action(text: &str, number: Option<&Value>) -> Option<SeccompAction
     }
 }
 
-// The number of an action: 1 where none is given.
-fn action_number(number: Option<&Value>) -> Option<u32>
+/// The number of an action: 1 where none is given.
+pub(crate) fn action_number(number: Option<&Value>) -> Option<u32>
     ensures found { IfSome result (IsActionNumber (option_map (λ v. view v.now) number.entry)) }
     ensures none { IfNone result ((n : ℕ) → IsActionNumber (option_map (λ v. view v.now) number.entry) n → ⊥) }
 {

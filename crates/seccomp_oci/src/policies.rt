@@ -29,7 +29,8 @@ fn is_imported(alloc: Global, profile: &str, text: &str) -> Result<bool, Fail> {
     Ok(has_text(alloc, filters.as_slice(), has_base, text)?)
 }
 
-const PROFILE: &str = r#"{"defaultAction": "SCMP_ACT_ERRNO", "defaultErrnoRet": 38, "syscalls": [
+pub(crate) const PROFILE: &str =
+    r#"{"defaultAction": "SCMP_ACT_ERRNO", "defaultErrnoRet": 38, "syscalls": [
     {"names": ["read", "no_such_call", "write"], "action": "SCMP_ACT_ALLOW"},
     {"names": ["socket"], "action": "SCMP_ACT_KILL_PROCESS", "args": [
         {"index": 0, "value": 16, "op": "SCMP_CMP_EQ"}, {"index": 2, "value": 9, "op": "SCMP_CMP_NE"}]},
@@ -37,7 +38,7 @@ const PROFILE: &str = r#"{"defaultAction": "SCMP_ACT_ERRNO", "defaultErrnoRet": 
         {"index": 0, "value": 2114060288, "valueTwo": 0, "op": "SCMP_CMP_MASKED_EQ"}]}]}"#;
 
 // The filter for `clone` is to be installed last.
-const IMPORTED: &str = r#"{
+pub(crate) const IMPORTED: &str = r#"{
     "base": {
         "mismatch_action": {"errno": 38},
         "match_action": "allow",

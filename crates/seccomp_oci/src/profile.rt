@@ -10,6 +10,7 @@ ghost use Rattle.seccomp_oci.specs.ProfileText.{IsProfileFault, IsProfileText};
 ghost use Rattle.seccomp_oci.specs.Types.{Entry, Profile};
 
 use crate::entries::read_entries;
+use crate::errnos::agrees_on_error;
 use crate::error::ProfileError;
 use crate::lists::flags_under;
 use crate::members::{is_object_of, items_of};
@@ -32,6 +33,7 @@ fn has_profile_names(value: &Value) -> bool
     let names = [
         "defaultAction",
         "defaultErrnoRet",
+        "defaultErrno",
         "architectures",
         "archMap",
         "flags",
@@ -40,6 +42,7 @@ fn has_profile_names(value: &Value) -> bool
     is_object_of(value, &names)
         && is_list(value.get("architectures"))
         && is_list(value.get("archMap"))
+        && agrees_on_error(value, "defaultAction", "defaultErrno", "defaultErrnoRet")
 }
 
 fn entries_under(alloc: Global, value: Option<&Value>) -> Result<Option<Vec<Entry>>, AllocError>
@@ -58,8 +61,9 @@ fn entries_under(alloc: Global, value: Option<&Value>) -> Result<Option<Vec<Entr
 ///
 /// `value` is what stands under `linux.seccomp` in the OCI runtime specification, or a profile of Docker
 /// or Podman. It is none where it, one of its entries or a part of an entry has a name that isn't known
-/// or can't be carried, as `listenerPath`, or an action, operator or flag that can't. Each
-/// condition of a profile is on an argument from 0 to 5.
+/// or can't be carried, as `listenerPath`, or an action, operator or flag that can't. Podman names an
+/// action's error beside its number, as `"errno": "EPERM"`: a name that is another error's, or that isn't known, is
+/// none either. Each condition of a profile is on an argument from 0 to 5.
 ///
 /// # Errors
 ///

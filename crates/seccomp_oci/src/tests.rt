@@ -86,22 +86,26 @@ fn names_and_flags_are_listed(rt: HostRuntime) -> Result<(), Fail> {
 }
 
 // A profile of two entries, by the OCI runtime specification and what Docker adds to it.
-const PROFILE: &str = r#"{"defaultAction": "SCMP_ACT_ERRNO", "defaultErrnoRet": 38,
+const PROFILE: &str =
+    r#"{"defaultAction": "SCMP_ACT_ERRNO", "defaultErrnoRet": 38, "defaultErrno": "ENOSYS",
     "architectures": ["SCMP_ARCH_X86_64"], "archMap": [{"architecture": "SCMP_ARCH_X86_64"}],
     "syscalls": [
-        {"names": ["read", "write"], "action": "SCMP_ACT_ALLOW", "args": null, "comment": "both",
+        {"names": ["read", "write"], "action": "SCMP_ACT_ALLOW", "args": null, "comment": "both", "errno": "",
          "includes": {"caps": ["CAP_SYS_ADMIN"]}, "excludes": {"arches": ["arm64"]}},
         {"name": "clone3", "action": "SCMP_ACT_KILL_PROCESS"}]}"#;
 
 // Objects that are no profiles: no default action, a listener, an entry with an unknown name, one whose
-// action can't be carried, and two whose kernels are no versions.
-const NO_PROFILES: [&str; 6] = [
+// action can't be carried, and two whose kernels are no versions; a name of another error than the number's, and one
+// where no error is returned.
+const NO_PROFILES: [&str; 8] = [
     r#"{"syscalls": []}"#,
     r#"{"defaultAction": "SCMP_ACT_ALLOW", "listenerPath": "/run/agent.sock"}"#,
     r#"{"defaultAction": "SCMP_ACT_ALLOW", "syscalls": [{"names": ["read"], "action": "SCMP_ACT_LOG", "nams": []}]}"#,
     r#"{"defaultAction": "SCMP_ACT_ALLOW", "syscalls": [{"names": ["read"], "action": "SCMP_ACT_NOTIFY"}]}"#,
     r#"{"defaultAction": "SCMP_ACT_ALLOW", "syscalls": [{"names": [], "action": "SCMP_ACT_LOG", "includes": {"minKernel": 4.8}}]}"#,
     r#"{"defaultAction": "SCMP_ACT_ALLOW", "syscalls": [{"names": [], "action": "SCMP_ACT_LOG", "excludes": {"minKernel": "4"}}]}"#,
+    r#"{"defaultAction": "SCMP_ACT_ERRNO", "defaultErrnoRet": 38, "defaultErrno": "EPERM"}"#,
+    r#"{"defaultAction": "SCMP_ACT_ALLOW", "syscalls": [{"names": [], "action": "SCMP_ACT_TRACE", "errno": "EPERM"}]}"#,
 ];
 
 #[test]

@@ -11,6 +11,7 @@ pub returns-clause-found : goal.returns-clause-found
 returns-clause-found c = record {
   only = search rules;
   comment = search rules;
+  error = search rules;
   names = search rules;
   action = search rules;
   args = search rules;

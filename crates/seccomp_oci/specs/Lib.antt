@@ -9,4 +9,5 @@ pub mod Decision
 pub mod Rules
 pub mod Filters
 pub mod Join
+pub mod ProfileProgram
 pub mod PolicyText

@@ -1,6 +1,6 @@
 -- For the functions of `filters`: two lists whose elements belong together one by one.
-use Rattle.std.proofs.Common.{◌≡◌, ◌<◌, ℕ, ◌+◌, List, [], ◌∷◌, ◌++◌, All, length, get_or, take, refl, ap, sym, subst}
-use Rattle.std.specs.List.{AllZip}
+use Rattle.std.proofs.Common.{◌≡◌, ◌<◌, ℕ, ◌+◌, List, [], ◌∷◌, ◌++◌, All, length, get_or, take, refl, ap, sym, subst, arith}
+use Rattle.std.specs.List.{AllZip, remove}
 use Rattle.std.proofs.lemmas.List.Elements.{All-nil, All-cons, All-head, All-tail}
 use Rattle.seccomp_oci.proofs.Quantified.{more_read}
 
@@ -37,3 +37,19 @@ module _ {X Y : Type 0} (R : X → Y → Type 0) where
   zip_read xs i x ys new y within is longer zip here =
       subst (λ zs. AllZip R zs new) (sym (more_read xs i x within is))
       (subst (λ zs. AllZip R (take i xs ++ x ∷ []) zs) (sym longer) (zip_push (take i xs) ys x y zip here))
+
+  -- The elements at a place belong together, and so do the others.
+  pub zip_without : (front back : List X) (x : X) (ys : List Y) (d : Y) → AllZip R (front ++ x ∷ back) ys
+      → (length front < length ys) × R x (get_or ys (length front) d) × AllZip R (front ++ back) (remove ys (length front))
+  zip_without [] back x [] d zip = absurd zip
+  zip_without [] back x (y ∷ ys) d zip = (omega arith, zip.0, zip.1)
+  zip_without (w ∷ front) back x [] d zip = absurd zip
+  zip_without (w ∷ front) back x (y ∷ ys) d zip =
+      let rest = zip_without front back x ys d zip.1 in
+      let less = rest.0 in
+      (omega arith, rest.1, (zip.0, rest.2))
+
+-- What is left without an element.
+pub remove_at : {X : Type 0} (front back : List X) (x : X) → remove (front ++ x ∷ back) (length front) ≡ front ++ back
+remove_at [] back x = refl
+remove_at (w ∷ front) back x = ap (λ zs. w ∷ zs) (remove_at front back x)

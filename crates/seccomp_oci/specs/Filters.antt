@@ -1,5 +1,5 @@
 -- What filters decide together, and which filters of JSON policies stand for a profile.
-use Rattle.std.specs.Prelude.{◌≡◌, ◌≢◌, ◌↔◌, ℕ, List, [], ◌∷◌, ◌++◌, All, Any}
+use Rattle.std.specs.Prelude.{◌≡◌, ◌≢◌, ◌↔◌, ◌⊎◌, ℕ, List, [], ◌∷◌, ◌++◌, All, Any}
 use Rattle.seccompiler.specs.declared.backend.SeccompAction.{SeccompAction}
 use Rattle.seccompiler.specs.declared.backend.SeccompAction.TheVariants.{Allow}
 use Rattle.seccompiler.specs.declared.backend.TargetArch.{TargetArch}
@@ -37,6 +37,10 @@ AllOnArguments entries = All (λ e. AreOnArguments e.args) entries
 pub record IsFineFilter (arch : TargetArch) (j : JsonFilter) : Type 0 where
   pub rules : All (IsFineEntry arch) j.rules
   pub different : j.mismatch_action ≢ j.match_action
+
+-- One of the filter's two actions is to allow.
+abbrev pub OneAllows : JsonFilter → Type 0
+OneAllows j = (j.mismatch_action ≡ Allow) ⊎ (j.match_action ≡ Allow)
 
 -- A rule of the filter matches the record.
 abbrev pub FilterMatches : TargetArch → List ℕ → JsonFilter → Type 0

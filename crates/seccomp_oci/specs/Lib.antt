@@ -10,6 +10,7 @@ pub mod Decision
 pub mod Rules
 pub mod Filters
 pub mod Join
+pub mod ProfileProgram
 pub mod PolicyText
 pub mod Import
 pub mod ImportSteps

@@ -9,7 +9,7 @@ ghost use Rattle.seccompiler.specs.JsonPolicyOf.{IsFineEntry, IsPolicyOf};
 ghost use Rattle.seccompiler.specs.Compiled.{AreCallNumbers, numbers_of};
 ghost use Rattle.seccompiler.specs.Policy.{Filter};
 ghost use Rattle.seccomp_oci.specs.Decision.{Counts};
-ghost use Rattle.seccomp_oci.specs.Filters.{AllOnArguments, AreDenying, AreFiltersOf, AreJoined, DecideAs, DecidesOnce, IsBase, IsFineFilter};
+ghost use Rattle.seccomp_oci.specs.Filters.{AllOnArguments, AreDenying, AreFiltersOf, AreJoined, DecideAs, DecidesOnce, IsBase, IsFineFilter, OneAllows};
 ghost use Rattle.seccomp_oci.specs.ImportSteps.{IsFirstRefusal};
 ghost use Rattle.seccomp_oci.specs.Rules.{AreOnArguments, RuleMatches};
 ghost use Rattle.seccomp_oci.specs.Types.{Container, Entry, Profile};
@@ -191,6 +191,7 @@ pub fn json_filters_of(
 ) -> Result<Vec<JsonFilter>, AllocError>
     ensures decide { IfOk result (λ all. (filters : List Filter) → AllZip (IsPolicyOf arch) all.items filters → DecideAs arch container.now profile.now filters) }
     ensures fine { IfOk result (λ all. AllOnArguments profile.now.entries → All (IsFineFilter arch) all.items) }
+    ensures one_allows { IfOk result (λ all. All OneAllows all.items) }
 {
     filters_of(alloc, arch, container, profile)
 }

@@ -26,6 +26,9 @@ mod parts;
 mod policies;
 mod policy;
 mod profile;
+mod program;
+#[cfg(test)]
+mod programs;
 mod rules;
 mod scope;
 #[cfg(test)]
@@ -42,6 +45,7 @@ pub use lists::{arguments_under, flags_under, texts_under};
 pub use parts::{read_action, read_argument, read_flag};
 pub use policy::{PolicyTextError, policy_text};
 pub use profile::{profile_of, read_profile};
+pub use program::program_of_profile;
 pub use rules::rules_of;
 pub use scope::applies;
 pub use types::{Argument, Container, Criteria, Entry, Flag, Kernel, Operator, Profile};

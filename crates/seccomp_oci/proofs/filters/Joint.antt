@@ -14,7 +14,7 @@ use Rattle.seccompiler.specs.Machine.{word_at}
 use Rattle.seccompiler.specs.Policy.{Filter, IsDecision, other_architecture, policy_matches, policy_differs, word_of}
 use Rattle.seccomp_oci.specs.Decision.{Counts, IsFirstLeast, first, later, IsProfileDecision, by_entries, by_default, rank_of_kept}
 use Rattle.seccomp_oci.specs.Filters.{AllOnArguments, AreDenying, AreFiltersOf, without_base, with_base, IsFineFilter}
-use Rattle.seccomp_oci.specs.Filters.{FilterMatches, IsBase, IsJointDecision, all_allow, strictest, DecideAs}
+use Rattle.seccomp_oci.specs.Filters.{FilterMatches, IsBase, OneAllows, IsJointDecision, all_allow, strictest, DecideAs}
 use Rattle.seccomp_oci.specs.Types.{Container, Entry, Profile}
 use Rattle.seccomp_oci.proofs.Quantified.{any_weaker, at_any, none_is_any}
 use Rattle.seccomp_oci.proofs.Least.{Above, NotBelow, none_least, least_last, least_kept, least_all, least_any, least_only}
@@ -215,3 +215,11 @@ each_fine arch container p js (with_base denying base denies whole are is_base) 
       different = λ same. are.deny k d within (sym same ∙ are.allow k d within);
     })
     (record { rules = is_base.fine on; different = λ same. denies (sym is_base.mismatch_action ∙ same ∙ is_base.match_action) }))
+
+-- Each of them has an action that is to allow.
+pub each_allows : (arch : TargetArch) (container : Container) (p : Profile) (js : List JsonFilter) → AreFiltersOf arch container p js
+    → All OneAllows js
+each_allows arch container p js (without_base allows are) = λ k d within. inl (are.allow k d within)
+each_allows arch container p js (with_base denying base denies whole are is_base) =
+    subst (All OneAllows) (sym whole)
+    (All-push OneAllows denying base (λ k d within. inl (are.allow k d within)) (inr is_base.match_action))

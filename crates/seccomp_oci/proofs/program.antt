@@ -1,0 +1,5 @@
+-- Lemmas for the functions of `program`.
+pub mod Turns
+pub mod Asked
+pub mod Greatest
+pub mod Decided

@@ -21,6 +21,7 @@ use crate::explain::explain;
 use crate::explain::format::LineFormat;
 use crate::findings::Verdict;
 use crate::policy::policy_text;
+use crate::progress::Progress;
 use crate::record::{called_record, record};
 use crate::run::run;
 use crate::show::{show, show_program};
@@ -33,7 +34,8 @@ use std::io::{Read, Write};
 
 /// Carries out a command on its policy, or `run` and `show` on their program, and `explain` and `run` on their records,
 /// those of a call aside; `diff` on the old policy and, in place of records, the new one, and `verify` on the policy and,
-/// in place of records, the program. The verdict is that of `diff`, `verify` and `check`, and else `Same`.
+/// in place of records, the program. The verdict is that of `diff`, `verify` and `check`, and else `Same`. `progress` gets
+/// how far comparisons are.
 ///
 /// # Errors
 ///
@@ -42,12 +44,13 @@ use std::io::{Read, Write};
 /// where no filter is asked for: the policy's fault that keeps its names from being read, and `Unchosen`
 /// with the names where it hasn't one. In front of all, for `explain` and `run` on a call, `UnknownCall` where the
 /// architecture hasn't it.
-pub fn perform<P: Read + Drop, R: Read + Drop, W: Write>(
+pub fn perform<P: Read + Drop, R: Read + Drop, W: Write, G: Progress>(
     alloc: Global,
     command: Command<'_>,
     policy: P,
     records: R,
     out: &mut W,
+    progress: &mut G,
 ) -> Result<Verdict, ToolError>
     // When each answer comes, and what is written.
     ensures answers { AnswersCommand command.entry (P.remaining policy) (R.remaining records) result (W.contents out.old) (W.contents out.new) }
@@ -106,6 +109,7 @@ pub fn perform<P: Read + Drop, R: Read + Drop, W: Write>(
             policy,
             records,
             out,
+            progress,
         ),
         Command::Verify {
             arch,
@@ -124,6 +128,7 @@ pub fn perform<P: Read + Drop, R: Read + Drop, W: Write>(
             policy,
             records,
             out,
+            progress,
         ),
         Command::Compat { arch, .. } => same(compat(alloc, arch.name(), policy, out)),
     }

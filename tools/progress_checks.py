@@ -11,7 +11,8 @@ one with an answer and one without, with standard error as a terminal and as a p
 - on the pipe comes nothing;
 - the exit status and standard output are the same, and what they have to be.
 
-A comparison that takes no time shows nothing on a terminal, and where a policy is rejected the error stands there alone.
+A comparison that takes no time shows nothing on a terminal, and where a policy is rejected the error stands there alone,
+as on a pipe.
 
 Prints each difference, and as its last line 'N passed, M failed'.
 """
@@ -123,11 +124,10 @@ def compare_progress(results, program):
             results.compare(f"{what} on a pipe", (status, output, b""), on_the_pipe)
             results.compare(f"{what} on a terminal", (status, output), on_the_terminal[:2])
             compare_lines(results, what, most, status == 0, on_the_terminal[2])
-        for words, stated in (
-            (["diff", "old.json", "old.json"], (0, "filter a: same\n", b"")),
-            (["diff", "--most", "0", "old.json", "old.json"], (3, "filter a: undecided\n..", b"")),
-            (["diff", "none.json", "old.json"], (2, "", b"seccomptool: none.json: ..")),
-        ):
+        for words in (["diff", "old.json", "old.json"], ["diff", "--most", "0", "old.json", "old.json"],
+                      ["diff", "none.json", "old.json"]):
+            status, output, errors = on_pipe(program, folder, words)
+            stated = status, output, errors.replace(b"\n", b"\r\n")
             results.compare(f"seccomptool {' '.join(words)} on a terminal", stated, on_terminal(program, folder, words))
 
 

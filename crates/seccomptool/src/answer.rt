@@ -7,6 +7,7 @@ ghost use Rattle.seccomptool.specs.Answers.{IsAnswered, IsCarriedOut, IsShown, M
 ghost use Rattle.seccomptool.specs.declared.findings.Verdict.TheVariants.{Different, Undecided};
 
 use crate::each::carry_out_each;
+use crate::progress::Progress;
 use crate::words::read;
 use clap::error::ErrorKind;
 use std::io;
@@ -15,11 +16,12 @@ use std::rt::Files;
 
 /// Carries out what the arguments behind the program's name ask for, or says what is wrong with
 /// them, or writes the help or the version that they ask for. `to_terminal` says whether standard output
-/// is a terminal.
-pub(crate) fn answer(
+/// is a terminal; `progress` gets how far comparisons are.
+pub(crate) fn answer<G: Progress>(
     rt: &(impl Files + Input + Print + Eprint + AllocGlobal),
     words: &[String],
     to_terminal: bool,
+    progress: &mut G,
 ) -> ExitCode
     ensures ended { exit_status result ≤ 3 }
 
@@ -32,7 +34,7 @@ pub(crate) fn answer(
     ensures undecided { exit_status result ≡ 3 → IsCarriedOut (map string_bytes words.now) Undecided }
 {
     match read(rt.alloc(), words) {
-        Ok(asked) => carry_out_each(rt, asked, to_terminal),
+        Ok(asked) => carry_out_each(rt, asked, to_terminal, progress),
         Err(error) => misused(rt, &error),
     }
 }

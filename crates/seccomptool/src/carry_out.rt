@@ -11,6 +11,7 @@ use crate::error::ToolError;
 use crate::failure::{Failure, ToldFor, note, tell};
 use crate::findings::Verdict;
 use crate::perform::perform;
+use crate::progress::Progress;
 use crate::source::{Source, open};
 use crate::words::{Command, Records, Shown};
 use std::io::Read;
@@ -19,10 +20,11 @@ use std::{fs, io};
 
 // Carries out a command, on the files and standard input that it names. Where standard output is a terminal,
 // no bytes of programs or records are written there.
-pub(crate) fn carry_out(
+pub(crate) fn carry_out<G: Progress>(
     rt: &(impl Files + Input + Print + Eprint + AllocGlobal),
     command: Command<'_>,
     to_terminal: bool,
+    progress: &mut G,
 ) -> u8
     ensures ended { result ≤ 3 }
     ensures kept { to_terminal ≡ true → spec.writes_bytes command.entry ≡ true → result ≡ spec.trouble command.entry }
@@ -45,27 +47,28 @@ pub(crate) fn carry_out(
     match output_of(command) {
         None => {
             let mut out = io::writer(rt);
-            let answer = perform(rt.alloc(), command, policy, records, &mut out);
+            let answer = perform(rt.alloc(), command, policy, records, &mut out, progress);
             answered(rt, command, answer)
         }
-        Some(path) => in_file(rt, command, policy, records, path),
+        Some(path) => in_file(rt, command, policy, records, path, progress),
     }
 }
 
 // Carries out a command whose output goes to a file, which is made where there is no fault.
-fn in_file<P: Read + Drop, R: Read + Drop>(
+fn in_file<P: Read + Drop, R: Read + Drop, G: Progress>(
     rt: &(impl Files + Eprint + AllocGlobal),
     command: Command<'_>,
     policy: P,
     records: R,
     path: &str,
+    progress: &mut G,
 ) -> u8
     ensures ended { result ≤ 3 }
     ensures performed { EndsWith command.entry result }
 {
     let alloc = rt.alloc();
     let mut bytes = Vec::new(alloc);
-    let answer = perform(alloc, command, policy, records, &mut bytes);
+    let answer = perform(alloc, command, policy, records, &mut bytes, progress);
     if answer.is_ok() {
         if let Err(error) = fs::write(rt, path, bytes.as_slice()) {
             return failed(rt, command, Failure::Output(error));

@@ -11,6 +11,7 @@ ghost use Rattle.seccomptool.specs.Errors.{KeepsOutput};
 use crate::diff::report::report_of;
 use crate::error::ToolError;
 use crate::findings::{Terms, Verdict};
+use crate::progress::Progress;
 use crate::send::send;
 use seccompiler::{JsonCompiler, Relation, TargetArch};
 use std::alloc::Global;
@@ -34,6 +35,10 @@ use std::io::{Read, Write};
 /// The policies' texts are what their readers give; of a reader whose type doesn't say what it reads, as
 /// that of standard input, the contract says that there is such a text.
 ///
+/// `progress` gets how many sets of records were looked at without an answer, part by part. Where it shows
+/// them, a part is tried with few sets first and with twice as many each time, up to `most`. No answer
+/// depends on it.
+///
 /// # Errors
 ///
 /// The first of these: `Library` with `InvalidTargetArch` and the text as it was given where `arch` is
@@ -43,7 +48,7 @@ use std::io::{Read, Write};
 /// `FilterTooLarge` of a filter that both have and that is too large in both layouts; `Write` where the
 /// writer fails. `OutOfMemory` comes in place of any of these where memory runs out, in a reader too. On any
 /// error but `Write` nothing is written.
-pub fn diff<O: Read + Drop, N: Read + Drop, W: Write>(
+pub fn diff<O: Read + Drop, N: Read + Drop, W: Write, G: Progress>(
     alloc: Global,
     arch: &str,
     filter: Option<&str>,
@@ -52,6 +57,7 @@ pub fn diff<O: Read + Drop, N: Read + Drop, W: Write>(
     old: O,
     new: N,
     out: &mut W,
+    progress: &mut G,
 ) -> Result<Verdict, ToolError>
     // When each answer comes, and what is written.
     ensures answers { AnswersDiff arch.now (option_map (λ name. name.now) filter.entry) relation (O.remaining old) (N.remaining new) result (W.contents out.old) (W.contents out.new) }
@@ -69,7 +75,7 @@ pub fn diff<O: Read + Drop, N: Read + Drop, W: Write>(
         relation,
         most,
     };
-    let report = report_of(alloc, terms, filter, &old, &new)?;
+    let report = report_of(alloc, terms, filter, &old, &new, progress)?;
     send(out, &report.text)?;
     Ok(report.verdict)
 }

@@ -6,6 +6,7 @@ ghost use Rattle.seccomptool.specs.Answers.{EndAsAsked, EndWith};
 ghost use Rattle.seccomptool.specs.declared.words.Command.TheVariants.{Check};
 
 use crate::carry_out::carry_out;
+use crate::progress::Progress;
 use crate::words::{Asked, Command};
 use seccomp_warnings::Code;
 use seccompiler::TargetArch;
@@ -14,22 +15,31 @@ use std::rt::Files;
 
 // Carries out what is asked for, on the files and standard input that are named, as `carry_out` does. The
 // status is the greatest of those of the commands.
-pub(crate) fn carry_out_each(
+pub(crate) fn carry_out_each<G: Progress>(
     rt: &(impl Files + Input + Print + Eprint + AllocGlobal),
     asked: Asked<'_>,
     to_terminal: bool,
+    progress: &mut G,
 ) -> ExitCode
     ensures ended { exit_status result ≤ 3 }
     ensures each { EndAsAsked asked.entry (exit_status result) }
 {
     match asked {
-        Asked::One(command) => ExitCode::from(carry_out(rt, command, to_terminal)),
+        Asked::One(command) => ExitCode::from(carry_out(rt, command, to_terminal, progress)),
         Asked::Checks {
             arch,
             denied,
             allowed,
             policies,
-        } => ExitCode::from(check_each(rt, arch, denied, &allowed, &policies, to_terminal)),
+        } => ExitCode::from(check_each(
+            rt,
+            arch,
+            denied,
+            &allowed,
+            &policies,
+            to_terminal,
+            progress,
+        )),
         Asked::Import {
             arch,
             container,
@@ -42,19 +52,20 @@ pub(crate) fn carry_out_each(
                 strict,
                 profile,
             };
-            ExitCode::from(carry_out(rt, command, to_terminal))
+            ExitCode::from(carry_out(rt, command, to_terminal, progress))
         }
     }
 }
 
 // Checks policies one after the other: one that is rejected doesn't keep those behind it from being checked.
-fn check_each(
+fn check_each<G: Progress>(
     rt: &(impl Files + Input + Print + Eprint + AllocGlobal),
     arch: TargetArch,
     denied: bool,
     allowed: &[Code],
     policies: &[&str],
     to_terminal: bool,
+    progress: &mut G,
 ) -> u8
     ensures ended { result ≤ 3 }
     ensures each { EndWith (map (Check arch denied allowed.entry) policies.now) result }
@@ -67,7 +78,7 @@ fn check_each(
             allowed,
             policy: *policy,
         };
-        status = greater(status, carry_out(rt, command, to_terminal));
+        status = greater(status, carry_out(rt, command, to_terminal, progress));
     }
     status
 }

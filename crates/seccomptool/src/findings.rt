@@ -3,6 +3,7 @@
 pub(crate) mod heading;
 pub(crate) mod lines;
 pub(crate) mod parts;
+pub(crate) mod tries;
 
 ghost use Rattle.std.specs.Prelude.{◌≡◌, ℕ, List, ◌↔◌};
 ghost use Rattle.seccompiler.specs.Compare.{IsCallOf};

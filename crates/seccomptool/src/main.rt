@@ -22,6 +22,7 @@ mod numbers;
 mod perform;
 mod policy;
 mod program;
+mod progress;
 mod record;
 mod run;
 mod send;
@@ -32,13 +33,20 @@ mod verify;
 mod words;
 
 use crate::answer::{answer, unread};
+use crate::progress::Watch;
 use seccomp_command_line::arguments::behind_the_name;
 use std::io::IsTerminal;
 use std::process::ExitCode;
 
 fn main(rt: HostRuntime) -> ExitCode {
+    let mut progress = Watch::new(&rt, rt.stderr().is_terminal());
     match behind_the_name(&rt) {
-        Ok(words) => answer(&rt, words.as_slice(), rt.stdout().is_terminal()),
+        Ok(words) => answer(
+            &rt,
+            words.as_slice(),
+            rt.stdout().is_terminal(),
+            &mut progress,
+        ),
         Err(error) => unread(&rt, &error),
     }
 }

@@ -21,6 +21,7 @@ use crate::explain::explain;
 use crate::explain::format::LineFormat;
 use crate::import::import;
 use crate::policy::policy_text;
+use crate::progress::Progress;
 use crate::record::{called_record, record};
 use crate::run::run;
 use crate::show::{show, show_program};
@@ -34,7 +35,7 @@ use std::io::{Read, Write};
 /// Carries out a command on its policy, or `run` and `show` on their program, and `explain` and `run` on their records,
 /// those of a call aside; `diff` on the old policy and, in place of records, the new one, `verify` on the policy and,
 /// in place of records, the program, and `import` on the profile. The verdict is that of `diff`, `verify` and `check`, and else
-/// `Same`; the notes are those of `import`, and else none.
+/// `Same`; the notes are those of `import`, and else none. `progress` gets how far comparisons are.
 ///
 /// # Errors
 ///
@@ -43,12 +44,13 @@ use std::io::{Read, Write};
 /// where no filter is asked for: the policy's fault that keeps its names from being read, and `Unchosen`
 /// with the names where it hasn't one. In front of all, for `explain` and `run` on a call, `UnknownCall` where the
 /// architecture hasn't it.
-pub fn perform<P: Read + Drop, R: Read + Drop, W: Write>(
+pub fn perform<P: Read + Drop, R: Read + Drop, W: Write, G: Progress>(
     alloc: Global,
     command: Command<'_>,
     policy: P,
     records: R,
     out: &mut W,
+    progress: &mut G,
 ) -> Result<Done, ToolError>
     // When each answer comes, and what is written.
     ensures answers { AnswersCommand command.entry (P.remaining policy) (R.remaining records) result (W.contents out.old) (W.contents out.new) }
@@ -118,6 +120,7 @@ pub fn perform<P: Read + Drop, R: Read + Drop, W: Write>(
                 policy,
                 records,
                 out,
+                progress,
             ),
         ),
         Command::Verify {
@@ -139,6 +142,7 @@ pub fn perform<P: Read + Drop, R: Read + Drop, W: Write>(
                 policy,
                 records,
                 out,
+                progress,
             ),
         ),
         Command::Compat { arch, .. } => plain(alloc, compat(alloc, arch.name(), policy, out)),

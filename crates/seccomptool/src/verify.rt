@@ -11,6 +11,7 @@ ghost use Rattle.seccomptool.specs.Verify.{AnswersVerify};
 
 use crate::error::ToolError;
 use crate::findings::{Terms, Verdict};
+use crate::progress::Progress;
 use crate::run::program::program_of;
 use crate::send::send;
 use crate::verify::choice::choose;
@@ -42,6 +43,10 @@ use std::io::{Read, Write};
 /// The policy's text and the program's bytes are what their readers give; of a reader whose type doesn't
 /// say what it reads, as a file's, the contract says that there are such bytes.
 ///
+/// `progress` gets how many sets of records were looked at without an answer, part by part. Where it shows
+/// them, a part is tried with few sets first and with twice as many each time, up to `most`. No answer
+/// depends on it.
+///
 /// # Errors
 ///
 /// The first of these: `Library` with `InvalidTargetArch` and the text as it was given where `arch` is
@@ -52,7 +57,7 @@ use std::io::{Read, Write};
 /// `FilterTooLarge` where the filter is too large in both layouts; `Write` where the writer fails.
 /// `OutOfMemory` comes in place of any of these where memory runs out, in a reader too. On any error but
 /// `Write` nothing is written.
-pub fn verify<P: Read + Drop, R: Read + Drop, W: Write>(
+pub fn verify<P: Read + Drop, R: Read + Drop, W: Write, G: Progress>(
     alloc: Global,
     arch: &str,
     filter: Option<&str>,
@@ -62,6 +67,7 @@ pub fn verify<P: Read + Drop, R: Read + Drop, W: Write>(
     policy: P,
     program: R,
     out: &mut W,
+    progress: &mut G,
 ) -> Result<Verdict, ToolError>
     // When each answer comes, and what is written.
     ensures answers { AnswersVerify arch.now (option_map (λ name. name.now) filter.entry) relation scope (P.remaining policy) (R.remaining program) result (W.contents out.old) (W.contents out.new) }
@@ -86,6 +92,7 @@ pub fn verify<P: Read + Drop, R: Read + Drop, W: Write>(
         name.as_str(),
         filter,
         program.as_slice(),
+        progress,
     )?;
     send(out, &report.text)?;
     Ok(report.verdict)

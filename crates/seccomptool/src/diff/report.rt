@@ -10,34 +10,55 @@ ghost use Rattle.seccomptool.specs.DiffParts.{AddsReports, IsReport, IsRefusedPa
 use crate::diff::filters::{push_new, push_old};
 use crate::error::ToolError;
 use crate::findings::{Report, Terms, Verdict};
+use crate::progress::Progress;
 use seccompiler::{BackendError, SeccompFilter};
 use std::alloc::{AllocError, Global};
 use std::collections::BTreeMap;
 
-// What is told of the filter of a name, or of all.
-pub(crate) fn report_of(
+// What is told of the filter of a name, or of all; the progress is shown meanwhile.
+pub(crate) fn report_of<G: Progress>(
     alloc: Global,
     terms: Terms,
     filter: Option<&str>,
     old: &BTreeMap<String, SeccompFilter>,
     new: &BTreeMap<String, SeccompFilter>,
+    progress: &mut G,
+) -> Result<Report, ToolError>
+    ensures report { IfOk result (IsReport terms.target terms.relation (option_map (λ name. name.now) filter.entry) (get_by_text old.now) (get_by_text new.now)) }
+    ensures refused { IfErr result (IsRefusedReport (option_map (λ name. name.now) filter.entry) (get_by_text old.now) (get_by_text new.now)) }
+{
+    progress.begin();
+    let report = one_or_all(alloc, terms, filter, old, new, progress);
+    progress.end();
+    report
+}
+
+// What is told of the filter of a name, or of all.
+fn one_or_all<G: Progress>(
+    alloc: Global,
+    terms: Terms,
+    filter: Option<&str>,
+    old: &BTreeMap<String, SeccompFilter>,
+    new: &BTreeMap<String, SeccompFilter>,
+    progress: &mut G,
 ) -> Result<Report, ToolError>
     ensures report { IfOk result (IsReport terms.target terms.relation (option_map (λ name. name.now) filter.entry) (get_by_text old.now) (get_by_text new.now)) }
     ensures refused { IfErr result (IsRefusedReport (option_map (λ name. name.now) filter.entry) (get_by_text old.now) (get_by_text new.now)) }
 {
     match filter {
-        Some(name) => asked(alloc, terms, name, old, new),
-        None => Ok(all(alloc, terms, old, new)?),
+        Some(name) => asked(alloc, terms, name, old, new, progress),
+        None => Ok(all(alloc, terms, old, new, progress)?),
     }
 }
 
 // What is told of the filter of a name.
-fn asked(
+fn asked<G: Progress>(
     alloc: Global,
     terms: Terms,
     name: &str,
     old: &BTreeMap<String, SeccompFilter>,
     new: &BTreeMap<String, SeccompFilter>,
+    progress: &mut G,
 ) -> Result<Report, ToolError>
     ensures report { IfOk result (IsReport terms.target terms.relation (Some name.now) (get_by_text old.now) (get_by_text new.now)) }
     ensures refused { IfErr result (IsRefusedReport (Some name.now) (get_by_text old.now) (get_by_text new.now)) }
@@ -46,7 +67,15 @@ fn asked(
         return asked_of_new(alloc, terms, name, new);
     };
     let mut text = Vec::new(alloc);
-    let verdict = push_old(alloc, terms, name, filter, new.get(name), &mut text)?;
+    let verdict = push_old(
+        alloc,
+        terms,
+        name,
+        filter,
+        new.get(name),
+        &mut text,
+        progress,
+    )?;
     Ok(Report { text, verdict })
 }
 
@@ -69,17 +98,18 @@ fn asked_of_new(
 }
 
 // What is told of all filters.
-fn all(
+fn all<G: Progress>(
     alloc: Global,
     terms: Terms,
     old: &BTreeMap<String, SeccompFilter>,
     new: &BTreeMap<String, SeccompFilter>,
+    progress: &mut G,
 ) -> Result<Report, BackendError>
     ensures report { IfOk result (IsReport terms.target terms.relation None (get_by_text old.now) (get_by_text new.now)) }
     ensures refused { IfErr result (IsRefusedPair (get_by_text old.now) (get_by_text new.now)) }
 {
     let mut text = Vec::new(alloc);
-    let first = push_olds(alloc, terms, old, new, &mut text)?;
+    let first = push_olds(alloc, terms, old, new, &mut text, progress)?;
     let second = push_news(terms, old, new, &mut text)?;
     Ok(Report {
         text,
@@ -88,12 +118,13 @@ fn all(
 }
 
 // Adds what is told of the filters of the old policy.
-fn push_olds(
+fn push_olds<G: Progress>(
     alloc: Global,
     terms: Terms,
     old: &BTreeMap<String, SeccompFilter>,
     new: &BTreeMap<String, SeccompFilter>,
     text: &mut Vec<u8>,
+    progress: &mut G,
 ) -> Result<Verdict, BackendError>
     ensures added { IfOk result (AddsReports terms.target terms.relation (get_by_text old.now) (get_by_text new.now) (names_of old.now.entries) text.old.items text.new.items) }
     ensures ordered { IsStrictlySortedBy string_cmp (keys_of old.now.entries) }
@@ -102,7 +133,15 @@ fn push_olds(
     let mut verdict = Verdict::Same;
     for (name, filter) in old {
         let name = name.as_str();
-        verdict = verdict.worse(push_old(alloc, terms, name, filter, new.get(name), text)?);
+        verdict = verdict.worse(push_old(
+            alloc,
+            terms,
+            name,
+            filter,
+            new.get(name),
+            text,
+            progress,
+        )?);
     }
     Ok(verdict)
 }

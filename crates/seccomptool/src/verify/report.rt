@@ -10,28 +10,58 @@ ghost use Rattle.seccomptool.specs.VerifyParts.{AreFoundOn, IsFilterRefusal};
 use crate::findings::heading::{push_heading, verdict_text};
 use crate::findings::lines::push_lines;
 use crate::findings::parts::parts;
+use crate::findings::tries::{Sides, try_comparisons};
 use crate::findings::{Answer, Finding, Part, Report, Terms, Verdict, calls_of, verdict_of};
+use crate::progress::Progress;
 use crate::verify::lines::{Numbers, push_among};
 use crate::verify::scope::Scope;
 use seccompiler::{BackendError, BpfProgramRef, Comparison, SeccompFilter, TargetArch, machine};
 use std::alloc::{AllocError, Global};
 
-// What is told of a program and of the filter of this name.
-pub(crate) fn report_of(
+// What is told of a program and of the filter of this name; the progress is shown meanwhile.
+pub(crate) fn report_of<G: Progress>(
     alloc: Global,
     terms: Terms,
     scope: Scope,
     name: &str,
     filter: &SeccompFilter,
     program: BpfProgramRef<'_>,
+    progress: &mut G,
+) -> Result<Report, BackendError>
+    requires { IsChecked program.now }
+    ensures report { IfOk result (λ report. IsReport terms.target terms.relation scope name.now filter.now program.now report.text.items report.verdict) }
+    ensures refused { IfErr result (IsFilterRefusal filter.now) }
+{
+    progress.begin();
+    let report = report_on(alloc, terms, scope, name, filter, program, progress);
+    progress.end();
+    report
+}
+
+// What is told of a program and of the filter of this name.
+fn report_on<G: Progress>(
+    alloc: Global,
+    terms: Terms,
+    scope: Scope,
+    name: &str,
+    filter: &SeccompFilter,
+    program: BpfProgramRef<'_>,
+    progress: &mut G,
 ) -> Result<Report, BackendError>
     requires { IsChecked program.now }
     ensures report { IfOk result (λ report. IsReport terms.target terms.relation scope name.now filter.now program.now report.text.items report.verdict) }
     ensures refused { IfErr result (IsFilterRefusal filter.now) }
 {
     let parts = parts(alloc, terms.target)?;
-    let own = findings_of(alloc, terms, filter, program, &parts)?;
-    let others = findings_of(alloc, terms, filter, program, &others_of(terms.target))?;
+    let own = findings_of(alloc, terms, filter, program, &parts, progress)?;
+    let others = findings_of(
+        alloc,
+        terms,
+        filter,
+        program,
+        &others_of(terms.target),
+        progress,
+    )?;
     let text = text_of(alloc, terms, name, &own, &others)?;
     Ok(Report {
         text,
@@ -88,12 +118,13 @@ fn others_of(target: TargetArch) -> [Part; 2]
 }
 
 // What is found on each of these parts.
-fn findings_of(
+fn findings_of<G: Progress>(
     alloc: Global,
     terms: Terms,
     filter: &SeccompFilter,
     program: BpfProgramRef<'_>,
     parts: &[Part],
+    progress: &mut G,
 ) -> Result<Vec<Finding>, BackendError>
     requires { IsChecked program.now }
     ensures found { IfOk result (λ findings. AreFoundOn terms.target terms.relation filter.now program.now parts.now findings.items) }
@@ -101,18 +132,19 @@ fn findings_of(
 {
     let mut findings = Vec::new(alloc);
     for part in parts {
-        findings.push(finding_on(alloc, terms, filter, program, *part)?)?;
+        findings.push(finding_on(alloc, terms, filter, program, *part, progress)?)?;
     }
     Ok(findings)
 }
 
 // What is found on a part.
-fn finding_on(
+fn finding_on<G: Progress>(
     alloc: Global,
     terms: Terms,
     filter: &SeccompFilter,
     program: BpfProgramRef<'_>,
     part: Part,
+    progress: &mut G,
 ) -> Result<Finding, BackendError>
     requires { IsChecked program.now }
     ensures part { IfOk result (λ finding. finding.part ≡ part) }
@@ -121,7 +153,8 @@ fn finding_on(
     ensures refused { IfErr result (IsFilterRefusal filter.now) }
 {
     let calls = calls_of(terms.target, part);
-    let answer = match filter.compare_program(alloc, program, &calls, terms.relation, terms.most)? {
+    let sides = Sides::Program { program, filter };
+    let answer = match try_comparisons(alloc, terms, sides, part, &calls, progress)? {
         Comparison::Holds => Answer::Holds,
         Comparison::Fails(call) => Answer::Fails {
             call,

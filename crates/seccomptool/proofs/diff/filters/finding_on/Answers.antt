@@ -8,21 +8,22 @@ use Rattle.seccomptool.proofs.diff.Decisions.{holds_found, fails_found, pair_ref
 use Rattle.seccomptool.proofs.diff.filters.finding_on.Goals as goal
 use Rattle.seccomptool.proofs.diff.filters.finding_on.Goals.{in-Holds, in-Fails, in-Undecided}
 
-pub returns-in_err-compare-clause-refused : goal.returns-in_err-compare-clause-refused
-returns-in_err-compare-clause-refused c =
+pub returns-in_err-try_comparisons-clause-refused : goal.returns-in_err-try_comparisons-clause-refused
+returns-in_err-try_comparisons-clause-refused g c =
     let error = err_from_is_err_and c.from_residual.result c.from_residual.ensures.1 in
-    rw (error.1, error.2) (pair_refused c.args.new.now c.args.old.now c.in_err-compare.field-0.0 c.in_err-compare.ensures.refused)
+    rw (error.1, error.2)
+    (pair_refused c.args.new.now c.args.old.now c.in_err-try_comparisons.field-0.0 c.in_err-try_comparisons.ensures.refused)
 
 pub returns-clause-found : goal.returns-clause-found
-returns-clause-found c =
+returns-clause-found g c =
     let target = c.args.terms.target in
     let relation = c.args.terms.relation in
     let new = c.args.new.now in
     let old = c.args.old.now in
     let part = c.args.part in
     let calls = c.calls_of-calls.result in
-    let known = λ (answer : Comparison) (is : c.in_ok-compare.field-0 ≡ answer). subst (ComparesFilters calls relation new old) is
-    c.in_ok-compare.ensures.compares in
+    let known = λ (answer : Comparison) (is : c.in_ok-try_comparisons.field-0 ≡ answer). subst (ComparesFilters calls relation new old) is
+    c.in_ok-try_comparisons.ensures.compares in
     elim c.match-branch-2.branch [
       | in-Holds w ↦ subst (IsFound target relation (AreDecisions new old) part) (sym w.answer-is) (holds_found target relation new old
           part calls c.calls_of-calls.ensures (known _ w.in-Holds.is))

@@ -8,7 +8,7 @@ use Rattle.seccomptool.proofs.findings.Found.{found_more, parts_of_more, some_pa
 use Rattle.seccomptool.proofs.diff.filters.findings_of.Goals as goal
 
 pub loop-part-preserved : goal.loop-part-preserved
-loop-part-preserved c =
+loop-part-preserved g c =
     let l = c.loop-part in
     let items = c.deref-part-items.result.now in
     let part = get_or items l.part-index (Named 0) in
@@ -26,7 +26,7 @@ loop-part-preserved c =
     }
 
 pub returns-clause-compilable : goal.returns-clause-compilable
-returns-clause-compilable c =
+returns-clause-compilable g c =
     let parts = subst (λ ps. ArePartsBelow (table_of c.args.terms.target) ps 4294967296) (sym c.deref-part-items.ensures.value)
     c.in_ok-parts.ensures in
     let some : 0 < length c.deref-part-items.result.now = some_part _ _ _ parts (omega arith) in

@@ -6,7 +6,7 @@ use Rattle.seccomptool.proofs.findings.Pieces.{report_added}
 use Rattle.seccomptool.proofs.diff.filters.push_both.Goals as goal
 
 pub returns-clause-added : goal.returns-clause-added
-returns-clause-added c =
+returns-clause-added g c =
     let findings = c.in_ok-findings.findings.items in
     let target = c.args.terms.target in
     let relation = c.args.terms.relation in

@@ -7,7 +7,7 @@ use Rattle.seccomptool.proofs.diff.Reports.{names_are, on_both, text_more, verdi
 use Rattle.seccomptool.proofs.diff.report.all.Goals as goal
 
 pub returns-clause-report : goal.returns-clause-report
-returns-clause-report c =
+returns-clause-report g c =
     let old = get_by_text c.args.old.now in
     let new = get_by_text c.args.new.now in
     let target = c.args.terms.target in

@@ -7,10 +7,10 @@ use Rattle.seccomptool.proofs.diff.Reports.{told_of_found}
 use Rattle.seccomptool.proofs.diff.report.asked.Goals as goal
 
 pub returns-in_default-clause-refused : goal.returns-in_default-clause-refused
-returns-in_default-clause-refused c = c.asked_of_new.ensures.refused (get_by_text c.args.old.now) (sym c.in_default.ensures.value)
+returns-in_default-clause-refused g c = c.asked_of_new.ensures.refused (get_by_text c.args.old.now) (sym c.in_default.ensures.value)
 
 pub returns-clause-report : goal.returns-clause-report
-returns-clause-report c =
+returns-clause-report g c =
     let old = get_by_text c.args.old.now in
     let new = get_by_text c.args.new.now in
     let target = c.args.terms.target in

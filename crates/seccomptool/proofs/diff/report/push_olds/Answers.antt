@@ -1,16 +1,18 @@
-use Rattle.std.proofs.Common.{◌≡◌, [], ◌∷◌, ◌++◌, List, String, Global, sym, ap, ◌∙◌, append_assoc, subst, string_cmp, rules}
+use Rattle.std.proofs.Common.{◌≡◌, [], ◌∷◌, ◌++◌, List, String, Global, refl, sym, ap, ◌∙◌, append-nil, append_assoc, subst, string_cmp}
+use Rattle.std.proofs.Common.{rules}
+use Rattle.std.proofs.lemmas.List.Elements.{All-nil}
 use Rattle.std.proofs.lemmas.Result.{err_from_is_err_and}
 use Rattle.std.specs.BTreeMap.{get_by_text}
 use Rattle.std.specs.List.Sorted.{IsStrictlySortedBy}
 use Rattle.std.specs.Map.{keys_of}
 use Rattle.seccompiler.specs.Policy.{Filter}
-use Rattle.seccomptool.specs.Diff.{AreReportsOn, NameReport}
+use Rattle.seccomptool.specs.Diff.{AreReportsOn, IsToldOf, NameReport}
 use Rattle.seccomptool.specs.DiffParts.{names_of}
 use Rattle.seccomptool.proofs.diff.Reports.{found_here, told_of_found, on_more, text_with, verdict_with, names_more, old_refused}
 use Rattle.seccomptool.proofs.diff.report.push_olds.Goals as goal
 
 pub returns-in_err-push_old-clause-refused : goal.returns-in_err-push_old-clause-refused
-returns-in_err-push_old-clause-refused c =
+returns-in_err-push_old-clause-refused g c =
     let error = err_from_is_err_and c.from_residual.result c.from_residual.ensures.1 in
     let so_far = c.loop-name.invariant in
     let done : List (String Global × Filter) = so_far.done in
@@ -25,8 +27,22 @@ returns-in_err-push_old-clause-refused c =
     c.in_err-push_old.field-0.0
     (found_here entries done e left name order whole c.as_str-name.ensures.value) c.get.ensures.value c.in_err-push_old.ensures.refused)
 
+pub loop-name-init : goal.loop-name-init
+loop-name-init g c =
+    let old = get_by_text c.args.old.now in
+    let new = get_by_text c.args.new.now in
+    let told = λ (r : NameReport). IsToldOf c.args.terms.target c.args.terms.relation (old r.name) (new r.name) r.told in
+    record {
+      done = [];
+      whole = search rules;
+      reports = [];
+      are = record { named = refl; each = All-nil told };
+      text = sym (append-nil c.args.text.now.items);
+      verdict_is = refl;
+    }
+
 pub loop-name-preserved : goal.loop-name-preserved
-loop-name-preserved c =
+loop-name-preserved g c =
     let so_far = c.loop-name.invariant in
     let done : List (String Global × Filter) = so_far.done in
     let e : String Global × Filter = (c.in-Some.name.now, c.in-Some.filter.now) in

@@ -7,7 +7,7 @@ use Rattle.seccomptool.proofs.diff.report.push_olds.Given as goal
 
 -- the text grew by the reports of the names so far, and this is their verdict
 abbrev pub invariant-loop-name : goal.invariant-loop-name
-invariant-loop-name l = record {
+invariant-loop-name g l = record {
   done : List (String Global × Filter);
   whole : l.fn.old.entries ≡ done ++ l.name-iterator;
   reports : List NameReport;

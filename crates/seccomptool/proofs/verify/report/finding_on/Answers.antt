@@ -8,7 +8,7 @@ use Rattle.seccomptool.proofs.verify.report.finding_on.Goals as goal
 use Rattle.seccomptool.proofs.verify.report.finding_on.Goals.{in-Holds, in-Fails, in-Undecided}
 
 pub returns-clause-found : goal.returns-clause-found
-returns-clause-found c =
+returns-clause-found g c =
     let target = c.args.terms.target in
     let relation = c.args.terms.relation in
     let program = c.args.program.now in
@@ -16,9 +16,9 @@ returns-clause-found c =
     let part = c.args.part in
     let calls = c.calls_of-calls.result in
     let Found = IsFound target relation (AreAnswers program filter) part in
-    let known = λ (answer : Comparison) (is : c.in_ok-compare_program.field-0 ≡ answer). subst (ComparesProgram calls relation program
+    let known = λ (answer : Comparison) (is : c.in_ok-try_comparisons.field-0 ≡ answer). subst (ComparesProgram calls relation program
     filter) is
-    c.in_ok-compare_program.ensures.compares in
+    c.in_ok-try_comparisons.ensures.compares in
     elim c.match-branch-2.branch [
       | in-Holds w ↦ subst Found (sym w.answer-is) (holds_found target relation program filter part calls c.calls_of-calls.ensures
           (known _ w.in-Holds.is))

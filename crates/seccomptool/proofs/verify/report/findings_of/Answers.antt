@@ -8,7 +8,7 @@ use Rattle.seccomptool.proofs.findings.Found.{found_more, parts_of_more}
 use Rattle.seccomptool.proofs.verify.report.findings_of.Goals as goal
 
 pub loop-part-preserved : goal.loop-part-preserved
-loop-part-preserved c =
+loop-part-preserved g c =
     let l = c.loop-part in
     let items = c.args.parts.now in
     let part = get_or items l.part-index (Named 0) in
@@ -26,7 +26,7 @@ loop-part-preserved c =
     }
 
 pub returns-clause-found : goal.returns-clause-found
-returns-clause-found c =
+returns-clause-found g c =
     let l = c.loop-part in
     let parts = c.args.parts.now in
     let all : l.part-index ≡ length parts = omega (arith, c.loop-part-test.false, l.auto.part-index-end) in

@@ -5,10 +5,10 @@ use Rattle.seccomptool.specs.Verify.{AreAnswers, AreOtherFindings, counted, repo
 use Rattle.seccomptool.proofs.findings.Covered.{covered}
 use Rattle.seccomptool.proofs.findings.Found.{some_part}
 use Rattle.seccomptool.proofs.verify.Others.{others_covered}
-use Rattle.seccomptool.proofs.verify.report.report_of.Goals as goal
+use Rattle.seccomptool.proofs.verify.report.report_on.Goals as goal
 
 pub returns-clause-report : goal.returns-clause-report
-returns-clause-report c =
+returns-clause-report g c =
     let target = c.args.terms.target in
     let relation = c.args.terms.relation in
     let filter = c.args.filter.now in

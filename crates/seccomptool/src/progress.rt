@@ -1,0 +1,110 @@
+// What is shown of a comparison while it lasts.
+
+use crate::findings::Part;
+use crate::findings::parts::name_of;
+use seccompiler::TargetArch;
+use std::io;
+use std::time::{Clock, Instant};
+
+// Nothing is shown of a comparison before it took so many seconds.
+const SECONDS: u64 = 2;
+
+/// Who follows how far a comparison is. No answer depends on it.
+pub trait Progress {
+    /// Whether anything is shown.
+    fn is_shown(&self) -> bool;
+
+    /// A comparison begins.
+    fn begin(&mut self);
+
+    /// So many sets of calls of a part were looked at without an answer.
+    fn looked_at(&mut self, target: TargetArch, part: Part, sets: usize);
+
+    /// It ended.
+    fn end(&mut self);
+}
+
+/// One line of a terminal, on standard error, with how many sets of calls were looked at so far. It is written
+/// once a comparison took two seconds, anew in its place, and erased at the end.
+#[derive(Drop)]
+pub(crate) struct Watch<'a, R> {
+    rt: &'a R,
+    to_terminal: bool,
+    // When the comparison began, where anything is to be shown of it and the clock can be read.
+    start: Option<Instant>,
+    sets: usize,
+    written: bool,
+}
+
+impl<'a, R: Eprint + Clock> Watch<'a, R> {
+    /// `to_terminal` says whether standard error is a terminal: where it isn't, nothing is shown.
+    pub(crate) fn new(rt: &'a R, to_terminal: bool) -> Self {
+        Watch {
+            rt,
+            to_terminal,
+            start: None,
+            sets: 0,
+            written: false,
+        }
+    }
+
+    // Whether the comparison has lasted long enough.
+    fn is_long(&self) -> bool {
+        let Some(start) = self.start else {
+            return false;
+        };
+        match start.elapsed(self.rt) {
+            Ok(time) => time.as_secs() >= SECONDS,
+            Err(_) => false,
+        }
+    }
+}
+
+impl<R: Eprint + Clock> Progress for Watch<'_, R> {
+    fn is_shown(&self) -> bool {
+        self.to_terminal
+    }
+
+    fn begin(&mut self) {
+        self.sets = 0;
+        self.start = if self.to_terminal {
+            Instant::now(self.rt).ok()
+        } else {
+            None
+        };
+    }
+
+    fn looked_at(&mut self, target: TargetArch, part: Part, sets: usize) {
+        self.sets = self.sets.saturating_add(sets);
+        if self.is_long() {
+            self.written = true;
+            let _ = tell(self.rt, name_in(target, part), self.sets);
+        }
+    }
+
+    fn end(&mut self) {
+        self.start = None;
+        if self.written {
+            self.written = false;
+            let _ = erase(self.rt);
+        }
+    }
+}
+
+// Writes the line from its begin on, and nothing behind it.
+fn tell(rt: &impl Eprint, name: &str, sets: usize) -> io::Result<()> {
+    eprint!(rt; "\rseccomptool: {name}: {sets} sets of calls looked at\x1b[K")
+}
+
+fn erase(rt: &impl Eprint) -> io::Result<()> {
+    eprint!(rt; "\r\x1b[K")
+}
+
+// A part by a short name, so that the line fits a terminal.
+fn name_in(target: TargetArch, part: Part) -> &'static str {
+    match part {
+        Part::Named { number } => name_of(target, number).unwrap_or("calls"),
+        Part::Unnamed { .. } => "other calls",
+        Part::Elsewhere { .. } => "other architectures",
+    }
+}

@@ -1,0 +1,154 @@
+#!/usr/bin/env python3
+"""Checks of the progress that `seccomptool diff` and `verify` show, a part of tools/check-documents.
+
+usage: tools/progress_checks.py
+
+It needs the built program, and pseudo-terminals. A comparison that takes longer than two seconds is made by each command,
+with standard error as a terminal and as a pipe:
+
+- on the terminal come lines that name the call and how many sets were looked at, each from the line's begin on, and the
+  last one is erased; the numbers are sums of tries with 250,000 sets, and with twice as many each time;
+- on the pipe comes nothing;
+- the exit status and standard output are the same, and what they have to be.
+
+A comparison that takes no time shows nothing on a terminal, and where a policy is rejected the error stands there alone,
+as on a pipe.
+
+Prints each difference, and as its last line 'N passed, M failed'.
+"""
+
+import concurrent.futures
+import itertools
+import json
+import os
+import pathlib
+import pty
+import re
+import subprocess
+import sys
+import tempfile
+
+sys.dont_write_bytecode = True
+
+TOP = pathlib.Path(__file__).resolve().parent.parent
+SECONDS = 60
+
+# How many sets the first try looks at.
+FIRST = 250_000
+
+# What goes back to the begin of a line, and what erases it from there on.
+BACK, ERASE = b"\r", b"\x1b[K"
+LINE = re.compile(BACK + rb"seccomptool: ([a-z ]+): ([0-9]+) sets of calls looked at" + re.escape(ERASE))
+
+# Two arguments, each under 15 masks of two neighbouring bits: sets of their values are split bit by bit.
+MASKS = [(at, 3 << bit) for at in (0, 1) for bit in range(15)]
+
+
+def policy(masks):
+    """Returns a policy that allows `read` where an argument has all bits of a mask."""
+    entries = [
+        {"syscall": "read", "args": [{"index": at, "type": "dword", "op": {"masked_eq": mask}, "val": mask}]}
+        for at, mask in masks
+    ]
+    return json.dumps({"a": {"mismatch_action": "kill_process", "match_action": "allow", "filter": entries}})
+
+
+def on_terminal(program, folder, words):
+    """Runs the program with standard error as a terminal; returns its status, its output and what the terminal got."""
+    ours, its = pty.openpty()
+    with open(ours, "rb", buffering=0) as terminal, tempfile.TemporaryFile() as output:
+        ran = subprocess.Popen([program, *words], cwd=folder, stdin=subprocess.DEVNULL, stdout=output, stderr=its)
+        os.close(its)
+        shown = b""
+        while read := read_from(terminal):
+            shown += read
+        status = ran.wait(timeout=SECONDS)
+        output.seek(0)
+        return status, output.read().decode(), shown
+
+
+def read_from(terminal):
+    """Reads what a terminal got; returns nothing at its end, which Linux answers by EIO."""
+    try:
+        return terminal.read(65536)
+    except OSError:
+        return b""
+
+
+def on_pipe(program, folder, words):
+    """Runs the program with standard error as a pipe; returns its status, its output and what the pipe got."""
+    ran = subprocess.run([program, *words], cwd=folder, stdin=subprocess.DEVNULL, capture_output=True, timeout=SECONDS)
+    return ran.returncode, ran.stdout.decode(), ran.stderr
+
+
+def sums_of_tries(most):
+    """Returns how many sets all tries so far looked at, behind each try but one that has an answer."""
+    tries = [min(FIRST, most)]
+    while tries[-1] < most:
+        tries.append(min(2 * tries[-1], most))
+    return list(itertools.accumulate(tries))
+
+
+def compare_lines(results, what, most, is_decided, shown):
+    """Compares the lines on a terminal with the sums of tries, of which the first ones come too early."""
+    results.compare(f"{what}: the last line is erased", (ERASE + BACK + ERASE,), (shown[-len(ERASE + BACK + ERASE):],))
+    results.compare(f"{what}: there is nothing but lines", (BACK + ERASE,), (LINE.sub(b"", shown),))
+    lines = LINE.findall(shown)
+    results.compare(f"{what}: the call", ({b"read"},), ({name for name, _ in lines},))
+    given = [int(it) for _, it in lines]
+    sums = sums_of_tries(most)[:-1] if is_decided else sums_of_tries(most)
+    stated = [it for it in sums if it >= min(given, default=0)]
+    results.compare(f"{what}: how many sets", (True, stated), (bool(given), given))
+
+
+def compare_progress(results, program):
+    """Makes all comparisons of this file, of the program with this path."""
+    with tempfile.TemporaryDirectory(prefix="progress-") as room, concurrent.futures.ThreadPoolExecutor(2) as lanes:
+        folder = pathlib.Path(room)
+        (folder / "old.json").write_text(policy(MASKS))
+        (folder / "new.json").write_text(policy(reversed(MASKS)))
+        (folder / "none.json").write_text("{")
+        compiled = subprocess.run([program, "compile", "new.json"], cwd=folder, capture_output=True, timeout=SECONDS)
+        (folder / "new.bpf").write_bytes(compiled.stdout)
+        long = [
+            ("diff", 0, "filter a: same\n", 8_000_000, ["old.json", "new.json"]),
+            ("verify", 0, "filter a: same\nother architectures: same\n", 8_000_000, ["old.json", "new.bpf"]),
+        ]
+        for name, status, output, most, files in long:
+            words = [name, "--most", str(most), *files]
+            runs = [lanes.submit(it, program, folder, words) for it in (on_terminal, on_pipe)]
+            on_the_terminal, on_the_pipe = (it.result() for it in runs)
+            what = f"seccomptool {' '.join(words)}"
+            results.compare(f"{what} on a pipe", (status, output, b""), on_the_pipe)
+            results.compare(f"{what} on a terminal", (status, output), on_the_terminal[:2])
+            compare_lines(results, what, most, status == 0, on_the_terminal[2])
+        for words in (["diff", "old.json", "old.json"], ["diff", "--most", "0", "old.json", "old.json"],
+                      ["diff", "none.json", "old.json"]):
+            status, output, errors = on_pipe(program, folder, words)
+            stated = status, output, errors.replace(b"\n", b"\r\n")
+            results.compare(f"seccomptool {' '.join(words)} on a terminal", stated, on_terminal(program, folder, words))
+
+
+class Results:
+    """Counts the comparisons, and prints what differs."""
+
+    def __init__(self):
+        self.passed = self.failed = 0
+
+    def compare(self, what, stated, given):
+        """Counts a comparison, and prints what was wanted and found where it differs."""
+        self.passed += stated == given
+        self.failed += stated != given
+        if stated != given:
+            print(f"{what}: DIFFERS\n  wanted {stated!r}\n  found  {given!r}", flush=True)
+
+
+def main():
+    results = Results()
+    compare_progress(results, TOP / "crates/seccomptool/out/seccomptool")
+    print(f"{results.passed} passed, {results.failed} failed")
+    return 1 if results.failed else 0
+
+
+if __name__ == "__main__":
+    sys.exit(main())

@@ -5,11 +5,15 @@ Expected values come from the definitions in crates/seccomptool/specs, arithmeti
 from the program's output.
 """
 
-from . import calls, check, compat, compile, conditions, diff, explain, record, run, show, stats, verify, warnings, words
+from . import (
+    calls, check, compat, compile, conditions, diff, explain, imports, record, run, show, stats, verify, warnings, words
+)
 
-FILES = {**explain.FILES, **compile.FILES, **diff.FILES, **run.FILES, **verify.FILES}
+FILES = {**explain.FILES, **compile.FILES, **diff.FILES, **run.FILES, **verify.FILES, **imports.FILES}
 CASES = [
     case
-    for it in (compile, show, check, warnings, conditions, calls, explain, run, stats, record, diff, verify, compat, words)
+    for it in (
+        compile, show, check, warnings, conditions, calls, explain, run, stats, record, diff, verify, compat, imports, words
+    )
     for case in it.CASES
 ]

@@ -12,7 +12,12 @@ NAMED = (
     '"":{"mismatch_action":"log","match_action":"allow","filter":[]}}'
 )
 
-COMMANDS = ("compile", "show", "check", "explain", "run", "stats", "record", "diff", "verify", "compat")
+COMMANDS = ("compile", "show", "check", "explain", "run", "stats", "record", "diff", "verify", "compat", "import")
+
+# What the help of a command says of it.
+ABOUT_IMPORT = "Print a seccomp profile of a container runtime as a policy"
+
+NO_VERSION = "error: the value of --kernel is no version of two numbers, as 6.1\n.."
 
 NO_NUMBER = (
     "error: an ARG is no number from -9223372036854775808 to 18446744073709551615, "
@@ -33,6 +38,7 @@ CASES = [
     *[writes(words, "", "seccomptool 0.5.0\n") for words in ("--version", "-V")],
     *[case for it in COMMANDS for case in (
         writes(f"help {it}", "", ".."), writes(f"{it} --help", "", ".."), writes(f"{it} no.json -h", "", ".."))],
+    writes("help import", "", ABOUT_IMPORT + "\n\nUsage: seccomptool import [OPTIONS] [PROFILE]\n.."),
     # The words are read as the command that they are.
     writes("compile --filter=--tree", NAMED, TREE),
     writes("compile --filter= --layout linear", NAMED, LINEAR),
@@ -83,6 +89,16 @@ CASES = [
             "error: the value of --most is no number from 0 to 18446744073709551615, "
             "decimal or hexadecimal behind 0x\n.."),
     misused("verify --layout tree logs.json 63-bytes"),
+    misused("import profile.json profile.json"),
+    misused("import --cap"),
+    misused("import --strict=yes profile.json"),
+    misused("import --kernel 6.1 --kernel 6.2 profile.json"),
+    misused("import --filter a profile.json", "error: unexpected argument '--filter' found\n.."),
+    misused("import -a x32 profile.json", "error: invalid value 'x32' for '--arch <ARCH>'\n.."),
+    *[misused(f"import --kernel={it} profile.json", NO_VERSION) for it in (
+        "6", "6.1.2", "v6.1", "''", ".", "6.", ".1", "+6.1", "-6.1", "6.-1", "6,1", "6.1-rc1", "' 6.1'", "0x6.1", "4294967296.0",
+        "0.4294967296")],
+    misused("import --kernel 6 missing.json", NO_VERSION),
     misused("record"),
     misused("record read 1 2 3 4 5 6 7"),
     misused("record read -1", "error: unexpected argument '-1' found\n.."),

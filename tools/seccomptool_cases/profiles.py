@@ -1,0 +1,146 @@
+"""What the filters that `import` makes of a profile decide together, by the words of the OCI runtime specification.
+
+Each row is a call with what the profile decides of it. The policy that the built program prints is read here, and each
+of its filters is asked: of the answers the strictest holds, and of equally strict ones that of the filter which stands
+last in the text, since it is installed last (seccomp(2)). So nothing of the program is believed but the policy's text.
+"""
+
+import json
+import pathlib
+import re
+
+from .imports import entry, profile, when
+
+TOP = pathlib.Path(__file__).resolve().parent.parent.parent
+
+# The actions of filters from the strictest on (seccomp(2)).
+STRICTEST_FIRST = ("kill_process", "kill_thread", "trap", "errno", "trace", "log", "allow")
+ENOSYS = {"defaultErrnoRet": 38}
+LOW, WHOLE = 2**32 - 1, 2**64 - 1
+
+
+def caps(*names):
+    """Returns criteria of these capabilities."""
+    return {"caps": list(names)}
+
+
+def of(operator, rows, *values):
+    """Returns the profile that allows `read` by a condition on argument 0, with values of it that are allowed or not."""
+    one = profile(entry("read", args=[when(0, operator, *values)]))
+    return f"SCMP_CMP_{operator}", "", one, [("read", (value,), "allow" if met else "errno 1") for value, met in rows]
+
+
+# Calls that several entries are for: with and without conditions, stricter and looser ones first.
+ON_5 = {"args": [when(0, "EQ", 5)]}
+SOCKETS = profile(
+    entry("socket", "SCMP_ACT_ERRNO", errnoRet=22, args=[when(0, "EQ", 16), when(2, "EQ", 9)], excludes=caps("CAP_AUDIT_WRITE")),
+    entry("socket", args=[when(2, "NE", 9)], excludes=caps("CAP_AUDIT_WRITE")),
+    entry("socket", args=[when(0, "NE", 16)], excludes=caps("CAP_AUDIT_WRITE")),
+    entry("socket", args=None, includes=caps("CAP_AUDIT_WRITE")), **ENOSYS)
+MOUNTS = profile(entry("mount umount2", includes=caps("CAP_SYS_ADMIN")),
+                 entry("mount umount2", "SCMP_ACT_ERRNO", errnoRet=1, excludes=caps("CAP_SYS_ADMIN")), **ENOSYS)
+TRACED = profile(entry("ptrace", includes={"minKernel": "4.8"}), entry("ptrace", "SCMP_ACT_LOG", excludes={"minKernel": "4.8"}))
+ARCHES = profile(entry("open", includes={"arches": ["amd64"]}), entry("openat", excludes={"arches": ["amd64"]}), **ENOSYS)
+
+# What a profile shows, the words of its container, the profile, and calls with their arguments and its decisions.
+PROFILES = [
+    of("NE", [(5, False), (6, True), (LOW + 6, True)], 5),
+    of("LT", [(4, True), (5, False), (6, False), (LOW + 1, False)], 5),
+    of("LE", [(4, True), (5, True), (6, False), (LOW + 1, False)], 5),
+    of("EQ", [(5, True), (4, False), (LOW + 6, False)], 5),
+    of("GE", [(4, False), (5, True), (6, True), (LOW + 1, True)], 5),
+    of("GT", [(5, False), (6, True), (WHOLE, True)], 5),
+    of("MASKED_EQ", [(0x50, True), (0x5F, True), (LOW + 0x51, True), (0x65, False), (0, False)], 240, 80),
+    of("MASKED_EQ", [(0x50, True), (0x5F, True), (0x65, False)], 240, 95),
+    of("MASKED_EQ", [(0, True), (3, True), (0x100, True), (0xF0, False), (0x10, False)], 240),
+    of("EQ", [(WHOLE, True), (LOW, False), (WHOLE - 1, False)], WHOLE),
+    ("conditions on different arguments are joined by and", "", profile(entry("mmap", args=[when(1, "EQ", 1), when(2, "EQ", 2)])),
+     [("mmap", (0, 1, 2), "allow"), ("mmap", (0, 1, 3), "errno 1"), ("mmap", (0, 2, 2), "errno 1"), ("read", (0, 1, 2), "errno 1")]),
+    ("conditions on one argument are alternatives", "", profile(entry("personality", args=[when(0, "EQ", 0), when(0, "EQ", LOW)])),
+     [("personality", (0,), "allow"), ("personality", (LOW,), "allow"), ("personality", (1,), "errno 1")]),
+    ("so are the others of such an entry", "",
+     profile(entry("mmap", args=[when(0, "EQ", 1), when(1, "EQ", 2), when(0, "EQ", 3)], action="SCMP_ACT_TRAP"), default="SCMP_ACT_ALLOW"),
+     [("mmap", (1, 0), "trap"), ("mmap", (0, 2), "trap"), ("mmap", (3, 0), "trap"), ("mmap", (2, 1), "allow")]),
+    ("the strictest of several entries decides", "",
+     profile(entry("read write", "SCMP_ACT_LOG"), entry("read", "SCMP_ACT_ERRNO", errnoRet=5), entry("read", "SCMP_ACT_KILL_PROCESS", **ON_5),
+             entry("write"), entry("stat"), default="SCMP_ACT_ALLOW"),
+     [("read", (0,), "errno 5"), ("read", (5,), "kill_process"), ("write", (), "log"), ("stat", (), "allow"), ("close", (), "allow")]),
+    ("whichever stands first", "",
+     profile(entry("read", "SCMP_ACT_KILL", **ON_5), entry("read"), entry("write", "SCMP_ACT_TRACE", errnoRet=3),
+             entry("write", "SCMP_ACT_TRAP"), default="SCMP_ACT_LOG"),
+     [("read", (5,), "kill_thread"), ("read", (4,), "allow"), ("write", (), "trap"), ("stat", (), "log")]),
+    ("of equally strict entries the first one decides", "",
+     profile(entry("open", "SCMP_ACT_ERRNO", errnoRet=7), entry("stat", "SCMP_ACT_ERRNO", errnoRet=5, **ON_5),
+             entry("close", "SCMP_ACT_ERRNO", errnoRet=7), entry("open stat", "SCMP_ACT_ERRNO", errnoRet=5),
+             entry("stat", "SCMP_ACT_ERRNO", errnoRet=7), default="SCMP_ACT_ALLOW"),
+     [("open", (), "errno 7"), ("close", (), "errno 7"), ("stat", (5,), "errno 5"), ("stat", (4,), "errno 5"), ("read", (), "allow")]),
+    ("and so of two traces", "",
+     profile(entry("open", "SCMP_ACT_TRACE", errnoRet=2), entry("open", "SCMP_ACT_TRACE", errnoRet=1), **ENOSYS),
+     [("open", (), "trace 2"), ("read", (), "errno 38")]),
+    ("the default action is the strictest", "",
+     profile(entry("read"), entry("write", "SCMP_ACT_ERRNO"), entry("open", "SCMP_ACT_LOG"), default="SCMP_ACT_KILL_PROCESS"),
+     [("read", (), "allow"), ("write", (), "errno 1"), ("open", (), "log"), ("close", (), "kill_process"), (4000, (), "kill_process")]),
+    ("the default action is the loosest", "",
+     profile(entry("read", "SCMP_ACT_KILL"), entry("write", "SCMP_ACT_TRAP", **ON_5), default="SCMP_ACT_ALLOW"),
+     [("read", (), "kill_thread"), ("write", (5,), "trap"), ("write", (4,), "allow"), ("open", (), "allow"), (4000, (), "allow")]),
+    ("an entry of the default action", "", profile(entry("read", "SCMP_ACT_ERRNO", errnoRet=38), entry("read write"), **ENOSYS),
+     [("read", (), "errno 38"), ("write", (), "allow"), ("open", (), "errno 38")]),
+    ("numbers without a name, those of x32 among them", "", profile(entry("read"), **ENOSYS),
+     [("read", (), "allow"), (0x40000000, (), "errno 38"), (463, (), "errno 38"), (LOW, (), "errno 38")]),
+    ("without a capability", "", MOUNTS, [("mount", (), "errno 1"), ("umount2", (), "errno 1"), ("read", (), "errno 38")]),
+    ("with it", "--cap CAP_SYS_ADMIN", MOUNTS, [("mount", (), "allow"), ("umount2", (), "allow"), ("read", (), "errno 38")]),
+    ("sockets, as Podman's profile has them", "", SOCKETS,
+     [("socket", (16, 3, 9), "errno 22"), ("socket", (16, 3, 0), "allow"), ("socket", (2, 1, 9), "allow"), ("socket", (2, 1, 6), "allow"),
+      ("read", (), "errno 38")]),
+    ("the same with a capability", "--cap CAP_AUDIT_WRITE", SOCKETS, [("socket", (16, 3, 9), "allow"), ("read", (), "errno 38")]),
+    ("on the newest kernel", "", TRACED, [("ptrace", (), "allow"), ("read", (), "errno 1")]),
+    ("on a newer kernel", "--kernel 4.10", TRACED, [("ptrace", (), "allow")]),
+    ("on an older kernel", "--kernel 4.7", TRACED, [("ptrace", (), "log")]),
+    ("on x86_64", "", ARCHES, [("open", (), "allow"), ("openat", (), "errno 38")]),
+    ("on aarch64", "-a aarch64", ARCHES, [("openat", (), "allow"), ("read", (), "errno 38")]),
+    ("on riscv64", "-a riscv64", ARCHES, [("openat", (), "allow"), ("read", (), "errno 38")]),
+    ("every call is allowed", "", profile(entry("read"), default="SCMP_ACT_ALLOW"), [("read", (), "allow"), (4000, (), "allow")]),
+]
+
+
+def numbers_of(words):
+    """Returns the calls of the architecture that the words name, by their names."""
+    named = re.search(r"-a (\w+)", words)
+    text = (TOP / f"crates/seccomp_tables/src/{named[1] if named else 'x86_64'}.rt").read_text(encoding="utf-8")
+    return {name: int(number) for name, number in re.findall(r'\("([a-z0-9_]+)", ([0-9]+)\)', text)}
+
+
+def holds(condition, arguments):
+    """Returns whether a condition of a policy holds for the six arguments of a call."""
+    bits = LOW if condition["type"] == "dword" else WHOLE
+    found, value, operator = arguments[condition["index"]] & bits, condition["val"] & bits, condition["op"]
+    if isinstance(operator, dict):
+        return found & operator["masked_eq"] == value & operator["masked_eq"]
+    return {"eq": found == value, "ne": found != value, "lt": found < value, "le": found <= value,
+            "gt": found > value, "ge": found >= value}[operator]
+
+
+def decided_by(one, numbers, number, arguments):
+    """Returns the action of one filter for a call."""
+    entries = [it for it in one["filter"] if numbers[it["syscall"]] == number]
+    matched = any(all(holds(it, arguments) for it in entry_of.get("args") or []) for entry_of in entries)
+    return one["match_action" if matched else "mismatch_action"]
+
+
+def decided(policy, numbers, number, arguments):
+    """Returns what the filters of a policy decide together of a call: an action's name, with its number if it has one."""
+    answers = [decided_by(one, numbers, number, arguments) for one in policy.values()]
+    texts = [it if isinstance(it, str) else " ".join(map(str, *it.items())) for it in answers]
+    return min(reversed(texts), key=lambda it: STRICTEST_FIRST.index(it.split()[0]), default="allow")
+
+
+def compare_decisions(results, run):
+    """Imports each profile by a function that runs the program with a text, and compares the decisions of its policy."""
+    for what, words, given, rows in PROFILES:
+        status, output, _ = run(f"import {words}", json.dumps(given))
+        results.compare(f"import of a profile, {what}", (0,), (status,))
+        policy, numbers = json.loads(output or "{}"), numbers_of(words)
+        for call, arguments, wanted in rows:
+            number = call if isinstance(call, int) else numbers[call]
+            found = decided(policy, numbers, number, (*arguments, *[0] * (6 - len(arguments))))
+            results.compare(f"import of a profile, {what}: {call}{arguments}", (wanted,), (found,))

@@ -194,7 +194,7 @@ FITTING, LARGE = ([when(0, "EQ", it) for it in range(number)] for number in (583
 IN_TREE = "needs 4097 instructions in the tree layout; 4096 fit\n"
 
 FILES = {
-    "profile.json": profile(entry("read")),
+    "reads-profile.json": profile(entry("read")),
     "unknown-profile.json": profile(entry("mmap2 read waitpid")),
     "large-profile.json": profile(entry("read", args=LARGE)),
 }
@@ -203,8 +203,8 @@ CASES = [
     # The parts of a profile.
     writes("import", WHOLE, OF_WHOLE),
     writes("import -", WHOLE, OF_WHOLE),
-    writes("import profile.json", "", policy(base(call("read")))),
-    writes("import --arch=x86_64 --kernel=6.1 --cap=CAP_KILL --strict ./profile.json", "", policy(base(call("read")))),
+    writes("import reads-profile.json", "", policy(base(call("read")))),
+    writes("import --arch=x86_64 --kernel=6.1 --cap=CAP_KILL --strict ./reads-profile.json", "", policy(base(call("read")))),
     writes("import", '{"defaultAction": "SCMP_ACT_ALLOW"}', "{}\n"),
     imports("", {"defaultAction": "SCMP_ACT_TRAP"}, base(mismatch='"trap"')),
     imports("", {"defaultAction": "SCMP_ACT_TRAP", "syscalls": None, "flags": None, "architectures": None, "archMap": None,
@@ -286,7 +286,7 @@ CASES = [
     rejects("import missing.json", "", MISSING, TOOL + "missing.json: "),
     rejects("import examples", "", FOLDER, TOOL + "examples: "),
     rejects("import -", Failing(WHOLE), RESET),
-    rejects("import profile.json >&-", "", CLOSED, OUTPUT),
-    rejects("import profile.json > /dev/full", "", FULL, OUTPUT),
+    rejects("import reads-profile.json >&-", "", CLOSED, OUTPUT),
+    rejects("import reads-profile.json > /dev/full", "", FULL, OUTPUT),
     *fails_to_read_and_write("import", WHOLE, WHOLE),
 ]

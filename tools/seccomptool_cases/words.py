@@ -89,13 +89,13 @@ CASES = [
             "error: the value of --most is no number from 0 to 18446744073709551615, "
             "decimal or hexadecimal behind 0x\n.."),
     misused("verify --layout tree logs.json 63-bytes"),
-    misused("import profile.json profile.json"),
+    misused("import reads-profile.json reads-profile.json"),
     misused("import --cap"),
-    misused("import --strict=yes profile.json"),
-    misused("import --kernel 6.1 --kernel 6.2 profile.json"),
-    misused("import --filter a profile.json", "error: unexpected argument '--filter' found\n.."),
-    misused("import -a x32 profile.json", "error: invalid value 'x32' for '--arch <ARCH>'\n.."),
-    *[misused(f"import --kernel={it} profile.json", NO_VERSION) for it in (
+    misused("import --strict=yes reads-profile.json"),
+    misused("import --kernel 6.1 --kernel 6.2 reads-profile.json"),
+    misused("import --filter a reads-profile.json", "error: unexpected argument '--filter' found\n.."),
+    misused("import -a x32 reads-profile.json", "error: invalid value 'x32' for '--arch <ARCH>'\n.."),
+    *[misused(f"import --kernel={it} reads-profile.json", NO_VERSION) for it in (
         "6", "6.1.2", "v6.1", "''", ".", "6.", ".1", "+6.1", "-6.1", "6.-1", "6,1", "6.1-rc1", "' 6.1'", "0x6.1", "4294967296.0",
         "0.4294967296")],
     misused("import --kernel 6 missing.json", NO_VERSION),

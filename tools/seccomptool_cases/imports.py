@@ -268,6 +268,14 @@ CASES = [
     # What is no profile.
     *map(is_none, BAD_PROFILES),
     rejects("import logs.json", "", NO_PROFILE, TOOL + "logs.json: "),
+    # Podman's names of errnos, which have to say the same as the numbers beside them.
+    imports("", profile(entry("read", "SCMP_ACT_ERRNO", errnoRet=22, errno="EINVAL"), entry("write", errno=""),
+                        defaultErrnoRet=38, defaultErrno="ENOSYS"),
+            base(call("read"), call("write"), mismatch='{"errno": 38}'), denying(1, '{"errno": 22}', call("read"))),
+    *[rejects("import", json.dumps(it), "..") for it in (
+        profile(defaultErrnoRet=38, defaultErrno="EPERM"), profile(defaultErrno="ENOSYS"), profile(defaultErrno=38),
+        profile(entry("read", "SCMP_ACT_ERRNO", errnoRet=1, errno="EINVAL")), profile(entry("read", errno="EPERM")),
+        profile(entry("read", "SCMP_ACT_ERRNO", errnoRet=22, errno="einval")))],
     # What is no JSON.
     *[rejects("import", it, PARSING) for it in (
         "", "{", '{"defaultAction": "SCMP_ACT_ALLOW"', '{"defaultAction": "SCMP_ACT_ALLOW"} {}', "{'defaultAction': 0}", "nothing",

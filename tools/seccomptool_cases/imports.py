@@ -296,5 +296,6 @@ CASES = [
     rejects("import -", Failing(WHOLE), RESET),
     rejects("import reads-profile.json >&-", "", CLOSED, OUTPUT),
     rejects("import reads-profile.json > /dev/full", "", FULL, OUTPUT),
+    rejects("import unknown-profile.json > /dev/full", "", FULL, OUTPUT),
     *fails_to_read_and_write("import", WHOLE, WHOLE),
 ]

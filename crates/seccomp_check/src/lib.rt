@@ -65,7 +65,7 @@ use std::alloc::{AllocError, Global};
 /// JSON, or a name is repeated. `Placed` with the text of a fault of the kind that `compile_from_json`
 /// reports, where that has a place. `OutOfMemory` in place of both, where memory runs out.
 ///
-/// Of several faults of that kind it is the first, in the order that docs/TOOL.md gives. That is tested
+/// Of several faults of that kind it is the first, in the order that docs/CHECKS.md gives. That is tested
 /// and not proved, and so is that a fault with a place is reported by it: by the contract it may be any one
 /// of its kind, and may be reported as `Library`.
 pub fn check(alloc: Global, target: TargetArch, text: &[u8]) -> Result<(), Rejection>

@@ -20,6 +20,9 @@ each_code code.HighHalfEvades = (8, omega arith, refl)
 each_code code.KillsExit = (9, omega arith, refl)
 each_code code.CloneByClone3 = (10, omega arith, refl)
 each_code code.CrateDiffers = (11, omega arith, refl)
+each_code code.UnreachableEntry = (12, omega arith, refl)
+each_code code.RedundantEntry = (13, omega arith, refl)
+each_code code.UndecidedEntry = (14, omega arith, refl)
 
 module _ (name : List ℕ) where
   -- One more of a front has another name. The default is any.

@@ -1,4 +1,8 @@
--- Lemmas: of codes, for `code`; of the warnings of a filter, for `walk`; and of those of all filters, for `report`.
+-- Lemmas: of codes, for `code`; of lists and comparisons, for `cover` and `verdict`; of the warnings of a filter, for `walk`; and
+-- of those of all filters, for `report`.
 pub mod Codes
+pub mod Quantified
+pub mod Covered
+pub mod Judged
 pub mod Picked
 pub mod Reported

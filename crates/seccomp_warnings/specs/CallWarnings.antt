@@ -1,11 +1,13 @@
 -- What is so of the calls that a filter names, and of those that it doesn't, that its author may not mean.
-use Rattle.std.specs.Prelude.{◌≡◌, ℕ, ◌⊎◌, List, [], ◌∷◌, Any, IsSome, IsSomeAnd, codes, slice_get}
+use Rattle.std.specs.Prelude.{◌≡◌, ℕ, ◌⊎◌, List, [], ◌∷◌, Any, IsSome, IsSomeAnd, codes, slice_get, ⊤}
 use Rattle.seccompiler.specs.JsonTypes.{JsonRule, JsonFilter}
 use Rattle.seccomp_warnings.specs.ActionWarnings.{Kills, Permits}
 use Rattle.seccomp_warnings.specs.declared.code.Code.{Code}
 use Rattle.seccomp_warnings.specs.declared.code.Code.TheVariants as code
 use Rattle.seccomp_warnings.specs.declared.unlisted.Unlisted.{Unlisted}
 use Rattle.seccomp_warnings.specs.declared.unlisted.Unlisted.TheVariants as unlisted
+use Rattle.seccomp_warnings.specs.declared.verdict.Verdict.{Verdict}
+use Rattle.seccomp_warnings.specs.declared.verdict.Verdict.TheVariants as verdict
 
 -- ---- the entries of a filter
 
@@ -88,3 +90,14 @@ IsSoOfRule other j entry = ⊥
 -- The filter has an entry at the place, of which what a code says is so.
 abbrev pub IsSoOfEntry : Code → JsonFilter → ℕ → Type 0
 IsSoOfEntry kind j place = IsSomeAnd (slice_get j.rules place) (IsSoOfRule kind j)
+
+-- What a code says of an entry with this verdict is so.
+abbrev pub IsOfVerdict : Code → Verdict → Type 0
+IsOfVerdict code.UnreachableEntry verdict.Unreachable = ⊤
+IsOfVerdict code.RedundantEntry verdict.Redundant = ⊤
+IsOfVerdict code.UndecidedEntry verdict.Undecided = ⊤
+IsOfVerdict other v = ⊥
+
+-- There is a verdict at the place, by which what a code says is so.
+abbrev pub IsJudged : Code → List Verdict → ℕ → Type 0
+IsJudged kind verdicts place = IsSomeAnd (slice_get verdicts place) (IsOfVerdict kind)

@@ -3,8 +3,10 @@
 pub mod Codes
 pub mod ActionWarnings
 pub mod CallWarnings
+pub mod Verdicts
 pub mod Warnings
 pub mod Texts
 pub mod Reports
 -- Between layers.
 pub mod Parts
+pub mod VerdictParts

@@ -37,6 +37,11 @@ said_text code.CloneByClone3 =
 said_text code.CrateDiffers =
     codes "the call has entries with args too, and matches here whatever its arguments are; "
     ++ codes "the Rust crate asks these args: leave out those or this"
+said_text code.UnreachableEntry = codes "no call meets all of its conditions; correct them, or leave the entry out"
+said_text code.RedundantEntry = codes "each call that meets this entry meets another entry too; leave it out"
+said_text code.UndecidedEntry =
+    codes "it wasn't decided whether a call needs this entry, within 300000 sets of calls divided by the filter's entries; "
+    ++ codes "use fewer masks in it"
 
 -- The way from an action or a condition to the value that a code is about.
 abbrev pub part_text : Code → List ℕ

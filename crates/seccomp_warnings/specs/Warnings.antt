@@ -9,7 +9,7 @@ use Rattle.seccompiler.specs.AnyArgument.{HoldsForAll, HoldsForNone}
 use Rattle.seccompiler.specs.JsonTypes.{JsonRule, JsonFilter}
 use Rattle.seccompiler.specs.Policy.{Condition, part_of}
 use Rattle.seccomp_warnings.specs.ActionWarnings.{Permits, IsSoOfAction}
-use Rattle.seccomp_warnings.specs.CallWarnings.{IsSoOfEntry, IsSoOfUnlisted, all_unlisted}
+use Rattle.seccomp_warnings.specs.CallWarnings.{IsJudged, IsSoOfEntry, IsSoOfUnlisted, all_unlisted}
 use Rattle.seccomp_warnings.specs.declared.warning.Actions.{Actions}
 use Rattle.seccomp_warnings.specs.declared.warning.Comparison.{Comparison}
 use Rattle.seccomp_warnings.specs.declared.warning.Subject.{Subject}
@@ -18,6 +18,7 @@ use Rattle.seccomp_warnings.specs.declared.warning.Warning.{Warning}
 use Rattle.seccomp_warnings.specs.declared.code.Code.{Code}
 use Rattle.seccomp_warnings.specs.declared.code.Code.TheVariants as code
 use Rattle.seccomp_warnings.specs.declared.unlisted.Unlisted.{Unlisted}
+use Rattle.seccomp_warnings.specs.declared.verdict.Verdict.{Verdict}
 
 -- ---- what is so of a condition
 
@@ -65,17 +66,17 @@ IsSoOfCondition other actions c = ⊥
 abbrev pub actions_of : JsonFilter → Actions
 actions_of j = record { mismatch = j.mismatch_action; matching = j.match_action }
 
--- What a code says of a part of a filter is so.
-abbrev pub IsSoOf : JsonFilter → Code → Subject → Type 0
-IsSoOf j kind (subject.MismatchAction action) = IsSoOfAction kind action
-IsSoOf j kind (subject.MismatchCall call) = IsSoOfUnlisted kind j call
-IsSoOf j kind (subject.MatchAction action) = IsSoOfAction kind action
-IsSoOf j kind (subject.Entry place) = IsSoOfEntry kind j place
-IsSoOf j kind (subject.Condition c) = IsSoOfCondition kind (actions_of j) c
+-- What a code says of a part of a filter is so, where these are the verdicts of its entries.
+abbrev pub IsSoOf : List Verdict → JsonFilter → Code → Subject → Type 0
+IsSoOf verdicts j kind (subject.MismatchAction action) = IsSoOfAction kind action
+IsSoOf verdicts j kind (subject.MismatchCall call) = IsSoOfUnlisted kind j call
+IsSoOf verdicts j kind (subject.MatchAction action) = IsSoOfAction kind action
+IsSoOf verdicts j kind (subject.Entry place) = IsSoOfEntry kind j place ⊎ IsJudged kind verdicts place
+IsSoOf verdicts j kind (subject.Condition c) = IsSoOfCondition kind (actions_of j) c
 
 -- The warning is true of the filter.
-abbrev pub IsSo : JsonFilter → Warning → Type 0
-IsSo j w = IsSoOf j w.code w.subject
+abbrev pub IsSo : List Verdict → JsonFilter → Warning → Type 0
+IsSo verdicts j w = IsSoOf verdicts j w.code w.subject
 
 -- ---- what is asked of a filter, in the order of its text
 
@@ -89,7 +90,8 @@ abbrev pub unlisted_codes : List Code
 unlisted_codes = code.KillsExit ∷ code.CloneByClone3 ∷ []
 
 abbrev pub entry_codes : List Code
-entry_codes = code.KillsExit ∷ code.CloneByClone3 ∷ code.CrateDiffers ∷ []
+entry_codes = code.KillsExit ∷ code.CloneByClone3 ∷ code.CrateDiffers ∷ code.UnreachableEntry ∷ code.RedundantEntry
+    ∷ code.UndecidedEntry ∷ []
 
 abbrev pub condition_codes : List Code
 condition_codes = code.HighHalfIgnored ∷ code.ValueOutsideMask ∷ code.AlwaysHolds ∷ code.NeverHolds ∷ code.HighHalfEvades ∷ []
@@ -142,9 +144,10 @@ ArePicked P (w ∷ asked) picked = ((rest : List Warning) × P w × (picked ≡ 
     ⊎ ((P w → ⊥) × ArePicked P asked picked)
 
 -- The warning is true of the filter, and its code isn't allowed.
-abbrev pub IsGiven : List Code → JsonFilter → Warning → Type 0
-IsGiven allowed j w = IsSo j w × (Contains allowed w.code → ⊥)
+abbrev pub IsGiven : List Code → List Verdict → JsonFilter → Warning → Type 0
+IsGiven allowed verdicts j w = IsSo verdicts j w × (Contains allowed w.code → ⊥)
 
--- The warnings of a filter: exactly those that are true of it and whose codes aren't allowed, in the order of its text.
-abbrev pub AreWarnings : List Code → JsonFilter → List Warning → Type 0
-AreWarnings allowed j warnings = ArePicked (IsGiven allowed j) (asked_of j) warnings
+-- The warnings of a filter with these verdicts: exactly those that are true of it and whose codes aren't allowed, in the order
+-- of its text.
+abbrev pub AreWarnings : List Code → List Verdict → JsonFilter → List Warning → Type 0
+AreWarnings allowed verdicts j warnings = ArePicked (IsGiven allowed verdicts j) (asked_of j) warnings

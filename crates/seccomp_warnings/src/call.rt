@@ -1,11 +1,12 @@
 // What is so of the calls that a filter names, and of those that it doesn't.
 
 ghost use Rattle.std.specs.Prelude.{◌↔◌, Any, IsTrue};
-ghost use Rattle.seccomp_warnings.specs.CallWarnings.{HasArgs, IsCloneEvaded, IsExit, IsKilledUnlisted, IsSoOfEntry, IsSoOfRule, IsSoOfUnlisted, IsWithAndWithoutArgs, KillsAtExit, LetsClone3Through, MatchesEach, MatchesSome, Names, NamesCall};
+ghost use Rattle.seccomp_warnings.specs.CallWarnings.{HasArgs, IsCloneEvaded, IsExit, IsJudged, IsKilledUnlisted, IsOfVerdict, IsSoOfEntry, IsSoOfRule, IsSoOfUnlisted, IsWithAndWithoutArgs, KillsAtExit, LetsClone3Through, MatchesEach, MatchesSome, Names, NamesCall};
 
 use crate::action::{kills, permits};
 use crate::code::Code;
 use crate::unlisted::Unlisted;
+use crate::verdict::Verdict;
 use seccompiler::{JsonFilter, JsonRule};
 
 // Whether the entry has this call's name.
@@ -142,6 +143,28 @@ pub(crate) fn is_so_of_entry(code: Code, filter: &JsonFilter, place: usize) -> b
 {
     match filter.rules.get(place) {
         Some(entry) => is_so_of_rule(code, filter, entry),
+        None => false,
+    }
+}
+
+// Whether what a code says is so of an entry with this verdict.
+fn is_of_verdict(code: Code, verdict: Verdict) -> bool
+    ensures { IsTrue result ↔ IsOfVerdict code verdict }
+{
+    match (code, verdict) {
+        (Code::UnreachableEntry, Verdict::Unreachable) => true,
+        (Code::RedundantEntry, Verdict::Redundant) => true,
+        (Code::UndecidedEntry, Verdict::Undecided) => true,
+        _ => false,
+    }
+}
+
+// Whether there is a verdict at the place, by which what a code says is so.
+pub(crate) fn is_judged(code: Code, verdicts: &[Verdict], place: usize) -> bool
+    ensures { IsTrue result ↔ IsJudged code verdicts.now place }
+{
+    match verdicts.get(place) {
+        Some(verdict) => is_of_verdict(code, *verdict),
         None => false,
     }
 }

@@ -1,65 +1,81 @@
 // The warnings of all filters of a policy.
 
-ghost use Rattle.std.specs.Prelude.{◌≡◌, ◌||◌, IfOk, string_cmp};
+ghost use Rattle.std.specs.Prelude.{IfOk, IfErr, OnOk, string_cmp};
 ghost use Rattle.std.specs.List.Sorted.{IsStrictlySortedBy};
 ghost use Rattle.std.specs.Map.{keys_of};
+ghost use Rattle.seccompiler.specs.JsonSteps.{IsFaultless, IsPolicyRefusal};
 ghost use Rattle.seccomp_warnings.specs.Reports as spec;
 
 use crate::code::Code;
 use crate::text::push_lines;
+use crate::verdict::verdicts_of;
 use crate::walk::warnings_of;
-use crate::warning::Warning;
-use seccompiler::JsonFilterMap;
-use std::alloc::{AllocError, Global};
+use seccompiler::{JsonFilter, JsonFilterMap, JsonFrontendError, TargetArch};
+use std::alloc::Global;
 
 /// The warnings of a policy, as lines.
 #[derive(Drop)]
 pub struct Report {
     /// The lines, each with a line feed; empty where there is no warning.
     pub text: Vec<u8>,
-    /// Whether there is one.
-    pub warned: bool,
+    /// How many there are.
+    pub count: usize,
 }
 
 /// The warnings of all filters of a policy, all but those of the allowed codes.
 ///
 /// The filters come in byte order of their names, and the warnings of each as [`warnings_of`] gives
-/// them, with lines as [`push_lines`] writes them, each behind this front, which names the policy.
+/// them by the verdicts of [`verdicts_of`] on this architecture, with lines as [`push_lines`] writes them,
+/// each behind this front, which names the policy.
 ///
 /// # Errors
 ///
-/// `AllocError` where memory runs out.
+/// What `JsonCompiler::make_seccomp_filter` rejects the first filter for that has no policy on the architecture.
+/// `OutOfMemory` where memory runs out, which may come in place of it.
 pub fn report_of(
     alloc: Global,
+    arch: TargetArch,
     front: &[u8],
     filters: &JsonFilterMap,
     allowed: &[Code],
-) -> Result<Report, AllocError>
-    ensures report { IfOk result (λ report. spec.IsReportOf allowed.now front.now filters.now.0.entries report.text.items report.warned) }
+) -> Result<Report, JsonFrontendError>
+    ensures report { IfOk result (λ report. spec.IsReportOf arch allowed.now front.now filters.now.0.entries report.text.items report.count) }
+    ensures policies { OnOk result (spec.AreFaultless arch filters.now.0.entries) }
+    ensures refusal { IfErr result (spec.IsReportRefusal arch filters.now.0.entries) }
     ensures ordered { IsStrictlySortedBy string_cmp (keys_of filters.now.0.entries) }
 {
     let mut text = Vec::new(alloc);
-    let mut warned = false;
+    let mut count = 0;
     for (name, filter) in &filters.0 {
-        let warnings = warnings_of(alloc, filter, allowed)?;
-        push_lines(&mut text, alloc, front, name.as_str(), &warnings)?;
-        warned = either(warned, is_some(&warnings));
+        count += push_filter(
+            &mut text,
+            alloc,
+            arch,
+            front,
+            name.as_str(),
+            filter,
+            allowed,
+        )?;
     }
-    Ok(Report { text, warned })
+    Ok(Report { text, count })
 }
 
-// Whether there is a warning.
-fn is_some(warnings: &[Warning]) -> bool
-    ensures { result ≡ spec.is_some warnings.now }
+// Adds the lines of the filter of this name, and says how many there are.
+fn push_filter(
+    text: &mut Vec<u8>,
+    alloc: Global,
+    arch: TargetArch,
+    front: &[u8],
+    name: &str,
+    filter: &JsonFilter,
+    allowed: &[Code],
+) -> Result<usize, JsonFrontendError>
+    ensures added { IfOk result (spec.AddsLines arch allowed.now front.now name.now filter.now text.old.items text.new.items) }
+    ensures policy { OnOk result (IsFaultless arch filter.now) }
+    ensures refusal { IfErr result (IsPolicyRefusal arch filter.now) }
 {
-    match warnings.split_first() {
-        None => false,
-        Some(_) => true,
-    }
-}
-
-fn either(first: bool, second: bool) -> bool
-    ensures { result ≡ (first || second) }
-{
-    first || second
+    let verdicts = verdicts_of(alloc, arch, filter)?;
+    let warnings = warnings_of(alloc, filter, &verdicts, allowed)?;
+    push_lines(text, alloc, front, name, &warnings)?;
+    Ok(warnings.len())
 }

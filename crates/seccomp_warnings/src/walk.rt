@@ -1,20 +1,24 @@
 // The warnings of a filter, in the order of the policy's text.
 
-ghost use Rattle.std.specs.Prelude.{◌≡◌, ◌↔◌, map, IfOk, OnOk, IsTrue, option_map};
+ghost use Rattle.std.specs.Prelude.{◌≡◌, ◌↔◌, ◌⊎◌, map, IfOk, OnOk, IsTrue, option_map};
 ghost use Rattle.seccomp_warnings.specs.Warnings.{AreWarnings, IsGiven, IsSo, about, actions_of, calls_asked, entries_asked, entry_asked, args_asked, conditions_asked, condition_asked};
-ghost use Rattle.seccomp_warnings.specs.CallWarnings.{all_unlisted};
+ghost use Rattle.seccomp_warnings.specs.CallWarnings.{IsJudged, IsSoOfEntry, all_unlisted};
 ghost use Rattle.seccomp_warnings.specs.Parts.{AddsPicked};
 
 use crate::action::is_so_of_action;
-use crate::call::{is_so_of_entry, is_so_of_unlisted};
+use crate::call::{is_judged, is_so_of_entry, is_so_of_unlisted};
 use crate::code::{Code, is_among};
 use crate::condition::is_so_of_condition;
 use crate::unlisted::Unlisted;
+use crate::verdict::Verdict;
 use crate::warning::{Actions, Comparison, Subject, Warning};
 use seccompiler::{JsonCondition, JsonFilter, JsonRule};
 use std::alloc::{AllocError, Global};
 
 /// The warnings of a filter: exactly those that are true of it and whose codes aren't allowed.
+///
+/// What entries are needed for goes by the verdicts, which are those that
+/// [`verdicts_of`](crate::verdict::verdicts_of) gives.
 ///
 /// They come in the order of the policy's text: those of the mismatch action, there too at the calls that
 /// no entry names, those of the match action, and then entry by entry those of the entry and of its
@@ -26,23 +30,32 @@ use std::alloc::{AllocError, Global};
 pub fn warnings_of(
     alloc: Global,
     filter: &JsonFilter,
+    verdicts: &[Verdict],
     allowed: &[Code],
 ) -> Result<Vec<Warning>, AllocError>
-    ensures { IfOk result (λ warnings. AreWarnings allowed.now filter.now warnings.items) }
+    ensures { IfOk result (λ warnings. AreWarnings allowed.now verdicts.now filter.now warnings.items) }
 {
     let mut warnings = Vec::new(alloc);
     let mismatch = Subject::MismatchAction(filter.mismatch_action);
     push_those(
         &mut warnings,
         allowed,
+        verdicts,
         filter,
         Code::of_mismatch(),
         mismatch,
     )?;
-    push_calls(&mut warnings, allowed, filter)?;
+    push_calls(&mut warnings, allowed, verdicts, filter)?;
     let matching = Subject::MatchAction(filter.match_action);
-    push_those(&mut warnings, allowed, filter, Code::of_match(), matching)?;
-    push_entries(&mut warnings, allowed, filter, &filter.rules)?;
+    push_those(
+        &mut warnings,
+        allowed,
+        verdicts,
+        filter,
+        Code::of_match(),
+        matching,
+    )?;
+    push_entries(&mut warnings, allowed, verdicts, filter, &filter.rules)?;
     Ok(warnings)
 }
 
@@ -56,16 +69,23 @@ fn actions_of(filter: &JsonFilter) -> Actions
     }
 }
 
+// Whether what a code says is so of the entry at a place, by itself or by its verdict.
+fn is_so_of_place(code: Code, verdicts: &[Verdict], filter: &JsonFilter, place: usize) -> bool
+    ensures { IsTrue result ↔ (IsSoOfEntry code filter.now place ⊎ IsJudged code verdicts.now place) }
+{
+    is_so_of_entry(code, filter, place) || is_judged(code, verdicts, place)
+}
+
 // Whether a warning is true of the filter.
-fn is_so(filter: &JsonFilter, warning: Warning) -> bool
-    ensures { IsTrue result ↔ IsSo filter.now warning }
+fn is_so(verdicts: &[Verdict], filter: &JsonFilter, warning: Warning) -> bool
+    ensures { IsTrue result ↔ IsSo verdicts.now filter.now warning }
 {
     match warning.subject {
         Subject::MismatchAction(action) | Subject::MatchAction(action) => {
             is_so_of_action(warning.code, action)
         }
         Subject::MismatchCall(call) => is_so_of_unlisted(warning.code, filter, call),
-        Subject::Entry(place) => is_so_of_entry(warning.code, filter, place),
+        Subject::Entry(place) => is_so_of_place(warning.code, verdicts, filter, place),
         Subject::Condition(comparison) => {
             is_so_of_condition(warning.code, actions_of(filter), comparison)
         }
@@ -73,28 +93,29 @@ fn is_so(filter: &JsonFilter, warning: Warning) -> bool
 }
 
 // Whether a warning is true of the filter, and its code isn't allowed.
-fn is_given(allowed: &[Code], filter: &JsonFilter, warning: Warning) -> bool
-    ensures { IsTrue result ↔ IsGiven allowed.now filter.now warning }
+fn is_given(allowed: &[Code], verdicts: &[Verdict], filter: &JsonFilter, warning: Warning) -> bool
+    ensures { IsTrue result ↔ IsGiven allowed.now verdicts.now filter.now warning }
 {
-    is_so(filter, warning) && !is_among(allowed, warning.code)
+    is_so(verdicts, filter, warning) && !is_among(allowed, warning.code)
 }
 
 // Adds the warnings of these codes that are so of a part of the filter.
 fn push_those(
     warnings: &mut Vec<Warning>,
     allowed: &[Code],
+    verdicts: &[Verdict],
     filter: &JsonFilter,
     codes: &[Code],
     subject: Subject,
 ) -> Result<(), AllocError>
-    ensures { OnOk result (AddsPicked allowed.now filter.now (map (about subject) codes.now) warnings.old.items warnings.new.items) }
+    ensures { OnOk result (AddsPicked allowed.now verdicts.now filter.now (map (about subject) codes.now) warnings.old.items warnings.new.items) }
 {
     for code in codes {
         let warning = Warning {
             code: *code,
             subject,
         };
-        if is_given(allowed, filter, warning) {
+        if is_given(allowed, verdicts, filter, warning) {
             warnings.push(warning)?;
         }
     }
@@ -105,13 +126,21 @@ fn push_those(
 fn push_calls(
     warnings: &mut Vec<Warning>,
     allowed: &[Code],
+    verdicts: &[Verdict],
     filter: &JsonFilter,
 ) -> Result<(), AllocError>
-    ensures { OnOk result (AddsPicked allowed.now filter.now (calls_asked all_unlisted) warnings.old.items warnings.new.items) }
+    ensures { OnOk result (AddsPicked allowed.now verdicts.now filter.now (calls_asked all_unlisted) warnings.old.items warnings.new.items) }
 {
     for call in Unlisted::all() {
         let subject = Subject::MismatchCall(*call);
-        push_those(warnings, allowed, filter, Code::of_unlisted(), subject)?;
+        push_those(
+            warnings,
+            allowed,
+            verdicts,
+            filter,
+            Code::of_unlisted(),
+            subject,
+        )?;
     }
     Ok(())
 }
@@ -120,12 +149,13 @@ fn push_calls(
 fn push_condition(
     warnings: &mut Vec<Warning>,
     allowed: &[Code],
+    verdicts: &[Verdict],
     filter: &JsonFilter,
     entry: usize,
     place: usize,
     condition: &JsonCondition,
 ) -> Result<(), AllocError>
-    ensures { OnOk result (AddsPicked allowed.now filter.now (condition_asked entry place condition.now) warnings.old.items warnings.new.items) }
+    ensures { OnOk result (AddsPicked allowed.now verdicts.now filter.now (condition_asked entry place condition.now) warnings.old.items warnings.new.items) }
 {
     let comparison = Comparison {
         entry,
@@ -135,21 +165,29 @@ fn push_condition(
         value: condition.value,
     };
     let subject = Subject::Condition(comparison);
-    push_those(warnings, allowed, filter, Code::of_conditions(), subject)
+    push_those(
+        warnings,
+        allowed,
+        verdicts,
+        filter,
+        Code::of_conditions(),
+        subject,
+    )
 }
 
 // Adds the warnings of conditions, which are those of the entry at a place.
 fn push_conditions(
     warnings: &mut Vec<Warning>,
     allowed: &[Code],
+    verdicts: &[Verdict],
     filter: &JsonFilter,
     entry: usize,
     conditions: &[JsonCondition],
 ) -> Result<(), AllocError>
-    ensures { OnOk result (AddsPicked allowed.now filter.now (conditions_asked entry 0 conditions.now) warnings.old.items warnings.new.items) }
+    ensures { OnOk result (AddsPicked allowed.now verdicts.now filter.now (conditions_asked entry 0 conditions.now) warnings.old.items warnings.new.items) }
 {
     for (place, condition) in conditions.iter().enumerate() {
-        push_condition(warnings, allowed, filter, entry, place, condition)?;
+        push_condition(warnings, allowed, verdicts, filter, entry, place, condition)?;
     }
     Ok(())
 }
@@ -158,14 +196,15 @@ fn push_conditions(
 fn push_args(
     warnings: &mut Vec<Warning>,
     allowed: &[Code],
+    verdicts: &[Verdict],
     filter: &JsonFilter,
     entry: usize,
     rule: &JsonRule,
 ) -> Result<(), AllocError>
-    ensures { OnOk result (AddsPicked allowed.now filter.now (args_asked entry rule.now.conditions) warnings.old.items warnings.new.items) }
+    ensures { OnOk result (AddsPicked allowed.now verdicts.now filter.now (args_asked entry rule.now.conditions) warnings.old.items warnings.new.items) }
 {
     match &rule.conditions {
-        Some(conditions) => push_conditions(warnings, allowed, filter, entry, conditions),
+        Some(conditions) => push_conditions(warnings, allowed, verdicts, filter, entry, conditions),
         None => Ok(()),
     }
 }
@@ -174,15 +213,23 @@ fn push_args(
 fn push_entry(
     warnings: &mut Vec<Warning>,
     allowed: &[Code],
+    verdicts: &[Verdict],
     filter: &JsonFilter,
     entry: usize,
     rule: &JsonRule,
 ) -> Result<(), AllocError>
-    ensures { OnOk result (AddsPicked allowed.now filter.now (entry_asked entry rule.now) warnings.old.items warnings.new.items) }
+    ensures { OnOk result (AddsPicked allowed.now verdicts.now filter.now (entry_asked entry rule.now) warnings.old.items warnings.new.items) }
 {
     let subject = Subject::Entry(entry);
-    push_those(warnings, allowed, filter, Code::of_entries(), subject)?;
-    push_args(warnings, allowed, filter, entry, rule)?;
+    push_those(
+        warnings,
+        allowed,
+        verdicts,
+        filter,
+        Code::of_entries(),
+        subject,
+    )?;
+    push_args(warnings, allowed, verdicts, filter, entry, rule)?;
     Ok(())
 }
 
@@ -190,13 +237,14 @@ fn push_entry(
 fn push_entries(
     warnings: &mut Vec<Warning>,
     allowed: &[Code],
+    verdicts: &[Verdict],
     filter: &JsonFilter,
     entries: &[JsonRule],
 ) -> Result<(), AllocError>
-    ensures { OnOk result (AddsPicked allowed.now filter.now (entries_asked 0 entries.now) warnings.old.items warnings.new.items) }
+    ensures { OnOk result (AddsPicked allowed.now verdicts.now filter.now (entries_asked 0 entries.now) warnings.old.items warnings.new.items) }
 {
     for (place, entry) in entries.iter().enumerate() {
-        push_entry(warnings, allowed, filter, place, entry)?;
+        push_entry(warnings, allowed, verdicts, filter, place, entry)?;
     }
     Ok(())
 }

@@ -1,11 +1,13 @@
-use Rattle.std.proofs.Common.{◌≡◌, ◌++◌}
-use Rattle.seccomp_warnings.specs.Reports.{NamedFilters, IsReportOf}
+use Rattle.std.proofs.Common.{◌≡◌, ◌≤◌, ◌++◌, length}
+use Rattle.seccomp_warnings.specs.Reports.{NamedFilters, AreFaultless, IsReportOf}
 use Rattle.seccomp_warnings.proofs.report.report_of.Given as goal
 
--- the report is that of the filters so far
+-- the report is that of the filters so far, and each line has a byte
 abbrev pub invariant-loop-name : goal.invariant-loop-name
 invariant-loop-name l = record {
   done : NamedFilters;
   whole : l.fn.filters.0.entries ≡ done ++ l.name-iterator;
-  report : IsReportOf l.allowed l.front done l.text.items l.warned;
+  fine : AreFaultless l.arch done;
+  report : IsReportOf l.arch l.allowed l.front done l.text.items l.count;
+  few : l.count ≤ length l.text.items;
 }

@@ -1,0 +1,34 @@
+-- For `verdict`: verdicts of entries, one by one.
+use Rattle.std.proofs.Common.{◌≡◌, ℕ, zero, suc, ◌+◌, ◌-◌, ◌<◌, List, [], ◌∷◌, ◌++◌, Some, take, drop, get_or, length, refl, sym}
+use Rattle.std.proofs.Common.{subst, arith}
+use Rattle.std.proofs.lemmas.List.{length-drop, take_all}
+use Rattle.std.specs.Prelude.{slice_get, IsSomeAnd}
+use Rattle.std.proofs.lemmas.Option.{slice_get_read}
+use Rattle.seccompiler.specs.declared.backend.TargetArch.{TargetArch}
+use Rattle.seccomp_warnings.specs.Verdicts.{Entry, IsVerdict, IsVerdictAt, without}
+use Rattle.seccomp_warnings.specs.declared.verdict.Verdict.{Verdict}
+
+-- What holds of the verdicts so far, and of one more.
+pub each_push : (P : ℕ → Verdict → Type 0) (vs : List Verdict) (v : Verdict) → P (length vs) v
+    → ((k : ℕ) (w : Verdict) → slice_get vs k ≡ Some w → P k w)
+    → (k : ℕ) (w : Verdict) → slice_get (vs ++ v ∷ []) k ≡ Some w → P k w
+each_push P [] v here before zero w got =
+    let same : v ≡ w = cc in
+    subst (P 0) same here
+each_push P [] v here before (suc k) w got = absurd (let never : ⊥ = cc in never)
+each_push P (x ∷ vs) v here before zero w got = before 0 w got
+each_push P (x ∷ vs) v here before (suc k) w got = each_push (λ m. P (suc m)) vs v here (λ m. before (suc m)) k w got
+
+-- The verdict of the entry at a place is that of the entry beside those in front of it and behind it.
+pub verdict_here : (arch : TargetArch) (entries : List Entry) (place : ℕ) (own : Entry) (v : Verdict) → place < length entries
+    → own ≡ get_or entries place own
+    → IsVerdict arch own (take place entries ++ take (length entries - (place + 1)) (drop (place + 1) entries)) v
+    → IsVerdictAt arch entries place v
+verdict_here arch entries place own v within is true_of =
+    let behind : List Entry = drop (place + 1) entries in
+    let long : length behind ≡ length entries - (place + 1) = length-drop (place + 1) entries in
+    let whole : take (length entries - (place + 1)) behind ≡ behind =
+    take_all (length entries - (place + 1)) behind (omega arith) in
+    subst (λ o. IsSomeAnd o (λ e. IsVerdict arch e (without place entries) v))
+    (sym (slice_get_read entries (length entries) place own refl within is))
+    (subst (λ (es : List Entry). IsVerdict arch own (take place entries ++ es) v) whole true_of)

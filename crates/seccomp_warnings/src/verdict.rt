@@ -1,0 +1,213 @@
+// Whether a filter needs its entries, by comparison of programs.
+
+ghost use Rattle.std.specs.Prelude.{◌≡◌, ◌<◌, ◌++◌, [], List, All, Some, pos, map, length, IfOk, IfErr, OnOk};
+ghost use Rattle.seccompiler.specs.JsonPolicyOf.{IsFineEntry};
+ghost use Rattle.seccompiler.specs.JsonSteps.{IsFaultless, IsPolicyRefusal};
+ghost use Rattle.seccompiler.specs.declared.backend.TargetArch.{TargetArch};
+ghost use Rattle.seccomp_warnings.specs.Verdicts as spec;
+ghost use Rattle.seccomp_warnings.specs.VerdictParts.{SaysBeside};
+
+use crate::cover::{cover, push_rules};
+use crate::entry::{Entry, entries_of, is_any_always, number_of};
+use seccompiler::compare::Comparison;
+use seccompiler::{
+    BackendError, JsonCompiler, JsonFilter, JsonFrontendError, JsonRule, TargetArch,
+};
+use std::alloc::{AllocError, Global};
+
+// How many sets of calls are looked at for all entries of a filter.
+const MOST_SETS: usize = 300_000;
+
+/// Whether a filter needs one of its entries.
+#[derive(Clone, Copy, Debug)]
+pub enum Verdict {
+    /// Some call meets the entry, and no other entry.
+    Needed,
+    /// Some call meets the entry, and each that does meets another entry too. So the policy without the entry
+    /// decides every call alike.
+    Redundant,
+    /// No call meets the entry: no call's arguments meet all its conditions.
+    Unreachable,
+    /// Which of these is so wasn't decided. It says nothing of the entry.
+    Undecided,
+}
+
+/// A verdict for each entry of a filter, in their order; each is true.
+///
+/// For an entry the calls of its number are compared that meet its conditions, with those that meet another entry too.
+/// Of 300000 sets of calls, or fewer, each entry has the same share, one at least: where that doesn't do, and where the
+/// entries take a program of more than 4096 instructions, the verdict is [`Verdict::Undecided`].
+///
+/// # Errors
+///
+/// What [`JsonCompiler::make_seccomp_filter`] rejects the filter for; `OutOfMemory` where memory runs out, which may come
+/// in place of it.
+pub fn verdicts_of(
+    alloc: Global,
+    arch: TargetArch,
+    filter: &JsonFilter,
+) -> Result<Vec<Verdict>, JsonFrontendError>
+    ensures verdicts { IfOk result (λ verdicts. spec.AreVerdicts arch filter.now verdicts.items) }
+    ensures policy { OnOk result (IsFaultless arch filter.now) }
+    ensures refusal { IfErr result (IsPolicyRefusal arch filter.now) }
+{
+    let policy = JsonCompiler::new(arch).make_seccomp_filter(alloc, filter)?;
+    drop(policy);
+    let verdicts = verdicts_in(alloc, arch, &filter.rules)?;
+    Ok(verdicts)
+}
+
+// A verdict for each entry, in their order.
+fn verdicts_in(
+    alloc: Global,
+    arch: TargetArch,
+    rules: &[JsonRule],
+) -> Result<Vec<Verdict>, AllocError>
+    requires { All (IsFineEntry arch) rules.now }
+    ensures { IfOk result (λ verdicts. spec.AreTrue arch (map (spec.entry_of arch) rules.now) verdicts.items) }
+{
+    let entries = entries_of(alloc, arch, rules)?;
+    let verdicts = verdicts_for(alloc, arch, &entries)?;
+    Ok(verdicts)
+}
+
+// The same of entries on the architecture.
+fn verdicts_for(
+    alloc: Global,
+    arch: TargetArch,
+    entries: &[Entry],
+) -> Result<Vec<Verdict>, AllocError>
+    ensures { IfOk result (λ verdicts. spec.AreTrue arch entries.now verdicts.items) }
+{
+    let most = share_of(entries.len());
+    let mut verdicts = Vec::with_capacity(alloc, entries.len())?;
+    for place in 0..entries.len() {
+        let verdict = verdict_at(alloc, arch, entries, place, most)?;
+        verdicts.push(verdict)?;
+    }
+    Ok(verdicts)
+}
+
+// How many sets are looked at for each of so many entries.
+fn share_of(entries: usize) -> usize {
+    (MOST_SETS / entries.max(1)).max(1)
+}
+
+// The verdict of the entry at a place.
+fn verdict_at(
+    alloc: Global,
+    arch: TargetArch,
+    entries: &[Entry],
+    place: usize,
+    most: usize,
+) -> Result<Verdict, AllocError>
+    requires { place < length entries.now }
+    ensures { IfOk result (spec.IsVerdictAt arch entries.now place) }
+{
+    let own = &entries[place];
+    let verdict = verdict_of(
+        alloc,
+        arch,
+        own,
+        &entries[..place],
+        &entries[place + 1..],
+        most,
+    )?;
+    Ok(verdict)
+}
+
+// The verdict of an entry beside others: those in front of it, and those behind it.
+fn verdict_of(
+    alloc: Global,
+    arch: TargetArch,
+    own: &Entry,
+    front: &[Entry],
+    back: &[Entry],
+    most: usize,
+) -> Result<Verdict, AllocError>
+    ensures { IfOk result (spec.IsVerdict arch own.now (front.now ++ back.now)) }
+{
+    match number_of(own) {
+        Some(number) => verdict_numbered(alloc, arch, number, own, front, back, most),
+        // A policy has no such entry.
+        None => Ok(Verdict::Undecided),
+    }
+}
+
+// The verdict of an entry whose call has this number.
+fn verdict_numbered(
+    alloc: Global,
+    arch: TargetArch,
+    number: u32,
+    own: &Entry,
+    front: &[Entry],
+    back: &[Entry],
+    most: usize,
+) -> Result<Verdict, AllocError>
+    requires { own.now.number ≡ Some (pos number) }
+    ensures { IfOk result (spec.IsVerdict arch own.now (front.now ++ back.now)) }
+{
+    let beside = answer_beside(alloc, arch, number, own, front, back, most)?;
+    let alone = answer_beside(alloc, arch, number, own, &[], &[], most)?;
+    Ok(verdict_by(beside, alone))
+}
+
+// The verdict of an entry by what is said of it beside others, and by what is said of it alone.
+fn verdict_by(beside: Comparison, alone: Comparison) -> Verdict
+    ensures { (arch : TargetArch) (own : spec.Entry) (others : List spec.Entry)
+        → SaysBeside arch own others beside → SaysBeside arch own [] alone → spec.IsVerdict arch own others result }
+{
+    match (beside, alone) {
+        (Comparison::Fails(_), _) => Verdict::Needed,
+        (_, Comparison::Holds) => Verdict::Unreachable,
+        (Comparison::Holds, Comparison::Fails(_)) => Verdict::Redundant,
+        _ => Verdict::Undecided,
+    }
+}
+
+// What is said of an entry beside others.
+fn answer_beside(
+    alloc: Global,
+    arch: TargetArch,
+    number: u32,
+    own: &Entry,
+    front: &[Entry],
+    back: &[Entry],
+    most: usize,
+) -> Result<Comparison, AllocError>
+    requires { own.now.number ≡ Some (pos number) }
+    ensures { IfOk result (SaysBeside arch own.now (front.now ++ back.now)) }
+{
+    if is_any_always(front, number) {
+        return Ok(Comparison::Holds);
+    }
+    if is_any_always(back, number) {
+        return Ok(Comparison::Holds);
+    }
+    match compared(alloc, arch, number, own, front, back, most) {
+        Ok(answer) => Ok(answer),
+        Err(BackendError::OutOfMemory) => Err(AllocError),
+        // The program would be too large.
+        Err(_) => Ok(Comparison::Undecided),
+    }
+}
+
+// What the comparison of the entry's calls with those of the others says.
+fn compared(
+    alloc: Global,
+    arch: TargetArch,
+    number: u32,
+    own: &Entry,
+    front: &[Entry],
+    back: &[Entry],
+    most: usize,
+) -> Result<Comparison, BackendError>
+    requires { own.now.number ≡ Some (pos number) }
+    ensures { IfOk result (SaysBeside arch own.now (front.now ++ back.now)) }
+{
+    let mut rules = Vec::new(alloc);
+    push_rules(&mut rules, alloc, number, &own.conditions, front)?;
+    push_rules(&mut rules, alloc, number, &own.conditions, back)?;
+    let answer = cover(alloc, arch, number, &own.conditions, rules, most)?;
+    Ok(answer)
+}

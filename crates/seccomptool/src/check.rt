@@ -50,23 +50,29 @@ pub fn check<R: Read + Drop, W: Write>(
     ensures answers { AnswersCheck arch.now denied allowed.now path.now (R.remaining policy) result (W.contents out.old) (W.contents out.new) }
     ensures unwritten { IfErr result (λ e. KeepsOutput e out.old out.new) }
 {
-    TargetArch::from_text(alloc, arch)?;
+    let target = TargetArch::from_text(alloc, arch)?;
     let text = policy_text(alloc, policy)?;
     lint(alloc, arch, text.as_slice())?;
     let filters = filters_of(alloc, text.as_slice())?;
     let front = front_of(alloc, path)?;
-    let report = report_of(alloc, &front, &filters, allowed)?;
+    // `lint` takes the policy, so that each of its filters is one of the architecture: an error is want of memory.
+    let Ok(report) = report_of(alloc, target, &front, &filters, allowed) else {
+        return Err(ToolError::OutOfMemory);
+    };
     send(out, &report.text)?;
-    Ok(verdict_where(denied, report.warned))
+    Ok(verdict_where(denied, report.count))
 }
 
-// The verdict where warnings are denied or not, and there are some or none.
-fn verdict_where(denied: bool, warned: bool) -> Verdict
-    ensures { result ≡ verdict_where denied warned }
+// The verdict where warnings are denied or not, and there are so many.
+fn verdict_where(denied: bool, count: usize) -> Verdict
+    ensures { result ≡ verdict_where denied count }
 {
-    if denied && warned {
-        Verdict::Different
-    } else {
+    if !denied {
+        return Verdict::Same;
+    }
+    if count == 0 {
         Verdict::Same
+    } else {
+        Verdict::Different
     }
 }

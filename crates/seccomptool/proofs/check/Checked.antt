@@ -63,7 +63,7 @@ module _ (arch : List ℕ) (denied : Bool) (allowed : List Code) (path : List �
       module _ (filters : JsonFilterMap) (of_text : OfValue text (λ d. AreFilters d filters)) (order : IsStrictlySortedBy string_cmp
           (keys_of filters.0.entries))
           (front : List ℕ) (is_front : IsFront path front)
-          (told : List ℕ) (warned : Bool) (report : IsReportOf allowed front filters.0.entries told warned) where
+          (told : List ℕ) (count : ℕ) (report : IsReportOf fine.0 allowed front filters.0.entries told count) where
         -- The value that is read, and what is found under its names.
         compiled : OfValue text (AreAllCompiled fine.0)
         compiled = subst (λ t. OfValue t (AreAllCompiled fine.0)) fine.2.1 fine.2.2
@@ -82,35 +82,35 @@ module _ (arch : List ℕ) (denied : Bool) (allowed : List Code) (path : List �
 
         -- The warnings have the filters' names.
         names : map (λ (f : FilterWarnings). f.name) report.all ≡ map (λ (f : String Global × JsonFilter). string_bytes f.0) entries
-        names = same_under (AreWarningsOf allowed) (λ (f : String Global × JsonFilter). string_bytes f.0) (λ (f : FilterWarnings). f.name)
+        names = same_under (AreWarningsOf fine.0 allowed) (λ (f : String Global × JsonFilter). string_bytes f.0) (λ (f : FilterWarnings). f.name)
             (λ f own is. is.name) entries report.all report.each
 
         -- The warnings of a filter are those of the value of its name.
-        has_warnings : (f : String Global × JsonFilter) (own : FilterWarnings) → AreWarningsOf allowed f own
-            → Under d (string_bytes f.0) (λ value. IsFilter value f.1) → Under d own.name (HasWarnings allowed own)
+        has_warnings : (f : String Global × JsonFilter) (own : FilterWarnings) → AreWarningsOf fine.0 allowed f own
+            → Under d (string_bytes f.0) (λ value. IsFilter value f.1) → Under d own.name (HasWarnings fine.0 allowed own)
         has_warnings f own is value = (value.0, subst (λ name. Has d name value.0) (sym is.name) value.1, (f.1, value.2, is.warnings))
 
         written : (verdict : Verdict) (sent : List ℕ) (old new : Option (List ℕ)) → sent ≡ told → Appends old new sent
-            → verdict ≡ verdict_where denied warned → WritesWarnings denied allowed path verdict old new d
+            → verdict ≡ verdict_where denied count → WritesWarnings fine.0 denied allowed path verdict old new d
         written verdict sent old new is appends verdict_is = record {
           front = front;
           front_is = is_front;
           filters = report.all;
           ordered = subst (IsStrictlySortedBy (slice_cmp nat_cmp)) (sym names) (names_ordered entries order);
           each =
-              all_second (AreWarningsOf allowed)
+              all_second (AreWarningsOf fine.0 allowed)
               (λ (f : String Global × JsonFilter). Under d (string_bytes f.0) (λ value. IsFilter value f.1))
-              (λ (f : FilterWarnings). Under d f.name (HasWarnings allowed f))
+              (λ (f : FilterWarnings). Under d f.name (HasWarnings fine.0 allowed f))
               has_warnings entries report.all report.each (each_there IsFilter (get_by_text filters.0) d are entries order listed);
           complete = λ name value has. subst (λ ns. Contains ns name) (sym names) (complete IsFilter
               (get_by_text filters.0) d are entries order listed name value has);
           appends = subst (Appends old new) (is ∙ report.joined) appends;
-          verdict_is = verdict_is ∙ ap (verdict_where denied) report.warned_is;
+          verdict_is = verdict_is ∙ ap (verdict_where denied) report.count_is;
         }
 
         -- The answer where the lines are sent.
         pub lines_sent : (verdict : Verdict) (sent : List ℕ) (old new : Option (List ℕ)) → sent ≡ told → Appends old new sent
-            → verdict ≡ verdict_where denied warned
+            → verdict ≡ verdict_where denied count
             → AnswersCheck arch denied allowed path known (Ok verdict) old new
         lines_sent verdict sent old new is appends verdict_is =
             (fine.0, fine.1, (text, own, (d, compiled.1, (compiled.2, written verdict sent old new is appends verdict_is))))

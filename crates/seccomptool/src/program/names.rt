@@ -10,7 +10,7 @@ static PROGRAM_FORMATS: [&str; 3] = ["raw", "listing", "c"];
 
 static LINE_FORMATS: [&str; 2] = ["path", "word"];
 
-static CODES: [&str; 12] = [
+static CODES: [&str; 15] = [
     "fake-success",
     "errno-too-large",
     "trace-without-tracer",
@@ -23,6 +23,9 @@ static CODES: [&str; 12] = [
     "kills-exit",
     "clone-by-clone3",
     "crate-differs",
+    "unreachable-entry",
+    "redundant-entry",
+    "undecided-entry",
 ];
 
 /// The names that the options take.

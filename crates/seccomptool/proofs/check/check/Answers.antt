@@ -1,5 +1,7 @@
-use Rattle.std.proofs.Common.{◌≡◌, IfSome, subst, sym, ◌∙◌}
+use Rattle.std.proofs.Common.{◌≡◌, IfSome, Ok, subst, sym, ◌∙◌}
 use Rattle.std.proofs.lemmas.Result.{err_from_is_err_and}
+use Rattle.seccompiler.specs.declared.backend.BackendError.{BackendError}
+use Rattle.seccompiler.specs.declared.backend.TargetArch.{TargetArch}
 use Rattle.seccompiler.specs.JsonAnswers.{OfValue}
 use Rattle.seccompiler.specs.JsonSteps.{AreFilters}
 use Rattle.seccomp_warnings.specs.Reports.{IsReportOf}
@@ -7,14 +9,18 @@ use Rattle.seccomptool.proofs.Faults.{name_is_text, name_refused, policy_unread,
 use Rattle.seccomptool.proofs.check.Checked.{check_told, lint_told, lines_sent, lines_unsent}
 use Rattle.seccomptool.proofs.check.check.Goals as goal
 
-pub returns-in_err-from_text-clause-answers : goal.returns-in_err-from_text-clause-answers
-returns-in_err-from_text-clause-answers g c =
+-- architectures behind an answer
+same_target : {s t : TargetArch} → Ok {E = BackendError} s ≡ Ok t → s ≡ t
+same_target e = cc
+
+pub returns-in_err-target-clause-answers : goal.returns-in_err-target-clause-answers
+returns-in_err-target-clause-answers g c =
     let error = err_from_is_err_and c.from_residual.result c.from_residual.ensures.1 in
     let arch = c.args.arch.now in
     let known = g.R.Read.remaining c.args.policy in
     let out = g.W.Write.contents c.args.out.now in
     let refused = text_is_policy arch known _ (name_is_text arch known _
-    (name_refused arch c.in_err-from_text.field-0.0 c.in_err-from_text.ensures.named c.in_err-from_text.ensures.refused)) in
+    (name_refused arch c.in_err-target.field-0.0 c.in_err-target.ensures.named c.in_err-target.ensures.refused)) in
     rw (error.1, error.2) (check_told arch c.args.denied c.args.allowed.now c.args.path.now known _ out out refused)
 
 pub returns-in_err-text-clause-answers : goal.returns-in_err-text-clause-answers
@@ -23,7 +29,7 @@ returns-in_err-text-clause-answers g c =
     let arch = c.args.arch.now in
     let known = g.R.Read.remaining c.args.policy in
     let out = g.W.Write.contents c.args.out.now in
-    let refused = policy_unread arch known c.in_ok-from_text.field-0 _ c.in_ok-from_text.ensures.read c.in_err-text.ensures.refused in
+    let refused = policy_unread arch known c.in_ok-target.target _ c.in_ok-target.ensures.read c.in_err-text.ensures.refused in
     rw (error.1, error.2) (check_told arch c.args.denied c.args.allowed.now c.args.path.now known _ out out refused)
 
 pub returns-in_err-lint-clause-answers : goal.returns-in_err-lint-clause-answers
@@ -42,9 +48,9 @@ returns-in_err-filters-clause-answers g c =
     let arch = c.args.arch.now in
     let known = g.R.Read.remaining c.args.policy in
     let out = g.W.Write.contents c.args.out.now in
-    let target = c.in_ok-from_text.field-0 in
+    let target = c.in_ok-target.target in
     let own = subst (λ t. IfSome known (λ k. t ≡ k)) (sym c.as_slice-2.ensures.value) c.in_ok-text.ensures.text in
-    let refused = text_refused arch known target c.in_err-filters.field-0.0 c.in_ok-from_text.ensures.read c.in_err-filters.ensures.memory
+    let refused = text_refused arch known target c.in_err-filters.field-0.0 c.in_ok-target.ensures.read c.in_err-filters.ensures.memory
     (c.as_slice-2.result.now, own, c.in_err-filters.ensures.fault target) in
     rw (error.1, error.2)
     (check_told arch c.args.denied c.args.allowed.now c.args.path.now known _ out out (text_is_policy arch known _ refused))
@@ -67,13 +73,16 @@ returns-clause-answers g c =
     let filters = c.in_ok-filters.filters in
     let same = c.as_slice-2.ensures.value ∙ sym c.as_slice.ensures.value in
     let of_text = subst (λ t. OfValue t (λ d. AreFilters d filters)) same c.in_ok-filters.ensures.filters in
-    let report = c.in_ok-report.report in
+    let report = c.in-Ok.report in
     let front = c.in_ok-front.front.items in
-    let is_report = subst (λ f. IsReportOf c.args.allowed.now f filters.0.entries report.text.items report.warned)
-    c.deref.ensures.value c.in_ok-report.ensures.report in
+    let fine = c.in_ok-lint.ensures.answers in
+    let same : c.in_ok-target.target ≡ fine.0 = same_target (c.in_ok-target.ensures.named fine.0 fine.1) in
+    let is_report = subst (λ t. IsReportOf t c.args.allowed.now front filters.0.entries report.text.items report.count) same
+    (subst (λ f. IsReportOf c.in_ok-target.target c.args.allowed.now f filters.0.entries report.text.items report.count)
+    c.deref.ensures.value c.in-Ok.ensures.report) in
     lines_sent c.args.arch.now c.args.denied c.args.allowed.now c.args.path.now known text own c.in_ok-lint.ensures.answers filters of_text
-    c.in_ok-report.ensures.ordered front c.in_ok-front.ensures
-    report.text.items report.warned
+    c.in-Ok.ensures.ordered front c.in_ok-front.ensures
+    report.text.items report.count
     is_report c.verdict_where.result c.deref-2.result.now (g.W.Write.contents c.args.out.now)
     (g.W.Write.contents c.send.new.out) c.deref-2.ensures.value
     c.in_ok-send.ensures.sent c.verdict_where.ensures

@@ -1,6 +1,6 @@
 -- For `cover` and `verdict`: what a comparison of the calls of an entry with those of others says.
-use Rattle.std.proofs.Common.{◌≡◌, ◌↔◌, ℕ, ℤ, pos, ◌≤◌, Bool, true, false, List, [], ◌∷◌, ◌++◌, Option, Some, None, refl, sym, ap, ◌∙◌, subst}
-use Rattle.std.proofs.Common.{◌⊎◌, inl, inr, arith, cond}
+use Rattle.std.proofs.Common.{◌≡◌, ◌↔◌, ℕ, ℤ, pos, ◌≤◌, Bool, true, false, List, [], ◌∷◌, ◌++◌, Option, Some, None, refl}
+use Rattle.std.proofs.Common.{sym, ap, ◌∙◌, subst, ◌⊎◌, inl, inr, arith, cond}
 use Rattle.std.specs.Prelude.{All, Any, if◌then◌else◌}
 use Rattle.std.specs.Cmp.{int_cmp_is}
 use Rattle.std.specs.Ordering.{int_cmp, int_eq, is_eq}
@@ -21,7 +21,8 @@ use Rattle.seccompiler.specs.declared.compare.Comparison.TheVariants as comparis
 use Rattle.seccompiler.specs.declared.compare.Relation.TheVariants.{AtMostAsPermissive}
 use Rattle.seccomp_warnings.proofs.Quantified.{any_head, any_tail, any_nil, any_append, any_one, all_append, any_cases, any_weaker}
 use Rattle.seccomp_warnings.specs.Verdicts.{Entry, IsCovered, Meets}
-use Rattle.seccomp_warnings.specs.VerdictParts.{Answers, IsAlways, SaysBeside, chain_of, chains_with, filter_of, filter_with, rule_beside, rules_beside}
+use Rattle.seccomp_warnings.specs.VerdictParts.{Answers, IsAlways, SaysBeside, chain_of, chains_with, filter_of, filter_with}
+use Rattle.seccomp_warnings.specs.VerdictParts.{rule_beside, rules_beside}
 
 -- ---- the filters that are compared
 
@@ -42,7 +43,8 @@ matches_one arch n chain r is matches = record {
 one_matches : (arch : TargetArch) (n : ℕ) (chain : Chain) (r : List ℕ) → word_at r 0 ≡ n
     → Matches (filter_with arch ((pos n, chain) ∷ [])) r → ChainMatches chain r
 one_matches arch n chain r is m =
-    let there : Some m.chain ≡ Some chain = sym m.there ∙ subst (λ w. chain_under ((pos n, chain) ∷ []) w ≡ Some chain) (sym is) (under n chain) in
+    let there : Some m.chain ≡ Some chain =
+    sym m.there ∙ subst (λ w. chain_under ((pos n, chain) ∷ []) w ≡ Some chain) (sym is) (under n chain) in
     let same : m.chain ≡ chain = cc in
     subst (λ (k : Chain). ChainMatches k r) same m.matches
 

@@ -4,5 +4,6 @@ pub mod Codes
 pub mod Quantified
 pub mod Covered
 pub mod Judged
+pub mod PolicyVerdicts
 pub mod Picked
 pub mod Reported

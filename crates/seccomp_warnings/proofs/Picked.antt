@@ -30,7 +30,8 @@ module _ (allowed : List Code) (verdicts : List Verdict) (j : JsonFilter) where
   adds_none old new same = record { picked = []; are = refl; added = same ∙ sym (append-nil old) }
 
   -- One list of what is asked behind the other.
-  pub adds_more : (xs ys begun old new : List Warning) → AddsPicked allowed verdicts j xs begun old → AddsPicked allowed verdicts j ys old new
+  pub adds_more : (xs ys begun old new : List Warning) → AddsPicked allowed verdicts j xs begun old
+      → AddsPicked allowed verdicts j ys old new
       → AddsPicked allowed verdicts j (xs ++ ys) begun new
   adds_more xs ys begun old new first own = record {
     picked = first.picked ++ own.picked;
@@ -84,9 +85,11 @@ calls_push (t ∷ us) u = ap (λ (l : List Warning). call_asked t ++ l) (calls_p
     ∙ sym (append_assoc (call_asked t) (calls_asked us) (call_asked u))
 
 -- A step of the loop over calls. The default is any.
-pub calls_more : (allowed : List Code) (verdicts : List Verdict) (j : JsonFilter) (us : List Unlisted) (at : ℕ) (default : Unlisted) (begun old new : List Warning)
+pub calls_more : (allowed : List Code) (verdicts : List Verdict) (j : JsonFilter) (us : List Unlisted) (at : ℕ)
+    (default : Unlisted) (begun old new : List Warning)
     → at < length us
-    → AddsPicked allowed verdicts j (calls_asked (take at us)) begun old → AddsPicked allowed verdicts j (call_asked (get_or us at default)) old new
+    → AddsPicked allowed verdicts j (calls_asked (take at us)) begun old
+    → AddsPicked allowed verdicts j (call_asked (get_or us at default)) old new
     → AddsPicked allowed verdicts j (calls_asked (take (at + 1) us)) begun new
 calls_more allowed verdicts j us at default begun old new room so_far own =
     let u = get_or us at default in
@@ -118,8 +121,8 @@ conditions_taken entry at cs default room =
     ∙ ap (λ k. conditions_asked entry 0 done ++ condition_asked entry k c) place
 
 -- A step of the loop over conditions.
-pub conditions_more : (allowed : List Code) (verdicts : List Verdict) (j : JsonFilter) (entry at : ℕ) (cs : List JsonCondition) (default : JsonCondition)
-    (begun old new : List Warning) → at < length cs
+pub conditions_more : (allowed : List Code) (verdicts : List Verdict) (j : JsonFilter) (entry at : ℕ)
+    (cs : List JsonCondition) (default : JsonCondition) (begun old new : List Warning) → at < length cs
     → AddsPicked allowed verdicts j (conditions_asked entry 0 (take at cs)) begun old
     → AddsPicked allowed verdicts j (condition_asked entry at (get_or cs at default)) old new
     → AddsPicked allowed verdicts j (conditions_asked entry 0 (take (at + 1) cs)) begun new
@@ -150,7 +153,8 @@ entries_taken at rs r room is =
     ap (entries_asked 0) more ∙ entries_push 0 done r ∙ ap (λ k. entries_asked 0 done ++ entry_asked k r) place
 
 -- A step of the loop over entries.
-pub entries_more : (allowed : List Code) (verdicts : List Verdict) (j : JsonFilter) (at : ℕ) (rs : List JsonRule) (r : JsonRule) (begun old new : List Warning)
+pub entries_more : (allowed : List Code) (verdicts : List Verdict) (j : JsonFilter) (at : ℕ) (rs : List JsonRule)
+    (r : JsonRule) (begun old new : List Warning)
     → at < length rs
     → r ≡ get_or rs at r
     → AddsPicked allowed verdicts j (entries_asked 0 (take at rs)) begun old → AddsPicked allowed verdicts j (entry_asked at r) old new

@@ -4,6 +4,7 @@ pub mod Codes
 pub mod ActionWarnings
 pub mod CallWarnings
 pub mod Verdicts
+pub mod VerdictPolicies
 pub mod Warnings
 pub mod Texts
 pub mod Reports

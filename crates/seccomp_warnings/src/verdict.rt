@@ -1,10 +1,12 @@
 // Whether a filter needs its entries, by comparison of programs.
 
-ghost use Rattle.std.specs.Prelude.{◌≡◌, ◌<◌, ◌++◌, [], List, All, Some, pos, map, length, IfOk, IfErr, OnOk};
+ghost use Rattle.std.specs.Prelude.{◌≡◌, ◌<◌, ◌++◌, ℕ, [], List, All, Some, pos, map, length, slice_get, IfOk, IfErr, OnOk};
 ghost use Rattle.seccompiler.specs.JsonPolicyOf.{IsFineEntry};
 ghost use Rattle.seccompiler.specs.JsonSteps.{IsFaultless, IsPolicyRefusal};
 ghost use Rattle.seccompiler.specs.declared.backend.TargetArch.{TargetArch};
 ghost use Rattle.seccomp_warnings.specs.Verdicts as spec;
+ghost use Rattle.seccomp_warnings.specs.VerdictPolicies.{SaysOfPolicies};
+ghost use Rattle.seccomp_warnings.specs.declared.verdict.Verdict as declared;
 ghost use Rattle.seccomp_warnings.specs.VerdictParts.{SaysBeside};
 
 use crate::cover::{cover, push_rules};
@@ -34,6 +36,9 @@ pub enum Verdict {
 
 /// A verdict for each entry of a filter, in their order; each is true.
 ///
+/// Without an entry that is redundant or unreachable, the filter's policy decides every call alike; without one that is
+/// needed, it decides some call otherwise, unless its two actions return the same value.
+///
 /// For an entry the calls of its number are compared that meet its conditions, with those that meet another entry too.
 /// Of 300000 sets of calls, or fewer, each entry has the same share, one at least: where that doesn't do, and where the
 /// entries take a program of more than 4096 instructions, the verdict is [`Verdict::Undecided`].
@@ -48,6 +53,7 @@ pub fn verdicts_of(
     filter: &JsonFilter,
 ) -> Result<Vec<Verdict>, JsonFrontendError>
     ensures verdicts { IfOk result (λ verdicts. spec.AreVerdicts arch filter.now verdicts.items) }
+    ensures policies { IfOk result (λ verdicts. (place : ℕ) (v : declared.Verdict) → slice_get verdicts.items place ≡ Some v → SaysOfPolicies arch filter.now place v) }
     ensures policy { OnOk result (IsFaultless arch filter.now) }
     ensures refusal { IfErr result (IsPolicyRefusal arch filter.now) }
 {

@@ -7,7 +7,8 @@ use Rattle.seccomp_warnings.proofs.Picked.{adds_none, calls_more, of_codes}
 use Rattle.seccomp_warnings.proofs.walk.push_calls.Goals as goal
 
 pub loop-call-init : goal.loop-call-init
-loop-call-init c = record { whole = c.all-call-items.ensures; adds = adds_none c.args.allowed.now c.args.verdicts.now c.args.filter.now _ _ refl }
+loop-call-init c =
+    record { whole = c.all-call-items.ensures; adds = adds_none c.args.allowed.now c.args.verdicts.now c.args.filter.now _ _ refl }
 
 pub loop-call-preserved : goal.loop-call-preserved
 loop-call-preserved c =

@@ -15,4 +15,5 @@ returns c =
     let old : List Warning = c.push_those.new.warnings.items in
     let new : List Warning = c.push_args.new.warnings.items in
     adds_more allowed verdicts filter (map (about part) entry_codes) (args_asked c.args.entry c.args.rule.now.conditions) begun old new
-    (of_codes allowed verdicts filter part _ entry_codes begun old c.of_entries.ensures c.in_ok-push_those.ensures) c.in_ok-push_args.ensures
+    (of_codes allowed verdicts filter part _ entry_codes begun old c.of_entries.ensures c.in_ok-push_those.ensures)
+    c.in_ok-push_args.ensures

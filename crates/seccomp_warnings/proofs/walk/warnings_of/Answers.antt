@@ -22,7 +22,8 @@ returns c =
     let all : List Warning = c.push_entries.new.warnings.items in
     let mismatch : Subject = MismatchAction own.mismatch_action in
     let matching : Subject = MatchAction own.match_action in
-    let of_mismatch = of_codes allowed verdicts filter mismatch _ mismatch_codes begun first c.of_mismatch.ensures c.in_ok-push_those.ensures in
+    let of_mismatch =
+    of_codes allowed verdicts filter mismatch _ mismatch_codes begun first c.of_mismatch.ensures c.in_ok-push_those.ensures in
     let of_match = of_codes allowed verdicts filter matching _ match_codes second third c.of_match.ensures c.in_ok-push_those-2.ensures in
     let of_entries = subst (λ rs. AddsPicked allowed verdicts filter (entries_asked 0 rs) third all) c.deref.ensures.value
     c.in_ok-push_entries.ensures in
@@ -35,4 +36,5 @@ returns c =
     (adds_more allowed verdicts filter third_asked last_asked second third all of_match of_entries)) in
     let asked = first_asked ++ second_asked ++ third_asked ++ last_asked in
     subst (λ j. ArePicked (IsGiven allowed verdicts filter) (asked_of j) all) c.filter.view_is
-    (all_picked allowed verdicts filter asked all (subst (λ b. AddsPicked allowed verdicts filter asked b all) c.new-warnings.ensures.items adds))
+    (all_picked allowed verdicts filter asked all
+    (subst (λ b. AddsPicked allowed verdicts filter asked b all) c.new-warnings.ensures.items adds))

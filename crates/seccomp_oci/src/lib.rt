@@ -4,7 +4,7 @@
 //! one. There are also the readers of its parts: actions, conditions on arguments, flags, and lists of
 //! these and of texts. A value that is no profile, or no such part, gives `None`. [`applies`] says whether
 //! an entry applies to a container, and [`filters_of_profile`] gives the filters that decide together what
-//! a profile decides.
+//! a profile decides. [`program_of_profile`] gives one program that returns it.
 #![tactic(auto)]
 
 #[cfg(test)]

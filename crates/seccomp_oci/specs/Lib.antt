@@ -1,5 +1,5 @@
--- The definitions that the contracts cite: which JSON values are which parts of a profile, which are profiles, and when an
--- entry applies.
+-- The definitions that the contracts cite: which JSON values are which parts of a profile, which are profiles, when an
+-- entry applies, and which programs are a profile's.
 pub mod Types
 pub mod Shape
 pub mod Errnos

@@ -5,7 +5,7 @@
 //! these and of texts. A value that is no profile, or no such part, gives `None`. [`applies`] says whether
 //! an entry applies to a container, and [`filters_of_profile`] gives the filters that decide together what
 //! a profile decides. [`import_profile`] goes from the text of a profile to the text of a JSON policy, whose
-//! filters are these.
+//! filters are these. [`program_of_profile`] gives one program that decides as the profile does.
 #![tactic(auto)]
 
 #[cfg(test)]

@@ -65,5 +65,6 @@ module _ (arch : TargetArch) where
         checked = in_turn.checked;
         decides = λ r is same action decision.
             let at = in_turn.decides r is same in
-            subst (EndsWith program r) ((decide own.0 own.1 r same action decision at.0).0 (joint arch r same js own.0 at.0 own.1 at.1)) at.2;
+            let word = (decide own.0 own.1 r same action decision at.0).0 (joint arch r same js own.0 at.0 own.1 at.1) in
+            subst (EndsWith program r) word at.2;
       }

@@ -46,7 +46,8 @@ loop-place-preserved c =
     ∙ ap (λ p. joined_program next.items p) rest in
     let left = turns_left arch all js ps k found next c.loop-place.invariant.programs c.remove-next.ensures.value
     c.loop-place.program.items both c.in_ok-program-2.ensures.checked in_turn whole c.loop-place.invariant.turns in
+    let zip = zip_left arch all js ps k found next c.loop-place.invariant.programs in
     record {
-      programs = rw (c.remove.ensures.items, c.remove-next.ensures.items) (zip_left arch all js ps k found next c.loop-place.invariant.programs);
+      programs = rw (c.remove.ensures.items, c.remove-next.ensures.items) zip;
       turns = rw (c.remove.ensures.items) left;
     }

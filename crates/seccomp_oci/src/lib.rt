@@ -15,9 +15,9 @@ mod errnos;
 mod error;
 mod filters;
 pub mod import;
-mod join;
 #[cfg(test)]
 mod imports;
+mod join;
 mod layout;
 mod lists;
 mod members;

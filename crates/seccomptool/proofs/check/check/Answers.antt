@@ -1,4 +1,4 @@
-use Rattle.std.proofs.Common.{◌≡◌, IfSome, Ok, subst, sym, ◌∙◌}
+use Rattle.std.proofs.Common.{◌≡◌, IfSome, Ok, Result, refl, subst, sym, ◌∙◌}
 use Rattle.std.proofs.lemmas.Result.{err_from_is_err_and}
 use Rattle.seccompiler.specs.declared.backend.BackendError.{BackendError}
 use Rattle.seccompiler.specs.declared.backend.TargetArch.{TargetArch}
@@ -10,8 +10,8 @@ use Rattle.seccomptool.proofs.check.Checked.{check_told, lint_told, lines_sent, 
 use Rattle.seccomptool.proofs.check.check.Goals as goal
 
 -- architectures behind an answer
-same_target : {s t : TargetArch} → Ok {E = BackendError} s ≡ Ok t → s ≡ t
-same_target e = cc
+same_target : (s t : TargetArch) (r : Result TargetArch BackendError) → r ≡ Ok s → r ≡ Ok t → s ≡ t
+same_target s t r first second = let e : r ≡ Ok t = second in cc
 
 pub returns-in_err-target-clause-answers : goal.returns-in_err-target-clause-answers
 returns-in_err-target-clause-answers g c =
@@ -76,7 +76,7 @@ returns-clause-answers g c =
     let report = c.in-Ok.report in
     let front = c.in_ok-front.front.items in
     let fine = c.in_ok-lint.ensures.answers in
-    let same : c.in_ok-target.target ≡ fine.0 = same_target (c.in_ok-target.ensures.named fine.0 fine.1) in
+    let same : c.in_ok-target.target ≡ fine.0 = same_target _ _ _ refl (c.in_ok-target.ensures.named fine.0 fine.1) in
     let is_report = subst (λ t. IsReportOf t c.args.allowed.now front filters.0.entries report.text.items report.count) same
     (subst (λ f. IsReportOf c.in_ok-target.target c.args.allowed.now f filters.0.entries report.text.items report.count)
     c.deref.ensures.value c.in-Ok.ensures.report) in

@@ -98,7 +98,7 @@ WARNED = {
     "no bit outside the mask": on_yield([], "dword", {"masked_eq": 7}, 4, [4, 12], [0, 1, 8, 16]),
     "at most the greatest dword": on_yield(["always-holds"], "dword", "le", LOW, [0, 1, LOW, LOW + 1, WHOLE], []),
     "at most that of a qword": on_yield([], "qword", "le", LOW, [0, 1, LOW], [LOW + 1, WHOLE]),
-    "less than 0": on_yield(["never-holds"], "qword", "lt", 0, [], [0, 1, LOW, LOW + 1, WHOLE]),
+    "less than 0": on_yield(["never-holds", "unreachable-entry"], "qword", "lt", 0, [], [0, 1, LOW, LOW + 1, WHOLE]),
     "less than 1": on_yield([], "qword", "lt", 1, [0], [1, LOW, LOW + 1, WHOLE]),
     "TIOCSTI as a qword": on_terminal(["high-half-evades"], "qword", "eq", NO_TERMINAL),
     "TIOCSTI under a mask": on_terminal(["high-half-evades"], "qword", {"masked_eq": WHOLE}, NO_TERMINAL),
@@ -119,9 +119,18 @@ WARNED = {
     "allows clone and clone3": Shown([], allowing("clone3", "clone"), [(CLONE, INVALID), (CLONE3, INVALID)]),
     "allows clone": Shown([], allowing("clone"), [(CLONE, INVALID), (CLONE3, DENIED)]),
     "with and without args": Shown(
-        ["crate-differs"], denying("sched_yield", when("sched_yield", (0, "dword", "eq", 5))),
+        ["crate-differs", "redundant-entry"], denying("sched_yield", when("sched_yield", (0, "dword", "eq", 5))),
         [("sched_yield 5", DENIED), ("sched_yield 4", DENIED)]),
     "with args": on_yield([], "dword", "eq", 5, [5], [4]),
+    "more than 9 and less than 10": Shown(
+        ["unreachable-entry"], denying(when("sched_yield", (0, "qword", "gt", 9), (0, "qword", "lt", 10))),
+        [("sched_yield 9", MADE), ("sched_yield 10", MADE)]),
+    "more than 9 and less than 11": Shown(
+        [], denying(when("sched_yield", (0, "qword", "gt", 9), (0, "qword", "lt", 11))),
+        [("sched_yield 9", MADE), ("sched_yield 10", DENIED), ("sched_yield 11", MADE)]),
+    "one of three is covered": Shown(
+        ["redundant-entry"], denying(*(when("sched_yield", (0, "dword", it, at)) for it, at in [("le", 4), ("ge", 9), ("eq", 3)])),
+        [("sched_yield 3", DENIED), ("sched_yield 5", MADE), ("sched_yield 9", DENIED)]),
 }
 
 POLICY = {name: it.filter for name, it in WARNED.items()}

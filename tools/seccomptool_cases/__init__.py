@@ -6,14 +6,16 @@ from the program's output.
 """
 
 from . import (
-    calls, check, compat, compile, conditions, diff, explain, imports, record, run, show, stats, verify, warnings, words
+    calls, check, compat, compile, conditions, diff, entries, explain, imports, record, run, show, stats, verify, warnings,
+    words
 )
 
 FILES = {**explain.FILES, **compile.FILES, **diff.FILES, **run.FILES, **verify.FILES, **imports.FILES}
 CASES = [
     case
     for it in (
-        compile, show, check, warnings, conditions, calls, explain, run, stats, record, diff, verify, compat, imports, words
+        compile, show, check, warnings, conditions, calls, entries, explain, run, stats, record, diff, verify, compat,
+        imports, words
     )
     for case in it.CASES
 ]

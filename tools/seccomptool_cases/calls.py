@@ -8,7 +8,7 @@ import json
 import random
 
 from .forms import writes
-from .warnings import EXITS, PERMITS, condition, line, lines_of, warned
+from .warnings import ALLOWED, EXITS, PERMITS, condition, line, lines_of, warned
 
 # What an entry may ask of its call.
 ASKED = [condition("dword", "eq", 7)]
@@ -124,5 +124,5 @@ def policies_by_chance():
 
 CASES = [
     *(it for row in (*KILLS_EXIT, *CLONE_BY_CLONE3, *CRATE_DIFFERS) for it in of_calls(*row)),
-    *(writes("check", it, lines_of(it)) for it in policies_by_chance()),
+    *(writes(f"check {ALLOWED}", it, lines_of(it)) for it in policies_by_chance()),
 ]

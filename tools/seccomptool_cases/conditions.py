@@ -8,7 +8,7 @@ import json
 import random
 
 from .forms import writes
-from .warnings import LOW, WHOLE, condition, lines_of, masked
+from .warnings import ALLOWED, LOW, WHOLE, condition, lines_of, masked
 
 OPERATORS = ("eq", "ge", "gt", "le", "lt", "ne")
 BORDERS = (0, 1, LOW - 1, LOW, LOW + 1, LOW + 2, 2**63, WHOLE - 1, WHOLE)
@@ -65,4 +65,4 @@ def policies_of(filters):
     return [json.dumps({f"f{number}": it for number, it in enumerate(some)}) for some in parted(filters, FILTERS)]
 
 
-CASES = [writes("check", it, lines_of(it)) for it in policies_of(all_filters())]
+CASES = [writes(f"check {ALLOWED}", it, lines_of(it)) for it in policies_of(all_filters())]

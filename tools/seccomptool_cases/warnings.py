@@ -2,7 +2,8 @@
 
 Of each code there is a table of filters that have it and of filters that just don't. The lines of any other policy are
 found by trying its conditions on values, and not by their operators: conditions.py has many. calls.py has the tables of
-codes that are about calls by their names.
+codes that are about calls by their names, and entries.py those of codes that are about entries beside others, which are
+allowed here.
 """
 
 import json
@@ -35,7 +36,15 @@ SAID = {
     "clone3 with errno 38 in a filter of its own",
     "crate-differs": "the call has entries with args too, and matches here whatever its arguments are; the Rust crate "
     "asks these args: leave out those or this",
+    "unreachable-entry": "no call meets all of its conditions; correct them, or leave the entry out",
+    "redundant-entry": "each call that meets this entry meets another entry too; leave it out",
+    "undecided-entry": "it wasn't decided whether a call needs this entry, within 300000 sets of calls divided by the "
+    "filter's entries; use fewer masks in it",
 }
+
+# The codes of an entry beside others, and the options that allow them.
+BESIDE = ("unreachable-entry", "redundant-entry", "undecided-entry")
+ALLOWED = " ".join(f"--allow {it}" for it in BESIDE)
 
 # The key of an action or a condition that a code is about, behind its place.
 KEYS = {
@@ -77,8 +86,8 @@ def filter_of(conditions, mismatch="trap", match="allow"):
 def warned(filters, *lines):
     """Returns the cases of a policy that has exactly these warnings, where they are denied and where they aren't."""
     text, output = json.dumps(filters), "".join(lines)
-    denied = Case("check --deny-warnings", 1 if lines else 0, output, "", text)
-    return [writes("check", text, output), denied]
+    denied = Case(f"check {ALLOWED} --deny-warnings", 1 if lines else 0, output, "", text)
+    return [writes(f"check {ALLOWED}", text, output), denied]
 
 
 def of_action(action, codes):

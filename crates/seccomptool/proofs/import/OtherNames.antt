@@ -1,5 +1,6 @@
 -- For `push_others`: names behind another one, one by one; and for `noted`, the notes where a name is left out.
-use Rattle.std.proofs.Common.{◌≡◌, ◌==◌, false, ◌<◌, ◌+◌, ◌++◌, ◌∙◌, ℕ, List, [], ◌∷◌, String, Global, ap, codes, get_or, length, map, refl, string_bytes, sym, subst, take}
+use Rattle.std.proofs.Common.{◌≡◌, ◌==◌, false, ◌<◌, ◌+◌, ◌++◌, ◌∙◌, ℕ, List, [], ◌∷◌, String, Global, ap, codes, get_or, length, map}
+use Rattle.std.proofs.Common.{refl, string_bytes, sym, subst, take}
 use Rattle.std.proofs.lemmas.Bool.{false≢true}
 use Rattle.std.specs.List.{concat}
 use Rattle.seccomp_command_line.proofs.Joined.{joined_more}

@@ -82,8 +82,8 @@ module _ (arch : List ℕ) (denied : Bool) (allowed : List Code) (path : List �
 
         -- The warnings have the filters' names.
         names : map (λ (f : FilterWarnings). f.name) report.all ≡ map (λ (f : String Global × JsonFilter). string_bytes f.0) entries
-        names = same_under (AreWarningsOf fine.0 allowed) (λ (f : String Global × JsonFilter). string_bytes f.0) (λ (f : FilterWarnings). f.name)
-            (λ f own is. is.name) entries report.all report.each
+        names = same_under (AreWarningsOf fine.0 allowed) (λ (f : String Global × JsonFilter). string_bytes f.0)
+            (λ (f : FilterWarnings). f.name) (λ f own is. is.name) entries report.all report.each
 
         -- The warnings of a filter are those of the value of its name.
         has_warnings : (f : String Global × JsonFilter) (own : FilterWarnings) → AreWarningsOf fine.0 allowed f own

@@ -29,6 +29,9 @@ EXITS = ("exit", "exit_group", "rt_sigreturn")
 TABLE = (TOP / f"crates/seccomp_tables/src/{platform.machine()}.rt").read_text(encoding="utf-8")
 NAMES = re.findall(r'\("([a-z0-9_]+)", [0-9]+\)', TABLE)
 
+# Arguments, and masks of two neighbouring bits.
+MASKS = [(at, 3 << bit) for at in (0, 1) for bit in range(18)]
+
 YIELD_OF_X32 = str(X32_BIT + X32_CALLS["sched_yield"])
 
 
@@ -131,6 +134,10 @@ WARNED = {
     "one of three is covered": Shown(
         ["redundant-entry"], denying(*(when("sched_yield", (0, "dword", it, at)) for it, at in [("le", 4), ("ge", 9), ("eq", 3)])),
         [("sched_yield 3", DENIED), ("sched_yield 5", MADE), ("sched_yield 9", DENIED)]),
+    # Two neighbouring bits of an argument: sets of calls are split bit by bit.
+    "many masks": Shown(
+        ["undecided-entry"] * len(MASKS), denying(*(when("sched_yield", (at, "dword", {"masked_eq": it}, it)) for at, it in MASKS)),
+        [("sched_yield 3", DENIED), ("sched_yield 5 5", MADE), ("sched_yield 5 12", DENIED)]),
 }
 
 POLICY = {name: it.filter for name, it in WARNED.items()}

@@ -3,3 +3,4 @@ pub mod Turns
 pub mod Asked
 pub mod Greatest
 pub mod Decided
+pub mod Long

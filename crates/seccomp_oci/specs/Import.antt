@@ -101,5 +101,6 @@ IsImportFault arch container strict text (import_error.UnknownNames names) =
     (strict ≡ true) × HasUnknown arch container text (map string_bytes names.items)
 IsImportFault arch container strict text (import_error.TooLarge name instructions) =
     HasTooLarge arch container strict text (string_bytes name) instructions
+IsImportFault arch container strict text (import_error.ProgramTooLarge instructions) = ⊥
 IsImportFault arch container strict text import_error.NotReadBack = ⊤
 IsImportFault arch container strict text import_error.OutOfMemory = ⊤

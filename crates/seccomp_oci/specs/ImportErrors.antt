@@ -4,7 +4,8 @@ use Rattle.std.specs.List.{flat_map}
 use Rattle.seccomp_oci.specs.declared.error.ProfileError.{ProfileError}
 use Rattle.seccomp_oci.specs.declared.error.ProfileError.TheVariants as profile
 use Rattle.seccomp_oci.specs.declared.import.ImportError.{ImportError}
-use Rattle.seccomp_oci.specs.declared.import.ImportError.TheVariants.{Profile, UnknownNames, TooLarge, NotReadBack, OutOfMemory}
+use Rattle.seccomp_oci.specs.declared.import.ImportError.TheVariants.{Profile, UnknownNames, TooLarge, ProgramTooLarge}
+use Rattle.seccomp_oci.specs.declared.import.ImportError.TheVariants.{NotReadBack, OutOfMemory}
 use Rattle.seccomp_oci.specs.declared.policy.PolicyTextError.{PolicyTextError}
 use Rattle.seccomp_oci.specs.declared.policy.PolicyTextError.TheVariants as policy
 use Rattle.seccomp_oci.specs.ProfileText.{IsProfileErrorText, profile_error_text}
@@ -38,6 +39,8 @@ import_error_text (UnknownNames names) =
     Some (codes "No system call of this architecture has these names: " ++ separated (map string_bytes names.items) ++ codes ".")
 import_error_text (TooLarge name instructions) =
     Some (string_bytes name ++ codes ": needs " ++ decimal instructions ++ codes " instructions in the tree layout; 4096 fit")
+import_error_text (ProgramTooLarge instructions) =
+    Some (codes "One program of the profile needs " ++ decimal instructions ++ codes " instructions; 4096 fit")
 import_error_text NotReadBack = Some (codes "The text of the filters does not read back as they are.")
 import_error_text OutOfMemory = Some (codes "Out of memory.")
 

@@ -15,3 +15,7 @@ pub mod PolicyText
 pub mod Import
 pub mod ImportSteps
 pub mod ImportErrors
+pub mod CompiledProfile
+pub mod JoinedSteps
+pub mod Decided
+pub mod DecideSteps

@@ -1,9 +1,6 @@
 -- The program of a profile, and how filters are asked in turn.
-use Rattle.std.specs.Prelude.{◌≡◌, ◌≢◌, ◌<◌, ◌≤◌, ℕ, ◌⊎◌, List, ◌∷◌, ◌++◌, All, length, min}
+use Rattle.std.specs.Prelude.{◌≡◌, ◌≢◌, ◌<◌, ◌≤◌, ℕ, List, ◌∷◌, ◌++◌, All, length, min}
 use Rattle.seccompiler.specs.declared.backend.SeccompAction.{SeccompAction}
-use Rattle.seccompiler.specs.declared.backend.BackendError.TheVariants.{FilterTooLarge}
-use Rattle.seccompiler.specs.declared.json.error.JsonFrontendError.{JsonFrontendError}
-use Rattle.seccompiler.specs.declared.json.error.JsonFrontendError.TheVariants.{Backend, OutOfMemory}
 use Rattle.seccompiler.specs.declared.backend.TargetArch.{TargetArch}
 use Rattle.seccompiler.specs.declared.bpf.sock_filter.{sock_filter}
 use Rattle.seccompiler.specs.Architecture.{audit_word}
@@ -28,10 +25,6 @@ pub record IsProfileProgram (arch : TargetArch) (container : Container) (p : Pro
   pub checked : IsChecked program
   pub decides : (r : List ℕ) → IsRecord r → word_at r 4 ≡ audit_word arch → (action : SeccompAction)
       → IsProfileDecision arch container p r action → EndsWith program r (word_of action)
-
--- A program would have more than 4096 instructions, as many as the error says; or memory runs out.
-abbrev pub IsTooLargeOr : JsonFrontendError → Type 0
-IsTooLargeOr e = (e ≡ OutOfMemory) ⊎ ((n : ℕ) × (4096 < n) × (e ≡ Backend (FilterTooLarge n)))
 
 -- ---- filters of JSON policies, and their programs
 

@@ -42,6 +42,8 @@ pub enum ImportError {
     UnknownNames(Vec<String>),
     /// The filter of this name would have so many instructions as a tree, and 4096 fit.
     TooLarge(String, usize),
+    /// One program of the whole profile would have so many instructions, and 4096 fit.
+    ProgramTooLarge(usize),
     /// The text of the policy doesn't read back as it is.
     NotReadBack,
     /// Memory ran out.
@@ -89,7 +91,7 @@ pub fn import_profile(
 }
 
 // The names that are left out of a profile; an error where there are some, and they are asked not to be left out.
-fn names_left_out(
+pub(crate) fn names_left_out(
     alloc: Global,
     arch: TargetArch,
     container: &Container,

@@ -19,7 +19,7 @@ fn imported(alloc: Global, strict: bool, text: &str) -> Result<Import, ImportErr
     )
 }
 
-fn are(names: &[String], expected: &[&str]) -> bool {
+pub(crate) fn are(names: &[String], expected: &[&str]) -> bool {
     if names.len() != expected.len() {
         return false;
     }
@@ -50,7 +50,7 @@ fn is_refused(alloc: Global, strict: bool, profile: &str, words: &str) -> Result
 }
 
 // Names of no call of x86_64, one of them twice, and one in an entry that doesn't apply.
-const UNKNOWN: &str = r#"{"defaultAction": "SCMP_ACT_ALLOW", "syscalls": [
+pub(crate) const UNKNOWN: &str = r#"{"defaultAction": "SCMP_ACT_ALLOW", "syscalls": [
     {"names": ["second", "read", "first"], "action": "SCMP_ACT_ALLOW"},
     {"names": ["third"], "action": "SCMP_ACT_LOG", "includes": {"arches": ["arm64"]}},
     {"names": ["first"], "action": "SCMP_ACT_TRAP"}]}"#;
@@ -97,7 +97,7 @@ const SIX_CONDITIONS: &str = r#"{"names": ["read"], "action": "SCMP_ACT_ALLOW", 
     {"index": 4, "value": 1, "op": "SCMP_CMP_EQ"}, {"index": 5, "value": 1, "op": "SCMP_CMP_EQ"}]}"#;
 
 // A profile with so many entries of six conditions.
-fn with_entries(alloc: Global, count: u32) -> Result<String, AllocError> {
+pub(crate) fn with_entries(alloc: Global, count: u32) -> Result<String, AllocError> {
     let mut text = String::from_str(
         alloc,
         r#"{"defaultAction": "SCMP_ACT_ERRNO", "syscalls": ["#,

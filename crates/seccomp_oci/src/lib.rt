@@ -5,9 +5,16 @@
 //! these and of texts. A value that is no profile, or no such part, gives `None`. [`applies`] says whether
 //! an entry applies to a container, and [`filters_of_profile`] gives the filters that decide together what
 //! a profile decides. [`import_profile`] goes from the text of a profile to the text of a JSON policy, whose
-//! filters are these. [`program_of_profile`] gives one program that decides as the profile does.
+//! filters are these. [`program_of_profile`] gives one program that decides as the profile does, and
+//! [`decision_of_profile`] what the profile decides of one call, and by which entry.
 #![tactic(auto)]
 
+pub mod compiled;
+#[cfg(test)]
+mod compiled_profiles;
+pub mod decide;
+#[cfg(test)]
+mod decided;
 #[cfg(test)]
 mod decisions;
 mod entries;
@@ -33,10 +40,13 @@ mod rules;
 mod scope;
 #[cfg(test)]
 mod tests;
+mod trees;
 pub mod types;
 mod unknown;
 mod version;
 
+pub use compiled::{CompiledProfile, compile_profile};
+pub use decide::{ProfileDecision, decision_of_profile};
 pub use error::ProfileError;
 pub use filters::{filters_of_profile, json_filters_of, policies_of};
 pub use import::{Import, ImportError, import_profile};

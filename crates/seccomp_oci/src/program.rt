@@ -1,19 +1,20 @@
 // The program of a profile.
 
-ghost use Rattle.std.specs.Prelude.{◌≡◌, ◌<◌, ◌⊎◌, ℕ, min, length, slice_get, All, IfOk, IfErr, IfSome, IfNone, Some, [], ◌∷◌};
+ghost use Rattle.std.specs.Prelude.{◌≡◌, ◌≤◌, length, All, IfOk, IfErr, IfSome, IfNone, [], ◌∷◌};
 ghost use Rattle.std.specs.List.{AllZip};
-ghost use Rattle.seccompiler.specs.Machine.{IsChecked};
-ghost use Rattle.seccomp_oci.specs.Filters.{AllOnArguments, IsFineFilter, OneAllows};
-ghost use Rattle.seccomp_oci.specs.ProfileProgram.{DecidesInTurn, IsLaxest, IsProfileProgram, IsProgramOf, IsTooLargeOr, rank_of_filter};
+ghost use Rattle.seccompiler.specs.declared.json.error.JsonFrontendError.TheVariants.{OutOfMemory};
+ghost use Rattle.seccomp_oci.specs.CompiledProfile.{HasJoinedLength};
+ghost use Rattle.seccomp_oci.specs.Filters.{AllOnArguments, OneAllows};
+ghost use Rattle.seccomp_oci.specs.JoinedSteps.{IsProgramFault, joined_length};
+ghost use Rattle.seccomp_oci.specs.ProfileProgram.{DecidesInTurn, IsLaxest, IsProfileProgram, IsProgramOf, rank_of_filter};
 
-use crate::filters::json_filters_of;
+use crate::filters::{json_filters_of, policies_of};
 use crate::join::joined;
+use crate::trees::fitting_programs;
 use crate::types::{Container, Profile};
 use seccompiler::bpf::{RETURN, bpf_stmt};
 use seccompiler::compare::rank;
-use seccompiler::{
-    BpfProgram, JsonCompiler, JsonFilter, JsonFrontendError, Layout, SeccompAction, TargetArch,
-};
+use seccompiler::{BpfProgram, JsonFilter, JsonFrontendError, SeccompAction, TargetArch};
 use std::alloc::{AllocError, Global};
 
 /// The program of a profile, on an architecture and in a container: it returns what the profile decides of
@@ -29,10 +30,11 @@ use std::alloc::{AllocError, Global};
 ///
 /// # Errors
 ///
-/// `Backend(FilterTooLarge)`, with a number of instructions above 4096, where the program of a filter, or the
-/// joined program of some of them, would have so many. `Backend(InvalidArgumentNumber)` where a condition of an
-/// entry that applies has an index above 5, which none has that [`read_profile`](crate::read_profile) gives.
-/// `OutOfMemory` where memory runs out. No other error comes.
+/// `Backend(FilterTooLarge)` where the program would have more than 4096 instructions, with their number, or `usize::MAX`
+/// if that is less. They are those of each filter's program and one more, and one that allows.
+/// `Backend(InvalidArgumentNumber)` where a condition of an entry that applies has an index above 5, which none has
+/// that [`read_profile`](crate::read_profile) gives. `OutOfMemory` may come in place of any answer, where memory runs
+/// out. No other error comes.
 pub fn program_of_profile(
     alloc: Global,
     arch: TargetArch,
@@ -40,40 +42,13 @@ pub fn program_of_profile(
     profile: &Profile,
 ) -> Result<BpfProgram, JsonFrontendError>
     ensures decides { IfOk result (λ program. IsProfileProgram arch container.now profile.now program.items) }
-    ensures refused { IfErr result (λ e. AllOnArguments profile.now.entries → IsTooLargeOr e) }
+    ensures sized { IfOk result (λ program. HasJoinedLength arch container.now profile.now (length program.items)) }
+    ensures fault { IfErr result (λ e. AllOnArguments profile.now.entries → IsProgramFault arch container.now profile.now e) }
 {
     let filters = json_filters_of(alloc, arch, container, profile)?;
-    let programs = programs_of(alloc, arch, filters.as_slice())?;
+    let policies = policies_of(alloc, arch, filters.as_slice())?;
+    let programs = fitting_programs(alloc, policies.as_slice())?;
     in_turn(alloc, arch, filters, programs)
-}
-
-// The program of each filter.
-fn programs_of(
-    alloc: Global,
-    arch: TargetArch,
-    filters: &[JsonFilter],
-) -> Result<Vec<BpfProgram>, JsonFrontendError>
-    ensures programs { IfOk result (λ programs. AllZip (λ j program. IsProgramOf arch j program.items) filters.now programs.items) }
-    ensures refused { IfErr result (λ e. All (IsFineFilter arch) filters.now → IsTooLargeOr e) }
-{
-    let mut programs = Vec::new(alloc);
-    for filter in filters {
-        programs.push(program_of(alloc, arch, filter)?)?;
-    }
-    Ok(programs)
-}
-
-// The program of a filter.
-fn program_of(
-    alloc: Global,
-    arch: TargetArch,
-    filter: &JsonFilter,
-) -> Result<BpfProgram, JsonFrontendError>
-    ensures program { IfOk result (λ program. IsProgramOf arch filter.now program.items) }
-    ensures refused { IfErr result (λ e. IsFineFilter arch filter.now → IsTooLargeOr e) }
-{
-    let policy = JsonCompiler::new(arch).make_seccomp_filter(alloc, filter)?;
-    Ok(policy.to_bpf_in(alloc, Layout::Tree)?)
 }
 
 // The program that asks the filters' programs in turn, the strictest first: each is put in front of those of
@@ -86,8 +61,10 @@ fn in_turn(
 ) -> Result<BpfProgram, JsonFrontendError>
     requires programs { AllZip (λ j program. IsProgramOf arch j program.items) filters.items programs.items }
     requires one_allows { All OneAllows filters.items }
+    requires few { joined_length programs.items ≤ 4096 }
     ensures decides { IfOk result (λ program. DecidesInTurn arch filters.items program.items) }
-    ensures refused { IfErr result IsTooLargeOr }
+    ensures long { IfOk result (λ program. length program.items ≡ joined_length programs.items) }
+    ensures refused { IfErr result (λ e. e ≡ OutOfMemory) }
 {
     let mut program = allowing(alloc)?;
     while let Some(place) = laxest(filters.as_slice()) {

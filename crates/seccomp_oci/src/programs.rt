@@ -17,7 +17,7 @@ const ERRNO: u32 = 0x0005_0000;
 const TRAP: u32 = 0x0003_0000;
 
 // A call of x86_64, with the value that is expected.
-type Row = (u32, u64, u32);
+pub(crate) type Row = (u32, u64, u32);
 
 fn record(row: &Row) -> [u8; 64] {
     let mut call = [0; 64];
@@ -27,7 +27,7 @@ fn record(row: &Row) -> [u8; 64] {
     call
 }
 
-fn returns(program: BpfProgramRef<'_>, rows: &[Row]) -> bool {
+pub(crate) fn returns(program: BpfProgramRef<'_>, rows: &[Row]) -> bool {
     if !check(program) {
         return false;
     }
@@ -40,14 +40,15 @@ fn returns(program: BpfProgramRef<'_>, rows: &[Row]) -> bool {
 }
 
 // write is logged, trapped where its first argument is 2, and has errno 9 where it is 3.
-const DENYING: &str = r#"{"defaultAction": "SCMP_ACT_ERRNO", "defaultErrnoRet": 38, "syscalls": [
+pub(crate) const DENYING: &str =
+    r#"{"defaultAction": "SCMP_ACT_ERRNO", "defaultErrnoRet": 38, "syscalls": [
     {"names": ["read"], "action": "SCMP_ACT_ALLOW"},
     {"names": ["write"], "action": "SCMP_ACT_LOG"},
     {"names": ["write"], "action": "SCMP_ACT_TRAP", "args": [{"index": 0, "value": 2, "op": "SCMP_CMP_EQ"}]},
     {"names": ["write"], "action": "SCMP_ACT_ERRNO", "errnoRet": 9, "args": [{"index": 0, "value": 3, "op": "SCMP_CMP_EQ"}]},
     {"names": ["write"], "action": "SCMP_ACT_ERRNO", "errnoRet": 8, "args": [{"index": 0, "value": 2, "op": "SCMP_CMP_GT"}]}]}"#;
 
-const OF_DENYING: [Row; 6] = [
+pub(crate) const OF_DENYING: [Row; 6] = [
     (0, 0, ALLOW),
     (1, 0, LOG),
     (1, 2, TRAP),

@@ -29,7 +29,7 @@ fn comparison(argument: &Argument) -> (SeccompCmpOp, u64)
 }
 
 // The condition that holds where this one is met.
-fn condition_for(argument: &Argument) -> JsonCondition
+pub(crate) fn condition_for(argument: &Argument) -> JsonCondition
     ensures { IsConditionFor argument.now result }
 {
     let (operator, value) = comparison(argument);
@@ -61,7 +61,7 @@ fn is_any_on(args: &[Argument], index: u8) -> bool
 }
 
 // Whether two of the conditions are on one argument.
-fn share_argument(args: &[Argument]) -> bool
+pub(crate) fn share_argument(args: &[Argument]) -> bool
     ensures { IsTrue result ↔ ShareArgument args.now }
 {
     let mut rest = args;

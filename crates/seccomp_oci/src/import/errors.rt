@@ -71,6 +71,10 @@ impl fmt::Display for ImportError {
                 f,
                 "{name}: needs {instructions} instructions in the tree layout; 4096 fit"
             ),
+            ImportError::ProgramTooLarge(instructions) => write!(
+                f,
+                "One program of the profile needs {instructions} instructions; 4096 fit"
+            ),
             ImportError::NotReadBack => {
                 f.write_str("The text of the filters does not read back as they are.")
             }

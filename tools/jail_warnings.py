@@ -7,6 +7,7 @@ Where seccomptool is built, `check` has to warn of exactly the codes that are st
 import json
 import os
 import platform
+import random
 import re
 import sys
 from typing import NamedTuple
@@ -31,6 +32,12 @@ NAMES = re.findall(r'\("([a-z0-9_]+)", [0-9]+\)', TABLE)
 
 # Arguments, and masks of two neighbouring bits.
 MASKS = [(at, 3 << bit) for at in (0, 1) for bit in range(18)]
+
+# An argument, and conditions on three bits of it by chance, none of which holds: a bit of each isn't the argument's.
+PASSES = 0xA5A5_5A5A_C3C3
+CHANCE = random.Random(1)
+BITS = [[1 << bit for bit in CHANCE.sample(range(48), 3)] for _ in range(200)]
+THREES = [(sum(it), PASSES & sum(it) ^ sum(CHANCE.sample(it, CHANCE.randint(1, 3)))) for it in BITS]
 
 YIELD_OF_X32 = str(X32_BIT + X32_CALLS["sched_yield"])
 
@@ -134,10 +141,14 @@ WARNED = {
     "one of three is covered": Shown(
         ["redundant-entry"], denying(*(when("sched_yield", (0, "dword", it, at)) for it, at in [("le", 4), ("ge", 9), ("eq", 3)])),
         [("sched_yield 3", DENIED), ("sched_yield 5", MADE), ("sched_yield 9", DENIED)]),
-    # Two neighbouring bits of an argument: sets of calls are split bit by bit.
     "many masks": Shown(
-        ["undecided-entry"] * len(MASKS), denying(*(when("sched_yield", (at, "dword", {"masked_eq": it}, it)) for at, it in MASKS)),
+        [], denying(*(when("sched_yield", (at, "dword", {"masked_eq": it}, it)) for at, it in MASKS)),
         [("sched_yield 3", DENIED), ("sched_yield 5 5", MADE), ("sched_yield 5 12", DENIED)]),
+    # Sets of calls are split bit by bit.
+    "masks that overlap": Shown(
+        ["undecided-entry"] * len(THREES) + ["high-half-evades"] * sum(value <= LOW < mask for mask, value in THREES),
+        denying(*(when("sched_yield", (0, "qword", {"masked_eq": mask}, value)) for mask, value in THREES)),
+        [(f"sched_yield {PASSES}", MADE), (f"sched_yield {THREES[0][1]}", DENIED)]),
 }
 
 POLICY = {name: it.filter for name, it in WARNED.items()}

@@ -86,6 +86,9 @@ UNREACHABLE = [
     ([entry(dword("lt", 3), dword("gt", 3))] * 2, unreachable(0, 1)),
 ]
 
+# Many entries that aren't met by the same calls.
+LARGE = [entry(dword("eq", it, 1), dword("le", 9), dword("ne", 7, 2)) for it in range(300)]
+
 REDUNDANT = [
     ([entry(), entry()], redundant(0, 1)),
     ([entry(), entry(name="write")], []),
@@ -108,6 +111,14 @@ REDUNDANT = [
     # The same conditions in another order, and one twice.
     ([entry(dword("eq", 1), dword("eq", 2, 1)), entry(dword("eq", 2, 1), dword("eq", 1))], redundant(0, 1)),
     ([entry(dword("eq", 1), dword("eq", 1)), entry(qword("ne", 1))], []),
+    # One that many cover together, and just don't.
+    ([*(entry(dword("eq", it)) for it in range(20)), entry(dword("le", 19), dword("ne", 7, 1))], redundant(20)),
+    ([*(entry(dword("eq", it)) for it in range(20)), entry(dword("le", 20), dword("ne", 7, 1))], []),
+    # Two neighbouring bits of two arguments.
+    ([entry(dword(masked(3 << bit), 3 << bit, index)) for index in (0, 1) for bit in range(18)], []),
+    # A program of 2716 instructions. Rules of twice these conditions would take more than 4096.
+    ([*LARGE, entry(dword("eq", 5, 1), dword("eq", 3), dword("eq", 3, 2))], redundant(len(LARGE))),
+    ([*LARGE, entry(dword("eq", 5, 1), dword("eq", 3), dword("eq", 7, 2))], []),
 ]
 
 

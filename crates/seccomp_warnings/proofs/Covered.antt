@@ -127,29 +127,29 @@ answers arch n own rules calls comparison.Undecided of compared = tt
 module _ (n : ℕ) (own : List Condition) (r : List ℕ) (is : word_at r 0 ≡ n) where
   -- The rule beside an entry holds where the entry is met.
   beside_one : (number : Option ℤ) (conditions : List Condition)
-      → Any (λ q. RuleHolds q r) (if is_number (pos n) number then (own ++ conditions) ∷ [] else [])
+      → Any (λ q. RuleHolds q r) (if is_number (pos n) number then (conditions ++ own) ∷ [] else [])
       → (number ≡ Some (pos (word_at r 0))) × RuleHolds conditions r
   beside_one None conditions any = absurd (any_nil (λ q. RuleHolds q r) any)
   beside_one (Some z) conditions any = by_test (int_eq (pos n) z) refl any
     where
       by_test : (b : Bool) → int_eq (pos n) z ≡ b
-          → Any (λ q. RuleHolds q r) (if b then (own ++ conditions) ∷ [] else [])
+          → Any (λ q. RuleHolds q r) (if b then (conditions ++ own) ∷ [] else [])
           → (Some z ≡ Some (pos (word_at r 0))) × RuleHolds conditions r
       by_test false differs any = absurd (any_nil (λ q. RuleHolds q r) any)
       by_test true same_is any =
           let same : pos n ≡ z = (Decides-int_eq (pos n) z).0 same_is in (
             ap Some (sym same) ∙ ap (λ w. Some (pos w)) (sym is),
-            ((all_append (λ c. Holds c r) own conditions).0 ((any_one (λ q. RuleHolds q r) (own ++ conditions)).0 any)).1,
+            ((all_append (λ c. Holds c r) conditions own).0 ((any_one (λ q. RuleHolds q r) (conditions ++ own)).0 any)).0,
           )
 
   one_beside : RuleHolds own r → (number : Option ℤ) (conditions : List Condition)
       → number ≡ Some (pos (word_at r 0)) → RuleHolds conditions r
-      → Any (λ q. RuleHolds q r) (if is_number (pos n) number then (own ++ conditions) ∷ [] else [])
+      → Any (λ q. RuleHolds q r) (if is_number (pos n) number then (conditions ++ own) ∷ [] else [])
   one_beside holds number conditions numbered also =
       let same : number ≡ Some (pos n) = numbered ∙ ap (λ w. Some (pos w)) is in
       let tested : is_number (pos n) number ≡ true = ap (is_number (pos n)) same ∙ (Decides-int_eq (pos n) (pos n)).1 refl in
-      subst (λ b. Any (λ q. RuleHolds q r) (if b then (own ++ conditions) ∷ [] else [])) (sym tested)
-      (any_head (λ q. RuleHolds q r) (own ++ conditions) [] ((all_append (λ c. Holds c r) own conditions).1 (holds, also)))
+      subst (λ b. Any (λ q. RuleHolds q r) (if b then (conditions ++ own) ∷ [] else [])) (sym tested)
+      (any_head (λ q. RuleHolds q r) (conditions ++ own) [] ((all_append (λ c. Holds c r) conditions own).1 (also, holds)))
 
   pub beside_met : (es : List Entry) → Any (λ q. RuleHolds q r) (rules_beside n own es) → Any (Meets r) es
   beside_met [] any = absurd (any_nil (λ q. RuleHolds q r) any)
@@ -172,7 +172,7 @@ module _ (n : ℕ) (own : List Condition) (r : List ℕ) (is : word_at r 0 ≡ n
       ((any_append (λ q. RuleHolds q r) (rule_beside n own e) (rules_beside n own es)).1 either)
 
 -- The number of a record that meets an entry is the entry's.
-its_number : (own : Entry) (n : ℕ) (r : List ℕ) → own.number ≡ Some (pos n) → Meets r own → word_at r 0 ≡ n
+pub its_number : (own : Entry) (n : ℕ) (r : List ℕ) → own.number ≡ Some (pos n) → Meets r own → word_at r 0 ≡ n
 its_number own n r numbered meets =
     let same : Some (pos (word_at r 0)) ≡ Some (pos n) = sym meets.0 ∙ numbered in
     cc

@@ -3,6 +3,7 @@
 pub mod Codes
 pub mod Quantified
 pub mod Covered
+pub mod Among
 pub mod Judged
 pub mod PolicyVerdicts
 pub mod Picked

@@ -8,15 +8,27 @@ use Rattle.seccompiler.specs.declared.compare.Comparison.TheVariants.{Holds, Fai
 use Rattle.seccompiler.specs.JsonPolicyOf.{is_number}
 use Rattle.seccompiler.specs.Machine.{word_at}
 use Rattle.seccompiler.specs.Policy.{Condition, Rule, Chain, Filter, RuleHolds}
-use Rattle.seccomp_warnings.specs.Verdicts.{Entry, IsCall, IsCovered, IsNeeded}
+use Rattle.seccomp_warnings.specs.Verdicts.{Entry, IsCall, IsCovered, IsNeeded, Meets}
 
 -- The entry is one of the call of this number without conditions.
 abbrev pub IsAlways : ℕ → Entry → Type 0
 IsAlways number entry = (entry.number ≡ Some (pos number)) × (entry.conditions ≡ [])
 
--- The rule of some conditions and those of an entry, where that is one of the call of this number.
+-- A call of this number whose record this is meets the entry.
+abbrev pub IsMet : ℕ → List ℕ → Entry → Type 0
+IsMet number r entry = (entry.number ≡ Some (pos number)) × RuleHolds entry.conditions r
+
+-- Each record that meets the entry meets one of these.
+abbrev pub IsAmong : Entry → List Entry → Type 0
+IsAmong entry entries = (r : List ℕ) → Meets r entry → Any (Meets r) entries
+
+-- Each record that meets one of some entries meets one of these.
+abbrev pub AreAmong : List Entry → List Entry → Type 0
+AreAmong some entries = (r : List ℕ) → Any (Meets r) some → Any (Meets r) entries
+
+-- The rule of the conditions of an entry and some others, where it is one of the call of this number.
 abbrev pub rule_beside : ℕ → List Condition → Entry → List Rule
-rule_beside number own entry = if is_number (pos number) entry.number then (own ++ entry.conditions) ∷ [] else []
+rule_beside number own entry = if is_number (pos number) entry.number then (entry.conditions ++ own) ∷ [] else []
 
 abbrev pub rules_beside : ℕ → List Condition → List Entry → List Rule
 rules_beside number own entries = flat_map (rule_beside number own) entries

@@ -14,17 +14,18 @@ use std::collections::BTreeMap;
 // The rule of these conditions and those.
 fn joined(
     alloc: Global,
-    own: &[SeccompCondition],
-    other: &[SeccompCondition],
+    these: &[SeccompCondition],
+    those: &[SeccompCondition],
 ) -> Result<SeccompRule, BackendError>
-    ensures { IfOk result (λ rule. rule ≡ own.now ++ other.now) }
+    ensures { IfOk result (λ rule. rule ≡ these.now ++ those.now) }
 {
-    let mut conditions = own.to_vec(alloc)?;
-    conditions.extend_from_slice(other)?;
+    let mut conditions = these.to_vec(alloc)?;
+    conditions.extend_from_slice(those)?;
     SeccompRule::new(conditions)
 }
 
-// Adds a rule for each of the entries of this call: these conditions and the entry's.
+// Adds a rule for each of the entries of this call: the entry's conditions and these. A program tests the conditions of a
+// rule from the last one on. So on calls at which these don't hold, each rule is left before it splits them any further.
 pub(crate) fn push_rules(
     rules: &mut Vec<SeccompRule>,
     alloc: Global,
@@ -36,7 +37,7 @@ pub(crate) fn push_rules(
 {
     for entry in entries {
         if is_of(entry, number) {
-            rules.push(joined(alloc, own, &entry.conditions)?)?;
+            rules.push(joined(alloc, &entry.conditions, own)?)?;
         }
     }
     Ok(())
@@ -119,5 +120,22 @@ pub(crate) fn cover(
     let others = filter_of(alloc, arch, number, rules)?;
     let calls = Calls::of_number(arch, number);
     let answer = alone.compare(alloc, &others, &calls, Relation::AtMostAsPermissive, most)?;
+    Ok(answer)
+}
+
+// Whether at each call of the number at which these conditions hold those of one of the entries do.
+pub(crate) fn cover_by(
+    alloc: Global,
+    arch: TargetArch,
+    number: u32,
+    own: &[SeccompCondition],
+    entries: &[Entry],
+    most: usize,
+) -> Result<Comparison, BackendError>
+    ensures { IfOk result (Answers arch number own.now (rules_beside number own.now entries.now)) }
+{
+    let mut rules = Vec::new(alloc);
+    push_rules(&mut rules, alloc, number, own, entries)?;
+    let answer = cover(alloc, arch, number, own, rules, most)?;
     Ok(answer)
 }

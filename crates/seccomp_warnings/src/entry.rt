@@ -92,6 +92,17 @@ pub(crate) fn entries_of(
     Ok(entries)
 }
 
+// The same entry once more.
+pub(crate) fn copy_of(alloc: Global, entry: &Entry) -> Result<Entry, AllocError>
+    ensures { IfOk result (λ copy. copy ≡ entry.now) }
+{
+    let conditions = entry.conditions.as_slice().to_vec(alloc)?;
+    Ok(Entry {
+        number: entry.number,
+        conditions,
+    })
+}
+
 // The number of the entry's call, if it has one, as a record has it.
 pub(crate) fn number_of(entry: &Entry) -> Option<u32>
     ensures { IfSome result (λ number. entry.now.number ≡ Some (pos number)) }

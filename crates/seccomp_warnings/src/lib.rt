@@ -21,11 +21,15 @@
 #![tactic(auto)]
 
 mod action;
+mod beside;
 mod call;
 pub mod code;
 mod condition;
 mod cover;
 mod entry;
+#[cfg(test)]
+mod large;
+mod met;
 mod paragraph;
 pub mod report;
 mod text;

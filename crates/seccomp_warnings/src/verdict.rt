@@ -9,7 +9,7 @@ ghost use Rattle.seccomp_warnings.specs.VerdictPolicies.{SaysOfPolicies};
 ghost use Rattle.seccomp_warnings.specs.declared.verdict.Verdict as declared;
 ghost use Rattle.seccomp_warnings.specs.VerdictParts.{SaysBeside};
 
-use crate::cover::{cover, push_rules};
+use crate::beside::compared;
 use crate::entry::{Entry, entries_of, is_any_always, number_of};
 use seccompiler::compare::Comparison;
 use seccompiler::{
@@ -39,9 +39,10 @@ pub enum Verdict {
 /// Without an entry that is redundant or unreachable, the filter's policy decides every call alike; without one that is
 /// needed, it decides some call otherwise, unless its two actions return the same value.
 ///
-/// For an entry the calls of its number are compared that meet its conditions, with those that meet another entry too.
-/// Of 300000 sets of calls, or fewer, each entry has the same share, one at least: where that doesn't do, and where the
-/// entries take a program of more than 4096 instructions, the verdict is [`Verdict::Undecided`].
+/// For an entry the calls of its number are compared that meet its conditions, with those that meet another entry too: first
+/// of up to 15 entries that such calls were found to meet, and where that doesn't do, of all. Of 300000 sets of calls, or
+/// fewer, each entry has the same share, one at least, for each comparison. Where that doesn't do, and where all entries of
+/// the call take a program of more than 4096 instructions, the verdict is [`Verdict::Undecided`].
 ///
 /// # Errors
 ///
@@ -196,24 +197,4 @@ fn answer_beside(
         // The program would be too large.
         Err(_) => Ok(Comparison::Undecided),
     }
-}
-
-// What the comparison of the entry's calls with those of the others says.
-fn compared(
-    alloc: Global,
-    arch: TargetArch,
-    number: u32,
-    own: &Entry,
-    front: &[Entry],
-    back: &[Entry],
-    most: usize,
-) -> Result<Comparison, BackendError>
-    requires { own.now.number ≡ Some (pos number) }
-    ensures { IfOk result (SaysBeside arch own.now (front.now ++ back.now)) }
-{
-    let mut rules = Vec::new(alloc);
-    push_rules(&mut rules, alloc, number, &own.conditions, front)?;
-    push_rules(&mut rules, alloc, number, &own.conditions, back)?;
-    let answer = cover(alloc, arch, number, &own.conditions, rules, most)?;
-    Ok(answer)
 }

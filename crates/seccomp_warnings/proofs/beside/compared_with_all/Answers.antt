@@ -3,7 +3,7 @@ use Rattle.seccompiler.specs.Policy.{Condition, Rule}
 use Rattle.seccomp_warnings.specs.Verdicts.{Entry}
 use Rattle.seccomp_warnings.specs.VerdictParts.{Answers, rules_beside}
 use Rattle.seccomp_warnings.proofs.Covered.{says_beside}
-use Rattle.seccomp_warnings.proofs.verdict.compared.Goals as goal
+use Rattle.seccomp_warnings.proofs.beside.compared_with_all.Goals as goal
 
 pub returns : goal.returns
 returns c =

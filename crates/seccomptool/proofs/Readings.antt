@@ -6,7 +6,9 @@ use Rattle.seccompiler.specs.JsonSteps.{AreFilters}
 use Rattle.seccompiler.specs.Reads.{Reads}
 use Rattle.seccompiler.specs.declared.backend.TargetArch.{TargetArch}
 use Rattle.seccompiler.specs.declared.json.types.JsonFilterMap.{JsonFilterMap}
-use Rattle.seccomptool.specs.Policies.{OfPolicy}
+use Rattle.seccompiler.specs.declared.error.Error.{Error}
+use Rattle.seccompiler.specs.JsonPrograms.{TellsFirstFault}
+use Rattle.seccomptool.specs.Policies.{OfPolicy, IsPolicyFault, no_architecture, of_policy}
 
 -- What holds of all bytes holds of those that are read.
 pub reads_some : (known : Option (List ℕ)) (P : List ℕ → Type 0) → ((bytes : List ℕ) → P bytes) → Reads known P
@@ -19,6 +21,13 @@ pub reads_on : (known : Option (List ℕ)) (items : List ℕ) (P : List ℕ → 
 reads_on None items P own h = (h.0, tt, h.2)
 reads_on (Some k) items P own h = (h.0, h.1 ∙ own, h.2)
 
+-- A fault of the text that was read is one of the reader's.
+pub fault_on : (arch : List ℕ) (known given : Option (List ℕ)) → ((P : List ℕ → Type 0) → Reads given P → Reads known P) → (e : Error)
+    → IsPolicyFault arch given e → IsPolicyFault arch known e
+fault_on arch known given on e (no_architecture is) = no_architecture is
+fault_on arch known given on e (of_policy target named other memory first) =
+    of_policy target named other memory (on (λ text. TellsFirstFault target text e) first)
+
 -- What holds of the value that was read holds of what is read.
 pub of_value : (known : Option (List ℕ)) (P Q : Data → Type 0) (h : Reads known (λ text. OfValue text P)) → Q h.2.0
     → Reads known (λ text. OfValue text Q)
@@ -30,7 +39,7 @@ pub policy_shows : (arch : List ℕ) (known : Option (List ℕ)) (P Q : TargetAr
 policy_shows arch known P Q shows h = (h.0, h.1, of_value known (P h.0) (Q h.0) h.2 (shows h.0 h.2.2.0 h.2.2.2))
 
 -- A text is read as one value.
-one_value : (text : List ℕ) (c d : Data) → IsReadAs text c → IsReadAs text d → c ≡ d
+pub one_value : (text : List ℕ) (c d : Data) → IsReadAs text c → IsReadAs text d → c ≡ d
 one_value text c d is given = let same : Some c ≡ Some d = sym is.value ∙ given.value in cc
 
 -- The filters of a text are those of the value that it is of.

@@ -2,3 +2,4 @@
 pub mod Ascending
 pub mod EntrySearches
 pub mod Explanations
+pub mod ProfileLines

@@ -4,3 +4,4 @@ pub mod Names
 pub mod Pieces
 pub mod Found
 pub mod Covered
+pub mod OwnCalls

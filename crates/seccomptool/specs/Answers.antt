@@ -1,5 +1,5 @@
 -- What the program's exit status says of the words that it is called with.
-use Rattle.std.specs.Prelude.{◌≡◌, ◌⊎◌, ◌≤◌, ℕ, Bool, List, [], ◌∷◌, All, Contains, false, map}
+use Rattle.std.specs.Prelude.{◌≡◌, ◌⊎◌, ◌≤◌, ℕ, Bool, List, [], ◌∷◌, All, Contains, false, true, map}
 use Rattle.std.specs.Borrow.{Bor}
 use Rattle.std.specs.List.{AllZip}
 use Rattle.clap.specs.Words.{Text, IsAmong, fault_of}
@@ -13,7 +13,7 @@ use Rattle.seccomptool.specs.Words.{Choices, Means}
 use Rattle.seccomptool.specs.declared.findings.Verdict.{Verdict}
 use Rattle.seccomptool.specs.declared.findings.Verdict.TheVariants.{Same}
 use Rattle.seccomptool.specs.declared.words.Asked.{Asked}
-use Rattle.seccomptool.specs.declared.words.Asked.TheVariants.{One, Checks, Import}
+use Rattle.seccomptool.specs.declared.words.Asked.TheVariants.{One, Checks, Import, DiffProfiles, ExplainProfile}
 use Rattle.seccomptool.specs.declared.words.Command.{Command}
 use Rattle.seccomptool.specs.declared.words.Command.TheVariants.{Check}
 use Rattle.seccomptool.specs.declared.words.Command.TheVariants as command
@@ -23,14 +23,20 @@ abbrev pub AreCommandsOf : Asked → List Command → Type 0
 AreCommandsOf (One command) commands = commands ≡ command ∷ []
 AreCommandsOf (Checks arch denied allowed policies) commands =
     (own : Bor (List Code)) × (own.now ≡ allowed.items) × (commands ≡ map (Check arch denied own) policies.items)
-AreCommandsOf (Import arch container strict profile) commands =
-    (own : Bor Container) × (own.now ≡ container) × (commands ≡ command.Import arch own strict profile ∷ [])
+AreCommandsOf (Import arch container strict format profile) commands =
+    (own : Bor Container) × (own.now ≡ container) × (commands ≡ command.Import arch own strict format profile ∷ [])
+AreCommandsOf (DiffProfiles arch container relation most old new) commands =
+    (own : Bor Container) × (own.now ≡ container) × (commands ≡ command.DiffProfiles arch own relation most old new ∷ [])
+AreCommandsOf (ExplainProfile arch container format records profile) commands =
+    (own : Bor Container) × (own.now ≡ container) × (commands ≡ command.ExplainProfile arch own format records profile ∷ [])
 
 -- What is asked for compares.
 abbrev pub asks_to_compare : Asked → Bool
 asks_to_compare (One command) = compares command
 asks_to_compare (Checks arch denied allowed policies) = false
-asks_to_compare (Import arch container strict profile) = false
+asks_to_compare (Import arch container strict format profile) = false
+asks_to_compare (DiffProfiles arch container relation most old new) = true
+asks_to_compare (ExplainProfile arch container format records profile) = false
 
 -- The commands end with statuses, one by one, of which this is the greatest; it is 0 where there is no command.
 pub record EndWith (commands : List Command) (status : ℕ) : Type 0 where

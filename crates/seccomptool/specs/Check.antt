@@ -28,6 +28,12 @@ abbrev pub verdict_where : Bool → ℕ → Verdict
 verdict_where false count = Same
 verdict_where true count = if count == 0 then Same else Different
 
+-- These are the warnings of each name of the value and of no other, but for those of the allowed codes, in byte order of names.
+pub record AreAllWarnings (target : TargetArch) (allowed : List Code) (d : Data) (filters : List FilterWarnings) : Type 0 where
+  pub ordered : IsStrictlySortedBy (slice_cmp nat_cmp) (map (λ (f : FilterWarnings). f.name) filters)
+  pub each : All (λ (f : FilterWarnings). Under d f.name (HasWarnings target allowed f)) filters
+  pub complete : (name : List ℕ) (value : Data) → Has d name value → Contains (map (λ (f : FilterWarnings). f.name) filters) name
+
 -- What is written grew by the lines of the warnings of each name of the value, but for those of the allowed codes, in byte order
 -- of names, each behind the policy's file, and this is the verdict.
 pub record WritesWarnings (target : TargetArch) (denied : Bool) (allowed : List Code) (path : List ℕ) (verdict : Verdict)
@@ -35,9 +41,7 @@ pub record WritesWarnings (target : TargetArch) (denied : Bool) (allowed : List 
   pub front : List ℕ
   pub front_is : IsFront path front
   pub filters : List FilterWarnings
-  pub ordered : IsStrictlySortedBy (slice_cmp nat_cmp) (map (λ (f : FilterWarnings). f.name) filters)
-  pub each : All (λ (f : FilterWarnings). Under d f.name (HasWarnings target allowed f)) filters
-  pub complete : (name : List ℕ) (value : Data) → Has d name value → Contains (map (λ (f : FilterWarnings). f.name) filters) name
+  pub are_all : AreAllWarnings target allowed d filters
   pub appends : Appends old new (concat (map (filter_lines front) filters))
   pub verdict_is : verdict ≡ verdict_where denied (count_of filters)
 

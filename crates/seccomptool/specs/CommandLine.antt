@@ -21,6 +21,7 @@ pub record AreNames (names : Names) : Type 0 where
   pub archs_are : words_of names.archs ≡ codes "x86_64" ∷ codes "aarch64" ∷ codes "riscv64" ∷ codes "amd64" ∷ codes "arm64" ∷ []
   pub layouts_are : words_of names.layouts ≡ codes "linear" ∷ codes "tree" ∷ []
   pub program_formats_are : words_of names.program_formats ≡ codes "raw" ∷ codes "listing" ∷ codes "c" ∷ []
+  pub import_formats_are : words_of names.import_formats ≡ codes "policy" ∷ codes "raw" ∷ []
   pub line_formats_are : words_of names.line_formats ≡ codes "path" ∷ codes "word" ∷ []
   pub codes_are : words_of names.codes ≡ map code_text all_codes
 
@@ -64,6 +65,23 @@ line_format_rule formats = record (new_rule (codes "format")) {
   parser = Some (parser.Names formats);
   defaults = codes "path" ∷ [];
 }
+
+-- `--format FORMAT` of `import`: policy where it isn't given.
+abbrev pub import_format_rule : NameList → Rule
+import_format_rule formats = record (new_rule (codes "format")) {
+  value_names = 1;
+  long = Some (codes "format");
+  parser = Some (parser.Names formats);
+  defaults = codes "policy" ∷ [];
+}
+
+-- `-q`, `--quiet`.
+abbrev pub quiet_rule : Rule
+quiet_rule = record (new_rule (codes "quiet")) { short = Some 113; long = Some (codes "quiet"); action = Some SetTrue }
+
+-- `--oci`.
+abbrev pub oci_rule : Rule
+oci_rule = record (new_rule (codes "oci")) { long = Some (codes "oci"); action = Some SetTrue }
 
 -- `-o FILE`, `--output FILE`.
 abbrev pub output_rule : Rule
@@ -162,8 +180,8 @@ arguments_rule = record (new_rule (codes "arguments")) { value_names = 1; range 
 
 abbrev pub compile_app : NameList → NameList → NameList → App
 compile_app archs layouts formats =
-    with_rule (with_rule (with_rule (with_rule (with_rule (with_rule (new_app (codes "compile"))
-    (arch_rule archs)) filter_rule) (layout_rule layouts)) (format_rule formats)) output_rule) policy_rule
+    with_rule (with_rule (with_rule (with_rule (with_rule (with_rule (with_rule (new_app (codes "compile"))
+    (arch_rule archs)) filter_rule) (layout_rule layouts)) (format_rule formats)) output_rule) quiet_rule) policy_rule
 
 abbrev pub show_app : NameList → NameList → App
 show_app archs layouts =
@@ -181,8 +199,9 @@ policy_app name archs = with_rule (with_rule (new_app name) (arch_rule archs)) p
 
 abbrev pub explain_app : NameList → NameList → App
 explain_app archs formats =
-    with_rule (with_rule (with_rule (with_rule (with_rule (with_rule (with_rule (new_app (codes "explain"))
-    (arch_rule archs)) filter_rule) (line_format_rule formats)) records_rule) given_policy_rule) call_rule) arguments_rule
+    with_rule (with_rule (with_rule (with_rule (with_rule (with_rule (with_rule (with_rule (with_rule (with_rule
+    (new_app (codes "explain")) (arch_rule archs)) filter_rule) (line_format_rule formats)) records_rule) oci_rule) cap_rule) kernel_rule)
+    given_policy_rule) call_rule) arguments_rule
 
 abbrev pub run_app : NameList → App
 run_app archs =
@@ -194,18 +213,19 @@ record_app archs = with_rule (with_rule (with_rule (new_app (codes "record")) (a
 
 abbrev pub diff_app : NameList → App
 diff_app archs =
-    with_rule (with_rule (with_rule (with_rule (with_rule (with_rule (new_app (codes "diff")) (arch_rule archs)) filter_rule) at_most_rule)
-    most_rule) old_rule) new_policy_rule
+    with_rule (with_rule (with_rule (with_rule (with_rule (with_rule (with_rule (with_rule (with_rule (with_rule
+    (new_app (codes "diff")) (arch_rule archs)) filter_rule) at_most_rule) most_rule) quiet_rule) oci_rule) cap_rule) kernel_rule)
+    old_rule) new_policy_rule
 
 abbrev pub verify_app : NameList → App
 verify_app archs =
     with_rule (with_rule (with_rule (with_rule (with_rule (with_rule (with_rule (new_app (codes "verify"))
     (arch_rule archs)) filter_rule) at_most_rule) all_rule) most_rule) given_policy_rule) program_rule
 
-abbrev pub import_app : NameList → App
-import_app archs =
-    with_rule (with_rule (with_rule (with_rule (with_rule (new_app (codes "import")) (arch_rule archs)) cap_rule) kernel_rule) strict_rule)
-    profile_rule
+abbrev pub import_app : NameList → NameList → App
+import_app archs formats =
+    with_rule (with_rule (with_rule (with_rule (with_rule (with_rule (new_app (codes "import")) (arch_rule archs)) cap_rule) kernel_rule)
+    strict_rule) (import_format_rule formats)) profile_rule
 
 -- The program itself, which has to be given a subcommand. Its own name is none of the words.
 abbrev pub top_app : App
@@ -235,4 +255,4 @@ program_app names =
     (diff_app names.archs).top)
     (verify_app names.archs).top)
     (policy_app (codes "compat") names.archs).top)
-    (import_app names.archs).top
+    (import_app names.archs names.import_formats).top

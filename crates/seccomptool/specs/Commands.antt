@@ -1,17 +1,22 @@
 -- What each command answers and writes.
 use Rattle.std.specs.Prelude.{◌≡◌, ℕ, Bool, true, false, List, [], Option, Some, None, Result, Ok, Err, IfOk, IsErrAnd, ⊤}
 use Rattle.seccompiler.specs.declared.backend.TargetArch.{TargetArch}
+use Rattle.seccompiler.specs.declared.compare.Relation.{Relation}
 use Rattle.seccompiler.specs.declared.layout.Layout.{Layout}
 use Rattle.seccompiler.specs.Architecture.{arch_text}
+use Rattle.seccompiler.specs.Reads.{Reads}
+use Rattle.seccomp_oci.specs.Types.{Container}
+use Rattle.seccomptool.specs.declared.compile.format.ProgramFormat.{ProgramFormat}
 use Rattle.seccomptool.specs.declared.compile.format.ProgramFormat.TheVariants as program_format
 use Rattle.seccomptool.specs.declared.done.Done.{Done}
 use Rattle.seccomptool.specs.declared.error.ToolError.{ToolError}
 use Rattle.seccomptool.specs.declared.explain.format.LineFormat.{LineFormat}
 use Rattle.seccomptool.specs.declared.findings.Verdict.{Verdict}
 use Rattle.seccomptool.specs.declared.findings.Verdict.TheVariants.{Same, Different, Undecided}
+use Rattle.seccomptool.specs.declared.import.format.ImportFormat.TheVariants as import_format
 use Rattle.seccomptool.specs.declared.words.Command.{Command}
 use Rattle.seccomptool.specs.declared.words.Command.TheVariants.{Compile, Show, Check, Codes, Explain, Run, Stats, Record, Diff}
-use Rattle.seccomptool.specs.declared.words.Command.TheVariants.{Verify, Compat, Import}
+use Rattle.seccomptool.specs.declared.words.Command.TheVariants.{Verify, Compat, Import, DiffProfiles, ExplainProfile}
 use Rattle.seccomptool.specs.declared.words.Records.{Records}
 use Rattle.seccomptool.specs.declared.words.Records.TheVariants as records
 use Rattle.seccomptool.specs.declared.words.Shown.{Shown}
@@ -20,8 +25,11 @@ use Rattle.seccomptool.specs.Check.{AnswersCheck}
 use Rattle.seccomptool.specs.Chosen.{AnswersChosen}
 use Rattle.seccomptool.specs.Codes.{AnswersCodes}
 use Rattle.seccomptool.specs.Compile.{AnswersCompile}
+use Rattle.seccomptool.specs.Counts.{AreBothCounted, AreCounted}
 use Rattle.seccomptool.specs.Diff.{AnswersDiff}
+use Rattle.seccomptool.specs.DiffProfiles.{AnswersDiffProfiles}
 use Rattle.seccomptool.specs.Explain.{AnswersExplain}
+use Rattle.seccomptool.specs.ExplainProfiles.{AnswersExplainProfile}
 use Rattle.seccomptool.specs.Record.{AnswersRecord, IsRecordOf, IsUncalled}
 use Rattle.seccomptool.specs.Run.{AnswersRun}
 use Rattle.seccomptool.specs.Show.{AnswersShow}
@@ -51,6 +59,14 @@ AnswersExplainedOn (records.Call call arguments) arch filter format policy known
     AnswersCall arch call.now arguments (λ bytes. AnswersExplained arch filter format policy (Some bytes) answer old new) answer
 AnswersExplainedOn (records.In path) arch filter format policy known answer old new =
     AnswersExplained arch filter format policy known answer old new
+
+-- The answer of `explain` of a profile for the records that it is asked about.
+abbrev pub AnswersExplainProfileOn : Records → LineFormat → TargetArch → Container → (profile records : Option (List ℕ))
+    → Result ⊤ ToolError → (old new : Option (List ℕ)) → Type 0
+AnswersExplainProfileOn (records.Call call arguments) format arch container profile known answer old new =
+    AnswersCall arch call.now arguments (λ bytes. AnswersExplainProfile format arch container profile (Some bytes) answer old new) answer
+AnswersExplainProfileOn (records.In path) format arch container profile known answer old new =
+    AnswersExplainProfile format arch container profile known answer old new
 
 -- The answer of `run` for the records that it is asked about: that of a call, or those of the file or input.
 abbrev pub AnswersRunOn : Records → TargetArch → (program records : Option (List ℕ)) → Result ⊤ ToolError → (old new : Option (List ℕ))
@@ -86,12 +102,35 @@ pub record AnswersPlain (P : Result ⊤ ToolError → Type 0) (answer : Result D
   pub same : IfOk answer (λ done. done.verdict ≡ Same)
   pub notes : IfOk answer (λ done. done.notes.items ≡ [])
 
+-- The answer of `compile` for the filter that is asked for, or the policy's only one.
+abbrev pub AnswersCompileAsked : ProgramFormat → TargetArch → Option (List ℕ) → Layout → (policy : Option (List ℕ)) → Result ⊤ ToolError
+    → (old new : Option (List ℕ)) → Type 0
+AnswersCompileAsked format arch filter layout policy answer old new =
+    AnswersChosen policy filter (λ text name. AnswersCompile format (arch_text arch) (Some text) name layout answer old new) answer
+
+-- The answer of `compile` with its notes. Where it is carried out, the notes are those on the policy of the path, of the text whose
+-- program is written.
+pub record AnswersCompileNoted (format : ProgramFormat) (arch : TargetArch) (filter : Option (List ℕ)) (layout : Layout) (quiet : Bool)
+    (path : List ℕ) (policy : Option (List ℕ)) (answer : Result Done ToolError) (old new : Option (List ℕ)) : Type 0 where
+  pub plain : AnswersCompileAsked format arch filter layout policy (plain_of answer) old new
+  pub same : IfOk answer (λ done. done.verdict ≡ Same)
+  pub noted : IfOk answer (λ done. Reads policy (λ text. AnswersCompileAsked format arch filter layout (Some text) (Ok tt) old new
+      × AreCounted quiet arch path text done.notes.items))
+
+-- The answer of `diff` with its notes. Where it is carried out, the notes are those on the policies of the two paths, of the texts
+-- that are compared.
+pub record AnswersDiffNoted (arch : TargetArch) (filter : Option (List ℕ)) (relation : Relation) (quiet : Bool) (first second : List ℕ)
+    (policy records : Option (List ℕ)) (answer : Result Done ToolError) (old new : Option (List ℕ)) : Type 0 where
+  pub found : AnswersDiff (arch_text arch) filter relation policy records (found_of answer) old new
+  pub noted : IfOk answer (λ done. Reads policy (λ of_old. Reads records (λ of_new.
+      AnswersDiff (arch_text arch) filter relation (Some of_old) (Some of_new) (Ok done.verdict) old new
+      × AreBothCounted quiet arch first second of_old of_new done.notes.items)))
+
 -- The answer of a command, where its policy, or the program that it runs or shows, has these bytes, and its records, its new
 -- policy or the program that it verifies those.
 abbrev pub AnswersCommand : Command → (policy records : Option (List ℕ)) → Result Done ToolError → (old new : Option (List ℕ)) → Type 0
-AnswersCommand (Compile arch filter layout format output path) policy records answer old new =
-    AnswersPlain (λ plain. AnswersChosen policy (text_of filter)
-    (λ text name. AnswersCompile format (arch_text arch) (Some text) name layout plain old new) plain) answer
+AnswersCommand (Compile arch filter layout format output quiet path) policy records answer old new =
+    AnswersCompileNoted format arch (text_of filter) layout quiet path.now policy answer old new
 AnswersCommand (Show arch layout shown) policy records answer old new =
     AnswersPlain (λ plain. AnswersShown shown arch layout policy plain old new) answer
 AnswersCommand (Check arch denied allowed path) policy records answer old new =
@@ -105,18 +144,22 @@ AnswersCommand (Stats arch path) policy records answer old new =
     AnswersPlain (λ plain. AnswersStats (arch_text arch) policy plain old new) answer
 AnswersCommand (Record arch call arguments) policy records answer old new =
     AnswersPlain (λ plain. AnswersRecord (arch_text arch) call.now arguments plain old new) answer
-AnswersCommand (Diff arch filter relation most first second) policy records answer old new =
-    AnswersFound (λ found. AnswersDiff (arch_text arch) (text_of filter) relation policy records found old new) answer
+AnswersCommand (Diff arch filter relation most quiet first second) policy records answer old new =
+    AnswersDiffNoted arch (text_of filter) relation quiet first.now second.now policy records answer old new
 AnswersCommand (Verify arch filter relation scope most path program) policy records answer old new =
     AnswersFound (λ found. AnswersVerify (arch_text arch) (text_of filter) relation scope policy records found old new) answer
 AnswersCommand (Compat arch path) policy records answer old new =
     AnswersPlain (λ plain. AnswersCompat (arch_text arch) policy plain old new) answer
-AnswersCommand (Import arch container strict path) policy records answer old new =
-    AnswersImport arch container.now strict path.now policy answer old new
+AnswersCommand (Import arch container strict format path) policy records answer old new =
+    AnswersImport format arch container.now strict path.now policy answer old new
+AnswersCommand (DiffProfiles arch container relation most first second) policy records answer old new =
+    AnswersFound (λ found. AnswersDiffProfiles arch container.now relation policy records found old new) answer
+AnswersCommand (ExplainProfile arch container format asked path) policy records answer old new =
+    AnswersPlain (λ plain. AnswersExplainProfileOn asked format arch container.now policy records plain old new) answer
 
 -- The path of the policy, program or profile that a command reads, that of the old policy where it compares two.
 abbrev pub policy_of : Command → Option (List ℕ)
-policy_of (Compile arch filter layout format output path) = Some path.now
+policy_of (Compile arch filter layout format output quiet path) = Some path.now
 policy_of (Show arch layout (shown.Policy path)) = Some path.now
 policy_of (Show arch layout (shown.Program path)) = Some path.now
 policy_of (Check arch denied allowed path) = Some path.now
@@ -125,39 +168,46 @@ policy_of (Explain arch filter format asked path) = Some path.now
 policy_of (Run arch asked path) = Some path.now
 policy_of (Stats arch path) = Some path.now
 policy_of (Record arch call arguments) = None
-policy_of (Diff arch filter relation most first second) = Some first.now
+policy_of (Diff arch filter relation most quiet first second) = Some first.now
 policy_of (Verify arch filter relation scope most path program) = Some path.now
 policy_of (Compat arch path) = Some path.now
-policy_of (Import arch container strict path) = Some path.now
+policy_of (Import arch container strict format path) = Some path.now
+policy_of (DiffProfiles arch container relation most first second) = Some first.now
+policy_of (ExplainProfile arch container format asked path) = Some path.now
 
 -- The path of the records that a command reads, of the new policy, or of the program that is verified.
 abbrev pub records_of : Command → Option (List ℕ)
 records_of (Explain arch filter format (records.In path) policy) = Some path.now
 records_of (Run arch (records.In path) program) = Some path.now
-records_of (Diff arch filter relation most first second) = Some second.now
+records_of (Diff arch filter relation most quiet first second) = Some second.now
+records_of (DiffProfiles arch container relation most first second) = Some second.now
+records_of (ExplainProfile arch container format (records.In path) profile) = Some path.now
 records_of (Verify arch filter relation scope most path program) = Some program.now
 records_of command = None
 
 -- The path of the file that a command writes.
 abbrev pub output_of : Command → Option (List ℕ)
-output_of (Compile arch filter layout format output path) = text_of output
+output_of (Compile arch filter layout format output quiet path) = text_of output
 output_of command = None
 
 -- What the command writes to standard output is no text: a program, or a record.
 abbrev pub writes_bytes : Command → Bool
-writes_bytes (Compile arch filter layout program_format.Raw None path) = true
+writes_bytes (Compile arch filter layout program_format.Raw None quiet path) = true
+writes_bytes (Import arch container strict import_format.Raw path) = true
 writes_bytes (Record arch call arguments) = true
 writes_bytes command = false
 
--- A command compares: two policies, or a filter and a program.
+-- A command compares: two policies, two profiles, or a filter and a program.
 abbrev pub compares : Command → Bool
-compares (Diff arch filter relation most first second) = true
+compares (Diff arch filter relation most quiet first second) = true
+compares (DiffProfiles arch container relation most first second) = true
 compares (Verify arch filter relation scope most path program) = true
 compares command = false
 
 -- The exit status of a command that fails.
 abbrev pub trouble : Command → ℕ
-trouble (Diff arch filter relation most first second) = 2
+trouble (Diff arch filter relation most quiet first second) = 2
+trouble (DiffProfiles arch container relation most first second) = 2
 trouble (Verify arch filter relation scope most path program) = 2
 trouble command = 1
 

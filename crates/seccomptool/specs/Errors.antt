@@ -9,7 +9,7 @@ use Rattle.seccompiler.specs.Errors.{error_text}
 use Rattle.seccompiler.specs.Architecture.{arch_text}
 use Rattle.seccomptool.specs.declared.error.ToolError.{ToolError}
 use Rattle.seccomptool.specs.declared.error.ToolError.TheVariants.{Library, NewPolicy, NoFilter, Unchosen, UnknownCall, ShortRecord, Read}
-use Rattle.seccomptool.specs.declared.error.ToolError.TheVariants.{Fault, Program, Import, Write, OutOfMemory}
+use Rattle.seccomptool.specs.declared.error.ToolError.TheVariants.{Fault, Program, Import, NewImport, Write, OutOfMemory}
 use Rattle.seccomptool.specs.RunFaults.{fault_text}
 use Rattle.seccomp_oci.specs.ImportErrors.{import_error_text}
 use Rattle.seccomp_command_line.specs.declared.error.ToolError.{ToolError as SharedError}
@@ -49,6 +49,7 @@ tool_text (Read e) = Some (codes "Error reading input.")
 tool_text (Fault told) = Some (string_bytes told)
 tool_text (Program fault) = Some (fault_text fault)
 tool_text (Import fault) = import_error_text fault
+tool_text (NewImport fault) = import_error_text fault
 tool_text (Write e) = Some (codes "Error writing output.")
 tool_text OutOfMemory = Some (codes "Out of memory.")
 

@@ -1,4 +1,4 @@
--- What `import` answers and writes: a profile as a policy, and the names that are left out.
+-- What `import` answers and writes: a profile as a policy or as a program, and the names that are left out.
 use Rattle.std.specs.Prelude.{◌≡◌, ℕ, Bool, true, List, [], ◌∷◌, ◌++◌, length, map, codes, decimal, Option, Result, Ok, Err, IsErrAnd}
 use Rattle.std.specs.Prelude.{string_bytes, ⊤}
 use Rattle.std.specs.Io.KnownBytes.{Appends}
@@ -10,12 +10,17 @@ use Rattle.seccompiler.specs.Reads.{Reads}
 use Rattle.seccomp_command_line.specs.Names.{readable}
 use Rattle.seccomp_oci.specs.declared.import.Import.{Import}
 use Rattle.seccomp_oci.specs.declared.import.ImportError.{ImportError}
+use Rattle.seccomp_oci.specs.declared.compiled.CompiledProfile.{CompiledProfile}
+use Rattle.seccomp_oci.specs.CompiledProfile.{IsCompileFault, IsCompiledProfile}
 use Rattle.seccomp_oci.specs.Import.{HasUnknown, IsImported, IsImportFault}
 use Rattle.seccomp_oci.specs.Types.{Container}
+use Rattle.seccomptool.specs.Compile.{program_bytes}
 use Rattle.seccomptool.specs.declared.done.Done.{Done}
 use Rattle.seccomptool.specs.declared.error.ToolError.{ToolError}
 use Rattle.seccomptool.specs.declared.error.ToolError.TheVariants as error
 use Rattle.seccomptool.specs.declared.findings.Verdict.TheVariants.{Same}
+use Rattle.seccomptool.specs.declared.import.format.ImportFormat.{ImportFormat}
+use Rattle.seccomptool.specs.declared.import.format.ImportFormat.TheVariants.{Policy, Raw}
 use Rattle.seccomptool.specs.Notes.{IsNote}
 use Rattle.seccomptool.specs.Policies.{IsPolicyReadError}
 
@@ -40,38 +45,54 @@ abbrev pub AreNoted : TargetArch → List ℕ → List (List ℕ) → List ℕ �
 AreNoted arch path [] notes = notes ≡ []
 AreNoted arch path (name ∷ names) notes = IsNote path (told_text arch (codes ", left out (") (name ∷ names)) notes
 
+-- ---- what is made of a profile
+
+-- The error says why the text's profile isn't made into a policy, or into one program.
+abbrev pub IsFormatFault : ImportFormat → TargetArch → Container → Bool → List ℕ → ImportError → Type 0
+IsFormatFault Policy arch container strict text fault = IsImportFault arch container strict text fault
+IsFormatFault Raw arch container strict text fault = IsCompileFault arch container strict text fault
+
+-- The bytes are what the text's profile is made into, without the names that are left out: the text of a policy, or a program.
+abbrev pub IsMade : ImportFormat → TargetArch → Container → Bool → (text bytes : List ℕ) → (left_out : List (List ℕ)) → Type 0
+IsMade Policy arch container strict text bytes left_out = (imported : Import) × IsImported arch container strict text imported
+    × (bytes ≡ imported.text.items) × (left_out ≡ map string_bytes imported.left_out.items)
+IsMade Raw arch container strict text bytes left_out = (compiled : CompiledProfile) × IsCompiledProfile arch container strict text compiled
+    × (bytes ≡ program_bytes compiled.program.items) × (left_out ≡ map string_bytes compiled.left_out.items)
+
 -- ---- the answer
 
--- The error tells why a profile's text isn't imported: as the import does, or that names of it are no calls', where they aren't
+-- The error tells why nothing is made of a profile's text: as the import does, or that names of it are no calls', where they aren't
 -- to be left out.
-abbrev pub IsUnimported : TargetArch → Container → Bool → List ℕ → ToolError → Type 0
-IsUnimported arch container strict text (error.Import fault) = IsImportFault arch container strict text fault
-IsUnimported arch container strict text (error.Fault told) = (names : List (List ℕ)) × (strict ≡ true)
+abbrev pub IsUnimported : ImportFormat → TargetArch → Container → Bool → List ℕ → ToolError → Type 0
+IsUnimported format arch container strict text (error.Import fault) = IsFormatFault format arch container strict text fault
+IsUnimported format arch container strict text (error.Fault told) = (names : List (List ℕ)) × (strict ≡ true)
     × HasUnknown arch container text names × (string_bytes told ≡ told_text arch (codes " (") names)
-IsUnimported arch container strict text error.OutOfMemory = ⊤
-IsUnimported arch container strict text other = ⊥
+IsUnimported format arch container strict text error.OutOfMemory = ⊤
+IsUnimported format arch container strict text other = ⊥
 
--- What is written grew by the text of a policy that the profile's text is imported as. The names that are left out are noted.
-pub record WritesImport (arch : TargetArch) (container : Container) (strict : Bool) (path : List ℕ) (done : Done)
+-- What is written grew by what the profile's text is made into. The names that are left out are noted.
+pub record WritesImport (format : ImportFormat) (arch : TargetArch) (container : Container) (strict : Bool) (path : List ℕ) (done : Done)
     (old new : Option (List ℕ)) (text : List ℕ) : Type 0 where
-  pub imported : Import
-  pub is : IsImported arch container strict text imported
-  pub appends : Appends old new imported.text.items
-  pub noted : AreNoted arch path (map string_bytes imported.left_out.items) done.notes.items
+  pub bytes : List ℕ
+  pub left_out : List (List ℕ)
+  pub is : IsMade format arch container strict text bytes left_out
+  pub appends : Appends old new bytes
+  pub noted : AreNoted arch path left_out done.notes.items
   pub same : done.verdict ≡ Same
 
--- The text is imported as some policy.
-abbrev pub IsImportable : TargetArch → Container → Bool → List ℕ → Type 0
-IsImportable arch container strict text = (imported : Import) × IsImported arch container strict text imported
+-- Something is made of the text.
+abbrev pub IsImportable : ImportFormat → TargetArch → Container → Bool → List ℕ → Type 0
+IsImportable format arch container strict text =
+    (bytes : List ℕ) × (left_out : List (List ℕ)) × IsMade format arch container strict text bytes left_out
 
--- The answer of `import`. It is Ok only where the policy is written. An error is that the profile isn't read or isn't imported, or that
--- writing fails.
-pub data AnswersImport (arch : TargetArch) (container : Container) (strict : Bool) (path : List ℕ) (known : Option (List ℕ))
-    (answer : Result Done ToolError) (old new : Option (List ℕ)) : Type 0 where
-  unread : IsErrAnd answer IsPolicyReadError → AnswersImport arch container strict path known answer old new
-  unimported : Reads known (λ text. IsErrAnd answer (IsUnimported arch container strict text))
-      → AnswersImport arch container strict path known answer old new
-  unwritten : (e : Error) → answer ≡ Err (error.Write e) → Reads known (IsImportable arch container strict)
-      → AnswersImport arch container strict path known answer old new
-  written : (done : Done) → answer ≡ Ok done → Reads known (WritesImport arch container strict path done old new)
-      → AnswersImport arch container strict path known answer old new
+-- The answer of `import`. It is Ok only where the policy or the program is written. An error is that the profile isn't read or
+-- isn't imported, or that writing fails.
+pub data AnswersImport (format : ImportFormat) (arch : TargetArch) (container : Container) (strict : Bool) (path : List ℕ)
+    (known : Option (List ℕ)) (answer : Result Done ToolError) (old new : Option (List ℕ)) : Type 0 where
+  unread : IsErrAnd answer IsPolicyReadError → AnswersImport format arch container strict path known answer old new
+  unimported : Reads known (λ text. IsErrAnd answer (IsUnimported format arch container strict text))
+      → AnswersImport format arch container strict path known answer old new
+  unwritten : (e : Error) → answer ≡ Err (error.Write e) → Reads known (IsImportable format arch container strict)
+      → AnswersImport format arch container strict path known answer old new
+  written : (done : Done) → answer ≡ Ok done → Reads known (WritesImport format arch container strict path done old new)
+      → AnswersImport format arch container strict path known answer old new

@@ -19,13 +19,16 @@ pub mod Compat
 pub mod Lint
 pub mod Notes
 pub mod Check
+pub mod Counts
 pub mod Codes
 pub mod Reasons
 pub mod ExplainLines
 pub mod Explain
+pub mod ExplainProfiles
 pub mod Record
 pub mod Findings
 pub mod Diff
+pub mod DiffProfiles
 pub mod Run
 pub mod ShowProgram
 pub mod Verify
@@ -33,12 +36,16 @@ pub mod Imports
 pub mod Commands
 pub mod Answers
 -- Between layers: what the private steps of the engines promise each other.
+pub mod WordsParts
+pub mod CountsParts
 pub mod CompileParts
 pub mod ShowParts
 pub mod StatsParts
 pub mod CompatParts
 pub mod ExplainSteps
+pub mod ExplainProfileParts
 pub mod FindingsParts
 pub mod DiffParts
+pub mod DiffProfilesParts
 pub mod RunParts
 pub mod VerifyParts

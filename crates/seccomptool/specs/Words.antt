@@ -26,11 +26,13 @@ use Rattle.seccomptool.specs.declared.program.names.Names.{Names}
 use Rattle.seccomptool.specs.declared.verify.scope.Scope.{Scope}
 use Rattle.seccomptool.specs.declared.verify.scope.Scope.TheVariants.{Named, All}
 use Rattle.seccomptool.specs.declared.words.Asked.{Asked}
-use Rattle.seccomptool.specs.declared.words.Asked.TheVariants.{One, Checks, Import}
+use Rattle.seccomptool.specs.declared.words.Asked.TheVariants.{One, Checks, Import, DiffProfiles, ExplainProfile}
 use Rattle.seccomptool.specs.declared.words.Command.{Command}
 use Rattle.seccomptool.specs.declared.words.Command.TheVariants.{Compile, Show, Check, Codes, Explain, Run, Stats, Record, Diff}
 use Rattle.seccomptool.specs.declared.words.Command.TheVariants.{Verify, Compat}
 use Rattle.seccomptool.specs.declared.words.Command.TheVariants as command
+use Rattle.seccomptool.specs.declared.import.format.ImportFormat.{ImportFormat}
+use Rattle.seccomptool.specs.declared.import.format.ImportFormat.TheVariants as import_format
 use Rattle.seccomptool.specs.declared.words.Records.{Records}
 use Rattle.seccomptool.specs.declared.words.Records.TheVariants as records
 use Rattle.seccomptool.specs.declared.words.Shown.{Shown}
@@ -89,14 +91,20 @@ AreRecords rows policy (records.In path) =
     (first_of (codes "call") rows ≡ None) × (path.now ≡ unwrap_or (first_of (codes "records") rows) (codes "-"))
     × (policy ≡ codes "-" → path.now ≡ codes "-" → ⊥)
 
+-- The number of warnings is left out exactly where `--quiet` is given.
+abbrev pub IsQuiet : List Row → Bool → Type 0
+IsQuiet rows true = first_of (codes "quiet") rows ≡ Some (codes "true")
+IsQuiet rows false = first_of (codes "quiet") rows ≡ Some (codes "true") → ⊥
+
 -- The values of `compile`: each field is the value under its name.
 pub record IsCompile (rows : List Row) (arch : TargetArch) (filter : Option Text) (layout : Layout) (format : ProgramFormat)
-    (output : Option Text) (policy : Text) : Type 0 where
+    (output : Option Text) (quiet : Bool) (policy : Text) : Type 0 where
   pub arch_is : IsArch rows arch
   pub filter_is : first_of (codes "filter") rows ≡ filter
   pub layout_is : first_of (codes "layout") rows ≡ Some (layout_text layout)
   pub format_is : first_of (codes "format") rows ≡ Some (format_text format)
   pub output_is : first_of (codes "output") rows ≡ output
+  pub quiet_is : IsQuiet rows quiet
   pub policy_is : first_of (codes "policy") rows ≡ Some policy
 
 -- What `show` prints: a policy, that of standard input where there is no POLICY; or the program of `--program`, beside which
@@ -142,14 +150,50 @@ pub record IsOfPolicy (rows : List Row) (arch : TargetArch) (policy : Text) : Ty
   pub arch_is : IsArch rows arch
   pub policy_is : first_of (codes "policy") rows ≡ Some policy
 
--- The values of `explain`.
+-- The values of `--cap`.
+abbrev pub given_caps : List Row → List Text
+given_caps rows = unwrap_or (all_of (codes "cap") rows) []
+
+-- The value of `--kernel` is this version; there is none where it isn't given.
+abbrev pub IsGivenKernel : List Row → Option Kernel → Type 0
+IsGivenKernel rows None = first_of (codes "kernel") rows ≡ None
+IsGivenKernel rows (Some kernel) = (text : Text) × (first_of (codes "kernel") rows ≡ Some text) × IsVersion text kernel
+
+-- The values of `--cap` and `--kernel` are those of this container.
+pub record IsContainer (rows : List Row) (container : Container) : Type 0 where
+  pub caps_are : container.caps ≡ given_caps rows
+  pub kernel_is : IsGivenKernel rows container.kernel
+
+-- What is given is a policy, and nothing is said of a container: `--oci`, `--cap` and `--kernel` aren't given.
+pub record IsNoProfile (rows : List Row) : Type 0 where
+  pub no_oci : first_of (codes "oci") rows ≡ Some (codes "true") → ⊥
+  pub no_cap : first_of (codes "cap") rows ≡ None
+  pub no_kernel : first_of (codes "kernel") rows ≡ None
+
+-- What is given is a profile, for this container: `--oci` is given, and `--filter` isn't.
+pub record IsProfileFor (rows : List Row) (container : Container) : Type 0 where
+  pub oci : first_of (codes "oci") rows ≡ Some (codes "true")
+  pub container_is : IsContainer rows container
+  pub no_filter : first_of (codes "filter") rows ≡ None
+
+-- The values of `explain` of a policy.
 pub record IsExplain (rows : List Row) (arch : TargetArch) (filter : Option Text) (format : LineFormat) (records : Records)
     (policy : Text) : Type 0 where
+  pub no_profile : IsNoProfile rows
   pub arch_is : IsArch rows arch
   pub filter_is : first_of (codes "filter") rows ≡ filter
   pub format_is : first_of (codes "format") rows ≡ Some (line_format_text format)
   pub policy_is : first_of (codes "policy") rows ≡ Some policy
   pub records_are : AreRecords rows policy records
+
+-- The values of `explain` of a profile.
+pub record IsExplainProfile (rows : List Row) (arch : TargetArch) (container : Container) (format : LineFormat) (records : Records)
+    (profile : Text) : Type 0 where
+  pub profile_for : IsProfileFor rows container
+  pub arch_is : IsArch rows arch
+  pub format_is : first_of (codes "format") rows ≡ Some (line_format_text format)
+  pub profile_is : first_of (codes "policy") rows ≡ Some profile
+  pub records_are : AreRecords rows profile records
 
 -- The values of `run`.
 pub record IsRun (rows : List Row) (arch : TargetArch) (records : Records) (program : Text) : Type 0 where
@@ -171,11 +215,24 @@ IsRelation rows Alike = first_of (codes "at-most") rows ≡ Some (codes "true") 
 pub record IsMost (rows : List Row) (most : ℕ) : Type 0 where
   pub is : IsNumber (unwrap_or (first_of (codes "most") rows) []) most
 
--- The values of `diff`. Standard input isn't both policies.
-pub record IsDiff (rows : List Row) (arch : TargetArch) (filter : Option Text) (relation : Relation) (most : ℕ)
+-- The values of `diff` of two policies. Standard input isn't both policies.
+pub record IsDiff (rows : List Row) (arch : TargetArch) (filter : Option Text) (relation : Relation) (most : ℕ) (quiet : Bool)
     (old new : Text) : Type 0 where
+  pub no_profile : IsNoProfile rows
   pub arch_is : IsArch rows arch
+  pub quiet_is : IsQuiet rows quiet
   pub filter_is : first_of (codes "filter") rows ≡ filter
+  pub relation_is : IsRelation rows relation
+  pub most_is : IsMost rows most
+  pub old_is : first_of (codes "old") rows ≡ Some old
+  pub new_is : first_of (codes "new") rows ≡ Some new
+  pub apart : old ≡ codes "-" → new ≡ codes "-" → ⊥
+
+-- The values of `diff` of two profiles. Standard input isn't both profiles.
+pub record IsDiffProfiles (rows : List Row) (arch : TargetArch) (container : Container) (relation : Relation) (most : ℕ)
+    (old new : Text) : Type 0 where
+  pub profile_for : IsProfileFor rows container
+  pub arch_is : IsArch rows arch
   pub relation_is : IsRelation rows relation
   pub most_is : IsMost rows most
   pub old_is : first_of (codes "old") rows ≡ Some old
@@ -199,25 +256,22 @@ pub record IsVerify (rows : List Row) (arch : TargetArch) (filter : Option Text)
   pub program_is : first_of (codes "program") rows ≡ Some program
   pub apart : policy ≡ codes "-" → program ≡ codes "-" → ⊥
 
--- The values of `--cap`.
-abbrev pub given_caps : List Row → List Text
-given_caps rows = unwrap_or (all_of (codes "cap") rows) []
-
--- The value of `--kernel` is this version; there is none where it isn't given.
-abbrev pub IsGivenKernel : List Row → Option Kernel → Type 0
-IsGivenKernel rows None = first_of (codes "kernel") rows ≡ None
-IsGivenKernel rows (Some kernel) = (text : Text) × (first_of (codes "kernel") rows ≡ Some text) × IsVersion text kernel
-
 -- Names that the architecture hasn't are rejected exactly where `--strict` is given.
 abbrev pub IsStrict : List Row → Bool → Type 0
 IsStrict rows true = first_of (codes "strict") rows ≡ Some (codes "true")
 IsStrict rows false = first_of (codes "strict") rows ≡ Some (codes "true") → ⊥
 
+-- The word that chooses what a profile is made into.
+abbrev pub import_format_text : ImportFormat → Text
+import_format_text import_format.Policy = codes "policy"
+import_format_text import_format.Raw = codes "raw"
+
 -- The values of `import`.
-pub record IsImport (rows : List Row) (arch : TargetArch) (container : Container) (strict : Bool) (profile : Text) : Type 0 where
+pub record IsImport (rows : List Row) (arch : TargetArch) (container : Container) (strict : Bool) (format : ImportFormat)
+    (profile : Text) : Type 0 where
   pub arch_is : IsArch rows arch
-  pub caps_are : container.caps ≡ given_caps rows
-  pub kernel_is : IsGivenKernel rows container.kernel
+  pub container_is : IsContainer rows container
+  pub format_is : first_of (codes "format") rows ≡ Some (import_format_text format)
   pub strict_is : IsStrict rows strict
   pub profile_is : first_of (codes "profile") rows ≡ Some profile
 
@@ -225,11 +279,11 @@ pub record IsImport (rows : List Row) (arch : TargetArch) (container : Container
 abbrev pub text_of : Option (Bor Text) → Option Text
 text_of = option_map (λ t. t.now)
 
--- The subcommand of this name, with these values, is the command. The check of a policy is never meant alone, nor is the import of
--- a profile.
+-- The subcommand of this name, with these values, is the command. The check of a policy is never meant alone, nor is what is done with
+-- profiles, whose container `Asked` has.
 abbrev pub IsCommand : Text → List Row → Command → Type 0
-IsCommand name rows (Compile arch filter layout format output policy) =
-    (name ≡ codes "compile") × IsCompile rows arch (text_of filter) layout format (text_of output) policy.now
+IsCommand name rows (Compile arch filter layout format output quiet policy) =
+    (name ≡ codes "compile") × IsCompile rows arch (text_of filter) layout format (text_of output) quiet policy.now
 IsCommand name rows (Show arch layout shown) = (name ≡ codes "show") × IsShow rows arch layout shown
 IsCommand name rows (Check arch denied allowed policy) = ⊥
 IsCommand name rows Codes = (name ≡ codes "check") × IsListed rows
@@ -238,19 +292,26 @@ IsCommand name rows (Explain arch filter format records policy) =
 IsCommand name rows (Run arch records program) = (name ≡ codes "run") × IsRun rows arch records program.now
 IsCommand name rows (Stats arch policy) = (name ≡ codes "stats") × IsOfPolicy rows arch policy.now
 IsCommand name rows (Record arch call arguments) = (name ≡ codes "record") × IsRecord rows arch call.now arguments
-IsCommand name rows (Diff arch filter relation most old new) =
-    (name ≡ codes "diff") × IsDiff rows arch (text_of filter) relation most old.now new.now
+IsCommand name rows (Diff arch filter relation most quiet old new) =
+    (name ≡ codes "diff") × IsDiff rows arch (text_of filter) relation most quiet old.now new.now
 IsCommand name rows (Verify arch filter relation scope most policy program) =
     (name ≡ codes "verify") × IsVerify rows arch (text_of filter) relation scope most policy.now program.now
 IsCommand name rows (Compat arch policy) = (name ≡ codes "compat") × IsOfPolicy rows arch policy.now
-IsCommand name rows (command.Import arch container strict profile) = ⊥
+IsCommand name rows (command.Import arch container strict format profile) = ⊥
+IsCommand name rows (command.DiffProfiles arch container relation most old new) = ⊥
+IsCommand name rows (command.ExplainProfile arch container format records profile) = ⊥
 
 -- The subcommand of this name, with these values, asks for this.
 abbrev pub IsAsked : Text → List Row → Asked → Type 0
 IsAsked name rows (One command) = IsCommand name rows command
 IsAsked name rows (Checks arch denied allowed policies) =
     (name ≡ codes "check") × IsCheck rows arch denied allowed.items (map (λ p. p.now) policies.items)
-IsAsked name rows (Import arch container strict profile) = (name ≡ codes "import") × IsImport rows arch container strict profile.now
+IsAsked name rows (Import arch container strict format profile) =
+    (name ≡ codes "import") × IsImport rows arch container strict format profile.now
+IsAsked name rows (DiffProfiles arch container relation most old new) =
+    (name ≡ codes "diff") × IsDiffProfiles rows arch container relation most old.now new.now
+IsAsked name rows (ExplainProfile arch container format records profile) =
+    (name ≡ codes "explain") × IsExplainProfile rows arch container format records profile.now
 
 -- The names that the options take.
 pub record Choices : Type 0 where

@@ -10,6 +10,7 @@ use crate::done::Done;
 use crate::error::ToolError;
 use crate::failure::{Failure, ToldFor, note, tell};
 use crate::findings::Verdict;
+use crate::import::format::ImportFormat;
 use crate::perform::perform;
 use crate::progress::Progress;
 use crate::source::{Source, open};
@@ -87,12 +88,16 @@ fn writes_bytes(command: Command<'_>) -> bool
             output: None,
             ..
         } => true,
+        Command::Import {
+            format: ImportFormat::Raw,
+            ..
+        } => true,
         Command::Record { .. } => true,
         _ => false,
     }
 }
 
-// The path of the policy, program or profile that a command reads, that of the old policy where it compares two.
+// The path of the policy, program or profile that a command reads, that of the old one where it compares two.
 fn policy_of<'a>(command: Command<'a>) -> Option<&'a str>
     ensures { text_of result ≡ spec.policy_of command.entry }
 {
@@ -116,10 +121,12 @@ fn policy_of<'a>(command: Command<'a>) -> Option<&'a str>
         Command::Verify { policy, .. } => Some(policy),
         Command::Compat { policy, .. } => Some(policy),
         Command::Import { profile, .. } => Some(profile),
+        Command::DiffProfiles { old, .. } => Some(old),
+        Command::ExplainProfile { profile, .. } => Some(profile),
     }
 }
 
-// The path of the records that a command reads, of the new policy, or of the program that is verified.
+// The path of the records that a command reads, of the new policy or profile, or of the program that is verified.
 fn records_of<'a>(command: Command<'a>) -> Option<&'a str>
     ensures { text_of result ≡ spec.records_of command.entry }
 {
@@ -133,6 +140,11 @@ fn records_of<'a>(command: Command<'a>) -> Option<&'a str>
             ..
         } => Some(path),
         Command::Diff { new, .. } => Some(new),
+        Command::DiffProfiles { new, .. } => Some(new),
+        Command::ExplainProfile {
+            records: Records::In(path),
+            ..
+        } => Some(path),
         Command::Verify { program, .. } => Some(program),
         _ => None,
     }
@@ -186,6 +198,7 @@ fn failed(rt: &(impl Eprint + AllocGlobal), command: Command<'_>, failure: Failu
     tell(rt, &failure, told_for(command), policy, records, output);
     match command {
         Command::Diff { .. } => 2,
+        Command::DiffProfiles { .. } => 2,
         Command::Verify { .. } => 2,
         _ => 1,
     }
@@ -195,6 +208,7 @@ fn failed(rt: &(impl Eprint + AllocGlobal), command: Command<'_>, failure: Failu
 fn told_for(command: Command<'_>) -> ToldFor {
     match command {
         Command::Diff { .. } => ToldFor::Policies,
+        Command::DiffProfiles { .. } => ToldFor::Policies,
         Command::Verify { .. } => ToldFor::PolicyAndProgram,
         _ => ToldFor::Other,
     }

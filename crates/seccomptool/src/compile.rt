@@ -1,6 +1,6 @@
 // A filter's program, in the form that is asked for.
 
-mod bytes;
+pub(crate) mod bytes;
 pub mod format;
 mod initializer;
 mod room;

@@ -1,6 +1,8 @@
 // What a new policy decides otherwise than an old one.
 
 mod filters;
+pub mod profiles;
+mod programs;
 mod report;
 
 ghost use Rattle.std.specs.Prelude.{◌≡◌, IfErr, option_map};
@@ -81,7 +83,7 @@ pub fn diff<O: Read + Drop, N: Read + Drop, W: Write, G: Progress>(
 }
 
 // A refusal, as one of the new policy.
-fn of_new_policy(refusal: ToolError) -> ToolError
+pub(crate) fn of_new_policy(refusal: ToolError) -> ToolError
     ensures { result ≡ spec.of_new_policy refusal }
 {
     match refusal {

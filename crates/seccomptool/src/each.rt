@@ -44,12 +44,48 @@ pub(crate) fn carry_out_each<G: Progress>(
             arch,
             container,
             strict,
+            format,
             profile,
         } => {
             let command = Command::Import {
                 arch,
                 container: &container,
                 strict,
+                format,
+                profile,
+            };
+            ExitCode::from(carry_out(rt, command, to_terminal, progress))
+        }
+        Asked::DiffProfiles {
+            arch,
+            container,
+            relation,
+            most,
+            old,
+            new,
+        } => {
+            let command = Command::DiffProfiles {
+                arch,
+                container: &container,
+                relation,
+                most,
+                old,
+                new,
+            };
+            ExitCode::from(carry_out(rt, command, to_terminal, progress))
+        }
+        Asked::ExplainProfile {
+            arch,
+            container,
+            format,
+            records,
+            profile,
+        } => {
+            let command = Command::ExplainProfile {
+                arch,
+                container: &container,
+                format,
+                records,
                 profile,
             };
             ExitCode::from(carry_out(rt, command, to_terminal, progress))

@@ -33,6 +33,8 @@ pub enum ToolError {
     Program(ProgramFault),
     /// A profile isn't imported.
     Import(ImportError),
+    /// The new one of two profiles isn't compiled.
+    NewImport(ImportError),
     /// The output can't be written; how much of it went out is not known.
     Write(io::Error),
     /// Memory ran out, here or in a reader.
@@ -66,6 +68,7 @@ impl fmt::Display for ToolError {
             ToolError::Fault(told) => f.write_str(told.as_str()),
             ToolError::Program(fault) => write!(f, "{fault}"),
             ToolError::Import(fault) => write!(f, "{fault}"),
+            ToolError::NewImport(fault) => write!(f, "{fault}"),
             ToolError::Write(_) => f.write_str("Error writing output."),
             ToolError::OutOfMemory => f.write_str("Out of memory."),
         }

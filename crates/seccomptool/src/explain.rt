@@ -3,6 +3,7 @@
 mod filters;
 pub mod format;
 mod lines;
+pub mod profile;
 mod reason;
 mod records;
 mod search;

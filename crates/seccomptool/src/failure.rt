@@ -128,6 +128,7 @@ fn place_beside_program(error: &ToolError) -> Place {
 fn place_in(error: &ToolError) -> Place {
     match error {
         ToolError::NewPolicy(_) => Place::Records,
+        ToolError::NewImport(_) => Place::Records,
         ToolError::Read(_) => Place::Records,
         ToolError::ShortRecord(_) => Place::Records,
         ToolError::Write(_) => Place::Output,

@@ -1,27 +1,36 @@
-// A profile of a container runtime as a policy.
+// A profile of a container runtime as a policy or as a program.
+
+pub mod format;
+mod made;
 
 ghost use Rattle.std.specs.Prelude.{◌≡◌, ◌++◌, Bool, IfErr, IfOk, List, OnOk, map, string_bytes, ℕ};
 ghost use Rattle.std.specs.List.{concat};
-ghost use Rattle.seccomp_oci.specs.Import.{IsImportFault};
 ghost use Rattle.seccomp_oci.specs.Types as oci;
 ghost use Rattle.seccomp_oci.specs.declared.import.ImportError.TheVariants as import_error;
 ghost use Rattle.seccomptool.specs.Errors.{KeepsOutput};
-ghost use Rattle.seccomptool.specs.Imports.{AnswersImport, AreNoted, IsUnimported, names_text, other_text, told_text};
+ghost use Rattle.seccomptool.specs.Imports.{AnswersImport, AreNoted, IsFormatFault, IsUnimported, names_text, other_text, told_text};
+ghost use Rattle.seccomptool.specs.declared.import.format.ImportFormat.{ImportFormat};
 
 use crate::done::Done;
 use crate::error::ToolError;
 use crate::findings::Verdict;
+use crate::import::format::ImportFormat;
+use crate::import::made::made_of;
 use crate::notes::note;
 use crate::policy::policy_text;
 use crate::send::send;
 use itoa::Buffer;
 use seccomp_command_line::names::push_readable;
-use seccomp_oci::{Container, ImportError, ProfileError, import_profile};
+use seccomp_oci::{Container, ImportError, ProfileError};
 use seccompiler::TargetArch;
 use std::alloc::{AllocError, Global};
 use std::io::{Read, Write};
 
-/// Writes a profile as a policy: the text that [`import_profile`] gives.
+/// Writes a profile as a policy, or as a program.
+///
+/// - `Policy` is the text that [`import_profile`](seccomp_oci::import_profile) gives.
+/// - `Raw` is the program that [`compile_profile`](seccomp_oci::compile_profile) gives, as `compile` writes one that is
+///   `Raw`.
 ///
 /// The names that are left out are noted in a line: `seccomptool: `, the profile's file, `: names of no system call of ARCH, left
 /// out (N): `, and then the names, N in number, in the profile's order, separated by `, `. The file is `path`, or `standard
@@ -33,30 +42,31 @@ use std::io::{Read, Write};
 ///
 /// # Errors
 ///
-/// The first of these: `Library` with `JsonFrontend(Read)` where the reader fails; `Import` with what `import_profile` gives, or
-/// `Fault` in place of its `UnknownNames`, with a text that has the names as the note has them; `Write` where the writer fails.
-/// `OutOfMemory` comes in place of any of these where memory runs out, in the reader too. On any error but `Write`
-/// nothing is written.
+/// The first of these: `Library` with `JsonFrontend(Read)` where the reader fails; `Import` with what `import_profile` or
+/// `compile_profile` gives, or `Fault` in place of its `UnknownNames`, with a text that has the names as the note has
+/// them; `Write` where the writer fails. `OutOfMemory` comes in place of any of these where memory runs out, in the
+/// reader too. On any error but `Write` nothing is written.
 pub fn import<R: Read + Drop, W: Write>(
     alloc: Global,
     arch: TargetArch,
     container: &Container,
     strict: bool,
+    format: ImportFormat,
     path: &str,
     profile: R,
     out: &mut W,
 ) -> Result<Done, ToolError>
     // When each answer comes, and what is written.
-    ensures answers { AnswersImport arch container.now strict path.now (R.remaining profile) result (W.contents out.old) (W.contents out.new) }
+    ensures answers { AnswersImport format arch container.now strict path.now (R.remaining profile) result (W.contents out.old) (W.contents out.new) }
     ensures unwritten { IfErr result (λ e. KeepsOutput e out.old out.new) }
 {
     let text = policy_text(alloc, profile)?;
-    let imported = match import_profile(alloc, arch, container, strict, text.as_slice()) {
-        Ok(imported) => imported,
+    let made = match made_of(alloc, arch, container, strict, format, text.as_slice()) {
+        Ok(made) => made,
         Err(error) => return Err(unimported(alloc, arch, error)),
     };
-    let notes = noted(alloc, arch, path, &imported.left_out)?;
-    send(out, &imported.text)?;
+    let notes = noted(alloc, arch, path, &made.left_out)?;
+    send(out, &made.bytes)?;
     Ok(Done {
         verdict: Verdict::Same,
         notes,
@@ -79,9 +89,9 @@ fn noted(
     note(alloc, path, &told)
 }
 
-// Why a profile isn't imported.
+// Why nothing is made of a profile.
 fn unimported(alloc: Global, arch: TargetArch, error: ImportError) -> ToolError
-    ensures { (container : oci.Container) (strict : Bool) (text : List ℕ) → IsImportFault arch container strict text error → IsUnimported arch container strict text result }
+    ensures { (format : ImportFormat) (container : oci.Container) (strict : Bool) (text : List ℕ) → IsFormatFault format arch container strict text error → IsUnimported format arch container strict text result }
 {
     match error {
         ImportError::UnknownNames(names) => unknown(alloc, arch, names),
@@ -93,7 +103,7 @@ fn unimported(alloc: Global, arch: TargetArch, error: ImportError) -> ToolError
 
 // That the architecture has no calls of these names. The text's bytes are UTF-8, which is not proved.
 fn unknown(alloc: Global, arch: TargetArch, names: Vec<String>) -> ToolError
-    ensures { (container : oci.Container) (strict : Bool) (text : List ℕ) → IsImportFault arch container strict text (import_error.UnknownNames names) → IsUnimported arch container strict text result }
+    ensures { (format : ImportFormat) (container : oci.Container) (strict : Bool) (text : List ℕ) → IsFormatFault format arch container strict text (import_error.UnknownNames names) → IsUnimported format arch container strict text result }
 {
     match told(alloc, arch, b" (", &names) {
         Err(_) => ToolError::OutOfMemory,

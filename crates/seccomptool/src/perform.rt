@@ -1,10 +1,7 @@
 // A command, carried out on what is opened for it.
 
-ghost use Rattle.std.specs.Prelude.{IfErr, Some};
-ghost use Rattle.seccompiler.specs.Architecture.{arch_text};
-ghost use Rattle.seccomptool.specs.Chosen.{AnswersChosen};
-ghost use Rattle.seccomptool.specs.Commands.{AnswersCommand, AnswersExplained, AnswersExplainedOn, AnswersRunOn, AnswersShown};
-ghost use Rattle.seccomptool.specs.Compile.{AnswersCompile};
+ghost use Rattle.std.specs.Prelude.{IfErr};
+ghost use Rattle.seccomptool.specs.Commands.{AnswersCommand, AnswersExplainProfileOn, AnswersExplained, AnswersExplainedOn, AnswersRunOn, AnswersShown};
 ghost use Rattle.seccomptool.specs.Errors.{KeepsOutput};
 ghost use Rattle.seccomptool.specs.Words.{text_of};
 
@@ -12,14 +9,15 @@ use crate::check::check;
 use crate::chosen::chosen_name;
 use crate::codes::codes;
 use crate::compat::compat;
-use crate::compile::compile;
-use crate::compile::format::ProgramFormat;
-use crate::diff::diff;
+use crate::diff::profiles::diff_profiles;
 use crate::done::{Done, found, plain};
 use crate::error::ToolError;
 use crate::explain::explain;
 use crate::explain::format::LineFormat;
+use crate::explain::profile::explain_profile;
+use crate::findings::Terms;
 use crate::import::import;
+use crate::noted::{compile_noted, diff_noted};
 use crate::policy::policy_text;
 use crate::progress::Progress;
 use crate::record::{called_record, record};
@@ -28,22 +26,24 @@ use crate::show::{show, show_program};
 use crate::stats::stats;
 use crate::verify::verify;
 use crate::words::{Command, Records, Shown};
+use seccomp_oci::Container;
 use seccompiler::{Layout, TargetArch};
 use std::alloc::Global;
 use std::io::{Read, Write};
 
-/// Carries out a command on its policy, or `run` and `show` on their program, and `explain` and `run` on their records,
-/// those of a call aside; `diff` on the old policy and, in place of records, the new one, `verify` on the policy and,
-/// in place of records, the program, and `import` on the profile. The verdict is that of `diff`, `verify` and `check`, and else
-/// `Same`; the notes are those of `import`, and else none. `progress` gets how far comparisons are.
+/// Carries out a command on its policy or profile, or `run` and `show` on their program, and `explain` and `run` on their records,
+/// those of a call aside; `diff` on the old policy or profile and, in place of records, the new one, and `verify` on the policy
+/// and, in place of records, the program. The verdict is that of `diff`, `verify` and `check`, and else `Same`. The notes are
+/// those of `import`; of `compile` and `diff` of policies, unless they are quiet, a line for each policy for which `check` has
+/// warnings, with their number; and else none. `progress` gets how far comparisons are.
 ///
 /// # Errors
 ///
-/// Those of the engine: [`compile`], [`show`] or [`show_program`], [`check`], [`codes`], [`explain`], [`run`],
-/// [`stats`], [`record`], [`diff`], [`verify`], [`compat`] and [`import`]. In front of them, for `compile` and `explain`,
-/// where no filter is asked for: the policy's fault that keeps its names from being read, and `Unchosen`
-/// with the names where it hasn't one. In front of all, for `explain` and `run` on a call, `UnknownCall` where the
-/// architecture hasn't it.
+/// Those of the engine: [`compile`](crate::compile::compile), [`show`] or [`show_program`], [`check`], [`codes`], [`explain`], [`run`],
+/// [`stats`], [`record`], [`diff`](crate::diff::diff), [`verify`], [`compat`], [`import`], [`diff_profiles`] and [`explain_profile`]. In front of
+/// them, for `compile` and `explain` of a policy, where no filter is asked for: the policy's fault that keeps its names from being
+/// read, and `Unchosen` with the names where it hasn't one. In front of all, for `explain` and `run` on a call, `UnknownCall`
+/// where the architecture hasn't it.
 pub fn perform<P: Read + Drop, R: Read + Drop, W: Write, G: Progress>(
     alloc: Global,
     command: Command<'_>,
@@ -62,10 +62,11 @@ pub fn perform<P: Read + Drop, R: Read + Drop, W: Write, G: Progress>(
             filter,
             layout,
             format,
+            quiet,
+            policy: path,
             ..
-        } => plain(
-            alloc,
-            compile_asked(alloc, arch, filter, layout, format, policy, out),
+        } => compile_noted(
+            alloc, arch, filter, layout, format, quiet, path, policy, out,
         ),
         Command::Show {
             arch,
@@ -104,25 +105,23 @@ pub fn perform<P: Read + Drop, R: Read + Drop, W: Write, G: Progress>(
             arguments,
         } => plain(alloc, record(alloc, arch.name(), call, arguments, out)),
         Command::Diff {
-            arch,
+            arch: target,
             filter,
             relation,
             most,
-            ..
-        } => found(
-            alloc,
-            diff(
-                alloc,
-                arch.name(),
-                filter,
+            quiet,
+            old,
+            new,
+        } => {
+            let terms = Terms {
+                target,
                 relation,
                 most,
-                policy,
-                records,
-                out,
-                progress,
-            ),
-        ),
+            };
+            diff_noted(
+                alloc, terms, filter, quiet, old, new, policy, records, out, progress,
+            )
+        }
         Command::Verify {
             arch,
             filter,
@@ -150,35 +149,32 @@ pub fn perform<P: Read + Drop, R: Read + Drop, W: Write, G: Progress>(
             arch,
             container,
             strict,
+            format,
             profile,
-        } => import(alloc, arch, container, strict, profile, policy, out),
+        } => import(alloc, arch, container, strict, format, profile, policy, out),
+        Command::DiffProfiles {
+            arch,
+            container,
+            relation,
+            most,
+            ..
+        } => found(
+            alloc,
+            diff_profiles(
+                alloc, arch, container, relation, most, policy, records, out, progress,
+            ),
+        ),
+        Command::ExplainProfile {
+            arch,
+            container,
+            format,
+            records: asked,
+            ..
+        } => plain(
+            alloc,
+            explain_profile_asked(alloc, arch, container, format, asked, policy, records, out),
+        ),
     }
-}
-
-// Writes the program of the filter that is asked for.
-fn compile_asked<P: Read + Drop, W: Write>(
-    alloc: Global,
-    arch: TargetArch,
-    filter: Option<&str>,
-    layout: Layout,
-    format: ProgramFormat,
-    policy: P,
-    out: &mut W,
-) -> Result<(), ToolError>
-    ensures answers { AnswersChosen (P.remaining policy) (text_of filter.entry) (λ text name. AnswersCompile format (arch_text arch) (Some text) name layout result (W.contents out.old) (W.contents out.new)) result }
-    ensures unwritten { IfErr result (λ e. KeepsOutput e out.old out.new) }
-{
-    let text = policy_text(alloc, policy)?;
-    let name = chosen_name(alloc, text.as_slice(), filter)?;
-    compile(
-        alloc,
-        format,
-        arch.name(),
-        name.as_str(),
-        layout,
-        text.as_slice(),
-        out,
-    )
 }
 
 // Prints the programs of a policy, or a program.
@@ -246,6 +242,37 @@ fn explain_records<P: Read + Drop, R: Read + Drop, W: Write>(
         records,
         out,
     )
+}
+
+// Explains what a profile decides on the records that are asked about.
+fn explain_profile_asked<P: Read + Drop, R: Read + Drop, W: Write>(
+    alloc: Global,
+    arch: TargetArch,
+    container: &Container,
+    format: LineFormat,
+    asked: Records<'_>,
+    profile: P,
+    records: R,
+    out: &mut W,
+) -> Result<(), ToolError>
+    ensures answers { AnswersExplainProfileOn asked.entry format arch container.now (P.remaining profile) (R.remaining records) result (W.contents out.old) (W.contents out.new) }
+    ensures unwritten { IfErr result (λ e. KeepsOutput e out.old out.new) }
+{
+    match asked {
+        Records::In(_) => explain_profile(alloc, format, arch, container, profile, records, out),
+        Records::Call { call, arguments } => {
+            let record = called_record(alloc, arch, call, &arguments)?;
+            explain_profile(
+                alloc,
+                format,
+                arch,
+                container,
+                profile,
+                record.as_slice(),
+                out,
+            )
+        }
+    }
 }
 
 // Runs a program on the records that are asked about.

@@ -10,9 +10,10 @@ mod options;
 
 use crate::program::names::Names;
 use crate::program::options::{
-    all, allow, arch, arguments, at_most, call, cap, compared_filter, deny_warnings, filter,
-    format, given_call, given_policy, kernel, layout, line_format, list, most, new_policy, old,
-    output, policies, policy, profile, program_file, records, shown_policy, shown_program, strict,
+    all, allow, arch, arguments, at_most, call, cap, compared_filter, compared_oci, deny_warnings,
+    filter, format, given_call, given_policy, import_format, kernel, layout, line_format, list,
+    most, new_policy, oci, old, output, policies, policy, profile, program_file, quiet, records,
+    shown_policy, shown_program, strict,
 };
 use clap::Command;
 use std::alloc::{AllocError, Global};
@@ -31,7 +32,7 @@ const STATS: &str = "Print how long the programs are, and how many steps they ta
 
 const COMPAT: &str = "Print the calls that the Rust crate would decide otherwise";
 
-const IMPORT: &str = "Print a seccomp profile of a container runtime as a policy";
+const IMPORT: &str = "Print a container runtime's seccomp profile as a policy or as one program";
 
 /// The subcommands and their arguments, with the names that the options take.
 ///
@@ -45,7 +46,7 @@ pub(crate) fn program<'a>(alloc: Global, names: Names<'a>) -> Result<Command<'a>
     let diff = diff(alloc, archs)?;
     let verify = verify(alloc, archs)?;
     let compat = of_policy(alloc, "compat", COMPAT, archs)?;
-    let of_profile = import(alloc, archs)?;
+    let of_profile = import(alloc, archs, names.import_formats)?;
     let deciding = deciding(alloc, names)?;
     deciding
         .subcommand(stats)?
@@ -105,6 +106,7 @@ fn compile<'a>(
         .arg(layout(alloc, layouts))?
         .arg(format(alloc, formats))?
         .arg(output(alloc))?
+        .arg(quiet(alloc))?
         .arg(policy(alloc))
 }
 
@@ -171,6 +173,9 @@ fn explain<'a>(
         .arg(filter(alloc))?
         .arg(line_format(alloc, formats))?
         .arg(records(alloc))?
+        .arg(oci(alloc))?
+        .arg(cap(alloc))?
+        .arg(kernel(alloc))?
         .arg(given_policy(alloc))?
         .arg(call(alloc))?
         .arg(arguments(alloc))
@@ -210,12 +215,20 @@ fn diff<'a>(alloc: Global, archs: &'a [&'a str]) -> Result<Command<'a>, AllocErr
         .arg(compared_filter(alloc))?
         .arg(at_most(alloc))?
         .arg(most(alloc))?
+        .arg(quiet(alloc))?
+        .arg(compared_oci(alloc))?
+        .arg(cap(alloc))?
+        .arg(kernel(alloc))?
         .arg(old(alloc))?
         .arg(new_policy(alloc))
 }
 
-fn import<'a>(alloc: Global, archs: &'a [&'a str]) -> Result<Command<'a>, AllocError>
-    ensures app { IfOk result (λ c. app_of c ≡ import_app archs.entry) }
+fn import<'a>(
+    alloc: Global,
+    archs: &'a [&'a str],
+    formats: &'a [&'a str],
+) -> Result<Command<'a>, AllocError>
+    ensures app { IfOk result (λ c. app_of c ≡ import_app archs.entry formats.entry) }
     ensures local { IfOk result (λ c. (out-Command c).has_globals ≡ false) }
 {
     Command::new(alloc, "import")
@@ -224,6 +237,7 @@ fn import<'a>(alloc: Global, archs: &'a [&'a str]) -> Result<Command<'a>, AllocE
         .arg(cap(alloc))?
         .arg(kernel(alloc))?
         .arg(strict(alloc))?
+        .arg(import_format(alloc, formats))?
         .arg(profile(alloc))
 }
 

@@ -7,10 +7,12 @@ mod arguments;
 mod codes;
 mod container;
 mod matches;
+mod profiles;
 mod values;
 
 use crate::compile::format::ProgramFormat;
 use crate::explain::format::LineFormat;
+use crate::import::format::ImportFormat;
 use crate::program::names::all_names;
 use crate::program::program;
 use crate::verify::scope::Scope;
@@ -36,6 +38,8 @@ pub enum Command<'a> {
         format: ProgramFormat,
         /// The path of the file that is written, in place of standard output.
         output: Option<&'a str>,
+        /// Whether the number of warnings is left out.
+        quiet: bool,
         /// The policy.
         policy: &'a str,
     },
@@ -109,6 +113,8 @@ pub enum Command<'a> {
         relation: Relation,
         /// How many sets of records are looked at, at most, for each call.
         most: usize,
+        /// Whether the numbers of warnings are left out.
+        quiet: bool,
         /// The old policy.
         old: &'a str,
         /// The new policy.
@@ -138,7 +144,7 @@ pub enum Command<'a> {
         /// The policy.
         policy: &'a str,
     },
-    /// Print a profile of a container runtime as a policy: what [`Asked::Import`] has.
+    /// Write what a profile of a container runtime is made into, a policy or a program: what [`Asked::Import`] has.
     Import {
         /// The architecture.
         arch: TargetArch,
@@ -146,6 +152,36 @@ pub enum Command<'a> {
         container: &'a Container,
         /// Whether a profile is rejected that names calls which the architecture hasn't.
         strict: bool,
+        /// What it is made into.
+        format: ImportFormat,
+        /// The profile.
+        profile: &'a str,
+    },
+    /// Print the calls that two profiles decide otherwise: what [`Asked::DiffProfiles`] has.
+    DiffProfiles {
+        /// The architecture.
+        arch: TargetArch,
+        /// The container that the profiles are for.
+        container: &'a Container,
+        /// What is asked of the new profile's actions beside the old one's.
+        relation: Relation,
+        /// How many sets of records are looked at, at most, for each call.
+        most: usize,
+        /// The old profile.
+        old: &'a str,
+        /// The new profile.
+        new: &'a str,
+    },
+    /// Print what a profile decides on calls, and by which entry: what [`Asked::ExplainProfile`] has.
+    ExplainProfile {
+        /// The architecture.
+        arch: TargetArch,
+        /// The container that the profile is for.
+        container: &'a Container,
+        /// How a line is written.
+        format: LineFormat,
+        /// The records of the calls.
+        records: Records<'a>,
         /// The profile.
         profile: &'a str,
     },
@@ -154,7 +190,7 @@ pub enum Command<'a> {
 /// What the arguments ask for.
 #[derive(Drop)]
 pub enum Asked<'a> {
-    /// A command, other than `check` of policies and `import`.
+    /// A command, other than `check` of policies and what is done with profiles.
     One(Command<'a>),
     /// `check` of policies, one after the other.
     Checks {
@@ -175,6 +211,36 @@ pub enum Asked<'a> {
         container: Container,
         /// Whether a profile is rejected that names calls which the architecture hasn't.
         strict: bool,
+        /// What it is made into.
+        format: ImportFormat,
+        /// The profile.
+        profile: &'a str,
+    },
+    /// `diff` of two profiles.
+    DiffProfiles {
+        /// The architecture.
+        arch: TargetArch,
+        /// The container that the profiles are for.
+        container: Container,
+        /// What is asked of the new profile's actions beside the old one's.
+        relation: Relation,
+        /// How many sets of records are looked at, at most, for each call.
+        most: usize,
+        /// The old profile.
+        old: &'a str,
+        /// The new profile.
+        new: &'a str,
+    },
+    /// `explain` of a profile.
+    ExplainProfile {
+        /// The architecture.
+        arch: TargetArch,
+        /// The container that the profile is for.
+        container: Container,
+        /// How a line is written.
+        format: LineFormat,
+        /// The records of the calls.
+        records: Records<'a>,
         /// The profile.
         profile: &'a str,
     },
@@ -209,9 +275,10 @@ pub enum Records<'a> {
 ///
 /// `clap`'s: help and the version where they are asked for, and its own error of arguments that are no
 /// command. `ValueValidation` where an ARG or the value of `--most` is no number, where `explain` or `run`
-/// is given both CALL and `--records`, or `show` both POLICY and `--program`, where the value of `--kernel` is no version, and where two files would both be read from
-/// standard input: policy and records, program and records, policy and program, or both policies of `diff`. `OutOfMemory` may
-/// come in place of any.
+/// is given both CALL and `--records`, or `show` both POLICY and `--program`, where the value of `--kernel` is no version, where
+/// `diff` or `explain` is given `--cap` or `--kernel` without `--oci`, or both `--oci` and `--filter`, and where two files would
+/// both be read from standard input: policy and records, program and records, policy and program, or both policies or profiles
+/// of `diff`. `OutOfMemory` may come in place of any.
 pub(crate) fn read<'a>(alloc: Global, words: &'a [String]) -> Result<Asked<'a>, clap::Error>
     // With the names that the options take.
     ensures { (choices : Choices) × IfOk result (Means choices (map string_bytes words.now))

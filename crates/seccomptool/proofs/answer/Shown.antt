@@ -6,15 +6,16 @@ use Rattle.clap.specs.Words.{Text, kind_of}
 use Rattle.clap.specs.declared.error.Error.{Error}
 use Rattle.clap.specs.declared.error.kind.ErrorKind.{ErrorKind}
 use Rattle.clap.specs.declared.error.kind.ErrorKind.TheVariants.{DisplayHelp, DisplayVersion, OutOfMemory, ValueValidation}
-use Rattle.seccomptool.specs.Answers.{AsksForHelp, EndWith, IsCarriedOut, IsShown, MayFail, EndAsAsked, other}
+use Rattle.seccomptool.specs.Answers.{AreCommandsOf, AsksForHelp, EndWith, IsCarriedOut, IsShown, MayFail, EndAsAsked, other}
 use Rattle.seccomptool.specs.Commands.{EndsWith, IsPerformed, trouble, verdict_status}
 use Rattle.seccomptool.specs.Words.{Choices, IsFault, Means}
 use Rattle.seccomptool.specs.declared.findings.Verdict.{Verdict}
 use Rattle.seccomptool.specs.declared.findings.Verdict.TheVariants.{Same, Different, Undecided}
 use Rattle.seccomptool.specs.declared.words.Asked.{Asked}
-use Rattle.seccomptool.specs.declared.words.Asked.TheVariants.{One, Checks, Import}
+use Rattle.seccomptool.specs.declared.words.Asked.TheVariants.{One, Checks, Import, DiffProfiles, ExplainProfile}
 use Rattle.seccomptool.specs.declared.words.Command.{Command}
 use Rattle.seccomptool.specs.declared.words.Command.TheVariants.{Diff, Verify}
+use Rattle.seccomptool.specs.declared.words.Command.TheVariants as of_command
 use Rattle.seccomptool.proofs.Pairs.{all_first_where, some_first}
 
 -- Neither is want of memory, nor an error of our own.
@@ -38,8 +39,12 @@ shown_asked choices words error fault is_shown = elim fault [
 -- No command fails with 0 or with 3.
 pub no_trouble : (command : Command) (status : ℕ) (verdict : Verdict) → status ≡ verdict_status verdict → (verdict ≡ Different → ⊥)
     → status ≡ trouble command → ⊥
-no_trouble (Diff arch filter relation most old new) status Same is differs two = let e : 0 ≡ 2 = sym is ∙ two in cc
-no_trouble (Diff arch filter relation most old new) status Undecided is differs two = let e : 3 ≡ 2 = sym is ∙ two in cc
+no_trouble (Diff arch filter relation most quiet old new) status Same is differs two = let e : 0 ≡ 2 = sym is ∙ two in cc
+no_trouble (Diff arch filter relation most quiet old new) status Undecided is differs two = let e : 3 ≡ 2 = sym is ∙ two in cc
+no_trouble (of_command.DiffProfiles arch container relation most old new) status Same is differs two =
+    let e : 0 ≡ 2 = sym is ∙ two in cc
+no_trouble (of_command.DiffProfiles arch container relation most old new) status Undecided is differs two =
+    let e : 3 ≡ 2 = sym is ∙ two in cc
 no_trouble (Verify arch filter relation scope most policy program) status Same is differs two = let e : 0 ≡ 2 = sym is ∙ two in cc
 no_trouble (Verify arch filter relation scope most policy program) status Undecided is differs two = let e : 3 ≡ 2 = sym is ∙ two in cc
 no_trouble command status Different is differs two = differs refl
@@ -83,18 +88,19 @@ only : (command found : Command) → Contains (command ∷ []) found → found �
 only command found there = All-contains (λ c. c ≡ command) (command ∷ []) found
     (All-cons (λ c. c ≡ command) command [] refl (All-nil (λ c. c ≡ command))) there
 
--- Where the command that is asked for alone fails with status 2, status 1 says that it finds a difference.
-differs : (choices : Choices) (words : List Text) (command : Command) (status : ℕ) → Means choices words (One command)
-    → EndWith (command ∷ []) status → status ≡ 1 → trouble command ≡ 2 → IsCarriedOut words Different
-differs choices words command status means ended one fails =
+-- Where the only command that is asked for fails with status 2, status 1 says that it finds a difference.
+differs : (choices : Choices) (words : List Text) (asked : Asked) (command : Command) (status : ℕ) → Means choices words asked
+    → AreCommandsOf asked (command ∷ []) → EndWith (command ∷ []) status → status ≡ 1 → trouble command ≡ 2
+    → IsCarriedOut words Different
+differs choices words asked command status means are ended one fails =
     let found = some_command (command ∷ []) status ended (λ zero. let e : 0 ≡ 1 = sym zero ∙ one in cc) in
     let same = only command found.0 found.1 in
     record {
       choices = choices;
-      asked = One command;
+      asked = asked;
       means = means;
       commands = command ∷ [];
-      are = refl;
+      are = are;
       command = found.0;
       among = found.1;
       performed = found.2 Different one (λ failed. let e : 1 ≡ 2 = sym one ∙ failed ∙ ap trouble same ∙ fails in cc);
@@ -103,10 +109,15 @@ differs choices words command status means ended one fails =
 -- Status 1 comes of a comparison that finds a difference, or of what compares nothing.
 of_one : (choices : Choices) (words : List Text) (command : Command) (status : ℕ) → Means choices words (One command)
     → EndWith (command ∷ []) status → status ≡ 1 → IsCarriedOut words Different ⊎ MayFail words
-of_one choices words (Diff arch filter relation most old new) status means ended one =
-    inl (differs choices words (Diff arch filter relation most old new) status means ended one refl)
+of_one choices words (Diff arch filter relation most quiet old new) status means ended one =
+    let command = Diff arch filter relation most quiet old new in
+    inl (differs choices words (One command) command status means refl ended one refl)
+of_one choices words (of_command.DiffProfiles arch container relation most old new) status means ended one =
+    let command = of_command.DiffProfiles arch container relation most old new in
+    inl (differs choices words (One command) command status means refl ended one refl)
 of_one choices words (Verify arch filter relation scope most policy program) status means ended one =
-    inl (differs choices words (Verify arch filter relation scope most policy program) status means ended one refl)
+    let command = Verify arch filter relation scope most policy program in
+    inl (differs choices words (One command) command status means refl ended one refl)
 of_one choices words command status means ended one = inr (other choices (One command) means refl)
 
 pub may_fail : (choices : Choices) (words : List Text) (asked : Asked) (status : ℕ) → Means choices words asked
@@ -115,5 +126,12 @@ may_fail choices words (One command) status means ended one =
     of_one choices words command status means (subst (λ cs. EndWith cs status) ended.are ended.ended) one
 may_fail choices words (Checks arch denied allowed policies) status means ended one =
     inr (other choices (Checks arch denied allowed policies) means refl)
-may_fail choices words (Import arch container strict profile) status means ended one =
-    inr (other choices (Import arch container strict profile) means refl)
+may_fail choices words (Import arch container strict format profile) status means ended one =
+    inr (other choices (Import arch container strict format profile) means refl)
+may_fail choices words (DiffProfiles arch container relation most old new) status means ended one =
+    let own = ended.are.0 in
+    let command = of_command.DiffProfiles arch own relation most old new in
+    inl (differs choices words (DiffProfiles arch container relation most old new) command status means (own, ended.are.1, refl)
+    (subst (λ cs. EndWith cs status) ended.are.2 ended.ended) one refl)
+may_fail choices words (ExplainProfile arch container format records profile) status means ended one =
+    inr (other choices (ExplainProfile arch container format records profile) means refl)

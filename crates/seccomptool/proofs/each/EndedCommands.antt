@@ -7,16 +7,20 @@ use Rattle.std.proofs.lemmas.List.{map_push, take_more}
 use Rattle.std.proofs.lemmas.List.Elements.{All-nil, All-push, All-weaker, Contains-append_left, Contains-push}
 use Rattle.std.proofs.lemmas.Slice.Zip.{all_zipped_more}
 use Rattle.seccompiler.specs.declared.backend.TargetArch.{TargetArch}
+use Rattle.seccompiler.specs.declared.compare.Relation.{Relation}
 use Rattle.seccomp_oci.specs.Types.{Container}
 use Rattle.seccomp_warnings.specs.declared.code.Code.{Code}
 use Rattle.seccompiler.specs.Architecture.{arch_text}
 use Rattle.seccomptool.specs.Check.{AnswersCheck}
 use Rattle.seccomptool.specs.Answers.{EndAsAsked, EndWith}
-use Rattle.seccomptool.specs.declared.words.Asked.TheVariants.{One, Checks, Import}
+use Rattle.seccomptool.specs.declared.words.Asked.TheVariants.{One, Checks, Import, DiffProfiles, ExplainProfile}
 use Rattle.seccomptool.specs.Commands.{AnswersFound, EndsWith}
+use Rattle.seccomptool.specs.declared.explain.format.LineFormat.{LineFormat}
+use Rattle.seccomptool.specs.declared.import.format.ImportFormat.{ImportFormat}
 use Rattle.seccomptool.specs.declared.words.Command.{Command}
 use Rattle.seccomptool.specs.declared.words.Command.TheVariants.{Check}
 use Rattle.seccomptool.specs.declared.words.Command.TheVariants as command
+use Rattle.seccomptool.specs.declared.words.Records.{Records}
 
 -- No command ends with 0.
 pub none_ended : EndWith [] 0
@@ -75,15 +79,30 @@ moved_check arch denied own other path status same ends = λ verdict is fails.
       found = done.found;
     }
 
--- A profile that is imported, for a container behind a reference.
-pub import_ended : (arch : TargetArch) (container : Container) (own : Bor Container) (strict : Bool) (profile : Bor (List ℕ))
-    (status : ℕ) → EndsWith (command.Import arch own strict profile) status → own.now ≡ container
-    → EndAsAsked (Import arch container strict profile) status
-import_ended arch container own strict profile status ends is = record {
-  commands = command.Import arch own strict profile ∷ [];
-  are = (own, is, refl);
-  ended = one_more [] (command.Import arch own strict profile) 0 status status none_ended ends (omega arith) (omega arith) (inr refl);
-}
+-- What is done with profiles, for a container behind a reference.
+module _ (arch : TargetArch) (container : Container) (own : Bor Container) (is : own.now ≡ container) (status : ℕ) where
+  -- One is imported.
+  pub import_ended : (strict : Bool) (format : ImportFormat) (profile : Bor (List ℕ))
+      → EndsWith (command.Import arch own strict format profile) status → EndAsAsked (Import arch container strict format profile) status
+  import_ended strict format profile ends =
+      let alone = one_ended (command.Import arch own strict format profile) status ends in
+      record { commands = alone.commands; are = (own, is, alone.are); ended = alone.ended }
+
+  -- Two are compared.
+  pub diff_profiles_ended : (relation : Relation) (most : ℕ) (old new : Bor (List ℕ))
+      → EndsWith (command.DiffProfiles arch own relation most old new) status
+      → EndAsAsked (DiffProfiles arch container relation most old new) status
+  diff_profiles_ended relation most old new ends =
+      let alone = one_ended (command.DiffProfiles arch own relation most old new) status ends in
+      record { commands = alone.commands; are = (own, is, alone.are); ended = alone.ended }
+
+  -- One is explained.
+  pub explain_profile_ended : (format : LineFormat) (records : Records) (profile : Bor (List ℕ))
+      → EndsWith (command.ExplainProfile arch own format records profile) status
+      → EndAsAsked (ExplainProfile arch container format records profile) status
+  explain_profile_ended format records profile ends =
+      let alone = one_ended (command.ExplainProfile arch own format records profile) status ends in
+      record { commands = alone.commands; are = (own, is, alone.are); ended = alone.ended }
 
 -- Policies that are checked, with codes behind a reference.
 pub checks_ended : (arch : TargetArch) (denied : Bool) (allowed : Vec Code Global) (own : Bor (List Code))

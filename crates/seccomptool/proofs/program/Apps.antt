@@ -57,7 +57,8 @@ module _ (names : Names) (c0 c1 c2 c3 c4 : Command) where
       → (app_of diff ≡ diff_app names.archs) × ((out-Command diff).has_globals ≡ false) × AddsSubcommand c2 diff c3
       → (app_of verify ≡ verify_app names.archs) × ((out-Command verify).has_globals ≡ false) × AddsSubcommand c3 verify c4
       → (app_of compat ≡ policy_app (codes "compat") names.archs) × ((out-Command compat).has_globals ≡ false) × AddsSubcommand c4 compat c5
-      → (app_of import_of ≡ import_app names.archs) × ((out-Command import_of).has_globals ≡ false) × AddsSubcommand c5 import_of c6
+      → (app_of import_of ≡ import_app names.archs names.import_formats) × ((out-Command import_of).has_globals ≡ false)
+      × AddsSubcommand c5 import_of c6
       → app_of c6 ≡ program_app names
   all_added c5 c6 stats record_of diff verify compat import_of e0 h1 h2 h3 h4 h5 h6 =
       let e1 = subcommand_added c0 stats c1 _ _ e0 h1.0 h1.1 h1.2 in

@@ -81,7 +81,7 @@ fn action_of(filter: &JsonFilter, reason: Reason) -> SeccompAction
 }
 
 // Adds an action by its name.
-fn push_action(text: &mut Vec<u8>, action: SeccompAction) -> Result<(), AllocError>
+pub(crate) fn push_action(text: &mut Vec<u8>, action: SeccompAction) -> Result<(), AllocError>
     ensures { OnOk result (text.new.items ≡ text.old.items ++ action_name action) }
 {
     match action {

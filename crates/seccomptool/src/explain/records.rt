@@ -46,7 +46,7 @@ pub(crate) fn explain_records<R: Read + Drop, W: Write>(
 }
 
 // All bytes that a reader gives.
-fn read_whole<R: Read + Drop>(alloc: Global, mut reader: R) -> Result<Vec<u8>, ToolError>
+pub(crate) fn read_whole<R: Read + Drop>(alloc: Global, mut reader: R) -> Result<Vec<u8>, ToolError>
     ensures bytes { IfOk result (λ bytes. IfSome (R.remaining reader) (λ known. bytes.items ≡ known)) }
     ensures cause { IfErr result IsReadError }
 {

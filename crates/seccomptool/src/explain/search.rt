@@ -141,7 +141,7 @@ fn condition_holds(condition: &JsonCondition, call: &[u8; 64]) -> bool
 }
 
 // The 32-bit word of bytes `k` to `k + 3`.
-fn word_at(call: &[u8; 64], k: usize) -> u32
+pub(crate) fn word_at(call: &[u8; 64], k: usize) -> u32
     requires { k ≤ 60 }
     ensures { result ≡ word_at call.now k }
 {

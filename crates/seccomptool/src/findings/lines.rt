@@ -63,9 +63,9 @@ impl fmt::Display for Word {
 
 /// A call of an architecture, by its name, or by its number where it has none.
 #[derive(Clone, Copy)]
-struct CallName {
-    target: TargetArch,
-    number: u32,
+pub(crate) struct CallName {
+    pub(crate) target: TargetArch,
+    pub(crate) number: u32,
 }
 
 impl fmt::Display for CallName {

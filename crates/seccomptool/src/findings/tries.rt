@@ -5,6 +5,7 @@ ghost use Rattle.seccomptool.specs.FindingsParts.{AreComparable, AreCompilable, 
 
 use crate::findings::{Part, Terms};
 use crate::progress::Progress;
+use seccompiler::compare::compare;
 use seccompiler::{BackendError, BpfProgramRef, Calls, Comparison, Relation, SeccompFilter};
 use std::alloc::Global;
 
@@ -27,6 +28,13 @@ pub(crate) enum Sides<'a> {
         program: BpfProgramRef<'a>,
         /// The filter.
         filter: &'a SeccompFilter,
+    },
+    /// Two programs, each one that may be run.
+    Programs {
+        /// That of the new profile.
+        new: BpfProgramRef<'a>,
+        /// That of the old one.
+        old: BpfProgramRef<'a>,
     },
 }
 
@@ -100,5 +108,6 @@ fn compare_sides(
         Sides::Program { program, filter } => {
             filter.compare_program(alloc, program, calls, relation, most)
         }
+        Sides::Programs { new, old } => compare(alloc, new, old, calls, relation, most),
     }
 }

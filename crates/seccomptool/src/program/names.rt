@@ -8,6 +8,8 @@ static LAYOUTS: [&str; 2] = ["linear", "tree"];
 
 static PROGRAM_FORMATS: [&str; 3] = ["raw", "listing", "c"];
 
+static IMPORT_FORMATS: [&str; 2] = ["policy", "raw"];
+
 static LINE_FORMATS: [&str; 2] = ["path", "word"];
 
 static CODES: [&str; 15] = [
@@ -37,6 +39,8 @@ pub struct Names<'a> {
     pub layouts: &'a [&'a str],
     /// Those of `--format` of `compile`.
     pub program_formats: &'a [&'a str],
+    /// Those of `--format` of `import`.
+    pub import_formats: &'a [&'a str],
     /// Those of `--format` of `explain`.
     pub line_formats: &'a [&'a str],
     /// Those of `--allow`.
@@ -51,6 +55,7 @@ pub(crate) fn all_names() -> Names<'static>
         archs: ARCHITECTURES.as_slice(),
         layouts: LAYOUTS.as_slice(),
         program_formats: PROGRAM_FORMATS.as_slice(),
+        import_formats: IMPORT_FORMATS.as_slice(),
         line_formats: LINE_FORMATS.as_slice(),
         codes: CODES.as_slice(),
     }

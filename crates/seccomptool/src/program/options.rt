@@ -2,7 +2,7 @@
 
 ghost use Rattle.std.specs.Prelude.{◌≡◌, false};
 ghost use Rattle.clap.specs.Words.{rule_of};
-ghost use Rattle.seccomptool.specs.CommandLine.{all_rule, allow_rule, arch_rule, arguments_rule, at_most_rule, call_rule, cap_rule, deny_warnings_rule, filter_rule, format_rule, given_call_rule, given_policy_rule, kernel_rule, layout_rule, line_format_rule, list_rule, most_rule, new_policy_rule, old_rule, output_rule, policies_rule, policy_rule, profile_rule, program_rule, records_rule, shown_policy_rule, shown_program_rule, strict_rule};
+ghost use Rattle.seccomptool.specs.CommandLine.{all_rule, allow_rule, arch_rule, arguments_rule, at_most_rule, call_rule, cap_rule, deny_warnings_rule, filter_rule, format_rule, given_call_rule, given_policy_rule, import_format_rule, kernel_rule, layout_rule, line_format_rule, list_rule, most_rule, new_policy_rule, oci_rule, old_rule, output_rule, policies_rule, policy_rule, profile_rule, program_rule, quiet_rule, records_rule, shown_policy_rule, shown_program_rule, strict_rule};
 
 use clap::{Arg, ArgAction};
 use std::alloc::Global;
@@ -76,6 +76,29 @@ pub(super) fn line_format<'a>(alloc: Global, formats: &'a [&'a str]) -> Arg<'a>
         .value_parser(formats)
         .default_value("path")
         .help("How a line is written: with places in the policy, or in numbers for scripts")
+}
+
+pub(super) fn import_format<'a>(alloc: Global, formats: &'a [&'a str]) -> Arg<'a>
+    ensures rule { rule_of result ≡ import_format_rule formats.entry }
+    ensures local { result.global ≡ false }
+{
+    Arg::new(alloc, "format")
+        .long("format")
+        .value_name("FORMAT")
+        .value_parser(formats)
+        .default_value("policy")
+        .help("What it is made into: a policy, or one program")
+}
+
+pub(super) fn quiet<'a>(alloc: Global) -> Arg<'a>
+    ensures rule { rule_of result ≡ quiet_rule }
+    ensures local { result.global ≡ false }
+{
+    Arg::new(alloc, "quiet")
+        .short('q')
+        .long("quiet")
+        .action(ArgAction::SetTrue)
+        .help("Don't print how many warnings there are")
 }
 
 pub(super) fn output<'a>(alloc: Global) -> Arg<'a>
@@ -160,6 +183,23 @@ pub(super) fn most<'a>(alloc: Global) -> Arg<'a>
         .value_name("N")
         .default_value("1000000")
         .help("How many sets of arguments are looked at, at most, for each call")
+}
+
+pub(super) fn oci<'a>(alloc: Global) -> Arg<'a>
+    ensures rule { rule_of result ≡ oci_rule }
+    ensures local { result.global ≡ false }
+{
+    Arg::new(alloc, "oci")
+        .long("oci")
+        .action(ArgAction::SetTrue)
+        .help("The policy is a seccomp profile of a container runtime")
+}
+
+pub(super) fn compared_oci<'a>(alloc: Global) -> Arg<'a>
+    ensures rule { rule_of result ≡ oci_rule }
+    ensures local { result.global ≡ false }
+{
+    oci(alloc).help("The policies are seccomp profiles of a container runtime")
 }
 
 pub(super) fn cap<'a>(alloc: Global) -> Arg<'a>

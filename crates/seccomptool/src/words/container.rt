@@ -28,7 +28,7 @@ pub(super) fn container_in(
 }
 
 // The version that `--kernel` names, if it is given; none where that is no version.
-fn kernel_in(found: &ArgMatches<'_>) -> Option<Option<Kernel>>
+pub(super) fn kernel_in(found: &ArgMatches<'_>) -> Option<Option<Kernel>>
     ensures some { IfSome result (IsGivenKernel (rows_of (found_of found.now))) }
     ensures none { IfNone result ((k : Option KernelOf) → IsGivenKernel (rows_of (found_of found.now)) k → ⊥) }
 {

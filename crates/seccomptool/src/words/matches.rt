@@ -6,10 +6,11 @@ ghost use Rattle.seccomptool.specs.Words.{IsAsked, IsCommand};
 ghost use Rattle.seccomptool.specs.declared.words.Asked.{Asked};
 ghost use Rattle.seccomptool.specs.declared.words.Command.{Command};
 
-use super::container::container_in;
+use super::profiles::{is_no_profile, misuse_of_profile, of_profiles_in};
 use super::values::{
-    allowed_in, arch_in, arguments_in, denied_in, format_in, is_listed, is_strict, layout_in,
-    line_format_in, most_in, policies_in, records_in, relation_in, scope_in, shown_in, text_in,
+    allowed_in, arch_in, arguments_in, compared_in, denied_in, format_in, is_listed, is_quiet,
+    layout_in, line_format_in, most_in, policies_in, records_in, relation_in, scope_in, shown_in,
+    text_in,
 };
 use super::{Asked, Command};
 use clap::ArgMatches;
@@ -27,12 +28,9 @@ pub(crate) fn asked_in<'a>(
     if name == "check" {
         return checks_in(alloc, found);
     }
-    if name == "import" {
-        return import_in(alloc, found);
-    }
     match command_in(name, found) {
         Some(command) => Ok(Some(Asked::One(command))),
-        None => Ok(None),
+        None => of_profiles_in(alloc, name, found),
     }
 }
 
@@ -59,29 +57,7 @@ fn checks_in<'a>(alloc: Global, found: &ArgMatches<'a>) -> Result<Option<Asked<'
     }))
 }
 
-// What the matches of `import` ask for.
-fn import_in<'a>(alloc: Global, found: &ArgMatches<'a>) -> Result<Option<Asked<'a>>, AllocError>
-    ensures some { IfOk result (λ o. IfSome o (IsAsked (codes "import") (rows_of (found_of found.now)))) }
-    ensures none { IfOk result (λ o. IfNone o ((asked : Asked) → IsAsked (codes "import") (rows_of (found_of found.now)) asked → ⊥)) }
-{
-    let Some(arch) = arch_in(found) else {
-        return Ok(None);
-    };
-    let Some(profile) = text_in(found, "profile") else {
-        return Ok(None);
-    };
-    let Some(container) = container_in(alloc, found)? else {
-        return Ok(None);
-    };
-    Ok(Some(Asked::Import {
-        arch,
-        container,
-        strict: is_strict(found),
-        profile,
-    }))
-}
-
-// The command that the matches of the subcommand of this name are, the check of policies and `import` aside.
+// The command that the matches of the subcommand of this name are, the check of policies and what is done with profiles aside.
 pub(crate) fn command_in<'a>(name: &str, found: &ArgMatches<'a>) -> Option<Command<'a>>
     ensures some { IfSome result (IsCommand name.now (rows_of (found_of found.now))) }
     ensures none { IfNone result ((c : Command) → IsCommand name.now (rows_of (found_of found.now)) c → ⊥) }
@@ -103,6 +79,9 @@ pub(crate) fn command_in<'a>(name: &str, found: &ArgMatches<'a>) -> Option<Comma
 
 // What is wrong where the matches are no command.
 pub(crate) fn misuse_in(found: &ArgMatches<'_>) -> &'static str {
+    if let Some(message) = misuse_of_profile(found) {
+        return message;
+    }
     if text_in(found, "new").is_some() {
         return misuse_of_comparison(found, "OLD and NEW can't both be read from standard input");
     }
@@ -111,9 +90,6 @@ pub(crate) fn misuse_in(found: &ArgMatches<'_>) -> &'static str {
             found,
             "POLICY and PROGRAM can't both be read from standard input",
         );
-    }
-    if text_in(found, "kernel").is_some() {
-        return "the value of --kernel is no version of two numbers, as 6.1";
     }
     if text_in(found, "layout").is_some() {
         return "either POLICY or --program is given, not both";
@@ -161,6 +137,7 @@ fn compile_in<'a>(found: &ArgMatches<'a>) -> Option<Command<'a>>
         layout,
         format,
         output: text_in(found, "output"),
+        quiet: is_quiet(found),
         policy,
     })
 }
@@ -203,6 +180,9 @@ fn explain_in<'a>(found: &ArgMatches<'a>) -> Option<Command<'a>>
     ensures some { IfSome result (IsCommand (codes "explain") (rows_of (found_of found.now))) }
     ensures none { IfNone result ((c : Command) → IsCommand (codes "explain") (rows_of (found_of found.now)) c → ⊥) }
 {
+    if !is_no_profile(found) {
+        return None;
+    }
     let Some(arch) = arch_in(found) else {
         return None;
     };
@@ -285,26 +265,24 @@ fn diff_in<'a>(found: &ArgMatches<'a>) -> Option<Command<'a>>
     ensures some { IfSome result (IsCommand (codes "diff") (rows_of (found_of found.now))) }
     ensures none { IfNone result ((c : Command) → IsCommand (codes "diff") (rows_of (found_of found.now)) c → ⊥) }
 {
+    if !is_no_profile(found) {
+        return None;
+    }
     let Some(arch) = arch_in(found) else {
         return None;
     };
     let Some(most) = most_in(found) else {
         return None;
     };
-    let Some(old) = text_in(found, "old") else {
+    let Some((old, new)) = compared_in(found) else {
         return None;
     };
-    let Some(new) = text_in(found, "new") else {
-        return None;
-    };
-    if old == "-" && new == "-" {
-        return None;
-    }
     Some(Command::Diff {
         arch,
         filter: text_in(found, "filter"),
         relation: relation_in(found),
         most,
+        quiet: is_quiet(found),
         old,
         new,
     })

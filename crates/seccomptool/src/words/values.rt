@@ -5,11 +5,13 @@ ghost use Rattle.clap.specs.Words.{first_of, found_of, rows_of};
 ghost use Rattle.seccompiler.specs.declared.backend.TargetArch.{TargetArch};
 ghost use Rattle.seccompiler.specs.declared.layout.Layout.{Layout};
 ghost use Rattle.seccomptool.specs.Numbers.{IsNumber};
-ghost use Rattle.seccomptool.specs.Words.{AreArguments, AreRecords, AreShown, IsArch, IsDenied, IsMost, IsRelation, IsListed, IsScope, IsStrict, format_text, given_arguments, given_codes, given_policies, layout_text, line_format_text, text_of};
+ghost use Rattle.seccomptool.specs.Words.{AreArguments, AreRecords, AreShown, IsArch, IsDenied, IsMost, IsQuiet, IsRelation, IsListed, IsScope, IsStrict, format_text, given_arguments, given_codes, given_policies, import_format_text, layout_text, line_format_text, text_of};
+ghost use Rattle.seccomptool.specs.WordsParts.{AreCompared};
 ghost use Rattle.seccomp_warnings.specs.Codes.{code_text};
 ghost use Rattle.seccomp_warnings.specs.declared.code.Code.{Code as CodeOf};
 ghost use Rattle.seccomptool.specs.declared.compile.format.ProgramFormat.{ProgramFormat};
 ghost use Rattle.seccomptool.specs.declared.explain.format.LineFormat.{LineFormat};
+ghost use Rattle.seccomptool.specs.declared.import.format.ImportFormat.{ImportFormat};
 ghost use Rattle.seccomptool.specs.declared.words.Records.{Records};
 ghost use Rattle.seccomptool.specs.declared.words.Shown.{Shown};
 
@@ -18,6 +20,7 @@ use super::codes::read_codes;
 use super::{Records, Shown};
 use crate::compile::format::ProgramFormat;
 use crate::explain::format::LineFormat;
+use crate::import::format::ImportFormat;
 use crate::numbers::read_number;
 use crate::verify::scope::Scope;
 use clap::ArgMatches;
@@ -81,6 +84,28 @@ pub(super) fn line_format_in(found: &ArgMatches<'_>) -> Option<LineFormat>
         Some("path") => Some(LineFormat::Path),
         Some("word") => Some(LineFormat::Word),
         _ => None,
+    }
+}
+
+// What `--format` of `import` names.
+pub(super) fn import_format_in(found: &ArgMatches<'_>) -> Option<ImportFormat>
+    ensures some { IfSome result (λ format. first_of (codes "format") (rows_of (found_of found.now)) ≡ Some (import_format_text format)) }
+    ensures none { IfNone result ((format : ImportFormat) → first_of (codes "format") (rows_of (found_of found.now)) ≡ Some (import_format_text format) → ⊥) }
+{
+    match text_in(found, "format") {
+        Some("policy") => Some(ImportFormat::Policy),
+        Some("raw") => Some(ImportFormat::Raw),
+        _ => None,
+    }
+}
+
+// Whether the number of warnings is left out.
+pub(super) fn is_quiet(found: &ArgMatches<'_>) -> bool
+    ensures { IsQuiet (rows_of (found_of found.now)) result }
+{
+    match text_in(found, "quiet") {
+        Some("true") => true,
+        _ => false,
     }
 }
 
@@ -212,6 +237,23 @@ fn sets_in(text: &str) -> Option<usize>
         return None;
     };
     Some(most as usize)
+}
+
+// The old and the new path, not both `-`.
+pub(super) fn compared_in<'a>(found: &ArgMatches<'a>) -> Option<(&'a str, &'a str)>
+    ensures some { IfSome result (λ paths. AreCompared (rows_of (found_of found.now)) paths.0.now paths.1.now) }
+    ensures none { IfNone result ((old new : List ℕ) → AreCompared (rows_of (found_of found.now)) old new → ⊥) }
+{
+    let Some(old) = text_in(found, "old") else {
+        return None;
+    };
+    let Some(new) = text_in(found, "new") else {
+        return None;
+    };
+    if old == "-" && new == "-" {
+        return None;
+    }
+    Some((old, new))
 }
 
 // The arguments that the values of ARG write.

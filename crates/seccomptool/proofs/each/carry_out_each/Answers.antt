@@ -1,5 +1,5 @@
 use Rattle.std.proofs.Common.{refl}
-use Rattle.seccomptool.proofs.each.EndedCommands.{checks_ended, import_ended, one_ended}
+use Rattle.seccomptool.proofs.each.EndedCommands.{checks_ended, diff_profiles_ended, explain_profile_ended, import_ended, one_ended}
 use Rattle.seccomptool.proofs.each.carry_out_each.Goals as goal
 
 pub returns-in-One-clause-each : goal.returns-in-One-clause-each
@@ -15,5 +15,19 @@ returns-in-Checks-clause-each g c =
 pub returns-in-Import-clause-each : goal.returns-in-Import-clause-each
 returns-in-Import-clause-each g c =
     rw (c.in-Import.is, c.from-in-Import.ensures)
-    (import_ended c.in-Import.arch c.in-Import.container _ c.in-Import.strict c.in-Import.profile c.carry_out-in-Import.result
-    c.carry_out-in-Import.ensures.performed refl)
+    (import_ended c.in-Import.arch c.in-Import.container _ refl c.carry_out-in-Import.result c.in-Import.strict c.in-Import.format
+    c.in-Import.profile c.carry_out-in-Import.ensures.performed)
+
+pub returns-in-DiffProfiles-clause-each : goal.returns-in-DiffProfiles-clause-each
+returns-in-DiffProfiles-clause-each g c =
+    rw (c.in-DiffProfiles.is, c.from-in-DiffProfiles.ensures)
+    (diff_profiles_ended c.in-DiffProfiles.arch c.in-DiffProfiles.container _ refl c.carry_out-in-DiffProfiles.result
+    c.in-DiffProfiles.relation c.in-DiffProfiles.most c.in-DiffProfiles.old c.in-DiffProfiles.new
+    c.carry_out-in-DiffProfiles.ensures.performed)
+
+pub returns-in-ExplainProfile-clause-each : goal.returns-in-ExplainProfile-clause-each
+returns-in-ExplainProfile-clause-each g c =
+    rw (c.in-ExplainProfile.is, c.from-in-ExplainProfile.ensures)
+    (explain_profile_ended c.in-ExplainProfile.arch c.in-ExplainProfile.container _ refl c.carry_out-in-ExplainProfile.result
+    c.in-ExplainProfile.format c.in-ExplainProfile.records c.in-ExplainProfile.profile
+    c.carry_out-in-ExplainProfile.ensures.performed)

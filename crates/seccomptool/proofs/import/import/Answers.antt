@@ -1,38 +1,41 @@
 use Rattle.std.proofs.Common.{map, refl, string_bytes, subst}
 use Rattle.std.proofs.lemmas.Result.{err_from_is_err_and}
 use Rattle.std.specs.Io.KnownBytes.{Appends}
-use Rattle.seccomp_oci.specs.Import.{IsImported, IsImportFault}
-use Rattle.seccomptool.specs.Imports.{AreNoted}
-use Rattle.seccomptool.proofs.import.Answered.{is_unimported, is_unread, is_unwritten, is_written}
+use Rattle.seccomptool.specs.Imports.{AreNoted, IsFormatFault, IsMade}
+use Rattle.seccomptool.proofs.import.Answered.{is_unimported, is_unwritten, is_written}
 use Rattle.seccomptool.proofs.import.import.Goals as goal
 
 pub returns-in-Err-clause-answers : goal.returns-in-Err-clause-answers
 returns-in-Err-clause-answers g c =
     let text = c.in_ok-text.text.items in
-    let fault = subst (λ t. IsImportFault c.args.arch c.args.container.now c.args.strict t c.in-Err.error)
+    let fault = subst (λ t. IsFormatFault c.args.format c.args.arch c.args.container.now c.args.strict t c.in-Err.error)
     c.as_slice.ensures.value c.in-Err.ensures.fault in
-    is_unimported c.args.arch c.args.container.now c.args.strict c.args.path.now (g.R.Read.remaining c.args.profile) _ _ text
-    c.in_ok-text.ensures.text c.unimported.result (c.unimported.ensures c.args.container.now c.args.strict text fault)
+    is_unimported c.args.format c.args.arch c.args.container.now c.args.strict c.args.path.now (g.R.Read.remaining c.args.profile) _ _ text
+    c.in_ok-text.ensures.text c.unimported.result (c.unimported.ensures c.args.format c.args.container.now c.args.strict text fault)
 
 pub returns-in_err-send-clause-answers : goal.returns-in_err-send-clause-answers
 returns-in_err-send-clause-answers g c =
     let text = c.in_ok-text.text.items in
+    let made = c.in-Ok.made in
+    let names = map string_bytes made.left_out.items in
     let error = err_from_is_err_and c.from_residual-in_err-send.result c.from_residual-in_err-send.ensures.1 in
-    let is = subst (λ t. IsImported c.args.arch c.args.container.now c.args.strict t c.in-Ok.imported)
-    c.as_slice.ensures.value c.in-Ok.ensures.imported in
+    let is = subst (λ t. IsMade c.args.format c.args.arch c.args.container.now c.args.strict t made.bytes.items names)
+    c.as_slice.ensures.value c.in-Ok.ensures.made in
     rw (error.1, error.2)
-    (is_unwritten c.args.arch c.args.container.now c.args.strict c.args.path.now (g.R.Read.remaining c.args.profile) _ _ text
-    c.in_ok-text.ensures.text c.in-Ok.imported is _ c.in_err-send.ensures.cause)
+    (is_unwritten c.args.format c.args.arch c.args.container.now c.args.strict c.args.path.now (g.R.Read.remaining c.args.profile) _ _ text
+    c.in_ok-text.ensures.text made.bytes.items names is _ c.in_err-send.ensures.cause)
 
 pub returns-clause-answers : goal.returns-clause-answers
 returns-clause-answers g c =
     let contents = g.W.Write.contents in
     let text = c.in_ok-text.text.items in
-    let is = subst (λ t. IsImported c.args.arch c.args.container.now c.args.strict t c.in-Ok.imported)
-    c.as_slice.ensures.value c.in-Ok.ensures.imported in
+    let made = c.in-Ok.made in
+    let left_out = map string_bytes made.left_out.items in
+    let is = subst (λ t. IsMade c.args.format c.args.arch c.args.container.now c.args.strict t made.bytes.items left_out)
+    c.as_slice.ensures.value c.in-Ok.ensures.made in
     let appends = subst (λ bytes. Appends (contents c.args.out.now) (contents c.send.new.out) bytes)
     c.deref-2.ensures.value c.in_ok-send.ensures.sent in
     let noted = subst (λ names. AreNoted c.args.arch c.args.path.now (map string_bytes names) c.in_ok-notes.notes.items)
     c.deref.ensures.value c.in_ok-notes.ensures in
-    is_written c.args.arch c.args.container.now c.args.strict c.args.path.now (g.R.Read.remaining c.args.profile) _ _ text
-    c.in_ok-text.ensures.text c.in-Ok.imported is _ appends noted refl
+    is_written c.args.format c.args.arch c.args.container.now c.args.strict c.args.path.now (g.R.Read.remaining c.args.profile) _ _ text
+    c.in_ok-text.ensures.text made.bytes.items left_out is _ appends noted refl

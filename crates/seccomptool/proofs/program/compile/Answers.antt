@@ -16,7 +16,8 @@ returns-clause-app c =
     let e3 = rule_added _ _ _ _ _ e2 c.layout.ensures.rule c.layout.ensures.local c.in_ok-arg-3.ensures in
     let e4 = rule_added _ _ _ _ _ e3 c.format.ensures.rule c.format.ensures.local c.in_ok-arg-4.ensures in
     let e5 = rule_added _ _ _ _ _ e4 c.output.ensures.rule c.output.ensures.local c.in_ok-arg-5.ensures in
-    IfOk-weaker c.arg-6.result _ _ (λ r h. rule_added _ _ _ _ _ e5 c.policy.ensures.rule c.policy.ensures.local h) c.arg-6.ensures
+    let e6 = rule_added _ _ _ _ _ e5 c.quiet.ensures.rule c.quiet.ensures.local c.in_ok-arg-6.ensures in
+    IfOk-weaker c.arg-7.result _ _ (λ r h. rule_added _ _ _ _ _ e6 c.policy.ensures.rule c.policy.ensures.local h) c.arg-7.ensures
 
 pub returns-clause-local : goal.returns-clause-local
 returns-clause-local c =
@@ -27,4 +28,5 @@ returns-clause-local c =
     let l3 = local_added _ _ _ l2 c.layout.ensures.local c.in_ok-arg-3.ensures in
     let l4 = local_added _ _ _ l3 c.format.ensures.local c.in_ok-arg-4.ensures in
     let l5 = local_added _ _ _ l4 c.output.ensures.local c.in_ok-arg-5.ensures in
-    IfOk-weaker c.arg-6.result _ _ (λ r h. local_added _ _ _ l5 c.policy.ensures.local h) c.arg-6.ensures
+    let l6 = local_added _ _ _ l5 c.quiet.ensures.local c.in_ok-arg-6.ensures in
+    IfOk-weaker c.arg-7.result _ _ (λ r h. local_added _ _ _ l6 c.policy.ensures.local h) c.arg-7.ensures

@@ -15,8 +15,12 @@ returns-clause-app c =
     let e2 = rule_added _ _ _ _ _ e1 c.compared_filter.ensures.rule c.compared_filter.ensures.local c.in_ok-arg-2.ensures in
     let e3 = rule_added _ _ _ _ _ e2 c.at_most.ensures.rule c.at_most.ensures.local c.in_ok-arg-3.ensures in
     let e4 = rule_added _ _ _ _ _ e3 c.most.ensures.rule c.most.ensures.local c.in_ok-arg-4.ensures in
-    let e5 = rule_added _ _ _ _ _ e4 c.old.ensures.rule c.old.ensures.local c.in_ok-arg-5.ensures in
-    IfOk-weaker c.arg-6.result _ _ (λ r h. rule_added _ _ _ _ _ e5 c.new_policy.ensures.rule c.new_policy.ensures.local h) c.arg-6.ensures
+    let e5 = rule_added _ _ _ _ _ e4 c.quiet.ensures.rule c.quiet.ensures.local c.in_ok-arg-5.ensures in
+    let e6 = rule_added _ _ _ _ _ e5 c.compared_oci.ensures.rule c.compared_oci.ensures.local c.in_ok-arg-6.ensures in
+    let e7 = rule_added _ _ _ _ _ e6 c.cap.ensures.rule c.cap.ensures.local c.in_ok-arg-7.ensures in
+    let e8 = rule_added _ _ _ _ _ e7 c.kernel.ensures.rule c.kernel.ensures.local c.in_ok-arg-8.ensures in
+    let e9 = rule_added _ _ _ _ _ e8 c.old.ensures.rule c.old.ensures.local c.in_ok-arg-9.ensures in
+    IfOk-weaker c.arg-10.result _ _ (λ r h. rule_added _ _ _ _ _ e9 c.new_policy.ensures.rule c.new_policy.ensures.local h) c.arg-10.ensures
 
 pub returns-clause-local : goal.returns-clause-local
 returns-clause-local c =
@@ -26,5 +30,9 @@ returns-clause-local c =
     let l2 = local_added _ _ _ l1 c.compared_filter.ensures.local c.in_ok-arg-2.ensures in
     let l3 = local_added _ _ _ l2 c.at_most.ensures.local c.in_ok-arg-3.ensures in
     let l4 = local_added _ _ _ l3 c.most.ensures.local c.in_ok-arg-4.ensures in
-    let l5 = local_added _ _ _ l4 c.old.ensures.local c.in_ok-arg-5.ensures in
-    IfOk-weaker c.arg-6.result _ _ (λ r h. local_added _ _ _ l5 c.new_policy.ensures.local h) c.arg-6.ensures
+    let l5 = local_added _ _ _ l4 c.quiet.ensures.local c.in_ok-arg-5.ensures in
+    let l6 = local_added _ _ _ l5 c.compared_oci.ensures.local c.in_ok-arg-6.ensures in
+    let l7 = local_added _ _ _ l6 c.cap.ensures.local c.in_ok-arg-7.ensures in
+    let l8 = local_added _ _ _ l7 c.kernel.ensures.local c.in_ok-arg-8.ensures in
+    let l9 = local_added _ _ _ l8 c.old.ensures.local c.in_ok-arg-9.ensures in
+    IfOk-weaker c.arg-10.result _ _ (λ r h. local_added _ _ _ l9 c.new_policy.ensures.local h) c.arg-10.ensures

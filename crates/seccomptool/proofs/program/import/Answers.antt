@@ -15,7 +15,8 @@ returns-clause-app c =
     let e2 = rule_added _ _ _ _ _ e1 c.cap.ensures.rule c.cap.ensures.local c.in_ok-arg-2.ensures in
     let e3 = rule_added _ _ _ _ _ e2 c.kernel.ensures.rule c.kernel.ensures.local c.in_ok-arg-3.ensures in
     let e4 = rule_added _ _ _ _ _ e3 c.strict.ensures.rule c.strict.ensures.local c.in_ok-arg-4.ensures in
-    IfOk-weaker c.arg-5.result _ _ (λ r h. rule_added _ _ _ _ _ e4 c.profile.ensures.rule c.profile.ensures.local h) c.arg-5.ensures
+    let e5 = rule_added _ _ _ _ _ e4 c.import_format.ensures.rule c.import_format.ensures.local c.in_ok-arg-5.ensures in
+    IfOk-weaker c.arg-6.result _ _ (λ r h. rule_added _ _ _ _ _ e5 c.profile.ensures.rule c.profile.ensures.local h) c.arg-6.ensures
 
 pub returns-clause-local : goal.returns-clause-local
 returns-clause-local c =
@@ -25,4 +26,5 @@ returns-clause-local c =
     let l2 = local_added _ _ _ l1 c.cap.ensures.local c.in_ok-arg-2.ensures in
     let l3 = local_added _ _ _ l2 c.kernel.ensures.local c.in_ok-arg-3.ensures in
     let l4 = local_added _ _ _ l3 c.strict.ensures.local c.in_ok-arg-4.ensures in
-    IfOk-weaker c.arg-5.result _ _ (λ r h. local_added _ _ _ l4 c.profile.ensures.local h) c.arg-5.ensures
+    let l5 = local_added _ _ _ l4 c.import_format.ensures.local c.in_ok-arg-5.ensures in
+    IfOk-weaker c.arg-6.result _ _ (λ r h. local_added _ _ _ l5 c.profile.ensures.local h) c.arg-6.ensures

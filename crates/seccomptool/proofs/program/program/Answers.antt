@@ -15,7 +15,7 @@ returns c =
     let is_diff : app_of c.in_ok-diff.diff ≡ diff_app names.archs = c.in_ok-diff.ensures.app in
     let is_verify : app_of c.in_ok-verify.verify ≡ verify_app names.archs = c.in_ok-verify.ensures.app in
     let is_compat : app_of c.in_ok-compat.compat ≡ policy_app (codes "compat") names.archs = c.in_ok-compat.ensures.app in
-    let is_import : app_of c.in_ok-of_profile.of_profile ≡ import_app names.archs = c.in_ok-of_profile.ensures.app in
+    let is_import : app_of c.in_ok-of_profile.of_profile ≡ import_app names.archs names.import_formats = c.in_ok-of_profile.ensures.app in
     let whole : Command → Type 0 = λ r. app_of r ≡ program_app names in
     record {
       app = IfOk-weaker c.subcommand-6.result _ whole (λ r h.

@@ -3,14 +3,16 @@ use Rattle.std.specs.Prelude.{slice_index}
 use Rattle.clap.specs.Words.{Row}
 use Rattle.seccomptool.specs.Words.{IsCommand, IsMost}
 use Rattle.seccomptool.specs.declared.words.Command.{Command}
-use Rattle.seccomptool.specs.declared.words.Command.TheVariants.{Check, Verify, Import}
+use Rattle.seccomptool.specs.declared.words.Command.TheVariants.{Check, Verify, Import, DiffProfiles, ExplainProfile}
 use Rattle.seccomptool.proofs.words.matches.verify_in.Goals as goal
 
 -- without a number of sets the rows are no command
 no_most : (rows : List Row) → ((n : ℕ) → IsMost rows n → ⊥) → (c : Command) → IsCommand (codes "verify") rows c → ⊥
 no_most rows none (Verify arch filter relation scope most policy program) is = none most is.1.most_is
 no_most rows none (Check arch denied allowed policy) is = absurd is
-no_most rows none (Import arch container strict profile) is = absurd is
+no_most rows none (Import arch container strict format profile) is = absurd is
+no_most rows none (DiffProfiles arch container relation most old new) is = absurd is
+no_most rows none (ExplainProfile arch container format records profile) is = absurd is
 no_most rows none c is = let first = ap (λ t. slice_index t 0) is.0 in omega (arith, first)
 
 pub returns-in_default-most_in-clause-none : goal.returns-in_default-most_in-clause-none

@@ -1,0 +1,3 @@
+-- Lemmas for the functions of `counts`.
+pub mod Faultless
+pub mod TextCounts

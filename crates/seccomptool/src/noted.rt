@@ -1,0 +1,121 @@
+// `compile` and `diff`, with notes of how many warnings their policies have.
+
+ghost use Rattle.std.specs.Prelude.{◌≡◌, IfErr, IfOk, IfSome, List, Option, Some, ℕ};
+ghost use Rattle.seccompiler.specs.Architecture.{arch_text};
+ghost use Rattle.seccompiler.specs.declared.compare.Relation as spec;
+ghost use Rattle.seccomptool.specs.Commands.{AnswersCompileAsked, AnswersCompileNoted, AnswersDiffNoted};
+ghost use Rattle.seccomptool.specs.Diff.{AnswersDiff};
+ghost use Rattle.seccomptool.specs.Errors.{KeepsOutput};
+ghost use Rattle.seccomptool.specs.Words.{text_of};
+
+use crate::chosen::chosen_name;
+use crate::compile::compile;
+use crate::compile::format::ProgramFormat;
+use crate::counts::{both_counted, counted};
+use crate::diff::{diff, of_new_policy};
+use crate::done::Done;
+use crate::error::ToolError;
+use crate::findings::{Terms, Verdict};
+use crate::policy::{filters, policy_text};
+use crate::progress::Progress;
+use seccompiler::{Layout, TargetArch};
+use std::alloc::Global;
+use std::io::{Read, Write};
+
+// Writes the program of the filter that is asked for. How many warnings the policy of this path has is noted, unless it is to be
+// quiet. That is found out in front, since nothing is written where memory runs out.
+pub(crate) fn compile_noted<P: Read + Drop, W: Write>(
+    alloc: Global,
+    arch: TargetArch,
+    filter: Option<&str>,
+    layout: Layout,
+    format: ProgramFormat,
+    quiet: bool,
+    path: &str,
+    policy: P,
+    out: &mut W,
+) -> Result<Done, ToolError>
+    ensures answers { AnswersCompileNoted format arch (text_of filter.entry) layout quiet path.now (P.remaining policy) result (W.contents out.old) (W.contents out.new) }
+    ensures unwritten { IfErr result (λ e. KeepsOutput e out.old out.new) }
+{
+    let text = policy_text(alloc, policy)?;
+    let notes = counted(alloc, quiet, arch, path, text.as_slice())?;
+    compile_asked(alloc, arch, filter, layout, format, text.as_slice(), out)?;
+    Ok(Done {
+        verdict: Verdict::Same,
+        notes,
+    })
+}
+
+// Writes the program of the filter that is asked for, of a policy's text.
+fn compile_asked<W: Write>(
+    alloc: Global,
+    arch: TargetArch,
+    filter: Option<&str>,
+    layout: Layout,
+    format: ProgramFormat,
+    text: &[u8],
+    out: &mut W,
+) -> Result<(), ToolError>
+    ensures answers { AnswersCompileAsked format arch (text_of filter.entry) layout (Some text.now) result (W.contents out.old) (W.contents out.new) }
+    ensures unwritten { IfErr result (λ e. KeepsOutput e out.old out.new) }
+{
+    let name = chosen_name(alloc, text, filter)?;
+    compile(alloc, format, arch.name(), name.as_str(), layout, text, out)
+}
+
+// Reports on what a new policy decides otherwise than an old one. How many warnings the policies of these paths have is noted,
+// unless it is to be quiet.
+pub(crate) fn diff_noted<O: Read + Drop, N: Read + Drop, W: Write, G: Progress>(
+    alloc: Global,
+    terms: Terms,
+    filter: Option<&str>,
+    quiet: bool,
+    old_path: &str,
+    new_path: &str,
+    old: O,
+    new: N,
+    out: &mut W,
+    progress: &mut G,
+) -> Result<Done, ToolError>
+    ensures answers { AnswersDiffNoted terms.target (text_of filter.entry) terms.relation quiet old_path.now new_path.now (O.remaining old) (N.remaining new) result (W.contents out.old) (W.contents out.new) }
+    ensures unwritten { IfErr result (λ e. KeepsOutput e out.old out.new) }
+{
+    let arch = terms.target;
+    let old_text = policy_text(alloc, old)?;
+    let from = old_text.as_slice();
+    let new_text = text_of_new(alloc, arch, from, new)?;
+    let to = new_text.as_slice();
+    let notes = both_counted(alloc, quiet, arch, old_path, new_path, from, to)?;
+    let verdict = diff(
+        alloc,
+        arch.name(),
+        filter,
+        terms.relation,
+        terms.most,
+        from,
+        to,
+        out,
+        progress,
+    )?;
+    Ok(Done { verdict, notes })
+}
+
+// The whole text of the new policy. Where it can't be read, a fault of the old one's text comes first.
+fn text_of_new<N: Read + Drop>(
+    alloc: Global,
+    arch: TargetArch,
+    old: &[u8],
+    new: N,
+) -> Result<Vec<u8>, ToolError>
+    ensures text { IfOk result (λ text. IfSome (N.remaining new) (λ known. text.items ≡ known)) }
+    ensures refused { (asked before after : Option (List ℕ)) (relation : spec.Relation) → IfErr result (λ e. AnswersDiff (arch_text arch) asked relation (Some old.now) (N.remaining new) (Err e) before after) }
+{
+    match policy_text(alloc, new) {
+        Ok(text) => Ok(text),
+        Err(refusal) => {
+            filters(alloc, arch.name(), old)?;
+            Err(of_new_policy(refusal))
+        }
+    }
+}

@@ -4,7 +4,7 @@ import pathlib
 import subprocess
 
 from console_blocks import blocks_of, commands_of, is_jailed
-from jail_profiles import CONTAINER
+from jail_profiles import CONTAINER, PROGRAM
 from jail_running import ARCHIVE, ENVIRONMENT, EXAMPLES, SECONDS, TOP, run, step
 
 # What stands around the lines of C that the pages show: they are handed a policy as text.
@@ -56,8 +56,8 @@ LINES
 
 
 def is_of_profile(lines):
-    """Returns whether a block names the policy that try_profiles makes where seccomptool is built."""
-    return any(CONTAINER in it for it in lines)
+    """Returns whether a block names the policy or the program that try_profiles makes where seccomptool is built."""
+    return any(CONTAINER in it or PROGRAM in it for it in lines)
 
 
 def try_documents(results, folder):

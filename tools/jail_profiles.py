@@ -1,10 +1,11 @@
-"""What tools/try-jail runs under the filters of profiles that `seccomptool import` makes policies of.
+"""What tools/try-jail runs under profiles, of which `seccomptool import` makes policies, or programs.
 
 The profiles are the example's and, where Debian's package golang-github-containers-common is installed, Podman's. All
-filters of a policy are installed, in the order of its text. Calls have arguments that the kernel rejects, so none of
+filters of a policy are installed, in the order of its text, or the one program of a profile alone. Calls have arguments that the kernel rejects, so none of
 them changes anything where a filter lets it through.
 """
 
+import errno
 import json
 import pathlib
 import re
@@ -17,8 +18,8 @@ EXAMPLE = EXAMPLES / "oci-profile.json"
 PODMAN = pathlib.Path("/usr/share/containers/seccomp.json")
 PACKAGE = "golang-github-containers-common"
 
-# Where the pages of a container's policy expect it.
-CONTAINER = "container.json"
+# Where the pages of a container's policy and program expect them.
+CONTAINER, PROGRAM = "container.json", "container.bpf"
 
 SYS_ADMIN = ["--cap", "CAP_SYS_ADMIN"]
 
@@ -47,14 +48,27 @@ OF_EXAMPLE = [
 FOR_CAPABILITIES = ["setns -1", "sethostname 0 -1", "chroot 0", "open_by_handle_at -1", "fanotify_init -1"]
 
 
-def imported(results, folder, profile, words, name):
-    """Imports a profile into a file of the folder; returns the jailer's argument of all filters, in the text's order."""
-    made = subprocess.run([TOOL, "import", *words, profile], capture_output=True, text=True, timeout=SECONDS, env=ENVIRONMENT)
+def made_of(results, profile, words):
+    """Returns what `import` makes of a profile."""
+    made = subprocess.run([TOOL, "import", *words, profile], capture_output=True, timeout=SECONDS, env=ENVIRONMENT)
+    told = made.stderr.decode()
     front = f"seccomptool: {profile}: names of no system call of x86_64, left out ("
-    told = not made.stderr or (made.stderr.startswith(front) and made.stderr.count("\n") == 1)
-    results.compare(f"import {' '.join(words)} {profile.name}", (0, True), (made.returncode, told))
-    (folder / name).write_text(made.stdout)
-    return ",".join(json.loads(made.stdout or "{}"))
+    is_told = not told or (told.startswith(front) and told.count("\n") == 1)
+    results.compare(f"import {' '.join(words)} {profile.name}", (0, True), (made.returncode, is_told))
+    return made.stdout
+
+
+def imported(results, folder, profile, words, name):
+    """Imports a profile into a file of the folder; returns the jailer's arguments of all filters, in the text's order."""
+    made = made_of(results, profile, words)
+    (folder / name).write_bytes(made)
+    return [name, ",".join(json.loads(made or b"{}"))]
+
+
+def compiled(results, folder, profile, words, name):
+    """Compiles a profile into a file of the folder; returns the jailer's arguments of the program."""
+    (folder / name).write_bytes(made_of(results, profile, [*words, "--format", "raw"]))
+    return ["--program", name]
 
 
 def try_commands(results, what, jailed, folder):
@@ -75,28 +89,27 @@ def try_call(results, what, jailed, folder, call, wanted):
         results.compare(f"{what}: {call}", (answer_of(wanted), "", 0), (out, err, status))
 
 
-def try_example(results, jailer, folder):
-    """Runs commands and calls under the example's filters."""
+def try_example(results, jailer, folder, way, end):
+    """Runs commands and calls under the example."""
     for words in ([], SYS_ADMIN):
-        filters = imported(results, folder, EXAMPLE, words, "example.json")
-        try_commands(results, f"{jailer} the example {words}", [*jailer.words, "example.json", filters], folder)
-    filters = imported(results, folder, EXAMPLE, [], "example.json")
-    results.compare("the example's filters", "base,deny1,deny2,deny3", filters)
-    out, err, status = run([*jailer.words, "example.json", filters, "unshare", "--user", "true"], folder)
+        jailed = [*jailer.words, *way(results, folder, EXAMPLE, words, f"example{end}")]
+        try_commands(results, f"{jailer} the example{end} {words}", jailed, folder)
+    jailed = [*jailer.words, *way(results, folder, EXAMPLE, [], f"example{end}")]
+    out, err, status = run([*jailed, "unshare", "--user", "true"], folder)
     results.compare(f"{jailer} the example: unshare", ("", True, 1), (out, err.endswith("Operation not permitted\n"), status))
     for words, call, wanted in OF_EXAMPLE:
-        filters = imported(results, folder, EXAMPLE, words, "example.json")
-        try_call(results, f"{jailer} the example {words}", [*jailer.words, "example.json", filters], folder, call, wanted)
+        jailed = [*jailer.words, *way(results, folder, EXAMPLE, words, f"example{end}")]
+        try_call(results, f"{jailer} the example{end} {words}", jailed, folder, call, wanted)
 
 
-def try_podman(results, jailer, folder):
+def try_podman(results, jailer, folder, way, end):
     """Runs the same under Podman's profile, without capabilities and with all that it names."""
     text = PODMAN.read_text(encoding="utf-8")
     caps = sorted(set(re.findall(r'"(CAP_[A-Z_]+)"', text)))
     results.compare(f"{PODMAN} names capabilities", True, "CAP_SYS_ADMIN" in caps)
     for words in ([], [it for cap in caps for it in ("--cap", cap)]):
-        filters = imported(results, folder, PODMAN, words, "podman.json")
-        what, jailed = f"{jailer} {PODMAN.name} with {len(words) // 2} capabilities", [*jailer.words, "podman.json", filters]
+        jailed = [*jailer.words, *way(results, folder, PODMAN, words, f"podman{end}")]
+        what = f"{jailer} {PODMAN.name} as {end} with {len(words) // 2} capabilities"
         try_commands(results, what, jailed, folder)
         try_call(results, what, jailed, folder, "kexec_load", 1)
         try_call(results, what, jailed, folder, "4000", 38)
@@ -107,11 +120,36 @@ def try_podman(results, jailer, folder):
             results.compare(f"{what}: {call}", wanted, run([*jailed, folder / "bin/call", *call.split()], folder))
 
 
-def try_profiles(results, jailer, folder):
-    """Runs commands and calls under the filters of profiles, by one jailer."""
-    try_example(results, jailer, folder)
-    imported(results, folder, EXAMPLE, [], CONTAINER)
-    if PODMAN.exists():
-        try_podman(results, jailer, folder)
-    else:
+def try_profiles(results, by_filters, by_program, folder):
+    """Runs commands and calls under profiles: by one jailer under their filters, by others under one program."""
+    compiled(results, folder, EXAMPLE, [], PROGRAM)
+    filters = imported(results, folder, EXAMPLE, [], CONTAINER)
+    results.compare("the example's filters", "base,deny1,deny2,deny3", filters[1])
+    if not PODMAN.exists():
         print(f"{PODMAN} of Debian's {PACKAGE} isn't there, so no command is run under it")
+    for jailer, way, end in [(by_filters, imported, ".json"), *[(it, compiled, ".bpf") for it in by_program]]:
+        try_example(results, jailer, folder, way, end)
+        if PODMAN.exists():
+            try_podman(results, jailer, folder, way, end)
+
+
+# Files that are no programs, with how many bytes they have; those of the right length that a kernel doesn't take.
+NO_PROGRAMS = {"empty.bpf": 0, "seven.bpf": 7, "nine.bpf": 9, "large.bpf": 8 * 4097}
+UNFIT = {"no-return.bpf": 8, "large-unfit.bpf": 8 * 4096}
+
+
+def try_no_programs(results, jailer, folder):
+    """Gives a jailer files that are no programs: nothing is run."""
+    for name, length in {**NO_PROGRAMS, **UNFIT}.items():
+        (folder / name).write_bytes(bytes(length))
+        why = f"1 to 4096 instructions of 8 bytes are expected, found {length} bytes"
+        wanted = jailer.told(name, why)
+        if name in UNFIT:
+            front = "seccomp: " * (jailer.name == "jail-rs")
+            wanted = jailer.told(f"{name}: installing the program", front + jailer.error(errno.EINVAL))
+        found = run([*jailer.words, "--program", name, "touch", "run"], folder)
+        results.compare(f"{jailer} --program {name}", ("", wanted, 125), found)
+    for name, number in (("missing.bpf", errno.ENOENT), (".", errno.EISDIR)):
+        found = run([*jailer.words, "--program", name, "touch", "run"], folder)
+        results.compare(f"{jailer} --program {name}", ("", jailer.told(name, number), 125), found)
+    results.compare(f"{jailer}: what is no program ran a command", False, (folder / "run").exists())

@@ -1,10 +1,14 @@
 /*
  * jail [--tree] POLICY FILTER[,FILTER].. COMMAND [ARGUMENT]..
+ * jail --program PROGRAM COMMAND [ARGUMENT]..
  *
  * Runs a command under filters. POLICY is a file of filters as JSON text, each FILTER the name of one of
  * them. They are compiled for the architecture that this program is built for, with --tree in the layout
  * of a tree. They hold for the command and for all that the command starts, and nothing can take them off
  * again.
+ *
+ * Or it is run under the program of the file PROGRAM, its instructions one after the other as the kernel
+ * takes them, 8 bytes each: what `seccomptool compile` and `seccomptool import --format raw` write.
  *
  * Of several filters the kernel takes the strictest answer, and of several error numbers that of the
  * filter installed last. They are installed in the order in which they are named, so each but the last
@@ -15,8 +19,8 @@
  * The command takes this process over, so its exit status is that of the command. Where it doesn't come
  * to that, a line on standard error says why, and the status is
  *
- *   125  the words are no command of this program, the policy can't be read or one of the filters is
- *        refused, or the kernel doesn't take one of them: nothing was run
+ *   125  the words are no command of this program, the policy or program can't be read, one of the filters
+ *        is refused, or the kernel doesn't take one of them: nothing was run
  *   126  the command can't be run
  *   127  there is no such command
  *
@@ -145,6 +149,22 @@ static struct program *compile_each(const struct policy *policy, const char *nam
     return programs;
 }
 
+/* Copies the instructions of a program's file; where they are none, or more than the kernel takes, says so and ends. */
+static void read_program(const char *path, struct program *program)
+{
+    struct text text = read_whole(path);
+
+    if (text.length == 0 || text.length % sizeof(struct sock_filter) != 0 || text.length > sizeof program->instructions) {
+        fprintf(stderr, "jail: %s: 1 to 4096 instructions of 8 bytes are expected, found %zu bytes\n", path, text.length);
+        exit(FAILED);
+    }
+    memcpy(program->instructions, text.bytes, text.length);
+    program->length = (unsigned short)(text.length / sizeof(struct sock_filter));
+    program->name = "the program";
+    program->name_length = (int)strlen(program->name);
+    free(text.bytes);
+}
+
 /* Installs the program for all threads of this process, and rules new privileges out. */
 static void install(const struct policy *policy, const struct program *program, const char *hint)
 {
@@ -168,19 +188,40 @@ static void install_each(const struct policy *policy, const struct program *prog
                 k == 0 ? "" : "; each filter before it has to allow prctl and seccomp");
 }
 
+/* Runs the command in the place of this process. */
+static _Noreturn void execute(char **command)
+{
+    execvp(command[0], command);
+    fail(errno == ENOENT ? NOT_FOUND : CANNOT_RUN, command[0]);
+}
+
+/* Runs a command under the program of a file. */
+static _Noreturn void run_under_program(const char *path, char **command)
+{
+    static struct program program;
+    struct policy policy = {.path = path};
+
+    read_program(path, &program);
+    install(&policy, &program, "");
+    execute(command);
+}
+
 int main(int count, char **words)
 {
     struct policy policy = {.layout = SECCOMPILER_LAYOUT_LINEAR};
     struct program *programs;
     size_t program_count;
 
+    if (count > 3 && strcmp(words[1], "--program") == 0)
+        run_under_program(words[2], words + 3);
     if (count > 1 && strcmp(words[1], "--tree") == 0) {
         policy.layout = SECCOMPILER_LAYOUT_TREE;
         count--;
         words++;
     }
-    if (count < 4) {
-        fputs("usage: jail [--tree] POLICY FILTER[,FILTER].. COMMAND [ARGUMENT]..\n", stderr);
+    if (count < 4 || strcmp(words[1], "--program") == 0) {
+        fputs("usage: jail [--tree] POLICY FILTER[,FILTER].. COMMAND [ARGUMENT]..\n"
+              "       jail --program PROGRAM COMMAND [ARGUMENT]..\n", stderr);
         return FAILED;
     }
     policy.path = words[1];
@@ -188,6 +229,5 @@ int main(int count, char **words)
     programs = compile_each(&policy, words[2], &program_count);
     free(policy.text.bytes);
     install_each(&policy, programs, program_count);
-    execvp(words[3], words + 3);
-    fail(errno == ENOENT ? NOT_FOUND : CANNOT_RUN, words[3]);
+    execute(words + 3);
 }

@@ -1,7 +1,8 @@
-//! `jail-rs [--tree] POLICY FILTER[,FILTER].. COMMAND [ARGUMENT]..`
+//! `jail-rs [--tree] POLICY FILTER[,FILTER].. COMMAND [ARGUMENT]..`,
+//! `jail-rs --program PROGRAM COMMAND [ARGUMENT]..`
 //!
-//! Runs a command under the filters that have the names FILTER in the policy file POLICY: what
-//! `examples/jail/jail.c` does, in safe Rust. The exit status is that of the command. Where it doesn't
+//! Runs a command under the filters that have the names FILTER in the policy file POLICY, or under the program of the file
+//! PROGRAM: what `examples/jail/jail.c` does, in safe Rust. The exit status is that of the command. Where it doesn't
 //! come to that, a line on standard error says why, and it is 125 where nothing was run, 126 where
 //! the command can't be run and 127 where there is none.
 //!
@@ -12,7 +13,9 @@
 
 #![forbid(unsafe_code)]
 
-use seccompiler::{apply_filter_all_threads, compile_from_json_in, BpfProgram, Layout};
+use seccompiler::{
+    apply_filter_all_threads, compile_from_json_in, sock_filter, BpfProgram, Layout,
+};
 use std::env::{self, consts::ARCH};
 use std::error::Error;
 use std::ffi::{OsStr, OsString};
@@ -28,8 +31,10 @@ use std::str;
 enum Failure {
     /// The arguments ask for nothing.
     Words,
-    /// The policy can't be read.
+    /// The policy or the program can't be read.
     Policy(OsString, io::Error),
+    /// The file has so many bytes, which are no instructions, or more than the kernel takes.
+    Program(OsString, usize),
     /// The policy is rejected.
     Filter(OsString, seccompiler::Error),
     /// The policy has no filter of this name.
@@ -55,7 +60,14 @@ impl fmt::Display for Failure {
     fn fmt(&self, f: &mut fmt::Formatter<'_>) -> fmt::Result {
         match self {
             Failure::Words => {
-                f.write_str("usage: jail-rs [--tree] POLICY FILTER[,FILTER].. COMMAND [ARGUMENT]..")
+                f.write_str(
+                    "usage: jail-rs [--tree] POLICY FILTER[,FILTER].. COMMAND [ARGUMENT]..\n",
+                )?;
+                f.write_str("       jail-rs --program PROGRAM COMMAND [ARGUMENT]..")
+            }
+            Failure::Program(path, length) => {
+                let path = path.to_string_lossy();
+                write!(f, "jail-rs: {path}: 1 to 4096 instructions of 8 bytes are expected, found {length} bytes")
             }
             Failure::Policy(path, error) | Failure::Command(path, error) => {
                 write!(f, "jail-rs: {}: {error}", path.to_string_lossy())
@@ -110,6 +122,22 @@ fn compiled(
         .collect()
 }
 
+/// Reads the program of a file: its instructions, 8 bytes each, as this machine has them.
+fn program_of(path: &OsStr) -> Result<BpfProgram, Failure> {
+    let bytes = fs::read(path).map_err(|error| Failure::Policy(path.into(), error))?;
+    let (instructions, rest) = (bytes.chunks_exact(8), bytes.len() % 8);
+    if bytes.is_empty() || rest != 0 || bytes.len() > 8 * 4096 {
+        return Err(Failure::Program(path.into(), bytes.len()));
+    }
+    let instruction = |it: &[u8]| sock_filter {
+        code: u16::from_ne_bytes([it[0], it[1]]),
+        jt: it[2],
+        jf: it[3],
+        k: u32::from_ne_bytes([it[4], it[5], it[6], it[7]]),
+    };
+    Ok(instructions.map(instruction).collect())
+}
+
 /// Installs the programs for all threads, one after the other. Each holds for what installs the next.
 fn install(path: &OsStr, programs: &[(OsString, BpfProgram)]) -> Result<(), Failure> {
     let mut hint = "";
@@ -125,17 +153,29 @@ fn install(path: &OsStr, programs: &[(OsString, BpfProgram)]) -> Result<(), Fail
 fn jail(mut words: impl Iterator<Item = OsString>) -> Result<(), Failure> {
     let mut first = words.next();
     let mut layout = Layout::Linear;
+    if first.as_deref() == Some("--program".as_ref()) {
+        let (Some(path), Some(command)) = (words.next(), words.next()) else {
+            return Err(Failure::Words);
+        };
+        install(&path, &[("the program".into(), program_of(&path)?)])?;
+        return Err(executed(command, words));
+    }
     if first.as_deref() == Some("--tree".as_ref()) {
         layout = Layout::Tree;
         first = words.next();
     }
     let (path, names, command) = match (first, words.next(), words.next()) {
-        (Some(path), Some(names), Some(command)) => (path, names, command),
+        (Some(path), Some(names), Some(command)) if path != "--program" => (path, names, command),
         _ => return Err(Failure::Words),
     };
     install(&path, &compiled(&path, &names, layout)?)?;
-    let error = Command::new(&command).args(words).exec();
-    Err(Failure::Command(command, error))
+    Err(executed(command, words))
+}
+
+/// Runs the command in the place of this process, and returns why it can't be run.
+fn executed(command: OsString, arguments: impl Iterator<Item = OsString>) -> Failure {
+    let error = Command::new(&command).args(arguments).exec();
+    Failure::Command(command, error)
 }
 
 fn main() -> ExitCode {

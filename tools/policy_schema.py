@@ -35,6 +35,9 @@ WITH_VALUES = (
 )
 HELP = ("-h", "--help")
 
+# What `compile` and `diff` note of policies that are right.
+NOTES = re.compile(r"(?m)^seccomptool: .*: \d+ warnings?; seccomptool check tells (?:it|them)\n")
+
 # What stands in front of what seccomptool reports: its name, and a file's where it is about one.
 IN_FRONT = re.compile(r"seccomptool: (standard (input|output): |[\w./-]+: )?")
 
@@ -105,7 +108,7 @@ def policy_of(case, files):
         name = words[2]
     elif words[:1] == [READING]:
         name = "-"
-    elif words and words[0] in OF_TOOL and not any(it in HELP or it.startswith(("--list", "--program")) for it in words):
+    elif words and words[0] in OF_TOOL and not any(it in HELP or it.startswith(("--list", "--program", "--oci")) for it in words):
         names = names_in(words[1:])
         several = words[0] == "check" and len(names) > 1
         name = None if several else (names or ["-"])[0]
@@ -119,9 +122,10 @@ def policy_of(case, files):
 def is_valid(case):
     """Returns whether a case has its policy's shape right; None where it doesn't say that, and the message that says
     something else where it is unknown."""
-    message = IN_FRONT.sub("", case.errors, count=1)
+    errors = NOTES.sub("", case.errors)
+    message = IN_FRONT.sub("", errors, count=1)
     at_place = message.partition(": ")[2] if case.words.startswith(("check", "compile")) else ""
-    if case.status == 0 or (case.words.startswith("diff") and not case.errors):
+    if case.status == 0 or (case.words.startswith("diff") and not errors):
         return True
     if UNSAID.match(message) or UNSAID_AT.fullmatch(at_place):
         return None

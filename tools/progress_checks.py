@@ -115,7 +115,7 @@ def compare_progress(results, program):
             ("verify", 0, "filter a: same\nother architectures: same\n", 8_000_000, ["old.json", "new.bpf"]),
         ]
         for name, status, output, most, files in long:
-            words = [name, "--most", str(most), *files]
+            words = [name, *["--quiet"] * (name == "diff"), "--most", str(most), *files]
             runs = [lanes.submit(it, program, folder, words) for it in (on_terminal, on_pipe)]
             on_the_terminal, on_the_pipe = (it.result() for it in runs)
             what = f"seccomptool {' '.join(words)}"

@@ -6,16 +6,28 @@ from the program's output.
 """
 
 from . import (
-    calls, check, compat, compile, conditions, diff, entries, explain, imports, record, run, show, stats, verify, warnings,
-    words
+    calls, check, compat, compile, conditions, counts, diff, entries, explain, imports, oci, record, run, show, stats, verify,
+    warnings, words
 )
+from .forms import Case
 
-FILES = {**explain.FILES, **compile.FILES, **diff.FILES, **run.FILES, **verify.FILES, **imports.FILES}
+FILES = {**explain.FILES, **compile.FILES, **diff.FILES, **run.FILES, **verify.FILES, **imports.FILES, **oci.FILES, **counts.FILES}
+
+
+def quiet(case):
+    """Returns the case of a command that notes warnings without the notes, which have cases of their own."""
+    command, space, rest = case[0].partition(" ")
+    return Case(f"{command} -q{space}{rest}", *case[1:])
+
+
 CASES = [
-    case
-    for it in (
-        compile, show, check, warnings, conditions, calls, entries, explain, run, stats, record, diff, verify, compat,
-        imports, words
-    )
-    for case in it.CASES
+    *map(quiet, [*compile.CASES, *diff.CASES]),
+    *[
+        case
+        for it in (
+            show, check, warnings, conditions, calls, entries, explain, run, stats, record, counts, verify, compat, imports,
+            oci, words
+        )
+        for case in it.CASES
+    ],
 ]

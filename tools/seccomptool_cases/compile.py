@@ -84,7 +84,7 @@ def included(layout, compiler, flags):
     made = f"included-{layout}.{compiler}"
     words = f"compile --layout {layout} {EXAMPLE}"
     build = f"{compiler} {flags} -Wall -Wextra -Wpedantic -Werror -D INITIALIZER='\"{made}.inc\"' includes.c -o {made}"
-    return writes(f"{words} --format c -o {made}.inc && ./seccomptool {words} -o {made}.raw && {build} &&"
+    return writes(f"{words} --format c -o {made}.inc && ./seccomptool {words} -q -o {made}.raw && {build} &&"
                   f" ./{made} | cmp - {made}.raw; status=$?; rm -f {made}*; (exit $status)", "", "")
 
 

@@ -140,7 +140,7 @@ CASES = [
     writes("show --program=- < bit.bpf", "", BIT_SHOWN),
     writes("show --program -", OF_LOADS, LOADS_SHOWN),
     writes("show --program longest.bpf | tail -n 1", "", "4095  ret #0x7fff0000             ; allow\n"),
-    writes("compile logs.json -o shown.bpf --layout linear && ./seccomptool show --program shown.bpf; rm shown.bpf", "",
+    writes("compile -q logs.json -o shown.bpf --layout linear && ./seccomptool show --program shown.bpf; rm shown.bpf", "",
            LOGS_SHOWN.replace("filter 4 a\n", "").replace("; x86_64", "").replace("3, 2       ", "3, 2")),
     # Those that aren't taken, and faults of files, of the reader and the writer.
     *[rejects("show --program -", given, told + "\n") for given, told in UNFIT],

@@ -79,7 +79,7 @@ def fails(words, told, place=TOOL, given=""):
 
 def compiled(words, layout, file):
     """Returns words behind which the program of a policy's file, in this layout, is standard input."""
-    return f"compile {words} --layout {layout} {file} | ./seccomptool verify {words} {file} -"
+    return f"compile -q {words} --layout {layout} {file} | ./seccomptool verify {words} {file} -"
 
 
 CASES = [
@@ -87,7 +87,7 @@ CASES = [
     *[Case(compiled(f"-a {arch} --filter=a", layout, file), 0, SAME + OTHERS_SAME, "")
       for arch in ("x86_64", "aarch64", "riscv64") for layout in ("linear", "tree")
       for file in ("logs.json", "allows-read.json", "allows-read-of-5.json")],
-    Case("compile allows-read.json | ./seccomptool verify --all allows-read.json -", 0, SAME + OTHERS_SAME, ""),
+    Case("compile -q allows-read.json | ./seccomptool verify --all allows-read.json -", 0, SAME + OTHERS_SAME, ""),
     # So do programs of other compilers.
     same("allows-read.json reads.bpf", SAME + OTHERS_SAME),
     same("allows-read.json reads-by-order.bpf --all", SAME + OTHERS_SAME),
@@ -98,7 +98,7 @@ CASES = [
     differs("logs.json reads.bpf", DIFFERENT + READS + OTHERS_SAME),
     differs("allows-read.json -", DIFFERENT + NO_LONGER_READS + OTHERS_SAME, guarded(returns(LOG))),
     differs("allows-read.json writes.bpf", DIFFERENT + NO_LONGER_READS + WRITES + OTHERS_SAME),
-    Case("compile --layout linear allows-read.json | ./seccomptool verify logs.json -", 1, DIFFERENT + READS + OTHERS_SAME, ""),
+    Case("compile -q --layout linear allows-read.json | ./seccomptool verify logs.json -", 1, DIFFERENT + READS + OTHERS_SAME, ""),
     # An example is a call on which the two differ.
     differs("logs.json reads-odd.bpf", DIFFERENT + "  read: log -> allow, more: read(0x1, 0x0, 0x0, 0x0, 0x0, 0x0)\n" + OTHERS_SAME),
     # The high half of an argument that is compared as `dword` doesn't count.

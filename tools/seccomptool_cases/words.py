@@ -15,7 +15,7 @@ NAMED = (
 COMMANDS = ("compile", "show", "check", "explain", "run", "stats", "record", "diff", "verify", "compat", "import")
 
 # What the help of a command says of it.
-ABOUT_IMPORT = "Print a seccomp profile of a container runtime as a policy"
+ABOUT_IMPORT = "Print a container runtime's seccomp profile as a policy or as one program"
 
 NO_VERSION = "error: the value of --kernel is no version of two numbers, as 6.1\n.."
 
@@ -40,9 +40,9 @@ CASES = [
         writes(f"help {it}", "", ".."), writes(f"{it} --help", "", ".."), writes(f"{it} no.json -h", "", ".."))],
     writes("help import", "", ABOUT_IMPORT + "\n\nUsage: seccomptool import [OPTIONS] [PROFILE]\n.."),
     # The words are read as the command that they are.
-    writes("compile --filter=--tree", NAMED, TREE),
-    writes("compile --filter= --layout linear", NAMED, LINEAR),
-    writes("compile -f '' --layout linear", NAMED, LINEAR),
+    writes("compile -q --filter=--tree", NAMED, TREE),
+    writes("compile -q --filter= --layout linear", NAMED, LINEAR),
+    writes("compile -q -f '' --layout linear", NAMED, LINEAR),
     writes("record read", "", record_of(0, X86_64)),
     writes("record 0 1 0x2 0xaBc 007 18446744073709551615 0xffffffffffffffff", "",
            record_of(0, X86_64, 1, 2, 0xABC, 7, GREATEST, GREATEST)),

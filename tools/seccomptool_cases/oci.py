@@ -1,0 +1,260 @@
+"""What `explain`, `diff` and `import --format raw` have to do of profiles as they are: decisions, and the entries that they are of.
+
+What a profile decides is worked out here from its text, by the words of the OCI runtime specification, and compared with
+the rows of profiles.py and with what the built program answers. Records are made by their layout (linux/seccomp.h).
+"""
+
+import json
+import re
+import struct
+
+from .forms import CLOSED, FOLDER, FULL, INPUT, LOGS, MISSING, OUTPUT, RESET, TOOL, Case, Failing, rejects, writes
+from .imports import FITTING, LARGE, NO_PROFILE, PARSING, entry, profile, when
+from .profiles import PROFILES, STRICTEST_FIRST, numbers_of
+
+# The actions of profiles by their names in a policy; those of the first two have a number.
+ACTIONS = {"ERRNO": "errno", "TRACE": "trace", "KILL": "kill_thread", "KILL_THREAD": "kill_thread", "KILL_PROCESS": "kill_process",
+           "LOG": "log", "ALLOW": "allow", "TRAP": "trap"}
+GO_NAMES = {"x86_64": "amd64", "aarch64": "arm64", "riscv64": "riscv64"}
+AUDIT_ARCH = {"x86_64": 0xC000003E, "aarch64": 0xC00000B7, "riscv64": 0xC00000F3}
+
+
+def action_of(name, number):
+    """Returns an action of a profile by its name in a policy, with its number if it has one."""
+    text = ACTIONS[name[len("SCMP_ACT_"):]]
+    return f"{text} {1 if number is None else number}" if text in ("errno", "trace") else text
+
+
+def is_met(condition, arguments):
+    """Returns whether a condition of a profile is met by the six arguments of a call."""
+    found, value, two = arguments[condition["index"]], condition["value"], condition.get("valueTwo") or 0
+    return {"NE": found != value, "LT": found < value, "LE": found <= value, "EQ": found == value, "GE": found >= value,
+            "GT": found > value, "MASKED_EQ": found & value == two & value}[condition["op"][len("SCMP_CMP_"):]]
+
+
+def are_met(conditions, arguments):
+    """Returns whether the conditions of an entry are: alternatives where two of them are on one argument."""
+    places = [it["index"] for it in conditions]
+    how = any if len(set(places)) < len(places) else all
+    return how(is_met(it, arguments) for it in conditions)
+
+
+def version_of(text):
+    """Returns the two numbers of a kernel's version; a container without one has a newer kernel than each."""
+    return tuple(map(int, text.split("."))) if text else (2**32, 0)
+
+
+def applies(one, arch, caps, kernel):
+    """Returns whether an entry applies to a container."""
+    within, without = one.get("includes") or {}, one.get("excludes") or {}
+    wanted, unwanted = within.get("minKernel"), without.get("minKernel")
+    return (set(within.get("caps") or []) <= caps and not caps & set(without.get("caps") or [])
+            and arch in (within.get("arches") or [arch]) and arch not in (without.get("arches") or [])
+            and not (wanted and kernel < version_of(wanted)) and not (unwanted and kernel >= version_of(unwanted)))
+
+
+def decision(given, words, name, arguments):
+    """Returns what a profile decides of a call: the action, and the place of the entry that it is of, or none."""
+    arch = GO_NAMES[arch_of(words)]
+    caps, kernel = set(re.findall(r"--cap (\w+)", words)), re.search(r"--kernel ([\d.]+)", words)
+    counting = [
+        (action_of(one["action"], one.get("errnoRet")), place) for place, one in enumerate(given.get("syscalls") or [])
+        if applies(one, arch, caps, version_of(kernel and kernel[1])) and name in (one.get("names") or [one.get("name")])
+        and are_met(one.get("args") or [], arguments)
+    ]
+    default = action_of(given["defaultAction"], given.get("defaultErrnoRet")), None
+    return min(counting, key=lambda it: STRICTEST_FIRST.index(it[0].split()[0]), default=default)
+
+
+def arch_of(words):
+    """Returns the architecture that the words of a command name."""
+    named = re.search(r"-a (\w+)", words)
+    return named[1] if named else "x86_64"
+
+
+def line_of(given, words, call, arguments):
+    """Returns the line of `explain` on a call of a profile."""
+    action, place = decision(given, words, call, arguments)
+    return f"{action}: defaultAction\n" if place is None else f"{action}: syscalls[{place}] ({call})\n"
+
+
+def record_of(arch, number, arguments):
+    """Returns the 64 bytes of a call's record."""
+    return struct.pack("<IIQ6Q", number, AUDIT_ARCH[arch], 0, *arguments)
+
+
+def file_of(place):
+    """Returns the file of the profile at a place of the rows."""
+    return f"profile-{place}.json"
+
+
+def whole(arguments):
+    """Returns six arguments, 0 where none is given."""
+    return (*arguments, *[0] * (6 - len(arguments)))
+
+
+def compare_profiles(results, run):
+    """Asks the program, by a function that runs it with a text, what each profile decides, in three ways."""
+    for place, (what, words, given, rows) in enumerate(PROFILES):
+        numbers, arch = numbers_of(words), arch_of(words)
+        records = b"".join(record_of(arch, it if isinstance(it, int) else numbers[it], whole(arguments)) for it, arguments, _ in rows)
+        for call, arguments, wanted in rows:
+            # Whatever name it has, a number's line is that of its call.
+            results.compare(f"{what}: {call}{arguments}, by its text", (wanted,), (decision(given, words, call, whole(arguments))[0],))
+            asked = f"explain --oci {words} {file_of(place)} {call} {' '.join(map(str, arguments))}"
+            results.compare(f"{what}: {asked}", (0, line_of(given, words, call, whole(arguments)), ""), run(asked, ""))
+        lines = "".join(line_of(given, words, call, whole(arguments)) for call, arguments, _ in rows)
+        asked = f"explain --oci {words} {file_of(place)}"
+        results.compare(f"{what}: {asked} of records", (0, lines, ""), run(asked, records))
+        status, program, _ = run(f"import --format raw {words} {file_of(place)}", "")
+        results.compare(f"{what}: import --format raw", (0, 0), (status, len(program) % 8))
+        actions = "".join(f"{wanted}\n" for _, _, wanted in rows)
+        program = program.encode("utf-8", "surrogateescape")
+        for (call, arguments, wanted), line in zip(rows, actions.splitlines(True)):
+            asked = f"run -a {arch} - {call} {' '.join(map(str, arguments))}"
+            results.compare(f"{what}: {asked}", (0, line, ""), run(asked, program))
+
+
+# A line of `diff`: a call or a range, both actions, which one permits more, and an example.
+LINE = re.compile(r"  (?:other calls \d+ to \d+|\w+): ([\w ]+) -> ([\w ]+), (more|less|otherwise): (\w+)\((.+)\)")
+
+
+def is_example(line, words, old, new, numbers):
+    """Returns whether a line of `diff` says of its example what the two profiles decide."""
+    found = LINE.fullmatch(line)
+    if not found:
+        return False
+    call, arguments = found[4], tuple(int(it, 16) for it in found[5].split(", "))
+    both = [decision(it, words, call, arguments)[0] for it in (old, new)]
+    ranks = [STRICTEST_FIRST.index(it.split()[0]) for it in both]
+    kind = "more" if ranks[1] > ranks[0] else "less" if ranks[1] < ranks[0] else "otherwise"
+    return (*both, kind) == (found[1], found[2], found[3]) and both[0] != both[1] and (call in numbers or call.isdigit())
+
+
+def compare_pairs(results, run):
+    """Compares each profile with the next one for the same container, and with itself."""
+    for place, (what, words, given, rows) in enumerate(PROFILES):
+        asked = f"diff --oci {words} {file_of(place)} {file_of(place)}"
+        results.compare(f"{what}: {asked}", (0, "profile: same\n", ""), run(asked, ""))
+        other = next((it for it in range(place + 1, len(PROFILES)) if PROFILES[it][1] == words), None)
+        if other is None:
+            continue
+        new, numbers = PROFILES[other][2], numbers_of(words)
+        asked = f"diff --oci {words} {file_of(place)} {file_of(other)}"
+        status, output, errors = run(asked, "")
+        heading, *lines = output.splitlines()
+        # Two of the profiles decide alike: whatever is listed has to be so, and what differs has to be listed.
+        verdict = (1, "profile: different") if lines else (0, "profile: same")
+        results.compare(asked, (*verdict, "", []), (
+            status, heading, errors, [it for it in lines if not is_example(it, words, given, new, numbers)]))
+        listed = {it.split(":")[0].strip() for it in lines}
+        calls = {(call, whole(arguments)) for call, arguments, _ in (*rows, *PROFILES[other][3]) if not isinstance(call, int)}
+        wanted = {call for call, it in calls if decision(given, words, call, it)[0] != decision(new, words, call, it)[0]}
+        results.compare(f"{asked} lists calls of both", (set(),), (wanted - listed,))
+        # The other way round the same calls differ, and what permits more is named as it is.
+        back = run(f"diff --oci {words} {file_of(other)} {file_of(place)}", "")
+        results.compare(f"{asked}, back", (verdict[0], listed), (back[0], {it.split(":")[0].strip() for it in back[1].splitlines()[1:]}))
+
+
+FILES = {
+    **{file_of(place): json.dumps(given) for place, (_, _, given, _) in enumerate(PROFILES)},
+    "fitting-profile.json": json.dumps(profile(entry("read", args=FITTING))),
+}
+
+
+def differ(words, output, given=""):
+    """Returns the case of profiles that differ."""
+    return Case("diff --oci " + words, 1, output, "", given)
+
+
+def fails(words, told, place, given=""):
+    """Returns the case of profiles that aren't compared."""
+    return Case("diff --oci " + words, 2, "", place + told, given)
+
+
+def misused(words, told):
+    """Returns the case of words that are no command."""
+    return Case(words, 2, "", f"error: {told}\n..")
+
+
+# One program has the instructions of each filter's tree and one more, and one that allows: 4090 + 1 + 1 of 583 rules, and
+# 4097 + 1 + 1 of 584.
+TOO_LONG = "One program of the profile needs 4099 instructions; 4096 fit\n"
+
+READS = "profile: different\n  read: errno 1 -> allow, more: read(0x0, 0x0, 0x0, 0x0, 0x0, 0x0)\n"
+CONTAINER_ONLY = "--cap and --kernel are for --oci"
+
+CASES = [
+    # Options, files and standard input.
+    writes("explain --oci reads-profile.json read", "", "allow: syscalls[0] (read)\n"),
+    writes("explain reads-profile.json --oci --kernel=6.1 --cap CAP_KILL -a amd64 0", "", "allow: syscalls[0] (read)\n"),
+    writes("explain --oci - write", json.dumps(profile(entry("read"))), "errno 1: defaultAction\n"),
+    writes("explain --oci --format word reads-profile.json read", "", "7fff0000 syscalls[0] (read)\n"),
+    writes("explain --oci --format word reads-profile.json write", "", "00050001 defaultAction\n"),
+    writes("explain --oci --format word reads-profile.json --records examples/records.bin", "",
+           "00050001 defaultAction\n" * 4 + "80000000 another architecture\n"),
+    writes("explain --oci reads-profile.json < examples/records.bin", "",
+           "errno 1: defaultAction\n" * 4 + "kill_process: another architecture\n"),
+    writes("explain --oci reads-profile.json", "", ""),
+    # Names that the architecture hasn't are no reason, and aren't listed.
+    writes("explain --oci unknown-profile.json read", "", "allow: syscalls[0] (read)\n"),
+    writes("diff --oci unknown-profile.json reads-profile.json", "", "profile: same\n"),
+    differ("reads-profile.json -", "profile: different\n  read: allow -> log, less: read(0x0, 0x0, 0x0, 0x0, 0x0, 0x0)\n",
+           json.dumps(profile(entry("read", "SCMP_ACT_LOG")))),
+    differ("- reads-profile.json", READS, json.dumps(profile())),
+    writes("diff --oci --at-most reads-profile.json -", json.dumps(profile()), "profile: nowhere more permissive\n"),
+    Case("diff --oci --at-most - reads-profile.json", 1, READS.replace("different", "more permissive"), "", json.dumps(profile())),
+    Case("diff --oci --most 0 - reads-profile.json", 3, "profile: undecided\n..", "", json.dumps(profile())),
+    # A second entry, stricter on some arguments.
+    differ("reads-profile.json -", "profile: different\n  read: allow -> trap, less: read(0x5, 0x0, 0x0, 0x0, 0x0, 0x0)\n",
+           json.dumps(profile(entry("read"), entry("read", "SCMP_ACT_TRAP", args=[when(0, "EQ", 5)])))),
+    # What is no profile, and whose it is.
+    rejects("explain --oci logs.json read", "", NO_PROFILE, TOOL + "logs.json: "),
+    rejects("explain --oci - read", "{", PARSING),
+    rejects("explain --oci missing.json read", "", MISSING, TOOL + "missing.json: "),
+    rejects("explain --oci examples read", "", FOLDER, TOOL + "examples: "),
+    rejects("explain --oci - read", Failing(json.dumps(profile())), RESET),
+    rejects("explain --oci reads-profile.json no_call", "", "No call of x86_64 has this name or number: no_call.\n", TOOL),
+    rejects("explain --oci reads-profile.json read > /dev/full", "", FULL, OUTPUT),
+    rejects("explain --oci reads-profile.json read >&-", "", CLOSED, OUTPUT),
+    rejects("explain --oci reads-profile.json --records missing", "", MISSING, TOOL + "missing: "),
+    Case("explain --oci reads-profile.json --records 65-bytes", 1, "kill_process: another architecture\n",
+         TOOL + "65-bytes: The input ends inside a record, after 1 bytes of it.\n"),
+    fails("logs.json reads-profile.json", NO_PROFILE, TOOL + "logs.json: "),
+    fails("reads-profile.json logs.json", NO_PROFILE, TOOL + "logs.json: "),
+    fails("logs.json missing.json", MISSING, TOOL + "missing.json: "),
+    fails("- reads-profile.json", PARSING, INPUT, "{"),
+    fails("reads-profile.json -", PARSING, INPUT, "{"),
+    fails("missing.json reads-profile.json", MISSING, TOOL + "missing.json: "),
+    fails("reads-profile.json examples", FOLDER, TOOL + "examples: "),
+    fails("- reads-profile.json", RESET, INPUT, Failing(json.dumps(profile()))),
+    fails("reads-profile.json -", RESET, INPUT, Failing(json.dumps(profile()))),
+    fails("reads-profile.json reads-profile.json > /dev/full", FULL, OUTPUT),
+    # A program that is too large, though its filters fit.
+    writes("diff --oci fitting-profile.json fitting-profile.json", "", "profile: same\n"),
+    fails("large-profile.json missing-too", MISSING, TOOL + "missing-too: "),
+    fails("large-profile.json reads-profile.json", TOO_LONG, TOOL + "large-profile.json: "),
+    fails("reads-profile.json large-profile.json", TOO_LONG, TOOL + "large-profile.json: "),
+    rejects("import --format raw large-profile.json", "", TOO_LONG, TOOL + "large-profile.json: "),
+    rejects("import --format=raw", json.dumps(profile(entry("read", args=LARGE))), TOO_LONG),
+    rejects("import --format raw", LOGS, NO_PROFILE),
+    # Names are left out as of a policy.
+    Case("import --format raw unknown-profile.json | wc -c | tr -d ' '", 0, "..",
+         TOOL + "unknown-profile.json: names of no system call of x86_64, left out (2): mmap2, waitpid\n"),
+    rejects("import --strict --format raw unknown-profile.json", "", "names of no system call of x86_64 (2): mmap2, waitpid\n",
+            TOOL + "unknown-profile.json: "),
+    writes("import --format raw fitting-profile.json | wc -c | tr -d ' '", "", f"{8 * 4092}\n"),
+    rejects("import --format raw reads-profile.json > /dev/full", "", FULL, OUTPUT),
+    # What is no command.
+    misused("diff --oci -f a reads-profile.json reads-profile.json", "--filter can't be given with --oci"),
+    misused("explain --oci --filter=a reads-profile.json read", "--filter can't be given with --oci"),
+    misused("diff --cap CAP_KILL logs.json logs.json", CONTAINER_ONLY),
+    misused("diff --kernel 6.1 logs.json logs.json", CONTAINER_ONLY),
+    misused("explain --cap CAP_KILL logs.json read", CONTAINER_ONLY),
+    misused("explain --kernel 6.1 logs.json read", CONTAINER_ONLY),
+    misused("diff --oci - -", "OLD and NEW can't both be read from standard input"),
+    misused("explain --oci - --records -", "policy and records can't both be read from standard input: give CALL or --records"),
+    misused("explain --oci --kernel 6 reads-profile.json read", "the value of --kernel is no version of two numbers, as 6.1"),
+    misused("diff --oci --kernel 6 reads-profile.json reads-profile.json", "the value of --kernel is no version of two numbers, as 6.1"),
+    Case("import --format json reads-profile.json", 2, "", "error: invalid value 'json' for '--format <FORMAT>'\n.."),
+]

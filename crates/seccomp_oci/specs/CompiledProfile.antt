@@ -31,11 +31,12 @@ pub record IsProgramFor (arch : TargetArch) (container : Container) (p : Profile
   pub decides : IsProfileProgram arch container p compiled.program.items
   pub sized : HasJoinedLength arch container p (length compiled.program.items)
 
--- The profile of the text is compiled into one program, without the names that are left out.
+-- The profile of the text is compiled into one program, without the names that are left out. The flags are the profile's.
 pub record IsCompiledProfile (arch : TargetArch) (container : Container) (strict : Bool) (text : List ℕ) (compiled : CompiledProfile)
     : Type 0 where
   pub profile : Profile
   pub read : IsRead arch container strict text profile (map string_bytes compiled.left_out.items)
+  pub flags : compiled.flags.items ≡ profile.flags
   pub program : IsProgramFor arch container profile compiled
 
 -- One program of the profile of the text would have more than 4096 instructions: n, where a machine's number can hold it.

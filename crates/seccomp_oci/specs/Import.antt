@@ -1,4 +1,4 @@
--- What a profile is imported as: a JSON policy, and the names that it leaves out; and why one isn't imported.
+-- What a profile is imported as: a JSON policy, the names that it leaves out and the profile's flags; and why one isn't imported.
 use Rattle.std.specs.Prelude.{◌≡◌, ◌≢◌, ℕ, Bool, true, false, List, [], ◌∷◌, ◌++◌, length, map, string_bytes, All, IsNone, IsSome, ⊤}
 use Rattle.std.specs.List.{AllZip}
 use Rattle.seccompiler.specs.declared.backend.BackendError.TheVariants.{FilterTooLarge}
@@ -58,10 +58,12 @@ pub record StandFor (arch : TargetArch) (container : Container) (p : Profile) (f
   pub are : AllZip (IsPolicyOf arch) filters policies
   pub decide : DecideAs arch container p policies
 
--- The profile of the text is imported as the text of a policy, whose filters stand for it; each of them compiles into a tree.
+-- The profile of the text is imported as the text of a policy, whose filters stand for it; each of them compiles into a tree. The
+-- flags are the profile's.
 pub record IsImported (arch : TargetArch) (container : Container) (strict : Bool) (text : List ℕ) (imported : Import) : Type 0 where
   pub profile : Profile
   pub read : IsRead arch container strict text profile (map string_bytes imported.left_out.items)
+  pub flags : imported.flags.items ≡ profile.flags
   pub filters : List JsonFilter
   pub policies : List Filter
   pub stand : StandFor arch container profile filters policies

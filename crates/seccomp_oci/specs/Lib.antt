@@ -5,6 +5,8 @@ pub mod Shape
 pub mod Errnos
 pub mod Version
 pub mod ProfileShape
+pub mod FaultParts
+pub mod Faults
 pub mod ProfileText
 pub mod Decision
 pub mod Rules

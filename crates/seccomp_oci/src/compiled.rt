@@ -9,7 +9,7 @@ ghost use Rattle.seccomp_oci.specs.ProfileProgram.{IsProfileProgram};
 use crate::import::{ImportError, names_left_out};
 use crate::profile::profile_of;
 use crate::program::program_of_profile;
-use crate::types::{Container, Profile};
+use crate::types::{Container, Flag, Profile};
 use seccompiler::{BackendError, BpfProgram, JsonFrontendError, TargetArch};
 use std::alloc::Global;
 
@@ -21,6 +21,8 @@ pub struct CompiledProfile {
     /// The names, of entries that apply, that no call of the architecture has, in the order of the profile's text and as
     /// often as they stand there. The program gives their calls the default action, as all that no entry is for.
     pub left_out: Vec<String>,
+    /// The flags of the profile, in its order. No program has them: who installs it chooses them.
+    pub flags: Vec<Flag>,
 }
 
 /// Compiles the profile of a text, on an architecture and in a container, into one program, which returns what the profile
@@ -31,7 +33,8 @@ pub struct CompiledProfile {
 ///
 /// Entries that don't apply to the container, `architectures`, `archMap` and `flags` leave nothing in the program.
 /// Nor do the names of calls that the architecture hasn't: `left_out` lists them, as
-/// [`unknown_names`](crate::unknown_names) does. Where `strict` is set, they are an error.
+/// [`unknown_names`](crate::unknown_names) does. Where `strict` is set, they are an error. `flags` are listed too, and are
+/// no error.
 ///
 /// # Errors
 ///
@@ -56,7 +59,11 @@ pub fn compile_profile(
     let profile = profile_of(alloc, text)?;
     let left_out = names_left_out(alloc, arch, container, strict, &profile)?;
     let program = program_for(alloc, arch, container, &profile)?;
-    Ok(CompiledProfile { program, left_out })
+    Ok(CompiledProfile {
+        program,
+        left_out,
+        flags: profile.flags,
+    })
 }
 
 // The program of a profile whose conditions are on arguments that a call has.

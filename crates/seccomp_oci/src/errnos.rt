@@ -88,8 +88,8 @@ fn names_error(name: &str, action: &Value, number: Option<&Value>) -> bool
     is_errno(action) && names_number(name, number)
 }
 
-// Whether what stands beside an action and its number as an error's name says the same, or nothing.
-fn is_same_error(name: Option<&Value>, action: &Value, number: Option<&Value>) -> bool
+/// Whether what stands beside an action and its number as an error's name says the same, or nothing.
+pub(crate) fn is_same_error(name: Option<&Value>, action: &Value, number: Option<&Value>) -> bool
     ensures { IsTrue result ↔ IsSameError (option_map (λ v. view v.now) name.entry) (view action.now) (option_map (λ v. view v.now) number.entry) }
 {
     match name {

@@ -16,7 +16,7 @@ use crate::error::ProfileError;
 use crate::filters::{json_filters_of, policies_of};
 use crate::policy::{name_of, policy_text};
 use crate::profile::profile_of;
-use crate::types::{Container, Profile};
+use crate::types::{Container, Flag, Profile};
 use crate::unknown::unknown_names;
 use seccompiler::{
     BackendError, JsonFilter, JsonFrontendError, SeccompAction, SeccompFilter, TargetArch,
@@ -31,6 +31,8 @@ pub struct Import {
     /// The names, of entries that apply, that no call of the architecture has, in the order of the profile's text and as
     /// often as they stand there. No filter has them.
     pub left_out: Vec<String>,
+    /// The flags of the profile, in its order. No filter has them: who installs the filters chooses them.
+    pub flags: Vec<Flag>,
 }
 
 /// Why a profile isn't imported.
@@ -60,7 +62,8 @@ pub enum ImportError {
 ///
 /// Entries that don't apply to the container, `architectures`, `archMap` and `flags` leave nothing in the policy.
 /// Nor do the names of calls that the architecture hasn't: `left_out` lists them, as
-/// [`unknown_names`](crate::unknown_names) does. Where `strict` is set, they are an error.
+/// [`unknown_names`](crate::unknown_names) does. Where `strict` is set, they are an error. `flags` are listed too, and are
+/// no error.
 ///
 /// # Errors
 ///
@@ -87,7 +90,11 @@ pub fn import_profile(
     let profile = profile_of(alloc, text)?;
     let left_out = names_left_out(alloc, arch, container, strict, &profile)?;
     let text = text_for(alloc, arch, container, &profile)?;
-    Ok(Import { text, left_out })
+    Ok(Import {
+        text,
+        left_out,
+        flags: profile.flags,
+    })
 }
 
 // The names that are left out of a profile; an error where there are some, and they are asked not to be left out.

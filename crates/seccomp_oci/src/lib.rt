@@ -2,44 +2,32 @@
 //!
 //! A *profile* is the JSON of `linux.seccomp` in the OCI runtime specification. [`read_profile`] reads
 //! one. There are also the readers of its parts: actions, conditions on arguments, flags, and lists of
-//! these and of texts. A value that is no profile, or no such part, gives `None`. [`applies`] says whether
-//! an entry applies to a container, and [`filters_of_profile`] gives the filters that decide together what
-//! a profile decides. [`import_profile`] goes from the text of a profile to the text of a JSON policy, whose
-//! filters are these. [`program_of_profile`] gives one program that decides as the profile does, and
+//! these and of texts. A value that is no profile, or no such part, gives `None`; [`fault_of`] says where
+//! a value isn't a profile, and what is wrong there. [`applies`] says whether an entry applies to a
+//! container, and [`filters_of_profile`] gives the filters that decide together what a profile decides.
+//! [`import_profile`] goes from the text of a profile to the text of a JSON policy, whose filters are
+//! these. [`program_of_profile`] gives one program that decides as the profile does, and
 //! [`decision_of_profile`] what the profile decides of one call, and by which entry.
 #![tactic(auto)]
 
 pub mod compiled;
-#[cfg(test)]
-mod compiled_profiles;
 pub mod decide;
-#[cfg(test)]
-mod decided;
-#[cfg(test)]
-mod decisions;
 mod entries;
 mod errnos;
 mod error;
+pub mod fault;
 mod filters;
 pub mod import;
-#[cfg(test)]
-mod imports;
 mod join;
 mod layout;
 mod lists;
 mod members;
 mod parts;
-#[cfg(test)]
-mod policies;
 mod policy;
 mod profile;
 mod program;
-#[cfg(test)]
-mod programs;
 mod rules;
 mod scope;
-#[cfg(test)]
-mod tests;
 mod trees;
 pub mod types;
 mod unknown;
@@ -48,6 +36,7 @@ mod version;
 pub use compiled::{CompiledProfile, compile_profile};
 pub use decide::{ProfileDecision, decision_of_profile};
 pub use error::ProfileError;
+pub use fault::fault_of;
 pub use filters::{filters_of_profile, json_filters_of, policies_of};
 pub use import::{Import, ImportError, import_profile};
 pub use join::joined;

@@ -90,7 +90,8 @@ fn operator_of_text(text: &str) -> Option<Operator>
     }
 }
 
-fn read_operator(value: &Value) -> Option<Operator>
+/// The operator that a JSON value is, or `None` where it is none.
+pub(crate) fn read_operator(value: &Value) -> Option<Operator>
     ensures found { IfSome result (IsOperator (view value.now)) }
     ensures none { IfNone result ((o : Operator) → IsOperator (view value.now) o → ⊥) }
 {

@@ -1,17 +1,18 @@
 // From a JSON value, or a text, to a profile.
 
-ghost use Rattle.std.specs.Prelude.{◌↔◌, IsTrue, List, option_map, IfOk, IfErr, IfSome, IfNone};
+ghost use Rattle.std.specs.Prelude.{◌↔◌, IsTrue, List, option_map, string_bytes, IfOk, IfErr, IfSome, IfNone};
 ghost use Rattle.serde_json.specs.View.{view};
 ghost use Rattle.seccompiler.specs.JsonAnswers.{IsReadAs};
 ghost use Rattle.seccomp_oci.specs.Filters.{AllOnArguments};
 ghost use Rattle.seccomp_oci.specs.Shape.{IsListed};
 ghost use Rattle.seccomp_oci.specs.ProfileShape.{IsList, HasProfileNames, IsEntry, IsProfile};
-ghost use Rattle.seccomp_oci.specs.ProfileText.{IsProfileFault, IsProfileText};
+ghost use Rattle.seccomp_oci.specs.ProfileText.{IsProfileFault, IsProfileText, TellsWhy};
 ghost use Rattle.seccomp_oci.specs.Types.{Entry, Profile};
 
 use crate::entries::read_entries;
 use crate::errnos::agrees_on_error;
 use crate::error::ProfileError;
+use crate::fault::fault_of;
 use crate::lists::flags_under;
 use crate::members::{is_object_of, items_of};
 use crate::parts::read_action;
@@ -101,7 +102,8 @@ pub fn read_profile(alloc: Global, value: &Value) -> Result<Option<Profile>, All
 ///
 /// # Errors
 ///
-/// `Json` where the bytes are no JSON text in UTF-8. `NotAProfile` where the text's value is no profile.
+/// `Json` where the bytes are no JSON text in UTF-8. `NotAProfile` where the text's value is no profile, with the text of
+/// its first fault, as [`fault_of`](crate::fault_of) gives it.
 /// `OutOfMemory` may come in place of any answer, where memory runs out. No other error comes.
 pub fn profile_of(alloc: Global, text: &[u8]) -> Result<Profile, ProfileError>
     ensures read { IfOk result (IsProfileText text.now) }
@@ -111,7 +113,20 @@ pub fn profile_of(alloc: Global, text: &[u8]) -> Result<Profile, ProfileError>
     let value = value_of(alloc, text)?;
     match read_profile(alloc, &value)? {
         Some(profile) => Ok(profile),
-        None => Err(ProfileError::NotAProfile),
+        None => Err(ProfileError::NotAProfile(why(alloc, &value)?)),
+    }
+}
+
+// What an error says of a value that is no profile.
+fn why(alloc: Global, value: &Value) -> Result<String, AllocError>
+    ensures { IfOk result (λ told. TellsWhy (view value.now) (string_bytes told)) }
+{
+    match fault_of(alloc, value)? {
+        Some(told) => Ok(told),
+        None => String::from_str(
+            alloc,
+            "The JSON value is no seccomp profile, or it has a part that is not supported.",
+        ),
     }
 }
 

@@ -1,4 +1,4 @@
-use Rattle.std.proofs.Common.{map, string_bytes}
+use Rattle.std.proofs.Common.{map, rules, string_bytes}
 use Rattle.std.proofs.lemmas.Result.{err_from_is_err_and}
 use Rattle.seccomp_oci.proofs.compiled.Faults.{compile_fault}
 use Rattle.seccomp_oci.proofs.filters.Once.{decides_once}
@@ -23,6 +23,7 @@ returns-clause-compiled c = record {
     names = c.in_ok-left_out.ensures.names;
     none = c.in_ok-left_out.ensures.none;
   };
+  flags = search rules;
   program = record {
     once = decides_once c.args.arch c.args.container.now c.in_ok-profile.profile;
     decides = c.in_ok-program.ensures.decides;

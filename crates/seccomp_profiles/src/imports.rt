@@ -2,7 +2,7 @@
 
 use crate::policies::{IMPORTED, PROFILE};
 use crate::tests::container;
-use crate::{Import, ImportError, ProfileError, import_profile};
+use seccomp_oci::{Import, ImportError, ProfileError, import_profile};
 use seccompiler::TargetArch;
 use std::alloc::{AllocError, Global};
 use std::test::Fail;
@@ -74,11 +74,7 @@ const REFUSED: [(bool, &str, &str); 3] = [
         PROFILE,
         "No system call of this architecture has these names: no_such_call.",
     ),
-    (
-        false,
-        "{}",
-        "The JSON value is no seccomp profile, or it has a part that is not supported.",
-    ),
+    (false, "{}", "the profile: missing \"defaultAction\""),
 ];
 
 #[test]

@@ -1,7 +1,7 @@
 // What the filters of profiles decide of calls, by the words of the OCI runtime specification and of seccomp(2).
 
 use crate::tests::container;
-use crate::{filters_of_profile, read_profile};
+use seccomp_oci::{filters_of_profile, read_profile};
 use seccompiler::compare::rank;
 use seccompiler::{SeccompFilter, TargetArch};
 use serde_json::Value;

@@ -1,7 +1,7 @@
 // The texts of policies, by the form that docs/JSON.md gives them.
 
 use crate::tests::container;
-use crate::{PolicyTextError, json_filters_of, policy_text, read_profile};
+use seccomp_oci::{PolicyTextError, json_filters_of, policy_text, read_profile};
 use seccompiler::{
     JsonCondition, JsonFilter, JsonRule, SeccompAction, SeccompCmpArgLen, SeccompCmpOp, TargetArch,
 };

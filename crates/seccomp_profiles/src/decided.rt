@@ -3,7 +3,7 @@
 ghost use Rattle.seccomp_oci.specs.Filters.{AllOnArguments};
 
 use crate::tests::container;
-use crate::{Container, Profile, decision_of_profile, profile_of};
+use seccomp_oci::{Container, Profile, decision_of_profile, profile_of};
 use seccompiler::{SeccompAction, TargetArch};
 use std::alloc::Global;
 use std::test::Fail;

@@ -1,6 +1,6 @@
 // Parts of profiles that are read, and that are rejected, by the words of the OCI runtime specification.
 
-use crate::{
+use seccomp_oci::{
     Container, Entry, Kernel, Operator, ProfileError, applies, arguments_under, flags_under,
     kernel_of, profile_of, read_action, read_profile, texts_under,
 };
@@ -86,7 +86,7 @@ fn names_and_flags_are_listed(rt: HostRuntime) -> Result<(), Fail> {
 }
 
 // A profile of two entries, by the OCI runtime specification and what Docker adds to it.
-const PROFILE: &str =
+pub(crate) const PROFILE: &str =
     r#"{"defaultAction": "SCMP_ACT_ERRNO", "defaultErrnoRet": 38, "defaultErrno": "ENOSYS",
     "architectures": ["SCMP_ARCH_X86_64"], "archMap": [{"architecture": "SCMP_ARCH_X86_64"}],
     "syscalls": [
@@ -96,16 +96,40 @@ const PROFILE: &str =
 
 // Objects that are no profiles: no default action, a listener, an entry with an unknown name, one whose
 // action can't be carried, and two whose kernels are no versions; a name of another error than the number's, and one
-// where no error is returned.
-const NO_PROFILES: [&str; 8] = [
-    r#"{"syscalls": []}"#,
-    r#"{"defaultAction": "SCMP_ACT_ALLOW", "listenerPath": "/run/agent.sock"}"#,
-    r#"{"defaultAction": "SCMP_ACT_ALLOW", "syscalls": [{"names": ["read"], "action": "SCMP_ACT_LOG", "nams": []}]}"#,
-    r#"{"defaultAction": "SCMP_ACT_ALLOW", "syscalls": [{"names": ["read"], "action": "SCMP_ACT_NOTIFY"}]}"#,
-    r#"{"defaultAction": "SCMP_ACT_ALLOW", "syscalls": [{"names": [], "action": "SCMP_ACT_LOG", "includes": {"minKernel": 4.8}}]}"#,
-    r#"{"defaultAction": "SCMP_ACT_ALLOW", "syscalls": [{"names": [], "action": "SCMP_ACT_LOG", "excludes": {"minKernel": "4"}}]}"#,
-    r#"{"defaultAction": "SCMP_ACT_ERRNO", "defaultErrnoRet": 38, "defaultErrno": "EPERM"}"#,
-    r#"{"defaultAction": "SCMP_ACT_ALLOW", "syscalls": [{"names": [], "action": "SCMP_ACT_TRACE", "errno": "EPERM"}]}"#,
+// where no error is returned. And what is told of each.
+const NO_PROFILES: [(&str, &str); 8] = [
+    (
+        r#"{"syscalls": []}"#,
+        r#"the profile: missing "defaultAction""#,
+    ),
+    (
+        r#"{"defaultAction": "SCMP_ACT_ALLOW", "listenerPath": "/run/agent.sock"}"#,
+        r#"the profile: "listenerPath": unknown key; expected defaultAction, defaultErrnoRet, defaultErrno, architectures, archMap, flags or syscalls"#,
+    ),
+    (
+        r#"{"defaultAction": "SCMP_ACT_ALLOW", "syscalls": [{"names": ["read"], "action": "SCMP_ACT_LOG", "nams": []}]}"#,
+        r#"syscalls[0]: "nams": unknown key; expected names, name, action, errnoRet, errno, args, includes, excludes or comment"#,
+    ),
+    (
+        r#"{"defaultAction": "SCMP_ACT_ALLOW", "syscalls": [{"names": ["read"], "action": "SCMP_ACT_NOTIFY"}]}"#,
+        r#"syscalls[0].action: expected SCMP_ACT_ALLOW, SCMP_ACT_ERRNO, SCMP_ACT_KILL, SCMP_ACT_KILL_PROCESS, SCMP_ACT_KILL_THREAD, SCMP_ACT_LOG, SCMP_ACT_TRACE or SCMP_ACT_TRAP, found "SCMP_ACT_NOTIFY""#,
+    ),
+    (
+        r#"{"defaultAction": "SCMP_ACT_ALLOW", "syscalls": [{"names": [], "action": "SCMP_ACT_LOG", "includes": {"minKernel": 4.8}}]}"#,
+        r#"syscalls[0].includes.minKernel: expected null or a version of two numbers, as "4.8", found 4.8"#,
+    ),
+    (
+        r#"{"defaultAction": "SCMP_ACT_ALLOW", "syscalls": [{"names": [], "action": "SCMP_ACT_LOG", "excludes": {"minKernel": "4"}}]}"#,
+        r#"syscalls[0].excludes.minKernel: expected null or a version of two numbers, as "4.8", found "4""#,
+    ),
+    (
+        r#"{"defaultAction": "SCMP_ACT_ERRNO", "defaultErrnoRet": 38, "defaultErrno": "EPERM"}"#,
+        r#"the profile: "defaultErrno" is no known name of the error that "defaultAction" and "defaultErrnoRet" give"#,
+    ),
+    (
+        r#"{"defaultAction": "SCMP_ACT_ALLOW", "syscalls": [{"names": [], "action": "SCMP_ACT_TRACE", "errno": "EPERM"}]}"#,
+        r#"syscalls[0]: "errno" is no known name of the error that "action" and "errnoRet" give"#,
+    ),
 ];
 
 #[test]
@@ -171,11 +195,20 @@ fn has_both(entries: &[Entry]) -> bool {
 
 #[test]
 fn an_object_that_cannot_be_carried_is_no_profile(rt: HostRuntime) -> Result<(), Fail> {
-    for text in &NO_PROFILES {
-        let value = Value::from_str(rt.alloc(), *text)?;
+    for row in &NO_PROFILES {
+        let value = Value::from_str(rt.alloc(), row.0)?;
         assert!(rt; read_profile(rt.alloc(), &value)?.is_none());
     }
     Ok(())
+}
+
+// Whether the text is no profile, and this is told of it.
+pub(crate) fn is_no_profile(alloc: Global, text: &str, told: &str) -> bool {
+    let answer = profile_of(alloc, text.as_bytes());
+    match &answer {
+        Err(ProfileError::NotAProfile(fault)) => fault.as_str() == told,
+        _ => false,
+    }
 }
 
 #[test]
@@ -184,18 +217,17 @@ fn a_text_is_a_profile_or_an_error_says_why_not(rt: HostRuntime) -> Result<(), F
     assert!(rt; profile.default == SeccompAction::Errno(38) && has_both(&profile.entries));
     let broken = profile_of(rt.alloc(), br#"{"defaultAction": "#);
     assert!(rt; matches!(broken, Err(ProfileError::Json(_))));
-    for text in &NO_PROFILES {
-        let other = profile_of(rt.alloc(), text.as_bytes());
-        assert!(rt; matches!(other, Err(ProfileError::NotAProfile)));
+    for row in &NO_PROFILES {
+        assert!(rt; is_no_profile(rt.alloc(), row.0, row.1));
     }
     Ok(())
 }
 
 #[test]
 fn the_errors_of_a_text_have_their_words(rt: HostRuntime) -> Result<(), Fail> {
-    let told = ProfileError::NotAProfile.to_string(rt.alloc())?;
-    let words = "The JSON value is no seccomp profile, or it has a part that is not supported.";
-    assert!(rt; told.as_str() == words);
+    let fault = "the profile: missing \"defaultAction\"";
+    let error = ProfileError::NotAProfile(String::from_str(rt.alloc(), fault)?);
+    assert!(rt; error.to_string(rt.alloc())?.as_str() == fault);
     if let Err(error) = profile_of(rt.alloc(), b"nothing") {
         let told = error.to_string(rt.alloc())?;
         assert!(rt; told.as_str().starts_with("Error parsing Json: "));

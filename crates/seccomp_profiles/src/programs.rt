@@ -1,7 +1,7 @@
 // What programs of profiles return, by the words of the OCI runtime specification and of seccomp(2).
 
 use crate::tests::container;
-use crate::{joined, profile_of, program_of_profile};
+use seccomp_oci::{joined, profile_of, program_of_profile};
 use seccompiler::bpf::{BPF_K, BPF_RET, bpf_stmt};
 use seccompiler::machine::{check, run};
 use seccompiler::{BackendError, BpfProgram, BpfProgramRef, Outcome, TargetArch, sock_filter};

@@ -3,7 +3,7 @@
 use crate::imports::{UNKNOWN, are, with_entries};
 use crate::programs::{DENYING, OF_DENYING, returns};
 use crate::tests::container;
-use crate::{CompiledProfile, ImportError, ProfileError, compile_profile};
+use seccomp_oci::{CompiledProfile, ImportError, ProfileError, compile_profile};
 use seccompiler::TargetArch;
 use seccompiler::bpf::{BPF_K, BPF_RET, bpf_stmt};
 use std::alloc::{AllocError, Global};
@@ -108,8 +108,8 @@ fn a_filter_that_is_too_large_counts_whole(rt: HostRuntime) -> Result<(), Fail> 
 fn an_error_says_why_a_profile_is_not_compiled(rt: HostRuntime) -> Result<(), Fail> {
     let names = "No system call of this architecture has these names: second, first, first.";
     assert!(rt; is_refused(rt.alloc(), true, UNKNOWN, names)?);
-    let words = "The JSON value is no seccomp profile, or it has a part that is not supported.";
-    assert!(rt; is_refused(rt.alloc(), false, "{}", words)?);
+    let fault = "the profile: missing \"defaultAction\"";
+    assert!(rt; is_refused(rt.alloc(), false, "{}", fault)?);
     let broken = compiled(rt.alloc(), false, "{");
     assert!(rt; matches!(broken, Err(ImportError::Profile(ProfileError::Json(_)))));
     Ok(())

@@ -1,0 +1,3 @@
+-- Lemmas for the functions of `fault`.
+pub mod Values
+pub mod Told

@@ -27,8 +27,6 @@ pub mod code;
 mod condition;
 mod cover;
 mod entry;
-#[cfg(test)]
-mod large;
 mod met;
 mod paragraph;
 pub mod report;

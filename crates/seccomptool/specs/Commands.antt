@@ -38,6 +38,7 @@ use Rattle.seccomptool.specs.Stats.{AnswersStats}
 use Rattle.seccomptool.specs.Verify.{AnswersVerify}
 use Rattle.seccomptool.specs.Compat.{AnswersCompat}
 use Rattle.seccomptool.specs.Imports.{AnswersImport}
+use Rattle.seccomptool.specs.Kinds.{AnswersByKind, plain_container}
 use Rattle.seccomptool.specs.Words.{text_of}
 
 -- The answer of `explain` on these records, for the filter that is asked for, or the policy's only one.
@@ -46,6 +47,14 @@ abbrev pub AnswersExplained : TargetArch → Option (List ℕ) → LineFormat �
 AnswersExplained arch filter format policy records answer old new =
     AnswersChosen policy filter (λ text name. AnswersExplain format (arch_text arch) (Some text) name records answer old new) answer
 
+-- The answer of `explain` on these records, where a policy or a profile may be given: that of a profile is for a container of which
+-- nothing is said.
+abbrev pub AnswersExplainedByKind : TargetArch → Option (List ℕ) → LineFormat → (given records : Option (List ℕ)) → Result ⊤ ToolError
+    → (old new : Option (List ℕ)) → Type 0
+AnswersExplainedByKind arch filter format given records answer old new = AnswersByKind given filter
+    (λ text. AnswersExplained arch filter format (Some text) records answer old new)
+    (λ text. AnswersExplainProfile format arch plain_container (Some text) records answer old new) answer
+
 -- The answer on one call: there is no such call; or it is as P says of the call's record.
 pub data AnswersCall (arch : TargetArch) (call : List ℕ) (arguments : List ℕ) (P : List ℕ → Type 0)
     (answer : Result ⊤ ToolError) : Type 0 where
@@ -53,12 +62,12 @@ pub data AnswersCall (arch : TargetArch) (call : List ℕ) (arguments : List ℕ
   called : (record_of : List ℕ) → IsRecordOf arch call arguments record_of → P record_of → AnswersCall arch call arguments P answer
 
 -- The answer of `explain` for the records that it is asked about: that of a call, or those of the file or input.
-abbrev pub AnswersExplainedOn : Records → TargetArch → Option (List ℕ) → LineFormat → (policy records : Option (List ℕ))
+abbrev pub AnswersExplainedOn : Records → TargetArch → Option (List ℕ) → LineFormat → (given records : Option (List ℕ))
     → Result ⊤ ToolError → (old new : Option (List ℕ)) → Type 0
-AnswersExplainedOn (records.Call call arguments) arch filter format policy known answer old new =
-    AnswersCall arch call.now arguments (λ bytes. AnswersExplained arch filter format policy (Some bytes) answer old new) answer
-AnswersExplainedOn (records.In path) arch filter format policy known answer old new =
-    AnswersExplained arch filter format policy known answer old new
+AnswersExplainedOn (records.Call call arguments) arch filter format given known answer old new =
+    AnswersCall arch call.now arguments (λ bytes. AnswersExplainedByKind arch filter format given (Some bytes) answer old new) answer
+AnswersExplainedOn (records.In path) arch filter format given known answer old new =
+    AnswersExplainedByKind arch filter format given known answer old new
 
 -- The answer of `explain` of a profile for the records that it is asked about.
 abbrev pub AnswersExplainProfileOn : Records → LineFormat → TargetArch → Container → (profile records : Option (List ℕ))
@@ -126,8 +135,16 @@ pub record AnswersDiffNoted (arch : TargetArch) (filter : Option (List ℕ)) (re
       AnswersDiff (arch_text arch) filter relation (Some of_old) (Some of_new) (Ok done.verdict) old new
       × AreBothCounted quiet arch first second of_old of_new done.notes.items)))
 
--- The answer of a command, where its policy, or the program that it runs or shows, has these bytes, and its records, its new
--- policy or the program that it verifies those.
+-- The answer of `diff`, where policies or profiles may be given. The old one's text says which, and the new one's has to be of the
+-- same kind. That of profiles is for a container of which nothing is said, and has nothing to note.
+abbrev pub AnswersDiffByKind : TargetArch → Option (List ℕ) → Relation → Bool → (first second : List ℕ)
+    → (known_old known_new : Option (List ℕ)) → Result Done ToolError → (old new : Option (List ℕ)) → Type 0
+AnswersDiffByKind arch filter relation quiet first second known_old known_new answer old new = AnswersByKind known_old filter
+    (λ text. AnswersDiffNoted arch filter relation quiet first second (Some text) known_new answer old new)
+    (λ text. AnswersFound (λ found. AnswersDiffProfiles arch plain_container relation (Some text) known_new found old new) answer) answer
+
+-- The answer of a command, where its policy or profile, or the program that it runs or shows, has these bytes, and its records, its
+-- new policy or profile or the program that it verifies those.
 abbrev pub AnswersCommand : Command → (policy records : Option (List ℕ)) → Result Done ToolError → (old new : Option (List ℕ)) → Type 0
 AnswersCommand (Compile arch filter layout format output quiet path) policy records answer old new =
     AnswersCompileNoted format arch (text_of filter) layout quiet path.now policy answer old new
@@ -145,7 +162,7 @@ AnswersCommand (Stats arch path) policy records answer old new =
 AnswersCommand (Record arch call arguments) policy records answer old new =
     AnswersPlain (λ plain. AnswersRecord (arch_text arch) call.now arguments plain old new) answer
 AnswersCommand (Diff arch filter relation most quiet first second) policy records answer old new =
-    AnswersDiffNoted arch (text_of filter) relation quiet first.now second.now policy records answer old new
+    AnswersDiffByKind arch (text_of filter) relation quiet first.now second.now policy records answer old new
 AnswersCommand (Verify arch filter relation scope most path program) policy records answer old new =
     AnswersFound (λ found. AnswersVerify (arch_text arch) (text_of filter) relation scope policy records found old new) answer
 AnswersCommand (Compat arch path) policy records answer old new =

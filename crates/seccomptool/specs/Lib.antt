@@ -33,6 +33,7 @@ pub mod Run
 pub mod ShowProgram
 pub mod Verify
 pub mod Imports
+pub mod Kinds
 pub mod Commands
 pub mod Answers
 -- Between layers: what the private steps of the engines promise each other.

@@ -71,7 +71,7 @@ measure_line layout m =
 -- A filter's three lines.
 abbrev pub filter_lines : FilterStats → List ℕ
 filter_lines s =
-    codes "filter " ++ readable s.name ++ codes "\n" ++ measure_line (codes "chains") s.chains ++ measure_line (codes "tree") s.tree
+    codes "filter " ++ readable s.name ++ codes "\n" ++ measure_line (codes "linear") s.chains ++ measure_line (codes "tree") s.tree
 
 -- The value's policy on this architecture is one of which these are the numbers.
 pub record HasStats (target : TargetArch) (s : FilterStats) (value : Data) : Type 0 where

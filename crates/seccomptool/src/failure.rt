@@ -61,8 +61,8 @@ pub(crate) fn tell(
         Place::Output => front_of(alloc, output, "standard output"),
     };
     let _ = match text {
-        Ok(text) => told(rt, text.as_str(), failure),
-        Err(_) => told(rt, "seccomptool: ", failure),
+        Ok(text) => told(rt, alloc, text.as_str(), failure),
+        Err(_) => told(rt, alloc, "seccomptool: ", failure),
     };
 }
 
@@ -139,7 +139,7 @@ fn place_in(error: &ToolError) -> Place {
 }
 
 // Tells what is wrong behind a text, in the system's words where it is the system that refuses.
-fn told(rt: &impl Eprint, front: &str, failure: &Failure) -> io::Result<()> {
+fn told(rt: &impl Eprint, alloc: Global, front: &str, failure: &Failure) -> io::Result<()> {
     match failure {
         Failure::Policy(error) => told_by_system(rt, front, error),
         Failure::Records(error) => told_by_system(rt, front, error),
@@ -157,8 +157,28 @@ fn told(rt: &impl Eprint, front: &str, failure: &Failure) -> io::Result<()> {
         Failure::Engine(
             ToolError::NewPolicy(Error::JsonFrontend(JsonFrontendError::Read(error))),
         ) => { told_by_system(rt, front, error) }
-        Failure::Engine(error) => eprintln!(rt; "{front}{error}"),
+        Failure::Engine(error) => match plain(alloc, error) {
+            Ok(text) => eprintln!(rt; "{front}{text}"),
+            Err(_) => eprintln!(rt; "seccomptool: Out of memory."),
+        },
     }
+}
+
+// The text of an error, with the characters from U+007F to U+009F as names are written: a value of a policy or a profile stands
+// there as JSON, which leaves them as they are, and some steer a terminal.
+fn plain(alloc: Global, error: &ToolError) -> Result<String, AllocError> {
+    let text = format!(in alloc; "{error}")?;
+    let mut plain = Vec::new(alloc);
+    for one in text.chars() {
+        let mut bytes = [0; 4];
+        let written = one.encode_utf8(&mut bytes);
+        if ('\u{7f}'..='\u{9f}').contains(&one) {
+            push_readable(&mut plain, written)?;
+        } else {
+            plain.extend_from_slice(written.as_bytes())?;
+        }
+    }
+    String::from_utf8(plain).or(Ok(text))
 }
 
 // Tells an error of the system.

@@ -1,5 +1,6 @@
 // A profile of a container runtime as a policy or as a program.
 
+mod flags;
 pub mod format;
 mod made;
 
@@ -8,14 +9,15 @@ ghost use Rattle.std.specs.List.{concat};
 ghost use Rattle.seccomp_oci.specs.Types as oci;
 ghost use Rattle.seccomp_oci.specs.declared.import.ImportError.TheVariants as import_error;
 ghost use Rattle.seccomptool.specs.Errors.{KeepsOutput};
-ghost use Rattle.seccomptool.specs.Imports.{AnswersImport, AreNoted, IsFormatFault, IsUnimported, names_text, other_text, told_text};
+ghost use Rattle.seccomptool.specs.Imports.{AnswersImport, AreNamesNoted, AreNoted, IsFormatFault, IsUnimported, names_text, other_text, told_text};
 ghost use Rattle.seccomptool.specs.declared.import.format.ImportFormat.{ImportFormat};
 
 use crate::done::Done;
 use crate::error::ToolError;
 use crate::findings::Verdict;
+use crate::import::flags::flags_noted;
 use crate::import::format::ImportFormat;
-use crate::import::made::made_of;
+use crate::import::made::{Made, made_of};
 use crate::notes::note;
 use crate::policy::policy_text;
 use crate::send::send;
@@ -36,7 +38,11 @@ use std::io::{Read, Write};
 /// out (N): `, and then the names, N in number, in the profile's order, separated by `, `. The file is `path`, or `standard
 /// input` where that is `-`. In it and in the names the control characters, those from U+0080 to U+009F
 /// too, and the backslash are written as `\x` and two lower-case hexadecimal digits for each of their bytes. There is no
-/// note where no name is left out.
+/// such line where no name is left out.
+///
+/// A second line notes the profile's flags: the same front, `flags, which no filter has, left to whoever installs it (N): `,
+/// and then the names of the flags, N in number, in the profile's order, separated by `, `. There is no such line where the
+/// profile has no flags. Flags are no error where `strict` is set.
 ///
 /// The profile's text is what its reader gives, and is read whole at first.
 ///
@@ -65,7 +71,7 @@ pub fn import<R: Read + Drop, W: Write>(
         Ok(made) => made,
         Err(error) => return Err(unimported(alloc, arch, error)),
     };
-    let notes = noted(alloc, arch, path, &made.left_out)?;
+    let notes = noted(alloc, arch, path, &made)?;
     send(out, &made.bytes)?;
     Ok(Done {
         verdict: Verdict::Same,
@@ -73,14 +79,24 @@ pub fn import<R: Read + Drop, W: Write>(
     })
 }
 
-// The note of names that are left out of the profile of this path.
-fn noted(
+// The notes on the profile of this path, of which this is made: that on names that are left out, and then that on flags.
+fn noted(alloc: Global, arch: TargetArch, path: &str, made: &Made) -> Result<Vec<u8>, AllocError>
+    ensures { IfOk result (λ notes. AreNoted arch path.now (map string_bytes made.now.left_out.items) made.now.flags.items notes.items) }
+{
+    let mut notes = names_noted(alloc, arch, path, &made.left_out)?;
+    let of_flags = flags_noted(alloc, path, &made.flags)?;
+    notes.extend_from_slice(&of_flags)?;
+    Ok(notes)
+}
+
+// The note on names that are left out of the profile of this path.
+fn names_noted(
     alloc: Global,
     arch: TargetArch,
     path: &str,
     names: &[String],
 ) -> Result<Vec<u8>, AllocError>
-    ensures { IfOk result (λ notes. AreNoted arch path.now (map string_bytes names.now) notes.items) }
+    ensures { IfOk result (λ notes. AreNamesNoted arch path.now (map string_bytes names.now) notes.items) }
 {
     if names.is_empty() {
         return Ok(Vec::new(alloc));
@@ -134,7 +150,7 @@ fn told(
 }
 
 // Adds names, `: ` in front of the first one and `, ` in front of each other.
-fn push_names(text: &mut Vec<u8>, names: &[String]) -> Result<(), AllocError>
+pub(crate) fn push_names(text: &mut Vec<u8>, names: &[String]) -> Result<(), AllocError>
     ensures { OnOk result (text.new.items ≡ text.old.items ++ names_text (map string_bytes names.now)) }
 {
     let Some((first, others)) = names.split_first() else {

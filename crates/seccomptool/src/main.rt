@@ -17,6 +17,7 @@ mod explain;
 mod failure;
 mod findings;
 mod import;
+mod kind;
 mod lint;
 mod noted;
 mod notes;

@@ -1,21 +1,25 @@
-// `compile` and `diff`, with notes of how many warnings their policies have.
+// `compile` and `diff`, with notes of how many warnings their policies have; and `diff` of profiles that are given in their place.
 
 ghost use Rattle.std.specs.Prelude.{◌≡◌, IfErr, IfOk, IfSome, List, Option, Some, ℕ};
 ghost use Rattle.seccompiler.specs.Architecture.{arch_text};
 ghost use Rattle.seccompiler.specs.declared.compare.Relation as spec;
-ghost use Rattle.seccomptool.specs.Commands.{AnswersCompileAsked, AnswersCompileNoted, AnswersDiffNoted};
+ghost use Rattle.seccomptool.specs.Commands.{AnswersCompileAsked, AnswersCompileNoted, AnswersDiffByKind, AnswersDiffNoted, AnswersFound};
 ghost use Rattle.seccomptool.specs.Diff.{AnswersDiff};
+ghost use Rattle.seccomptool.specs.DiffProfiles.{AnswersDiffProfiles};
 ghost use Rattle.seccomptool.specs.Errors.{KeepsOutput};
+ghost use Rattle.seccomptool.specs.Kinds as kinds;
 ghost use Rattle.seccomptool.specs.Words.{text_of};
 
 use crate::chosen::chosen_name;
 use crate::compile::compile;
 use crate::compile::format::ProgramFormat;
 use crate::counts::{both_counted, counted};
+use crate::diff::profiles::diff_profiles;
 use crate::diff::{diff, of_new_policy};
-use crate::done::Done;
+use crate::done::{Done, found};
 use crate::error::ToolError;
 use crate::findings::{Terms, Verdict};
+use crate::kind::{is_taken_for_profile, plain_container};
 use crate::policy::{filters, policy_text};
 use crate::progress::Progress;
 use seccompiler::{Layout, TargetArch};
@@ -64,8 +68,7 @@ fn compile_asked<W: Write>(
     compile(alloc, format, arch.name(), name.as_str(), layout, text, out)
 }
 
-// Reports on what a new policy decides otherwise than an old one. How many warnings the policies of these paths have is noted,
-// unless it is to be quiet.
+// Reports on what a new policy or profile decides otherwise than an old one, whose text says which they are.
 pub(crate) fn diff_noted<O: Read + Drop, N: Read + Drop, W: Write, G: Progress>(
     alloc: Global,
     terms: Terms,
@@ -78,22 +81,76 @@ pub(crate) fn diff_noted<O: Read + Drop, N: Read + Drop, W: Write, G: Progress>(
     out: &mut W,
     progress: &mut G,
 ) -> Result<Done, ToolError>
-    ensures answers { AnswersDiffNoted terms.target (text_of filter.entry) terms.relation quiet old_path.now new_path.now (O.remaining old) (N.remaining new) result (W.contents out.old) (W.contents out.new) }
+    ensures answers { AnswersDiffByKind terms.target (text_of filter.entry) terms.relation quiet old_path.now new_path.now (O.remaining old) (N.remaining new) result (W.contents out.old) (W.contents out.new) }
+    ensures unwritten { IfErr result (λ e. KeepsOutput e out.old out.new) }
+{
+    let text = policy_text(alloc, old)?;
+    let old = text.as_slice();
+    if is_taken_for_profile(alloc, old, filter)? {
+        return diff_plain(alloc, terms, old, new, out, progress);
+    }
+    diff_policies(
+        alloc, terms, filter, quiet, old_path, new_path, old, new, out, progress,
+    )
+}
+
+// Reports on what a new profile decides otherwise than an old one, in a container of which nothing is said.
+fn diff_plain<N: Read + Drop, W: Write, G: Progress>(
+    alloc: Global,
+    terms: Terms,
+    old: &[u8],
+    new: N,
+    out: &mut W,
+    progress: &mut G,
+) -> Result<Done, ToolError>
+    ensures answers { AnswersFound (λ found. AnswersDiffProfiles terms.target kinds.plain_container terms.relation (Some old.now) (N.remaining new) found (W.contents out.old) (W.contents out.new)) result }
+    ensures unwritten { IfErr result (λ e. KeepsOutput e out.old out.new) }
+{
+    let container = plain_container(alloc);
+    found(
+        alloc,
+        diff_profiles(
+            alloc,
+            terms.target,
+            &container,
+            terms.relation,
+            terms.most,
+            old,
+            new,
+            out,
+            progress,
+        ),
+    )
+}
+
+// Reports on what a new policy decides otherwise than an old one. How many warnings the policies of these paths have is noted,
+// unless it is to be quiet.
+fn diff_policies<N: Read + Drop, W: Write, G: Progress>(
+    alloc: Global,
+    terms: Terms,
+    filter: Option<&str>,
+    quiet: bool,
+    old_path: &str,
+    new_path: &str,
+    old: &[u8],
+    new: N,
+    out: &mut W,
+    progress: &mut G,
+) -> Result<Done, ToolError>
+    ensures answers { AnswersDiffNoted terms.target (text_of filter.entry) terms.relation quiet old_path.now new_path.now (Some old.now) (N.remaining new) result (W.contents out.old) (W.contents out.new) }
     ensures unwritten { IfErr result (λ e. KeepsOutput e out.old out.new) }
 {
     let arch = terms.target;
-    let old_text = policy_text(alloc, old)?;
-    let from = old_text.as_slice();
-    let new_text = text_of_new(alloc, arch, from, new)?;
+    let new_text = text_of_new(alloc, arch, old, new)?;
     let to = new_text.as_slice();
-    let notes = both_counted(alloc, quiet, arch, old_path, new_path, from, to)?;
+    let notes = both_counted(alloc, quiet, arch, old_path, new_path, old, to)?;
     let verdict = diff(
         alloc,
         arch.name(),
         filter,
         terms.relation,
         terms.most,
-        from,
+        old,
         to,
         out,
         progress,

@@ -1,7 +1,7 @@
 // A command, carried out on what is opened for it.
 
-ghost use Rattle.std.specs.Prelude.{IfErr};
-ghost use Rattle.seccomptool.specs.Commands.{AnswersCommand, AnswersExplainProfileOn, AnswersExplained, AnswersExplainedOn, AnswersRunOn, AnswersShown};
+ghost use Rattle.std.specs.Prelude.{IfErr, Some};
+ghost use Rattle.seccomptool.specs.Commands.{AnswersCommand, AnswersExplainProfileOn, AnswersExplained, AnswersExplainedByKind, AnswersExplainedOn, AnswersRunOn, AnswersShown};
 ghost use Rattle.seccomptool.specs.Errors.{KeepsOutput};
 ghost use Rattle.seccomptool.specs.Words.{text_of};
 
@@ -17,6 +17,7 @@ use crate::explain::format::LineFormat;
 use crate::explain::profile::explain_profile;
 use crate::findings::Terms;
 use crate::import::import;
+use crate::kind::{is_taken_for_profile, plain_container};
 use crate::noted::{compile_noted, diff_noted};
 use crate::policy::policy_text;
 use crate::progress::Progress;
@@ -36,6 +37,10 @@ use std::io::{Read, Write};
 /// and, in place of records, the program. The verdict is that of `diff`, `verify` and `check`, and else `Same`. The notes are
 /// those of `import`; of `compile` and `diff` of policies, unless they are quiet, a line for each policy for which `check` has
 /// warnings, with their number; and else none. `progress` gets how far comparisons are.
+///
+/// Where `Explain` and `Diff` have no filter, and the text of the policy, or of the old one, is an object that has a text under
+/// `defaultAction`, they do what `ExplainProfile` and `DiffProfiles` do for a container of which nothing is said. No text of a
+/// policy is such an object.
 ///
 /// # Errors
 ///
@@ -195,7 +200,7 @@ fn show_asked<P: Read + Drop, W: Write>(
     }
 }
 
-// Explains what the filter that is asked for decides on the records that are asked about.
+// Explains what the filter that is asked for, or a profile, decides on the records that are asked about.
 fn explain_asked<P: Read + Drop, R: Read + Drop, W: Write>(
     alloc: Global,
     arch: TargetArch,
@@ -218,26 +223,47 @@ fn explain_asked<P: Read + Drop, R: Read + Drop, W: Write>(
     }
 }
 
-// Explains what the filter that is asked for decides on records.
+// Explains what the filter that is asked for decides on records; or a profile, where no filter is and the text is taken for one's.
 fn explain_records<P: Read + Drop, R: Read + Drop, W: Write>(
     alloc: Global,
     arch: TargetArch,
     filter: Option<&str>,
     format: LineFormat,
-    policy: P,
+    given: P,
     records: R,
     out: &mut W,
 ) -> Result<(), ToolError>
-    ensures answers { AnswersExplained arch (text_of filter.entry) format (P.remaining policy) (R.remaining records) result (W.contents out.old) (W.contents out.new) }
+    ensures answers { AnswersExplainedByKind arch (text_of filter.entry) format (P.remaining given) (R.remaining records) result (W.contents out.old) (W.contents out.new) }
     ensures unwritten { IfErr result (λ e. KeepsOutput e out.old out.new) }
 {
-    let text = policy_text(alloc, policy)?;
-    let name = chosen_name(alloc, text.as_slice(), filter)?;
+    let text = policy_text(alloc, given)?;
+    let text = text.as_slice();
+    if is_taken_for_profile(alloc, text, filter)? {
+        let container = plain_container(alloc);
+        return explain_profile(alloc, format, arch, &container, text, records, out);
+    }
+    explain_filter(alloc, arch, filter, format, text, records, out)
+}
+
+// Explains what the filter that is asked for decides on records, of a policy's text.
+fn explain_filter<R: Read + Drop, W: Write>(
+    alloc: Global,
+    arch: TargetArch,
+    filter: Option<&str>,
+    format: LineFormat,
+    text: &[u8],
+    records: R,
+    out: &mut W,
+) -> Result<(), ToolError>
+    ensures answers { AnswersExplained arch (text_of filter.entry) format (Some text.now) (R.remaining records) result (W.contents out.old) (W.contents out.new) }
+    ensures unwritten { IfErr result (λ e. KeepsOutput e out.old out.new) }
+{
+    let name = chosen_name(alloc, text, filter)?;
     explain(
         alloc,
         format,
         arch.name(),
-        text.as_slice(),
+        text,
         name.as_str(),
         records,
         out,

@@ -24,7 +24,7 @@ use std::io::{Read, Write};
 ///
 /// ```text
 /// filter NAME
-/// chains: LENGTH instructions, at most MOST steps, PASSING passing
+/// linear: LENGTH instructions, at most MOST steps, PASSING passing
 /// tree: LENGTH instructions, at most MOST steps, PASSING passing
 /// ```
 ///

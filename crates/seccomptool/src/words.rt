@@ -75,7 +75,7 @@ pub enum Command<'a> {
         format: LineFormat,
         /// The records of the calls.
         records: Records<'a>,
-        /// The policy.
+        /// The policy, or a profile where no filter is named.
         policy: &'a str,
     },
     /// Print what a program returns for calls.
@@ -115,9 +115,9 @@ pub enum Command<'a> {
         most: usize,
         /// Whether the numbers of warnings are left out.
         quiet: bool,
-        /// The old policy.
+        /// The old policy, or a profile where no filter is named.
         old: &'a str,
-        /// The new policy.
+        /// The new policy, or profile.
         new: &'a str,
     },
     /// Print the calls that a program decides otherwise than a filter.

@@ -2,6 +2,7 @@
 use Rattle.std.proofs.Common.{◌≡◌, ℕ, Bool, List, Option, Err, Ok, IfSome, refl}
 use Rattle.seccompiler.specs.declared.backend.TargetArch.{TargetArch}
 use Rattle.seccomp_oci.specs.Types.{Container}
+use Rattle.seccomp_oci.specs.declared.types.Flag.{Flag}
 use Rattle.std.specs.Io.KnownBytes.{Appends}
 use Rattle.seccomptool.specs.Errors.{IsWriteError}
 use Rattle.seccomptool.specs.Imports.{AnswersImport, AreNoted, IsMade, IsUnimported, unread, unimported, unwritten, written}
@@ -24,17 +25,18 @@ module _ (format : ImportFormat) (arch : TargetArch) (container : Container) (st
         → AnswersImport format arch container strict path known (Err e) old new
     is_unimported e why = unimported (text, is_known, why)
 
-    module _ (bytes : List ℕ) (left_out : List (List ℕ)) (is : IsMade format arch container strict text bytes left_out) where
+    module _ (bytes : List ℕ) (left_out : List (List ℕ)) (flags : List Flag)
+        (is : IsMade format arch container strict text bytes left_out flags) where
       -- What is made of it isn't written.
       pub is_unwritten : (e : ToolError) → IsWriteError e → AnswersImport format arch container strict path known (Err e) old new
-      is_unwritten (Write e) why = unwritten e refl (text, is_known, (bytes, left_out, is))
+      is_unwritten (Write e) why = unwritten e refl (text, is_known, (bytes, left_out, flags, is))
       is_unwritten e why = absurd why
 
       -- It is written.
-      pub is_written : (done : Done) → Appends old new bytes → AreNoted arch path left_out done.notes.items → done.verdict ≡ Same
+      pub is_written : (done : Done) → Appends old new bytes → AreNoted arch path left_out flags done.notes.items → done.verdict ≡ Same
           → AnswersImport format arch container strict path known (Ok done) old new
       is_written done appends noted same = written done refl (
         text,
         is_known,
-        record { bytes = bytes; left_out = left_out; is = is; appends = appends; noted = noted; same = same },
+        record { bytes = bytes; left_out = left_out; flags = flags; is = is; appends = appends; noted = noted; same = same },
       )

@@ -1,11 +1,11 @@
--- For `push_others`: names behind another one, one by one; and for `noted`, the notes where a name is left out.
+-- For `push_others`: names behind another one, one by one; and for `names_noted`, the note where a name is left out.
 use Rattle.std.proofs.Common.{◌≡◌, ◌==◌, false, ◌<◌, ◌+◌, ◌++◌, ◌∙◌, ℕ, List, [], ◌∷◌, String, Global, ap, codes, get_or, length, map}
 use Rattle.std.proofs.Common.{refl, string_bytes, sym, subst, take}
 use Rattle.std.proofs.lemmas.Bool.{false≢true}
 use Rattle.std.specs.List.{concat}
 use Rattle.seccomp_command_line.proofs.Joined.{joined_more}
 use Rattle.seccompiler.specs.declared.backend.TargetArch.{TargetArch}
-use Rattle.seccomptool.specs.Imports.{AreNoted, other_text, told_text}
+use Rattle.seccomptool.specs.Imports.{AreNamesNoted, other_text, told_text}
 use Rattle.seccomptool.specs.Notes.{IsNote}
 
 -- The text of a name that is a string.
@@ -26,9 +26,9 @@ others_more names at name begun old new room is so_far more =
     (more ∙ ap (λ n. old ++ of_string n) is)
     ∙ ap (λ (l : List ℕ). begun ++ l) (all_strings (take (at + 1) names))
 
--- The notes where a name is left out.
+-- The note where a name is left out.
 pub noted_some : (arch : TargetArch) (path : List ℕ) (names : List (String Global)) (told notes : List ℕ) → (length names == 0) ≡ false
     → told ≡ told_text arch (codes ", left out (") (map string_bytes names) → IsNote path told notes
-    → AreNoted arch path (map string_bytes names) notes
+    → AreNamesNoted arch path (map string_bytes names) notes
 noted_some arch path [] told notes some is note = absurd (false≢true (sym some))
 noted_some arch path (name ∷ names) told notes some is note = subst (λ t. IsNote path t notes) is note

@@ -1,4 +1,4 @@
--- For `diff_noted`: the answer on the texts that were read, and that nothing is at fault in them where they are compared.
+-- For `diff_policies`: the answer on the texts that were read, and that nothing is at fault in them where they are compared.
 use Rattle.std.proofs.Common.{◌≡◌, ◌∙◌, ℕ, Bool, List, Option, Some, None, IfSome, Result, Ok, Err, refl, subst}
 use Rattle.seccompiler.specs.declared.backend.TargetArch.{TargetArch}
 use Rattle.seccompiler.specs.declared.compare.Relation.{Relation}

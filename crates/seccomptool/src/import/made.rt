@@ -6,15 +6,16 @@ ghost use Rattle.seccomptool.specs.Imports.{IsFormatFault, IsMade};
 
 use crate::compile::bytes::bytes_of;
 use crate::import::format::ImportFormat;
-use seccomp_oci::{Container, ImportError, compile_profile, import_profile};
+use seccomp_oci::{Container, Flag, ImportError, compile_profile, import_profile};
 use seccompiler::TargetArch;
 use std::alloc::Global;
 
-// What a profile is made into, and the names that are left out.
+// What a profile is made into, the names that are left out, and the profile's flags.
 #[derive(Drop)]
 pub(crate) struct Made {
     pub bytes: Vec<u8>,
     pub left_out: Vec<String>,
+    pub flags: Vec<Flag>,
 }
 
 // What the profile of a text is made into in a format.
@@ -26,7 +27,7 @@ pub(crate) fn made_of(
     format: ImportFormat,
     text: &[u8],
 ) -> Result<Made, ImportError>
-    ensures made { IfOk result (λ made. IsMade format arch container.now strict text.now made.bytes.items (map string_bytes made.left_out.items)) }
+    ensures made { IfOk result (λ made. IsMade format arch container.now strict text.now made.bytes.items (map string_bytes made.left_out.items) made.flags.items) }
     ensures fault { IfErr result (IsFormatFault format arch container.now strict text.now) }
 {
     match format {
@@ -43,13 +44,14 @@ fn policy_of(
     strict: bool,
     text: &[u8],
 ) -> Result<Made, ImportError>
-    ensures made { IfOk result (λ made. IsMade Policy arch container.now strict text.now made.bytes.items (map string_bytes made.left_out.items)) }
+    ensures made { IfOk result (λ made. IsMade Policy arch container.now strict text.now made.bytes.items (map string_bytes made.left_out.items) made.flags.items) }
     ensures fault { IfErr result (IsFormatFault Policy arch container.now strict text.now) }
 {
     let imported = import_profile(alloc, arch, container, strict, text)?;
     Ok(Made {
         bytes: imported.text,
         left_out: imported.left_out,
+        flags: imported.flags,
     })
 }
 
@@ -61,7 +63,7 @@ fn program_of(
     strict: bool,
     text: &[u8],
 ) -> Result<Made, ImportError>
-    ensures made { IfOk result (λ made. IsMade Raw arch container.now strict text.now made.bytes.items (map string_bytes made.left_out.items)) }
+    ensures made { IfOk result (λ made. IsMade Raw arch container.now strict text.now made.bytes.items (map string_bytes made.left_out.items) made.flags.items) }
     ensures fault { IfErr result (IsFormatFault Raw arch container.now strict text.now) }
 {
     let compiled = compile_profile(alloc, arch, container, strict, text)?;
@@ -69,5 +71,6 @@ fn program_of(
     Ok(Made {
         bytes,
         left_out: compiled.left_out,
+        flags: compiled.flags,
     })
 }

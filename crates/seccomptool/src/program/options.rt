@@ -192,14 +192,16 @@ pub(super) fn oci<'a>(alloc: Global) -> Arg<'a>
     Arg::new(alloc, "oci")
         .long("oci")
         .action(ArgAction::SetTrue)
-        .help("The policy is a seccomp profile of a container runtime")
+        .help("The policy is a seccomp profile of a container runtime; --cap and --kernel need it")
 }
 
 pub(super) fn compared_oci<'a>(alloc: Global) -> Arg<'a>
     ensures rule { rule_of result ≡ oci_rule }
     ensures local { result.global ≡ false }
 {
-    oci(alloc).help("The policies are seccomp profiles of a container runtime")
+    oci(alloc).help(
+        "The policies are seccomp profiles of a container runtime; --cap and --kernel need it",
+    )
 }
 
 pub(super) fn cap<'a>(alloc: Global) -> Arg<'a>

@@ -41,6 +41,6 @@ fn push_filter(
     text.extend_from_slice(b"filter ")?;
     push_readable(text, name)?;
     text.extend_from_slice(b"\n")?;
-    push_measure(text, "chains", chains)?;
+    push_measure(text, "linear", chains)?;
     push_measure(text, "tree", tree)
 }

@@ -1,7 +1,7 @@
 use Rattle.std.proofs.Common.{map, refl, string_bytes, subst}
 use Rattle.std.proofs.lemmas.Result.{err_from_is_err_and}
 use Rattle.std.specs.Io.KnownBytes.{Appends}
-use Rattle.seccomptool.specs.Imports.{AreNoted, IsFormatFault, IsMade}
+use Rattle.seccomptool.specs.Imports.{IsFormatFault, IsMade}
 use Rattle.seccomptool.proofs.import.Answered.{is_unimported, is_unwritten, is_written}
 use Rattle.seccomptool.proofs.import.import.Goals as goal
 
@@ -19,11 +19,12 @@ returns-in_err-send-clause-answers g c =
     let made = c.in-Ok.made in
     let names = map string_bytes made.left_out.items in
     let error = err_from_is_err_and c.from_residual-in_err-send.result c.from_residual-in_err-send.ensures.1 in
-    let is = subst (λ t. IsMade c.args.format c.args.arch c.args.container.now c.args.strict t made.bytes.items names)
+    let flags = made.flags.items in
+    let is = subst (λ t. IsMade c.args.format c.args.arch c.args.container.now c.args.strict t made.bytes.items names flags)
     c.as_slice.ensures.value c.in-Ok.ensures.made in
     rw (error.1, error.2)
     (is_unwritten c.args.format c.args.arch c.args.container.now c.args.strict c.args.path.now (g.R.Read.remaining c.args.profile) _ _ text
-    c.in_ok-text.ensures.text made.bytes.items names is _ c.in_err-send.ensures.cause)
+    c.in_ok-text.ensures.text made.bytes.items names flags is _ c.in_err-send.ensures.cause)
 
 pub returns-clause-answers : goal.returns-clause-answers
 returns-clause-answers g c =
@@ -31,11 +32,10 @@ returns-clause-answers g c =
     let text = c.in_ok-text.text.items in
     let made = c.in-Ok.made in
     let left_out = map string_bytes made.left_out.items in
-    let is = subst (λ t. IsMade c.args.format c.args.arch c.args.container.now c.args.strict t made.bytes.items left_out)
+    let flags = made.flags.items in
+    let is = subst (λ t. IsMade c.args.format c.args.arch c.args.container.now c.args.strict t made.bytes.items left_out flags)
     c.as_slice.ensures.value c.in-Ok.ensures.made in
     let appends = subst (λ bytes. Appends (contents c.args.out.now) (contents c.send.new.out) bytes)
-    c.deref-2.ensures.value c.in_ok-send.ensures.sent in
-    let noted = subst (λ names. AreNoted c.args.arch c.args.path.now (map string_bytes names) c.in_ok-notes.notes.items)
-    c.deref.ensures.value c.in_ok-notes.ensures in
+    c.deref.ensures.value c.in_ok-send.ensures.sent in
     is_written c.args.format c.args.arch c.args.container.now c.args.strict c.args.path.now (g.R.Read.remaining c.args.profile) _ _ text
-    c.in_ok-text.ensures.text made.bytes.items left_out is _ appends noted refl
+    c.in_ok-text.ensures.text made.bytes.items left_out flags is _ appends c.in_ok-notes.ensures refl

@@ -8,4 +8,5 @@ returns-clause-made c = (
   c.in_ok-compiled.ensures.compiled,
   c.in_ok-bytes.ensures ∙ ap program_bytes c.deref.ensures.value,
   refl,
+  refl,
 )

@@ -1,7 +1,7 @@
 use Rattle.std.proofs.Common.{◌∙◌, sym}
 use Rattle.std.proofs.lemmas.Result.{IfOk-weaker}
 use Rattle.seccomptool.proofs.import.OtherNames.{noted_some}
-use Rattle.seccomptool.proofs.import.noted.Goals as goal
+use Rattle.seccomptool.proofs.import.names_noted.Goals as goal
 
 pub returns : goal.returns
 returns c =

@@ -1,0 +1,75 @@
+// Whether a text is a profile's or a policy's, where both may be given.
+
+ghost use Rattle.std.specs.Prelude.{◌≡◌, ◌↔◌, IfOk, IsTrue, codes};
+ghost use Rattle.serde_json.specs.View.{view};
+ghost use Rattle.seccomptool.specs.Kinds as spec;
+ghost use Rattle.seccompiler.specs.declared.backend.TargetArch.{TargetArch};
+ghost use Rattle.seccomptool.specs.Kinds.{IsOfProfile, IsPolicyText, IsTakenForProfile, NamesDefault, StandsIn};
+ghost use Rattle.seccomptool.specs.Words.{text_of};
+
+use seccomp_oci::Container;
+use serde_json::Value;
+use std::alloc::{AllocError, Global};
+
+// Whether a text is taken for a profile, where this filter is asked for, or none.
+pub(crate) fn is_taken_for_profile(
+    alloc: Global,
+    text: &[u8],
+    asked: Option<&str>,
+) -> Result<bool, AllocError>
+    ensures { IfOk result (λ is. IsTrue is ↔ IsTakenForProfile (text_of asked.entry) text.now) }
+{
+    match asked {
+        Some(_) => Ok(false),
+        None => is_of_profile(alloc, text),
+    }
+}
+
+// Whether a text is taken for a profile. Only one that has the key's bytes is parsed, since policies may be large.
+fn is_of_profile(alloc: Global, text: &[u8]) -> Result<bool, AllocError>
+    ensures taken { IfOk result (λ is. IsTrue is ↔ IsOfProfile text.now) }
+
+    // No text of a policy is, on whichever architecture.
+    ensures no_policy { IfOk result (λ is. IsTrue is → (arch : TargetArch) → IsPolicyText arch text.now → ⊥) }
+{
+    if !has_key(text) {
+        return Ok(false);
+    }
+    match Value::from_slice(alloc, text) {
+        Ok(value) => Ok(names_default(&value)),
+        Err(error) if error.is_memory() => Err(AllocError),
+        Err(_) => Ok(false),
+    }
+}
+
+// Whether the bytes of the key stand somewhere in a text.
+fn has_key(text: &[u8]) -> bool
+    ensures { IsTrue result ↔ StandsIn (codes "\"defaultAction\"") text.now }
+{
+    for start in 0..text.len() {
+        if text[start..].starts_with(b"\"defaultAction\"") {
+            return true;
+        }
+    }
+    false
+}
+
+// Whether a value is an object that names its default action.
+fn names_default(value: &Value) -> bool
+    ensures { IsTrue result ↔ NamesDefault (view value.now) }
+{
+    match value.get("defaultAction") {
+        Some(action) => action.is_string(),
+        None => false,
+    }
+}
+
+// A container of which nothing is said.
+pub(crate) fn plain_container(alloc: Global) -> Container
+    ensures { result ≡ spec.plain_container }
+{
+    Container {
+        caps: Vec::new(alloc),
+        kernel: None,
+    }
+}

@@ -1,14 +1,16 @@
 """What tools/try-jail runs under profiles, of which `seccomptool import` makes policies, or programs.
 
 The profiles are the example's and, where Debian's package golang-github-containers-common is installed, Podman's. All
-filters of a policy are installed, in the order of its text, or the one program of a profile alone. Calls have arguments that the kernel rejects, so none of
-them changes anything where a filter lets it through.
+filters of a policy are installed, in the order of its text, or the one program of a profile alone, which a jailer reads from a
+file or, by --oci, asks seccomptool for. Calls have arguments that the kernel rejects, so none of them changes anything where a
+filter lets it through.
 """
 
 import errno
 import json
 import pathlib
 import re
+import shutil
 import subprocess
 
 from jail_cases import KILLED, answer_of
@@ -43,6 +45,9 @@ OF_EXAMPLE = [
     ([], "kexec_load", KILLED), ([], "kexec_file_load", KILLED), (SYS_ADMIN, "kexec_load", KILLED),
 ]
 
+# What seccomptool notes of both profiles.
+NOTE = re.compile(r"\Aseccomptool: .*: names of no system call of x86_64, left out \(\d+\): .*\n")
+
 # Calls of Podman's profile that are for a capability, with arguments that the kernel rejects by another errno than EPERM,
 # or for which it has other reasons too.
 FOR_CAPABILITIES = ["setns -1", "sethostname 0 -1", "chroot 0", "open_by_handle_at -1", "fanotify_init -1"]
@@ -71,16 +76,27 @@ def compiled(results, folder, profile, words, name):
     return ["--program", name]
 
 
+def asked(results, folder, profile, words, name):
+    """Returns the arguments by which the jailer itself asks seccomptool for the program of a profile."""
+    return ["--oci", *words, profile, "--"]
+
+
+def ran(words, folder):
+    """Runs a command, and returns what `run` does, without the note of seccomptool on names that are left out."""
+    out, err, status = run(words, folder)
+    return out, NOTE.sub("", err, count=1) if "--oci" in words else err, status
+
+
 def try_commands(results, what, jailed, folder):
     """Runs commands that go well."""
     for command, output in PASSING:
         wanted = (run(command, folder)[0] if output is None else output), "", 0
-        results.compare(f"{what}: {' '.join(command)}", wanted, run([*jailed, *command], folder))
+        results.compare(f"{what}: {' '.join(command)}", wanted, ran([*jailed, *command], folder))
 
 
 def try_call(results, what, jailed, folder, call, wanted):
     """Makes a call, and compares its errno, or looks whether it kills or is made."""
-    out, err, status = run([*jailed, folder / "bin/call", *call.split()], folder)
+    out, err, status = ran([*jailed, folder / "bin/call", *call.split()], folder)
     if wanted is None:
         results.compare(f"{what}: {call}", (False, "", 0), (out.startswith("errno"), err, status))
     elif wanted == KILLED:
@@ -95,7 +111,7 @@ def try_example(results, jailer, folder, way, end):
         jailed = [*jailer.words, *way(results, folder, EXAMPLE, words, f"example{end}")]
         try_commands(results, f"{jailer} the example{end} {words}", jailed, folder)
     jailed = [*jailer.words, *way(results, folder, EXAMPLE, [], f"example{end}")]
-    out, err, status = run([*jailed, "unshare", "--user", "true"], folder)
+    out, err, status = ran([*jailed, "unshare", "--user", "true"], folder)
     results.compare(f"{jailer} the example: unshare", ("", True, 1), (out, err.endswith("Operation not permitted\n"), status))
     for words, call, wanted in OF_EXAMPLE:
         jailed = [*jailer.words, *way(results, folder, EXAMPLE, words, f"example{end}")]
@@ -117,17 +133,19 @@ def try_podman(results, jailer, folder, way, end):
         for call in FOR_CAPABILITIES:
             # With the capabilities the kernel answers, as it does without a filter.
             wanted = run([folder / "bin/call", *call.split()], folder) if words else (answer_of(1), "", 0)
-            results.compare(f"{what}: {call}", wanted, run([*jailed, folder / "bin/call", *call.split()], folder))
+            results.compare(f"{what}: {call}", wanted, ran([*jailed, folder / "bin/call", *call.split()], folder))
 
 
 def try_profiles(results, by_filters, by_program, folder):
-    """Runs commands and calls under profiles: by one jailer under their filters, by others under one program."""
+    """Runs commands and calls under profiles: by one jailer under their filters, by others under one program, in both ways."""
+    (folder / "bin/seccomptool").symlink_to(TOOL)
     compiled(results, folder, EXAMPLE, [], PROGRAM)
     filters = imported(results, folder, EXAMPLE, [], CONTAINER)
     results.compare("the example's filters", "base,deny1,deny2,deny3", filters[1])
     if not PODMAN.exists():
         print(f"{PODMAN} of Debian's {PACKAGE} isn't there, so no command is run under it")
-    for jailer, way, end in [(by_filters, imported, ".json"), *[(it, compiled, ".bpf") for it in by_program]]:
+    programs = [(it, way, end) for it in by_program for way, end in ((compiled, ".bpf"), (asked, " by --oci"))]
+    for jailer, way, end in [(by_filters, imported, ".json"), *programs]:
         try_example(results, jailer, folder, way, end)
         if PODMAN.exists():
             try_podman(results, jailer, folder, way, end)
@@ -153,3 +171,26 @@ def try_no_programs(results, jailer, folder):
         found = run([*jailer.words, "--program", name, "touch", "run"], folder)
         results.compare(f"{jailer} --program {name}", ("", jailer.told(name, number), 125), found)
     results.compare(f"{jailer}: what is no program ran a command", False, (folder / "run").exists())
+
+
+# What is no profile, as seccomptool reports it: the options and the file, and what is reported behind its name.
+NO_PROFILES = [
+    (["missing.json"], "missing.json: No such file or directory (os error 2)\n"), (["."], ".: Is a directory (os error 21)\n"),
+    (["empty.bpf"], "empty.bpf: Error parsing Json: .."), (["--cap", "CAP_KILL", "empty.bpf"], "empty.bpf: Error parsing Json: .."),
+]
+
+
+def try_no_profiles(results, jailer, folder):
+    """Gives a jailer files that are no profiles, and one where there is no seccomptool: nothing is run."""
+    for words, told in NO_PROFILES:
+        out, err, status = run([*jailer.words, "--oci", *words, "--", "touch", "run"], folder)
+        wanted = "seccomptool: " + told
+        err = wanted if told.endswith("..") and err.startswith(wanted[:-2]) and err.count("\n") == 1 else err
+        results.compare(f"{jailer} --oci {words}", ("", wanted, 125), (out, err, status))
+    if shutil.which("seccomptool", path=ENVIRONMENT["PATH"]) is None:
+        alone = folder / "alone" / jailer.name
+        alone.parent.mkdir(exist_ok=True)
+        shutil.copy(folder / "bin" / jailer.name, alone)
+        found = run([alone, *jailer.words[1:], "--oci", EXAMPLE, "touch", "run"], folder)
+        results.compare(f"{jailer} without seccomptool", ("", jailer.told("seccomptool", errno.ENOENT), 125), found)
+    results.compare(f"{jailer}: what is no profile ran a command", False, (folder / "run").exists())

@@ -1,6 +1,7 @@
 /*
  * jail [--tree] POLICY FILTER[,FILTER].. COMMAND [ARGUMENT]..
  * jail --program PROGRAM COMMAND [ARGUMENT]..
+ * jail --oci [--cap CAP].. [--kernel KERNEL] PROFILE [--] COMMAND [ARGUMENT]..
  *
  * Runs a command under filters. POLICY is a file of filters as JSON text, each FILTER the name of one of
  * them. They are compiled for the architecture that this program is built for, with --tree in the layout
@@ -9,6 +10,10 @@
  *
  * Or it is run under the program of the file PROGRAM, its instructions one after the other as the kernel
  * takes them, 8 bytes each: what `seccomptool compile` and `seccomptool import --format raw` write.
+ *
+ * Or under the program that `seccomptool import --format raw` writes for the file PROFILE, a profile of a
+ * container runtime, and for a container with these capabilities on this kernel. It is the `seccomptool`
+ * beside this program, or else that of PATH; what it says on standard error stands there.
  *
  * Of several filters the kernel takes the strictest answer, and of several error numbers that of the
  * filter installed last. They are installed in the order in which they are named, so each but the last
@@ -20,7 +25,7 @@
  * to that, a line on standard error says why, and the status is
  *
  *   125  the words are no command of this program, the policy or program can't be read, one of the filters
- *        is refused, or the kernel doesn't take one of them: nothing was run
+ *        or the profile is refused, or the kernel doesn't take one of them: nothing was run
  *   126  the command can't be run
  *   127  there is no such command
  *
@@ -32,11 +37,13 @@
 
 #include <errno.h>
 #include <fcntl.h>
+#include <limits.h>
 #include <linux/filter.h>
 #include <stdint.h>
 #include <stdio.h>
 #include <stdlib.h>
 #include <string.h>
+#include <sys/wait.h>
 #include <unistd.h>
 
 #include "architecture.h"
@@ -87,16 +94,13 @@ static size_t enlarge(struct text *text, size_t room, const char *path)
     return larger;
 }
 
-/* Returns the whole file. */
-static struct text read_whole(const char *path)
+/* Returns what is left of an open file, and closes it. Failures are those of this path. */
+static struct text read_rest(int file, const char *path)
 {
     struct text text = {NULL, 0};
     size_t room = 0;
     ssize_t count;
-    int file = open(path, O_RDONLY | O_CLOEXEC);
 
-    if (file < 0)
-        fail(FAILED, path);
     do {
         if (text.length == room)
             room = enlarge(&text, room, path);
@@ -109,6 +113,16 @@ static struct text read_whole(const char *path)
     if (close(file) != 0)
         fail(FAILED, path);
     return text;
+}
+
+/* Returns the whole file. */
+static struct text read_whole(const char *path)
+{
+    int file = open(path, O_RDONLY | O_CLOEXEC);
+
+    if (file < 0)
+        fail(FAILED, path);
+    return read_rest(file, path);
 }
 
 /* Compiles the filter that the program is named after; where it is rejected, says why, and ends. */
@@ -149,11 +163,9 @@ static struct program *compile_each(const struct policy *policy, const char *nam
     return programs;
 }
 
-/* Copies the instructions of a program's file; where they are none, or more than the kernel takes, says so and ends. */
-static void read_program(const char *path, struct program *program)
+/* Copies the instructions that these bytes of a path are; where they are none, or more than the kernel takes, says so and ends. */
+static void take_program(struct text text, const char *path, struct program *program)
 {
-    struct text text = read_whole(path);
-
     if (text.length == 0 || text.length % sizeof(struct sock_filter) != 0 || text.length > sizeof program->instructions) {
         fprintf(stderr, "jail: %s: 1 to 4096 instructions of 8 bytes are expected, found %zu bytes\n", path, text.length);
         exit(FAILED);
@@ -195,15 +207,77 @@ static _Noreturn void execute(char **command)
     fail(errno == ENOENT ? NOT_FOUND : CANNOT_RUN, command[0]);
 }
 
-/* Runs a command under the program of a file. */
-static _Noreturn void run_under_program(const char *path, char **command)
+/* Runs a command under the program that these bytes of a path are. */
+static _Noreturn void run_under_program(struct text text, const char *path, char **command)
 {
     static struct program program;
     struct policy policy = {.path = path};
 
-    read_program(path, &program);
+    take_program(text, path, &program);
     install(&policy, &program, "");
     execute(command);
+}
+
+/* Makes this process the seccomptool beside this program, or else that of PATH, with these words. */
+static _Noreturn void become_seccomptool(char **words)
+{
+    char path[PATH_MAX + sizeof "seccomptool"];
+    ssize_t length = readlink("/proc/self/exe", path, PATH_MAX);
+
+    while (length > 0 && path[length - 1] != '/')
+        length--;
+    if (length > 0) {
+        strcpy(path + length, "seccomptool");
+        execv(path, words);
+    }
+    execvp("seccomptool", words);
+    fail(FAILED, "seccomptool");
+}
+
+/* Returns what `seccomptool import --format raw` writes with so many words behind it; where it fails, ends. */
+static struct text import(char **words, size_t count, const char *path)
+{
+    static char *const front[] = {"seccomptool", "import", "--format", "raw", "-a", ARCHITECTURE_NAME};
+    const size_t fronts = sizeof front / sizeof *front;
+    char **all = calloc(fronts + count + 1, sizeof *all);
+    struct text text;
+    int ends[2], status;
+    pid_t child;
+
+    if (all == NULL || pipe2(ends, O_CLOEXEC) != 0)
+        fail(FAILED, path);
+    memcpy(all, front, sizeof front);
+    memcpy(all + fronts, words, count * sizeof *words);
+    child = fork();
+    if (child == 0 && dup2(ends[1], STDOUT_FILENO) >= 0)
+        become_seccomptool(all);
+    if (child <= 0)
+        fail(FAILED, path);
+    close(ends[1]);
+    text = read_rest(ends[0], path);
+    if (waitpid(child, &status, 0) != child)
+        fail(FAILED, path);
+    if (status != 0)
+        exit(FAILED);
+    free(all);
+    return text;
+}
+
+/* Runs a command under the program of a profile: these words are what stands behind --oci, and end with NULL. */
+static void run_under_profile(char **words)
+{
+    size_t count = 0;
+
+    while (words[count] != NULL && words[count + 1] != NULL
+           && (strcmp(words[count], "--cap") == 0 || strcmp(words[count], "--kernel") == 0))
+        count += 2;
+    if (words[count] != NULL && words[count + 1] != NULL) {
+        char **command = words + count + 1;
+
+        command += strcmp(command[0], "--") == 0;
+        if (command[0] != NULL)
+            run_under_program(import(words, count + 1, words[count]), words[count], command);
+    }
 }
 
 int main(int count, char **words)
@@ -213,15 +287,18 @@ int main(int count, char **words)
     size_t program_count;
 
     if (count > 3 && strcmp(words[1], "--program") == 0)
-        run_under_program(words[2], words + 3);
+        run_under_program(read_whole(words[2]), words[2], words + 3);
+    if (count > 3 && strcmp(words[1], "--oci") == 0)
+        run_under_profile(words + 2);
     if (count > 1 && strcmp(words[1], "--tree") == 0) {
         policy.layout = SECCOMPILER_LAYOUT_TREE;
         count--;
         words++;
     }
-    if (count < 4 || strcmp(words[1], "--program") == 0) {
+    if (count < 4 || strcmp(words[1], "--program") == 0 || strcmp(words[1], "--oci") == 0) {
         fputs("usage: jail [--tree] POLICY FILTER[,FILTER].. COMMAND [ARGUMENT]..\n"
-              "       jail --program PROGRAM COMMAND [ARGUMENT]..\n", stderr);
+              "       jail --program PROGRAM COMMAND [ARGUMENT]..\n"
+              "       jail --oci [--cap CAP].. [--kernel KERNEL] PROFILE [--] COMMAND [ARGUMENT]..\n", stderr);
         return FAILED;
     }
     policy.path = words[1];

@@ -1,8 +1,10 @@
 //! `jail-rs [--tree] POLICY FILTER[,FILTER].. COMMAND [ARGUMENT]..`,
-//! `jail-rs --program PROGRAM COMMAND [ARGUMENT]..`
+//! `jail-rs --program PROGRAM COMMAND [ARGUMENT]..`,
+//! `jail-rs --oci [--cap CAP].. [--kernel KERNEL] PROFILE [--] COMMAND [ARGUMENT]..`
 //!
 //! Runs a command under the filters that have the names FILTER in the policy file POLICY, or under the program of the file
-//! PROGRAM: what `examples/jail/jail.c` does, in safe Rust. The exit status is that of the command. Where it doesn't
+//! PROGRAM, or under the one that `seccomptool import --format raw` writes for the profile of the file PROFILE: what
+//! `examples/jail/jail.c` does, in safe Rust. The exit status is that of the command. Where it doesn't
 //! come to that, a line on standard error says why, and it is 125 where nothing was run, 126 where
 //! the command can't be run and 127 where there is none.
 //!
@@ -24,7 +26,7 @@ use std::fs;
 use std::io;
 use std::os::unix::ffi::OsStrExt;
 use std::os::unix::process::CommandExt;
-use std::process::{Command, ExitCode};
+use std::process::{Command, ExitCode, Stdio};
 use std::str;
 
 /// What keeps a command from being run.
@@ -35,6 +37,10 @@ enum Failure {
     Policy(OsString, io::Error),
     /// The file has so many bytes, which are no instructions, or more than the kernel takes.
     Program(OsString, usize),
+    /// `seccomptool` can't be run.
+    Tool(io::Error),
+    /// `seccomptool` rejects the profile, and has said why.
+    Profile,
     /// The policy is rejected.
     Filter(OsString, seccompiler::Error),
     /// The policy has no filter of this name.
@@ -63,8 +69,11 @@ impl fmt::Display for Failure {
                 f.write_str(
                     "usage: jail-rs [--tree] POLICY FILTER[,FILTER].. COMMAND [ARGUMENT]..\n",
                 )?;
-                f.write_str("       jail-rs --program PROGRAM COMMAND [ARGUMENT]..")
+                f.write_str("       jail-rs --program PROGRAM COMMAND [ARGUMENT]..\n")?;
+                f.write_str("       jail-rs --oci [--cap CAP].. [--kernel KERNEL] PROFILE [--] COMMAND [ARGUMENT]..")
             }
+            Failure::Tool(error) => write!(f, "jail-rs: seccomptool: {error}"),
+            Failure::Profile => Ok(()),
             Failure::Program(path, length) => {
                 let path = path.to_string_lossy();
                 write!(f, "jail-rs: {path}: 1 to 4096 instructions of 8 bytes are expected, found {length} bytes")
@@ -122,9 +131,8 @@ fn compiled(
         .collect()
 }
 
-/// Reads the program of a file: its instructions, 8 bytes each, as this machine has them.
-fn program_of(path: &OsStr) -> Result<BpfProgram, Failure> {
-    let bytes = fs::read(path).map_err(|error| Failure::Policy(path.into(), error))?;
+/// Returns the program that these bytes of a path are: its instructions, 8 bytes each, as this machine has them.
+fn program_of(path: &OsStr, bytes: &[u8]) -> Result<BpfProgram, Failure> {
     let (instructions, rest) = (bytes.chunks_exact(8), bytes.len() % 8);
     if bytes.is_empty() || rest != 0 || bytes.len() > 8 * 4096 {
         return Err(Failure::Program(path.into(), bytes.len()));
@@ -149,6 +157,55 @@ fn install(path: &OsStr, programs: &[(OsString, BpfProgram)]) -> Result<(), Fail
     Ok(())
 }
 
+/// Runs a command under the program that these bytes of a path are.
+fn under_program(
+    path: &OsStr,
+    bytes: &[u8],
+    command: OsString,
+    arguments: impl Iterator<Item = OsString>,
+) -> Result<(), Failure> {
+    install(path, &[("the program".into(), program_of(path, bytes)?)])?;
+    Err(executed(command, arguments))
+}
+
+/// Returns what `seccomptool import --format raw` writes with these words behind it: the one beside this program, or else that of
+/// PATH.
+fn imported(words: &[OsString]) -> Result<Vec<u8>, Failure> {
+    let beside = env::current_exe().map(|it| it.with_file_name("seccomptool"));
+    let tool = beside.ok().filter(|it| it.exists());
+    let mut asked = Command::new(tool.unwrap_or_else(|| "seccomptool".into()));
+    asked
+        .args(["import", "--format", "raw", "-a", ARCH])
+        .args(words);
+    let answer = asked.stdin(Stdio::inherit()).stderr(Stdio::inherit());
+    let answer = answer.output().map_err(Failure::Tool)?;
+    if answer.status.success() {
+        Ok(answer.stdout)
+    } else {
+        Err(Failure::Profile)
+    }
+}
+
+/// Runs a command under the program of a profile: what stands behind `--oci`.
+fn under_profile(mut words: impl Iterator<Item = OsString>) -> Result<(), Failure> {
+    let mut asked = Vec::new();
+    let path = loop {
+        let word = words.next().ok_or(Failure::Words)?;
+        if word != "--cap" && word != "--kernel" {
+            break word;
+        }
+        asked.push(word);
+        asked.push(words.next().ok_or(Failure::Words)?);
+    };
+    let mut command = words.next();
+    if command.as_deref() == Some("--".as_ref()) {
+        command = words.next();
+    }
+    let command = command.ok_or(Failure::Words)?;
+    asked.push(path.clone());
+    under_program(&path, &imported(&asked)?, command, words)
+}
+
 /// Does what the arguments ask for. Where it goes well this program is gone, and the command in its place.
 fn jail(mut words: impl Iterator<Item = OsString>) -> Result<(), Failure> {
     let mut first = words.next();
@@ -157,15 +214,20 @@ fn jail(mut words: impl Iterator<Item = OsString>) -> Result<(), Failure> {
         let (Some(path), Some(command)) = (words.next(), words.next()) else {
             return Err(Failure::Words);
         };
-        install(&path, &[("the program".into(), program_of(&path)?)])?;
-        return Err(executed(command, words));
+        let bytes = fs::read(&path).map_err(|error| Failure::Policy(path.clone(), error))?;
+        return under_program(&path, &bytes, command, words);
+    }
+    if first.as_deref() == Some("--oci".as_ref()) {
+        return under_profile(words);
     }
     if first.as_deref() == Some("--tree".as_ref()) {
         layout = Layout::Tree;
         first = words.next();
     }
     let (path, names, command) = match (first, words.next(), words.next()) {
-        (Some(path), Some(names), Some(command)) if path != "--program" => (path, names, command),
+        (Some(path), Some(names), Some(command)) if path != "--program" && path != "--oci" => {
+            (path, names, command)
+        }
         _ => return Err(Failure::Words),
     };
     install(&path, &compiled(&path, &names, layout)?)?;
@@ -182,7 +244,9 @@ fn main() -> ExitCode {
     match jail(env::args_os().skip(1)) {
         Ok(()) => ExitCode::SUCCESS,
         Err(failure) => {
-            eprintln!("{failure}");
+            if !matches!(failure, Failure::Profile) {
+                eprintln!("{failure}");
+            }
             ExitCode::from(failure.status())
         }
     }

@@ -50,7 +50,7 @@ UNSAID = re.compile(
     r"|Backend error: (The seccomp filter |Invalid target arch: )"
     r"|The input ends inside a record, |Error (reading input|writing output)\."
     r"|No filter has this name: |Name one of its filters by --filter: |No call of \w+ has this name or number: "
-    r"|[A-Z][\w ]+ \(os error \d+\)\n|usage: |error: |$"
+    r"|The JSON value is no seccomp profile, |[A-Z][\w ]+ \(os error \d+\)\n|usage: |error: |$"
 )
 
 # What `check` reports behind a place: that the shape is wrong there; and what can only be found in one that is right.
@@ -100,6 +100,16 @@ def names_in(words):
     return names
 
 
+def is_profile(words, text):
+    """Returns whether a command of seccomptool takes a text for a profile's."""
+    if text is None or words[:1] not in (["explain"], ["diff"]) or any(it.startswith(("-f", "--filter")) for it in words):
+        return False
+    try:
+        return isinstance(json.loads(text)["defaultAction"], str)
+    except (ValueError, TypeError, KeyError):
+        return False
+
+
 def policy_of(case, files):
     """Returns the text of the policy that a case's command reads; None where it reads none or several, or reading fails."""
     words = [it or '""' for it in shlex.split(case.words)]
@@ -111,9 +121,20 @@ def policy_of(case, files):
     elif words and words[0] in OF_TOOL and not any(it in HELP or it.startswith(("--list", "--program", "--oci")) for it in words):
         names = names_in(words[1:])
         several = words[0] == "check" and len(names) > 1
-        name = None if several else (names or ["-"])[0]
+        # What `diff` reports may be about its second policy.
+        of_new = words[0] == "diff" and case.errors.startswith(f"seccomptool: {names[-1]}: ")
+        name = None if several else names[-1] if of_new else (names or ["-"])[0]
     if name == "-" and "<" in words:
         name = words[words.index("<") + 1]
+    # `diff` knows by its first file of which kind both are.
+    kinds = {name, *names_in(words[1:])[:1]} if words[:1] == ["diff"] else {name}
+    if any(is_profile(words, text_of(it, case, files)) for it in kinds):
+        return None
+    return text_of(name, case, files)
+
+
+def text_of(name, case, files):
+    """Returns the text of a file that a case names, or of its standard input; None where there is none."""
     if name == "-":
         return case.given if isinstance(case.given, (str, bytes)) else None
     return content_of(name.removeprefix("./"), files) if name is not None else None

@@ -6,12 +6,15 @@ from the program's output.
 """
 
 from . import (
-    calls, check, compat, compile, conditions, counts, diff, entries, explain, imports, oci, record, run, show, stats, verify,
-    warnings, words
+    calls, check, compat, compile, conditions, counts, diff, entries, explain, imports, oci, profile_faults, record, run, show,
+    stats, verify, warnings, words
 )
 from .forms import Case
 
-FILES = {**explain.FILES, **compile.FILES, **diff.FILES, **run.FILES, **verify.FILES, **imports.FILES, **oci.FILES, **counts.FILES}
+FILES = {
+    **explain.FILES, **compile.FILES, **diff.FILES, **run.FILES, **verify.FILES, **imports.FILES, **oci.FILES,
+    **profile_faults.FILES, **counts.FILES
+}
 
 
 def quiet(case):
@@ -26,7 +29,7 @@ CASES = [
         case
         for it in (
             show, check, warnings, conditions, calls, entries, explain, run, stats, record, counts, verify, compat, imports,
-            oci, words
+            profile_faults, oci, words
         )
         for case in it.CASES
     ],

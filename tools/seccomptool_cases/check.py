@@ -85,6 +85,8 @@ IN_FILTERS = [
          'missing "mismatch_action" or "default_action"'),
     told('{"a":{"match_action":"log","mismatch_action":"log","filter_action":"log","filter":[]}}', "a",
          'expected one of "match_action" and "filter_action", found both'),
+    # A value is JSON, which leaves some characters that steer a terminal as they are.
+    stands(mismatch(r'"\u009b2J\u007fµ"'), "a.mismatch_action", r'"\xc2\x9b2J\x7fµ"', ACTIONS),
     # An object of one name is an action by that name, and its number is at fault.
     stands(mismatch('{"errno":4294967296}'), "a.mismatch_action.errno", "4294967296", ACTION_NUMBER),
     stands('{"a":{"match_action":"log","default_action":{"errno":-1},"filter":[]}}',

@@ -31,12 +31,17 @@ def entry(*args, name="read"):
     return {"syscall": name, "args": list(args)} if args else {"syscall": name}
 
 
+def policy_of(entries, mismatch="trap", match="allow"):
+    """Returns the text of a policy of one filter, which has these entries and actions."""
+    return json.dumps({"a": {"mismatch_action": mismatch, "match_action": match, "filter": entries}})
+
+
 def of_entries(entries, warnings):
     """Returns the cases of a filter of these entries that has these warnings, each a place and a code, whatever its
     actions are."""
     cases = []
     for mismatch, match in (("trap", "allow"), ("allow", {"errno": 1})):
-        text = json.dumps({"a": {"mismatch_action": mismatch, "match_action": match, "filter": entries}})
+        text = policy_of(entries, mismatch, match)
         output = "".join(line(f"a.filter[{place}]", code) for place, code in warnings)
         cases.append(writes(f"check {OTHERS}", text, output))
         cases.append(Case(f"check --deny-warnings {OTHERS}", 1 if warnings else 0, output, "", text))
@@ -86,8 +91,12 @@ UNREACHABLE = [
     ([entry(dword("lt", 3), dword("gt", 3))] * 2, unreachable(0, 1)),
 ]
 
-# Many entries that aren't met by the same calls.
-LARGE = [entry(dword("eq", it, 1), dword("le", 9), dword("ne", 7, 2)) for it in range(300)]
+# Many entries that aren't met by the same calls, each of another request.
+LARGE = [entry(dword("eq", it, 1), dword("le", 9), dword("ne", 7, 2), name="ioctl") for it in range(300)]
+
+# An entry that one of these covers, and one that just isn't covered.
+COVERED = entry(dword("eq", 5, 1), dword("eq", 3), dword("eq", 3, 2), name="ioctl")
+NOT_COVERED = entry(dword("eq", 5, 1), dword("eq", 3), dword("eq", 7, 2), name="ioctl")
 
 REDUNDANT = [
     ([entry(), entry()], redundant(0, 1)),
@@ -114,11 +123,12 @@ REDUNDANT = [
     # One that many cover together, and just don't.
     ([*(entry(dword("eq", it)) for it in range(20)), entry(dword("le", 19), dword("ne", 7, 1))], redundant(20)),
     ([*(entry(dword("eq", it)) for it in range(20)), entry(dword("le", 20), dword("ne", 7, 1))], []),
-    # Two neighbouring bits of two arguments.
+    # Two neighbouring bits of two arguments, by arguments and by bits.
     ([entry(dword(masked(3 << bit), 3 << bit, index)) for index in (0, 1) for bit in range(18)], []),
+    ([entry(dword(masked(3 << bit), 3 << bit, index), name="ioctl") for bit in range(18) for index in (0, 1)], []),
     # A program of 2716 instructions. Rules of twice these conditions would take more than 4096.
-    ([*LARGE, entry(dword("eq", 5, 1), dword("eq", 3), dword("eq", 3, 2))], redundant(len(LARGE))),
-    ([*LARGE, entry(dword("eq", 5, 1), dword("eq", 3), dword("eq", 7, 2))], []),
+    ([*LARGE, COVERED], redundant(len(LARGE))),
+    ([*LARGE, NOT_COVERED], []),
 ]
 
 
@@ -169,5 +179,8 @@ def policies_by_chance():
 
 CASES = [
     *(it for row in (*UNREACHABLE, *REDUNDANT) for it in of_entries(*row)),
+    # The 301 rules of three conditions take 9 instructions each, and what is round them 7. With twice these conditions they
+    # would take 15 each, which are more than 4096.
+    Case("stats", 0, "filter a\nlinear: 2716 instructions..", "", policy_of([*LARGE, COVERED])),
     *(writes(f"check {OTHERS}", policy, output) for policy, output in policies_by_chance()),
 ]

@@ -1,7 +1,7 @@
-"""What `import` has to do: the policies of profiles, the names that are left out, and what is rejected.
+"""What `import` has to do: the policies of profiles, the names that are left out, the flags, and what is rejected.
 
 The texts are written by hand, from the OCI runtime specification and the layout that docs/OCI.md shows. What policies
-decide is in profiles.py.
+decide is in profiles.py, and what is reported of a value that is no profile in profile_faults.py.
 """
 
 import json
@@ -10,8 +10,8 @@ from .forms import (
     CLOSED, FOLDER, FULL, INPUT, MISSING, OUTPUT, RESET, TOOL, Case, Failing, fails_to_read_and_write, rejects, writes
 )
 
-NO_PROFILE = "The JSON value is no seccomp profile, or it has a part that is not supported.\n"
 PARSING = "Error parsing Json: .."
+FLAGS = "flags, which no filter has, left to whoever installs it"
 ERRNO_1 = '{"errno": 1}'
 
 
@@ -70,9 +70,9 @@ def left_out(words, given, names, *filters, arch="x86_64"):
     return Case(f"import {words}".strip(), 0, policy(*filters), told, json.dumps(given))
 
 
-def is_none(given):
-    """Returns the case of a value that is no profile."""
-    return rejects("import", json.dumps(given), NO_PROFILE)
+def flagged(words, given, told, *filters):
+    """Returns the case of a profile whose flags are told so."""
+    return Case(f"import {words}".strip(), 0, policy(*filters), f"{INPUT}{FLAGS} {told}\n", json.dumps(given))
 
 
 # A whole text, with what each part of a profile becomes.
@@ -115,6 +115,10 @@ OF_WHOLE = """{
 }
 """
 
+# The line of its flags.
+OF_FLAGS = (INPUT + "flags, which no filter has, left to whoever installs it (3): "
+            "SECCOMP_FILTER_FLAG_TSYNC, SECCOMP_FILTER_FLAG_LOG, SECCOMP_FILTER_FLAG_SPEC_ALLOW\n")
+
 # Each action of a profile, with its number if it has one, and that of the policy.
 ACTIONS = [
     ("SCMP_ACT_ERRNO", None, '{"errno": 1}'), ("SCMP_ACT_ERRNO", 0, '{"errno": 0}'),
@@ -152,42 +156,6 @@ CRITERIA = [
     ({"includes": {"caps": [], "arches": []}, "excludes": {"caps": [], "arches": []}}, ("", "-a riscv64"), ()),
 ]
 
-# Values of a condition, an entry and a profile that aren't taken.
-ARGUMENT = when(0, "EQ", 5)
-BAD_ARGUMENTS = [
-    *[{key: it for key, it in ARGUMENT.items() if key != left} for left in ARGUMENT],
-    *[{**ARGUMENT, "index": it} for it in (6, -1, 0.0, "0", None)],
-    *[{**ARGUMENT, key: it} for key in ("value", "valueTwo") for it in (-1, 1.0, GREATEST + 1, "5")],
-    {**ARGUMENT, "value": None}, *[{**ARGUMENT, "op": it} for it in ("SCMP_CMP_EQUAL", "EQ", "scmp_cmp_eq", "", 5, None)],
-    {**ARGUMENT, "comment": "5"}, {**ARGUMENT, "valuetwo": 0}, [], None, "SCMP_CMP_EQ",
-]
-BAD_CRITERIA = [
-    None, [], "CAP_KILL", {"cap": []}, {"caps": "CAP_KILL"}, {"caps": [5]}, {"arches": {}}, {"arches": [None]},
-    *[{"minKernel": it} for it in ("4", "4.8.0", "4.", ".8", "", "v4.8", "+4.8", "4.-8", " 4.8", "4294967296.0", 4.8, ["4.8"])],
-]
-BAD_ENTRIES = [
-    {"names": ["read"]}, {"names": ["read"], "action": None}, {"names": ["read"], "action": "SCMP_ACT_NOTIFY"},
-    *[entry("read", it) for it in ("SCMP_ACT_DENY", "allow", "scmp_act_allow", "", 5)],
-    *[entry("read", it, errnoRet=1) for it in ("SCMP_ACT_ALLOW", "SCMP_ACT_KILL", "SCMP_ACT_LOG", "SCMP_ACT_TRAP")],
-    *[entry("read", "SCMP_ACT_ERRNO", errnoRet=it) for it in (65536, -1, 1.0, "1", [1])],
-    {"names": ["read"], "name": "write", "action": "SCMP_ACT_ALLOW"}, {"names": None, "name": "read", "action": "SCMP_ACT_ALLOW"},
-    {"name": None, "action": "SCMP_ACT_ALLOW"}, {"name": ["read"], "action": "SCMP_ACT_ALLOW"},
-    *[{"names": it, "action": "SCMP_ACT_ALLOW"} for it in ("read", {}, [5], [None], [["read"]])],
-    *[entry("read", comment=it) for it in (5, ["text"], {})], *[entry("read", args=it) for it in ({}, "none", 0)],
-    *[entry("read", **{key: it}) for key in ("nams", "Names", "priority") for it in (None,)],
-    *[entry("read", args=[ARGUMENT, it]) for it in BAD_ARGUMENTS],
-    *[entry("read", **{key: it}) for key in ("includes", "excludes") for it in BAD_CRITERIA], [], None, "read",
-]
-BAD_PROFILES = [
-    [], None, "SCMP_ACT_ALLOW", 5, {}, {"syscalls": []}, {"linux": {"seccomp": profile()}},
-    *[profile(default=it) for it in ("SCMP_ACT_NOTIFY", "SCMP_ACT_DENY", "allow", "", None, 5)],
-    *[profile(defaultErrnoRet=it) for it in (65536, -1, 1.0, "1")], profile(default="SCMP_ACT_ALLOW", defaultErrnoRet=1),
-    profile(listenerPath="/run/agent.sock"), profile(listenerMetadata=""), profile(comment="text"), profile(defaultaction=None),
-    *[profile(**{key: it}) for key in ("architectures", "archMap", "flags") for it in ({}, "SCMP_ARCH_X86_64", 5)],
-    *[profile(flags=[it]) for it in ("SECCOMP_FILTER_FLAG_NEW_LISTENER", "SECCOMP_FILTER_FLAG_WAIT_KILLABLE_RECV", "", 1)],
-    *[{"defaultAction": "SCMP_ACT_ERRNO", "syscalls": it} for it in ({}, "read", 5)], *map(profile, BAD_ENTRIES),
-]
-
 # Of each condition on one argument there is a rule of 7 instructions: two jumps, four for both halves of the argument,
 # and a return. The tree of one call has 9 instructions beside its rules, so 583 rules take 4090 and 584 take 4097.
 FITTING, LARGE = ([when(0, "EQ", it) for it in range(number)] for number in (583, 584))
@@ -196,13 +164,15 @@ IN_TREE = "needs 4097 instructions in the tree layout; 4096 fit\n"
 FILES = {
     "reads-profile.json": profile(entry("read")),
     "unknown-profile.json": profile(entry("mmap2 read waitpid")),
+    "log-profile.json": profile(entry("read"), flags=["SECCOMP_FILTER_FLAG_LOG"]),
+    "flags-profile.json": profile(entry("mmap2 read"), flags=["SECCOMP_FILTER_FLAG_TSYNC", "SECCOMP_FILTER_FLAG_LOG"]),
     "large-profile.json": profile(entry("read", args=LARGE)),
 }
 
 CASES = [
     # The parts of a profile.
-    writes("import", WHOLE, OF_WHOLE),
-    writes("import -", WHOLE, OF_WHOLE),
+    Case("import", 0, OF_WHOLE, OF_FLAGS, WHOLE),
+    Case("import -", 0, OF_WHOLE, OF_FLAGS, WHOLE),
     writes("import reads-profile.json", "", policy(base(call("read")))),
     writes("import --arch=x86_64 --kernel=6.1 --cap=CAP_KILL --strict ./reads-profile.json", "", policy(base(call("read")))),
     writes("import", '{"defaultAction": "SCMP_ACT_ALLOW"}', "{}\n"),
@@ -257,7 +227,34 @@ CASES = [
     left_out("--arch riscv64", profile(entry("open riscv_hwprobe")), ["open"], base(call("riscv_hwprobe")), arch="riscv64"),
     Case("import unknown-profile.json", 0, policy(base(call("read"))),
          TOOL + "unknown-profile.json: names of no system call of x86_64, left out (2): mmap2, waitpid\n"),
-    # With --strict they are rejected.
+    # Flags, in the profile's order and as often as they stand there, behind the names.
+    imports("", profile(entry("read"), flags=[]), base(call("read"))),
+    flagged("", profile(entry("read"), flags=["SECCOMP_FILTER_FLAG_LOG"]), "(1): SECCOMP_FILTER_FLAG_LOG", base(call("read"))),
+    flagged("-", profile(entry("read"), flags=["SECCOMP_FILTER_FLAG_TSYNC"]), "(1): SECCOMP_FILTER_FLAG_TSYNC", base(call("read"))),
+    flagged("", profile(entry("read"), flags=["SECCOMP_FILTER_FLAG_SPEC_ALLOW", "SECCOMP_FILTER_FLAG_TSYNC",
+                                              "SECCOMP_FILTER_FLAG_LOG"]),
+            "(3): SECCOMP_FILTER_FLAG_SPEC_ALLOW, SECCOMP_FILTER_FLAG_TSYNC, SECCOMP_FILTER_FLAG_LOG", base(call("read"))),
+    flagged("", profile(entry("read"), flags=["SECCOMP_FILTER_FLAG_LOG", "SECCOMP_FILTER_FLAG_LOG"]),
+            "(2): SECCOMP_FILTER_FLAG_LOG, SECCOMP_FILTER_FLAG_LOG", base(call("read"))),
+    Case("import", 0, "{}\n", f"{INPUT}{FLAGS} (1): SECCOMP_FILTER_FLAG_SPEC_ALLOW\n",
+         '{"defaultAction": "SCMP_ACT_ALLOW", "flags": ["SECCOMP_FILTER_FLAG_SPEC_ALLOW"]}'),
+    Case("import ./log-profile.json", 0, policy(base(call("read"))),
+         TOOL + "./log-profile.json: flags, which no filter has, left to whoever installs it (1): SECCOMP_FILTER_FLAG_LOG\n"),
+    Case("import flags-profile.json", 0, policy(base(call("read"))),
+         TOOL + "flags-profile.json: names of no system call of x86_64, left out (1): mmap2\n"
+         + TOOL + "flags-profile.json: flags, which no filter has, left to whoever installs it (2): "
+         "SECCOMP_FILTER_FLAG_TSYNC, SECCOMP_FILTER_FLAG_LOG\n"),
+    Case("import -a arm64", 0, policy(base(call("openat"))),
+         INPUT + "names of no system call of aarch64, left out (1): open\n"
+         + INPUT + "flags, which no filter has, left to whoever installs it (1): SECCOMP_FILTER_FLAG_TSYNC\n",
+         json.dumps(profile(entry("open openat"), flags=["SECCOMP_FILTER_FLAG_TSYNC"]))),
+    # With --strict they are no error, but names are.
+    flagged("--strict", profile(entry("read"), flags=["SECCOMP_FILTER_FLAG_LOG"]), "(1): SECCOMP_FILTER_FLAG_LOG",
+            base(call("read"))),
+    rejects("import --strict flags-profile.json", "", "names of no system call of x86_64 (1): mmap2\n",
+            TOOL + "flags-profile.json: "),
+    rejects("import flags-profile.json > /dev/full", "", FULL, OUTPUT),
+    # With --strict names are rejected.
     rejects("import --strict unknown-profile.json", "", "names of no system call of x86_64 (2): mmap2, waitpid\n",
             TOOL + "unknown-profile.json: "),
     rejects("import --strict -a amd64", json.dumps(profile(entry("no_call\u0007", "SCMP_ACT_LOG"))),
@@ -265,17 +262,10 @@ CASES = [
     rejects("import --strict --arch aarch64", json.dumps(profile(entry("read open"))),
             "names of no system call of aarch64 (1): open\n"),
     imports("--strict", profile(entry("read"), entry("waitpid", includes={"arches": ["x86"]})), base(call("read"))),
-    # What is no profile.
-    *map(is_none, BAD_PROFILES),
-    rejects("import logs.json", "", NO_PROFILE, TOOL + "logs.json: "),
     # Podman's names of errnos, which have to say the same as the numbers beside them.
     imports("", profile(entry("read", "SCMP_ACT_ERRNO", errnoRet=22, errno="EINVAL"), entry("write", errno=""),
                         defaultErrnoRet=38, defaultErrno="ENOSYS"),
             base(call("read"), call("write"), mismatch='{"errno": 38}'), denying(1, '{"errno": 22}', call("read"))),
-    *[is_none(it) for it in (
-        profile(defaultErrnoRet=38, defaultErrno="EPERM"), profile(defaultErrno="ENOSYS"), profile(defaultErrno=38),
-        profile(entry("read", "SCMP_ACT_ERRNO", errnoRet=1, errno="EINVAL")), profile(entry("read", errno="EPERM")),
-        profile(entry("read", "SCMP_ACT_ERRNO", errnoRet=22, errno="einval")))],
     # What is no JSON.
     *[rejects("import", it, PARSING) for it in (
         "", "{", '{"defaultAction": "SCMP_ACT_ALLOW"', '{"defaultAction": "SCMP_ACT_ALLOW"} {}', "{'defaultAction': 0}", "nothing",

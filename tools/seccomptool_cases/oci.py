@@ -8,8 +8,11 @@ import json
 import re
 import struct
 
-from .forms import CLOSED, FOLDER, FULL, INPUT, LOGS, MISSING, OUTPUT, RESET, TOOL, Case, Failing, rejects, writes
-from .imports import FITTING, LARGE, NO_PROFILE, PARSING, entry, profile, when
+from program_cases import FRONTEND
+
+from .forms import CLOSED, FOLDER, FULL, INPUT, LOGS, MISSING, NO_OBJECT, OUTPUT, RESET, TOOL, Case, Failing, rejects, writes
+from .imports import FITTING, LARGE, PARSING, entry, profile, when
+from .profile_faults import NO_PROFILE
 from .profiles import PROFILES, STRICTEST_FIRST, numbers_of
 
 # The actions of profiles by their names in a policy; those of the first two have a number.
@@ -88,6 +91,12 @@ def file_of(place):
     return f"profile-{place}.json"
 
 
+def ways(command, words):
+    """Returns what a command on profiles is asked by: with `--oci`, and without it where nothing is said of a container."""
+    plain = [] if "--cap" in words or "--kernel" in words else [f"{command} {words}"]
+    return [f"{command} --oci {words}", *plain]
+
+
 def whole(arguments):
     """Returns six arguments, 0 where none is given."""
     return (*arguments, *[0] * (6 - len(arguments)))
@@ -104,8 +113,8 @@ def compare_profiles(results, run):
             asked = f"explain --oci {words} {file_of(place)} {call} {' '.join(map(str, arguments))}"
             results.compare(f"{what}: {asked}", (0, line_of(given, words, call, whole(arguments)), ""), run(asked, ""))
         lines = "".join(line_of(given, words, call, whole(arguments)) for call, arguments, _ in rows)
-        asked = f"explain --oci {words} {file_of(place)}"
-        results.compare(f"{what}: {asked} of records", (0, lines, ""), run(asked, records))
+        for asked in ways("explain", f"{words} {file_of(place)}"):
+            results.compare(f"{what}: {asked} of records", (0, lines, ""), run(asked, records))
         status, program, _ = run(f"import --format raw {words} {file_of(place)}", "")
         results.compare(f"{what}: import --format raw", (0, 0), (status, len(program) % 8))
         actions = "".join(f"{wanted}\n" for _, _, wanted in rows)
@@ -134,8 +143,8 @@ def is_example(line, words, old, new, numbers):
 def compare_pairs(results, run):
     """Compares each profile with the next one for the same container, and with itself."""
     for place, (what, words, given, rows) in enumerate(PROFILES):
-        asked = f"diff --oci {words} {file_of(place)} {file_of(place)}"
-        results.compare(f"{what}: {asked}", (0, "profile: same\n", ""), run(asked, ""))
+        for asked in ways("diff", f"{words} {file_of(place)} {file_of(place)}"):
+            results.compare(f"{what}: {asked}", (0, "profile: same\n", ""), run(asked, ""))
         other = next((it for it in range(place + 1, len(PROFILES)) if PROFILES[it][1] == words), None)
         if other is None:
             continue
@@ -151,6 +160,8 @@ def compare_pairs(results, run):
         calls = {(call, whole(arguments)) for call, arguments, _ in (*rows, *PROFILES[other][3]) if not isinstance(call, int)}
         wanted = {call for call, it in calls if decision(given, words, call, it)[0] != decision(new, words, call, it)[0]}
         results.compare(f"{asked} lists calls of both", (set(),), (wanted - listed,))
+        for other_way in ways("diff", f"{words} {file_of(place)} {file_of(other)}")[1:]:
+            results.compare(f"{what}: {other_way}", (status, output, errors), run(other_way, ""))
         # The other way round the same calls differ, and what permits more is named as it is.
         back = run(f"diff --oci {words} {file_of(other)} {file_of(place)}", "")
         results.compare(f"{asked}, back", (verdict[0], listed), (back[0], {it.split(":")[0].strip() for it in back[1].splitlines()[1:]}))
@@ -159,6 +170,7 @@ def compare_pairs(results, run):
 FILES = {
     **{file_of(place): json.dumps(given) for place, (_, _, given, _) in enumerate(PROFILES)},
     "fitting-profile.json": json.dumps(profile(entry("read", args=FITTING))),
+    "default-action.json": LOGS.replace('"a"', '"defaultAction"'),
 }
 
 
@@ -184,10 +196,11 @@ TOO_LONG = "One program of the profile needs 4099 instructions; 4096 fit\n"
 READS = "profile: different\n  read: errno 1 -> allow, more: read(0x0, 0x0, 0x0, 0x0, 0x0, 0x0)\n"
 CONTAINER_ONLY = "--cap and --kernel are for --oci"
 
-CASES = [
+# Cases of files that are known as profiles, and of no container.
+KNOWN = [
     # Options, files and standard input.
     writes("explain --oci reads-profile.json read", "", "allow: syscalls[0] (read)\n"),
-    writes("explain reads-profile.json --oci --kernel=6.1 --cap CAP_KILL -a amd64 0", "", "allow: syscalls[0] (read)\n"),
+    writes("explain reads-profile.json --oci -a amd64 0", "", "allow: syscalls[0] (read)\n"),
     writes("explain --oci - write", json.dumps(profile(entry("read"))), "errno 1: defaultAction\n"),
     writes("explain --oci --format word reads-profile.json read", "", "7fff0000 syscalls[0] (read)\n"),
     writes("explain --oci --format word reads-profile.json write", "", "00050001 defaultAction\n"),
@@ -208,9 +221,7 @@ CASES = [
     # A second entry, stricter on some arguments.
     differ("reads-profile.json -", "profile: different\n  read: allow -> trap, less: read(0x5, 0x0, 0x0, 0x0, 0x0, 0x0)\n",
            json.dumps(profile(entry("read"), entry("read", "SCMP_ACT_TRAP", args=[when(0, "EQ", 5)])))),
-    # What is no profile, and whose it is.
-    rejects("explain --oci logs.json read", "", NO_PROFILE, TOOL + "logs.json: "),
-    rejects("explain --oci - read", "{", PARSING),
+    # What is wrong, and whose it is.
     rejects("explain --oci missing.json read", "", MISSING, TOOL + "missing.json: "),
     rejects("explain --oci examples read", "", FOLDER, TOOL + "examples: "),
     rejects("explain --oci - read", Failing(json.dumps(profile())), RESET),
@@ -220,10 +231,8 @@ CASES = [
     rejects("explain --oci reads-profile.json --records missing", "", MISSING, TOOL + "missing: "),
     Case("explain --oci reads-profile.json --records 65-bytes", 1, "kill_process: another architecture\n",
          TOOL + "65-bytes: The input ends inside a record, after 1 bytes of it.\n"),
-    fails("logs.json reads-profile.json", NO_PROFILE, TOOL + "logs.json: "),
     fails("reads-profile.json logs.json", NO_PROFILE, TOOL + "logs.json: "),
     fails("logs.json missing.json", MISSING, TOOL + "missing.json: "),
-    fails("- reads-profile.json", PARSING, INPUT, "{"),
     fails("reads-profile.json -", PARSING, INPUT, "{"),
     fails("missing.json reads-profile.json", MISSING, TOOL + "missing.json: "),
     fails("reads-profile.json examples", FOLDER, TOOL + "examples: "),
@@ -235,12 +244,59 @@ CASES = [
     fails("large-profile.json missing-too", MISSING, TOOL + "missing-too: "),
     fails("large-profile.json reads-profile.json", TOO_LONG, TOOL + "large-profile.json: "),
     fails("reads-profile.json large-profile.json", TOO_LONG, TOOL + "large-profile.json: "),
+]
+
+
+def unnamed(case):
+    """Returns the case of files that are known as profiles without `--oci`."""
+    return case._replace(words=case.words.replace(" --oci", "", 1))
+
+
+# A policy of which the text has the key's bytes.
+COMMENTED = LOGS.replace("[]", '[{"syscall":"read","comment":"defaultAction"}]')
+WRONG_DEFAULT = FRONTEND + "Json filter has a wrong shape: defaultAction.\n"
+REPEATED = '{"defaultAction":%s,"defaultAction":%s}'
+OBJECT = LOGS[len('{"a":'):-1]
+
+CASES = [
+    *KNOWN,
+    *map(unnamed, KNOWN),
+    writes("explain reads-profile.json --oci --kernel=6.1 --cap CAP_KILL 0", "", "allow: syscalls[0] (read)\n"),
+    # With `--oci` nothing else is a profile.
+    rejects("explain --oci logs.json read", "", NO_PROFILE, TOOL + "logs.json: "),
+    rejects("explain --oci - read", "{", PARSING),
+    fails("logs.json reads-profile.json", NO_PROFILE, TOOL + "logs.json: "),
+    fails("- reads-profile.json", PARSING, INPUT, "{"),
+    # Without it, a policy is one whatever its filters are named.
+    writes("explain default-action.json read", "", "log: no entry of call 0\n"),
+    writes("diff -q default-action.json default-action.json", "", "filter defaultAction: same\n"),
+    writes("explain - read", COMMENTED, "allow: a.filter[0] (read)\n"),
+    # One whose filter is asked for is a policy, and so is each text that has none of the key's bytes, or another value.
+    rejects("explain --filter a reads-profile.json read", "", WRONG_DEFAULT, TOOL + "reads-profile.json: "),
+    Case("diff -f a reads-profile.json reads-profile.json", 2, "", TOOL + "reads-profile.json: " + WRONG_DEFAULT),
+    rejects("explain - read", r'{"default\u0041ction": "SCMP_ACT_ALLOW"}', WRONG_DEFAULT),
+    writes("explain --oci - read", r'{"default\u0041ction": "SCMP_ACT_ALLOW"}', "allow: defaultAction\n"),
+    rejects("explain - read", '{"defaultAction": null}', WRONG_DEFAULT),
+    rejects("explain - read", json.dumps({"linux": profile()}), FRONTEND + "Json filter has a wrong shape: linux.\n"),
+    rejects("explain - read", json.dumps([profile()]), NO_OBJECT),
+    rejects("explain - read", '{"defaultAction": "SCMP_ACT_ALLOW"', FRONTEND + "Error parsing Json: .."),
+    # Of a key that stands twice the last one counts.
+    writes("explain - read", REPEATED % (OBJECT, '"SCMP_ACT_LOG"'), "log: defaultAction\n"),
+    rejects("explain - read", REPEATED % ('"SCMP_ACT_LOG"', OBJECT), FRONTEND + "Repeated key in Json.\n"),
+    # The old file says what both are.
+    Case("diff -q logs.json reads-profile.json", 2, "", TOOL + "reads-profile.json: " + WRONG_DEFAULT),
+    Case("diff -q reads-profile.json logs.json", 2, "", TOOL + "logs.json: " + NO_PROFILE),
     rejects("import --format raw large-profile.json", "", TOO_LONG, TOOL + "large-profile.json: "),
     rejects("import --format=raw", json.dumps(profile(entry("read", args=LARGE))), TOO_LONG),
     rejects("import --format raw", LOGS, NO_PROFILE),
     # Names are left out as of a policy.
     Case("import --format raw unknown-profile.json | wc -c | tr -d ' '", 0, "..",
          TOOL + "unknown-profile.json: names of no system call of x86_64, left out (2): mmap2, waitpid\n"),
+    # Flags are noted as of a policy.
+    Case("import --format raw flags-profile.json | wc -c | tr -d ' '", 0, "..",
+         TOOL + "flags-profile.json: names of no system call of x86_64, left out (1): mmap2\n"
+         + TOOL + "flags-profile.json: flags, which no filter has, left to whoever installs it (2): "
+         "SECCOMP_FILTER_FLAG_TSYNC, SECCOMP_FILTER_FLAG_LOG\n"),
     rejects("import --strict --format raw unknown-profile.json", "", "names of no system call of x86_64 (2): mmap2, waitpid\n",
             TOOL + "unknown-profile.json: "),
     writes("import --format raw fitting-profile.json | wc -c | tr -d ' '", "", f"{8 * 4092}\n"),

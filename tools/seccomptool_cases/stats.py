@@ -8,7 +8,7 @@ from .long_filters import of_rules
 # The programs of a filter without entries load the architecture's word and compare it, the tree loads the
 # call number, and they return.
 LOGS_STEPS = (
-    "filter a\nchains: 4 instructions, at most 3 steps, 3 passing\n"
+    "filter a\nlinear: 4 instructions, at most 3 steps, 3 passing\n"
     "tree: 5 instructions, at most 4 steps, 4 passing\n"
 )
 
@@ -25,7 +25,7 @@ TWO_CALLS = r'''{"b\n\\":{"mismatch_action":"trap","match_action":"allow","filte
     {"syscall":"read","args":[{"index":0,"type":"dword","op":"eq","val":5}]},
     {"syscall":"getpid"}]}}'''
 TWO_CALLS_STEPS = (
-    "filter b\\x0a\\x5c\nchains: 17 instructions, at most 8 steps, 8 passing\n"
+    "filter b\\x0a\\x5c\nlinear: 17 instructions, at most 8 steps, 8 passing\n"
     "tree: 14 instructions, at most 8 steps, 6 passing\n"
 )
 

@@ -1,5 +1,6 @@
 #!/usr/bin/env python3
-"""Checks of the progress that `seccomptool diff` and `verify` show, a part of tools/check-documents.
+"""Checks of what `seccomptool` writes to a terminal, a part of tools/check-documents: the progress of `diff` and `verify`,
+and the bytes that aren't written there.
 
 usage: tools/progress_checks.py
 
@@ -13,6 +14,8 @@ with standard error as a terminal and as a pipe:
 
 A comparison that takes no time shows nothing on a terminal, and where a policy is rejected the error stands there alone,
 as on a pipe.
+
+Where standard output is a terminal, a command that would write bytes there fails and writes none; text is written as it is.
 
 Prints each difference, and as its last line 'N passed, M failed'.
 """
@@ -40,8 +43,8 @@ FIRST = 250_000
 BACK, ERASE = b"\r", b"\x1b[K"
 LINE = re.compile(BACK + rb"seccomptool: ([a-z ]+): ([0-9]+) sets of calls looked at" + re.escape(ERASE))
 
-# Two arguments, each under 15 masks of two neighbouring bits, and a third under 4: sets of their values are split bit by bit. That
-# they are compared takes seconds of a fast processor.
+# Two arguments, each under 15 masks of two neighbouring bits, and a third under 4: sets of their values are split bit by bit.
+# A comparison of these takes seconds of a fast processor.
 MASKS = [(at, 3 << bit) for at, count in ((0, 15), (1, 15), (2, 4)) for bit in range(count)]
 
 
@@ -54,11 +57,12 @@ def policy(masks):
     return json.dumps({"a": {"mismatch_action": "kill_process", "match_action": "allow", "filter": entries}})
 
 
-def on_terminal(program, folder, words):
-    """Runs the program with standard error as a terminal; returns its status, its output and what the terminal got."""
+def on_terminal(program, folder, words, stream="stderr"):
+    """Runs the program with one of its outputs as a terminal; returns its status, its other output and what the terminal got."""
     ours, its = pty.openpty()
     with open(ours, "rb", buffering=0) as terminal, tempfile.TemporaryFile() as output:
-        ran = subprocess.Popen([program, *words], cwd=folder, stdin=subprocess.DEVNULL, stdout=output, stderr=its)
+        outputs = {"stdout": output, "stderr": output, stream: its}
+        ran = subprocess.Popen([program, *words], cwd=folder, stdin=subprocess.DEVNULL, **outputs)
         os.close(its)
         shown = b""
         while read := read_from(terminal):
@@ -130,6 +134,37 @@ def compare_progress(results, program):
             results.compare(f"seccomptool {' '.join(words)} on a terminal", stated, on_terminal(program, folder, words))
 
 
+# Commands that write bytes, and some that write text, each with what it writes.
+PROFILE = '{"defaultAction": "SCMP_ACT_ALLOW"}'
+OF_BYTES = (
+    ["compile", "-q", "few.json"], ["compile", "-q", "--format", "raw", "few.json"], ["import", "--format", "raw", "profile.json"],
+    ["record", "read"],
+)
+FEW = "".join(
+    f"{{ {it} }},\n" for it in ("0x20, 0, 0, 0x00000004", "0x15, 1, 0, 0xc000003e", "0x6, 0, 0, 0x80000000", "0x20, 0, 0, 0x00000000",
+                               "0x6, 0, 0, 0x00030000")
+)
+OF_TEXT = (
+    (["compile", "-q", "-o", "few.bpf", "few.json"], ""), (["import", "profile.json"], "{}\n"),
+    (["compile", "-q", "--format", "c", "few.json"], FEW),
+)
+NO_BYTES = "seccomptool: standard output: bytes aren't written to a terminal; give a file or a pipe\n"
+
+
+def compare_outputs(results, program):
+    """Runs commands with standard output as a terminal, of the program with this path."""
+    with tempfile.TemporaryDirectory(prefix="terminal-") as room:
+        folder = pathlib.Path(room)
+        (folder / "few.json").write_text('{"a":{"mismatch_action":"trap","match_action":"allow","filter":[]}}')
+        (folder / "profile.json").write_text(PROFILE)
+        for words in OF_BYTES:
+            found = on_terminal(program, folder, words, "stdout")
+            results.compare(f"seccomptool {' '.join(words)} to a terminal", (1, NO_BYTES, b""), found)
+        for words, text in OF_TEXT:
+            found = on_terminal(program, folder, words, "stdout")
+            results.compare(f"seccomptool {' '.join(words)} to a terminal", (0, "", text.replace("\n", "\r\n").encode()), found)
+
+
 class Results:
     """Counts the comparisons, and prints what differs."""
 
@@ -146,7 +181,9 @@ class Results:
 
 def main():
     results = Results()
-    compare_progress(results, TOP / "crates/seccomptool/out/seccomptool")
+    program = TOP / "crates/seccomptool/out/seccomptool"
+    compare_outputs(results, program)
+    compare_progress(results, program)
     print(f"{results.passed} passed, {results.failed} failed")
     return 1 if results.failed else 0
 

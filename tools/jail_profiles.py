@@ -45,8 +45,11 @@ OF_EXAMPLE = [
     ([], "kexec_load", KILLED), ([], "kexec_file_load", KILLED), (SYS_ADMIN, "kexec_load", KILLED),
 ]
 
-# What seccomptool notes of both profiles.
-NOTE = re.compile(r"\Aseccomptool: .*: names of no system call of x86_64, left out \(\d+\): .*\n")
+# What seccomptool notes of profiles: names that the architecture hasn't, and flags.
+NOTES = re.compile(
+    r"\A(seccomptool: .*: names of no system call of x86_64, left out \(\d+\): .*\n)?"
+    r"(seccomptool: .*: flags, which no filter has, left to whoever installs it \(\d+\): .*\n)?"
+)
 
 # Calls of Podman's profile that are for a capability, with arguments that the kernel rejects by another errno than EPERM,
 # or for which it has other reasons too.
@@ -56,10 +59,8 @@ FOR_CAPABILITIES = ["setns -1", "sethostname 0 -1", "chroot 0", "open_by_handle_
 def made_of(results, profile, words):
     """Returns what `import` makes of a profile."""
     made = subprocess.run([TOOL, "import", *words, profile], capture_output=True, timeout=SECONDS, env=ENVIRONMENT)
-    told = made.stderr.decode()
-    front = f"seccomptool: {profile}: names of no system call of x86_64, left out ("
-    is_told = not told or (told.startswith(front) and told.count("\n") == 1)
-    results.compare(f"import {' '.join(words)} {profile.name}", (0, True), (made.returncode, is_told))
+    told = NOTES.sub("", made.stderr.decode(), count=1)
+    results.compare(f"import {' '.join(words)} {profile.name}", (0, ""), (made.returncode, told))
     return made.stdout
 
 
@@ -82,9 +83,9 @@ def asked(results, folder, profile, words, name):
 
 
 def ran(words, folder):
-    """Runs a command, and returns what `run` does, without the note of seccomptool on names that are left out."""
+    """Runs a command, and returns what `run` does, without the notes of seccomptool."""
     out, err, status = run(words, folder)
-    return out, NOTE.sub("", err, count=1) if "--oci" in words else err, status
+    return out, NOTES.sub("", err, count=1) if "--oci" in words else err, status
 
 
 def try_commands(results, what, jailed, folder):

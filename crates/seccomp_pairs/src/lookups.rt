@@ -1,7 +1,7 @@
 // Looking names up by halving: what is found, and how many names are compared.
 
 use crate::files::file_of;
-use crate::reading::{pair_of, walked};
+use crate::reading::{assert_of, pair_of, walked};
 use seccompiler::{SyscallTable, TargetArch};
 
 // Texts that name no call on any architecture: before all names and behind them, and one byte, one
@@ -49,10 +49,13 @@ fn finds_front(arch: TargetArch, line: &str) -> bool {
 
 // The place of a name in the table of x86_64.
 fn place(name: &str) -> Option<usize> {
-    SyscallTable::new(TargetArch::x86_64)
-        .pairs()
-        .iter()
-        .position(|pair| pair.0 == name)
+    let table = SyscallTable::new(TargetArch::x86_64);
+    for (place, pair) in table.pairs().iter().enumerate() {
+        if pair.0 == name {
+            return Some(place);
+        }
+    }
+    None
 }
 
 // Whether the table of x86_64 has both names, the first before the second.
@@ -67,10 +70,7 @@ fn ascend(first: &str, second: &str) -> bool {
 fn each_pair_of_the_files(rt: HostRuntime) {
     for arch in TargetArch::all() {
         for line in file_of(*arch).lines() {
-            assert!(rt;
-                finds_pair(*arch, line),
-                "the look-up of `{line}` on {arch}"
-            );
+            assert_of(&rt, *arch, line, finds_pair(*arch, line));
         }
     }
 }
@@ -80,7 +80,7 @@ fn each_pair_of_the_files(rt: HostRuntime) {
 fn fronts_of_the_names(rt: HostRuntime) {
     for arch in TargetArch::all() {
         for line in file_of(*arch).lines() {
-            assert!(rt; finds_front(*arch, line), "the front of `{line}` on {arch}");
+            assert_of(&rt, *arch, line, finds_front(*arch, line));
         }
     }
 }
@@ -88,18 +88,15 @@ fn fronts_of_the_names(rt: HostRuntime) {
 #[test]
 fn texts_that_name_no_call(rt: HostRuntime) {
     for arch in TargetArch::all() {
-        for name in ABSENT {
-            assert!(rt;
-                finds(*arch, name, None, 8),
-                "the look-up of `{name}` on {arch}"
-            );
+        for name in &ABSENT {
+            assert_of(&rt, *arch, name, finds(*arch, name, None, 8));
         }
     }
 }
 
 #[test]
 fn names_stand_in_byte_order(rt: HostRuntime) {
-    for (first, second) in ORDERED {
+    for (first, second) in &ORDERED {
         assert!(rt; ascend(first, second), "`{first}` before `{second}`");
     }
 }

@@ -1,7 +1,7 @@
 // That each table has the pairs of the Rust crate's file, and no other.
 
 use crate::files::file_of;
-use crate::reading::{pair_of, stands_once};
+use crate::reading::{assert_of, pair_of, stands_once};
 use seccompiler::backend::TargetArch;
 use seccompiler::syscall_table::SyscallTable;
 
@@ -33,7 +33,7 @@ fn no_name_stands_twice(rt: HostRuntime) {
     for arch in TargetArch::all() {
         let file = file_of(*arch);
         for line in file.lines() {
-            assert!(rt; stands_alone(file, line), "`{line}` in the file of {arch}");
+            assert_of(&rt, *arch, line, stands_alone(file, line));
         }
     }
 }
@@ -56,11 +56,8 @@ fn the_tables_are_as_long_as_the_files(rt: HostRuntime) {
 fn riscv64_is_aarch64_but_for_three_names(rt: HostRuntime) {
     let file = file_of(TargetArch::aarch64);
     for line in file.lines() {
-        assert!(rt; is_on_riscv64(line), "`{line}` on riscv64");
+        assert_of(&rt, TargetArch::riscv64, line, is_on_riscv64(line));
     }
     let count = SyscallTable::new(TargetArch::riscv64).pairs().len();
-    assert!(rt;
-        count == file.lines().count() + 1,
-        "{count} pairs on riscv64"
-    );
+    assert!(rt; count == file.lines().count() + 1);
 }

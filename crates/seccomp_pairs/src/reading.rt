@@ -1,4 +1,7 @@
-// Reading the text of a file.
+// Reading the text of a file, and asserting something of its lines.
+
+use seccompiler::backend::TargetArch;
+use std::process::Abort;
 
 // The name and the number of a line.
 pub(crate) fn pair_of(line: &str) -> Option<(&str, i64)> {
@@ -44,4 +47,9 @@ pub(crate) fn stands_once(file: &str, name: &str) -> bool {
         }
     }
     seen
+}
+
+// Asserts what is so of a line or a name of the architecture, and names both where it isn't.
+pub(crate) fn assert_of(rt: &impl Abort, arch: TargetArch, line: &str, is_so: bool) {
+    assert!(rt; is_so, "`{line}` on {arch}");
 }

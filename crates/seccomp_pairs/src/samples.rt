@@ -1,5 +1,6 @@
 // Names with their known numbers, and texts that name no call.
 
+use crate::reading::assert_of;
 use seccompiler::backend::TargetArch;
 use seccompiler::syscall_table::SyscallTable;
 
@@ -52,7 +53,7 @@ fn is_known(arch: TargetArch, row: &(&str, i64, i64, i64)) -> bool {
 fn knows_samples_on_each_architecture(rt: HostRuntime) {
     for arch in TargetArch::all() {
         for row in &SAMPLES {
-            assert!(rt; is_known(*arch, row), "the number of `{}` on {arch}", row.0);
+            assert_of(&rt, *arch, row.0, is_known(*arch, row));
         }
     }
 }

@@ -5,7 +5,7 @@ ghost use Rattle.std.specs.List.{list_any};
 ghost use Rattle.std.specs.Str.{bytes_eq};
 ghost use Rattle.serde_json.specs.Data.{object};
 ghost use Rattle.serde_json.specs.View.{view, members_view};
-ghost use Rattle.seccompiler.specs.JsonShape.{HasOnly, IsWhole, IsComment, IsCommented};
+ghost use Rattle.seccompiler.specs.JsonShape.{HasOnly, Under, IsWhole, IsNumbered, IsComment, IsCommented};
 
 use serde_json::Value;
 use serde_json::value::Map;
@@ -61,26 +61,41 @@ pub fn is_commented(value: &Value) -> bool
     is_comment(value.get("comment"))
 }
 
-/// A number that serde_json holds as a whole one, if it fits a `u8`.
-pub fn u8_of(value: &Value) -> Option<u8>
-    ensures found { IfSome result (IsWhole 255 (view value.now)) }
-    ensures none { IfNone result ((n : ℕ) → IsWhole 255 (view value.now) n → ⊥) }
+/// The number under this name of an object, where serde_json holds it as a whole one and it fits a `u8`.
+pub fn u8_under(value: &Value, name: &str) -> Option<u8>
+    ensures found { IfSome result (λ n. Under (view value.now) name.now (λ v. IsWhole 255 v n)) }
+    ensures none { IfNone result ((n : ℕ) → Under (view value.now) name.now (λ v. IsWhole 255 v n) → ⊥) }
 {
-    u8::try_from(value.as_u64()?).ok()
+    u8::try_from(value.get(name)?.as_u64()?).ok()
 }
 
-/// A number that serde_json holds as a whole one, if it fits a `u32`.
-pub fn u32_of(value: &Value) -> Option<u32>
-    ensures found { IfSome result (IsWhole (2 ^ 32 - 1) (view value.now)) }
-    ensures none { IfNone result ((n : ℕ) → IsWhole (2 ^ 32 - 1) (view value.now) n → ⊥) }
+/// The number under this name of an object, where serde_json holds it as a whole one. It always fits a
+/// `u64`.
+pub fn u64_under(value: &Value, name: &str) -> Option<u64>
+    ensures found { IfSome result (λ n. Under (view value.now) name.now (λ v. IsWhole (2 ^ 64 - 1) v n)) }
+    ensures none { IfNone result ((n : ℕ) → Under (view value.now) name.now (λ v. IsWhole (2 ^ 64 - 1) v n) → ⊥) }
 {
-    u32::try_from(value.as_u64()?).ok()
+    value.get(name)?.as_u64()
 }
 
-/// A number that serde_json holds as a whole one. It always fits a `u64`.
-pub fn u64_of(value: &Value) -> Option<u64>
-    ensures found { IfSome result (IsWhole (2 ^ 64 - 1) (view value.now)) }
-    ensures none { IfNone result ((n : ℕ) → IsWhole (2 ^ 64 - 1) (view value.now) n → ⊥) }
+/// The number of an object of this one name, where serde_json holds it as a whole one and it fits a `u32`.
+pub fn u32_alone(value: &Value, name: &str) -> Option<u32>
+    ensures found { IfSome result (IsNumbered (2 ^ 32 - 1) name.now (view value.now)) }
+    ensures none { IfNone result ((n : ℕ) → IsNumbered (2 ^ 32 - 1) name.now (view value.now) n → ⊥) }
 {
-    value.as_u64()
+    if !is_object_of(value, &[name]) {
+        return None;
+    }
+    u32::try_from(value.get(name)?.as_u64()?).ok()
+}
+
+/// The number of an object of this one name, where serde_json holds it as a whole one.
+pub fn u64_alone(value: &Value, name: &str) -> Option<u64>
+    ensures found { IfSome result (IsNumbered (2 ^ 64 - 1) name.now (view value.now)) }
+    ensures none { IfNone result ((n : ℕ) → IsNumbered (2 ^ 64 - 1) name.now (view value.now) n → ⊥) }
+{
+    if !is_object_of(value, &[name]) {
+        return None;
+    }
+    u64_under(value, name)
 }

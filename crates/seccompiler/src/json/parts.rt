@@ -14,7 +14,7 @@ ghost use Rattle.seccompiler.specs.declared.json.types.JsonCondition.{JsonCondit
 ghost use Rattle.seccompiler.specs.JsonTypes.{JsonRule, JsonFilter};
 
 use crate::backend::{SeccompAction, SeccompCmpArgLen, SeccompCmpOp};
-use crate::json::members::{has_only_names, is_commented, is_object_of, u8_of, u32_of, u64_of};
+use crate::json::members::{is_commented, is_object_of, u8_under, u32_alone, u64_alone, u64_under};
 use crate::json::types::{JsonCondition, JsonFilter, JsonRule};
 use serde_json::Value;
 use std::alloc::{AllocError, Global};
@@ -53,15 +53,10 @@ pub fn read_action(value: &Value) -> Option<SeccompAction>
 {
     match value {
         Value::String(text) => read_plain_action(text),
-        Value::Object(members) => {
-            if has_only_names(members, &["errno"]) {
-                Some(SeccompAction::Errno(u32_of(value.get("errno")?)?))
-            } else if has_only_names(members, &["trace"]) {
-                Some(SeccompAction::Trace(u32_of(value.get("trace")?)?))
-            } else {
-                None
-            }
-        }
+        Value::Object(_) => match u32_alone(value, "errno") {
+            Some(number) => Some(SeccompAction::Errno(number)),
+            None => Some(SeccompAction::Trace(u32_alone(value, "trace")?)),
+        },
         _ => None,
     }
 }
@@ -115,12 +110,7 @@ pub fn read_operator(value: &Value) -> Option<SeccompCmpOp>
 {
     match value {
         Value::String(text) => read_plain_operator(text),
-        Value::Object(members) => {
-            if !has_only_names(members, &["masked_eq"]) {
-                return None;
-            }
-            Some(SeccompCmpOp::MaskedEq(u64_of(value.get("masked_eq")?)?))
-        }
+        Value::Object(_) => Some(SeccompCmpOp::MaskedEq(u64_alone(value, "masked_eq")?)),
         _ => None,
     }
 }
@@ -132,10 +122,10 @@ fn read_condition(value: &Value) -> Option<JsonCondition>
     if !is_object_of(value, &["index", "type", "op", "val", "comment"]) || !is_commented(value) {
         return None;
     }
-    let arg_index = u8_of(value.get("index")?)?;
+    let arg_index = u8_under(value, "index")?;
     let arg_len = read_arg_len(value.get("type")?)?;
     let operator = read_operator(value.get("op")?)?;
-    let value = u64_of(value.get("val")?)?;
+    let value = u64_under(value, "val")?;
     Some(JsonCondition {
         arg_index,
         arg_len,

@@ -51,7 +51,6 @@ use std::io::{ErrorKind, Read};
 /// let main = filters.0.get("main").ok_or("no filter has this name")?;
 /// assert!(rt; main.match_action == SeccompAction::Allow);
 /// ```
-#[tactic(auto, using(crate::proofs::json::parts::OneFilter::one_filter))]
 pub fn filters_from<R: Read + Drop>(
     alloc: Global,
     mut reader: R,
@@ -100,7 +99,6 @@ pub fn filters_from<R: Read + Drop>(
 /// let filters = filters_of(alloc, text)?;
 /// assert!(rt; filters.0.contains_key("main"));
 /// ```
-#[tactic(auto, using(crate::proofs::json::parts::OneFilter::one_filter))]
 pub fn filters_of(alloc: Global, text: &[u8]) -> Result<JsonFilterMap, JsonFrontendError>
     ensures filters { IfOk result (λ filters. OfValue text.now (λ d. AreFilters d filters)) }
     // On whichever architecture.

@@ -1,5 +1,7 @@
-use Rattle.std.proofs.Common.{◌≡◌, ◌++◌, [], ◌∷◌, List, sym, ap, ◌∙◌, subst, refl, arith}
+use Rattle.std.proofs.Common.{◌≡◌, ◌==◌, ◌++◌, ℕ, Bool, true, [], ◌∷◌, List, length, ⊎_elim, sym, ap, ◌∙◌, subst, refl, arith}
+use Rattle.std.proofs.lemmas.Bool.Decides.{nat_tests}
 use Rattle.seccompiler.specs.declared.compare.tasks.Task.{Task}
+use Rattle.seccompiler.specs.CompareTasks.{InSome}
 use Rattle.seccompiler.proofs.compare.RecordSets.{reaches_start}
 use Rattle.seccompiler.proofs.compare.TasksLeft.{AreLeft, left_first, left_done, left_split, tasks_pop}
 use Rattle.seccompiler.proofs.compare.tasks.compare_on.Goals.{in-Done, in-Splits+in_ok-push-in-Splits+in_ok-push-in-Splits-2}
@@ -62,3 +64,19 @@ loop-preserved c =
           (left_split c.args.relation p q part before task low high left w.in-Splits.ensures) in
           record { tasks = done.0; rest = done.1 })
     ]
+
+-- no record lies in the set of one of no tasks
+none_left : (ts : List Task) (r : List ℕ) (n : ℕ) (empty : Bool) → n ≡ length ts → empty ≡ (n == 0) → empty ≡ true → InSome ts r → ⊥
+none_left [] r n empty same is passed some = some
+none_left (t ∷ ts) r n empty same is passed some = absurd (grind (arith, nat_tests, same, is, passed))
+
+pub returns-then-is_empty : goal.returns-then-is_empty
+returns-then-is_empty c =
+    let tasks = c.loop.tasks in
+    record {
+      each = λ r rec inside.
+          ⊎_elim
+          (λ related. related)
+          (λ some. absurd (none_left tasks.items r tasks.len c.is_empty.result tasks.ok.0 c.is_empty.ensures c.if-is_empty.true some))
+          (c.loop.invariant.rest r rec inside);
+    }

@@ -1,4 +1,5 @@
 use Rattle.std.proofs.Common.{◌≡◌, ◌+◌, ◌-◌, ◌^◌, ℕ, List, min, refl, sym, subst, arith}
+use Rattle.std.proofs.lemmas.Grind.{common_steps}
 use Rattle.std.proofs.lemmas.Result.{err_from_is_err_and}
 use Rattle.seccompiler.specs.declared.backend.BackendError.{BackendError}
 use Rattle.seccompiler.specs.Policy.{Filter}
@@ -29,3 +30,9 @@ returns-in_err-program-clause-refused c =
     (refusal c.args.self.now c.args.ranges.now c.tree_len.result c.saturating_add.result
     c.in_err-program.field-0.0 c.requires.numbers c.requires.ranges c.tree_len.ensures
     c.saturating_add.ensures c.in_err-program.ensures.refused)
+
+pub returns-clause-compiled : goal.returns-clause-compiled
+returns-clause-compiled c = grind (arith, common_steps)
+
+pub returns-clause-places : goal.returns-clause-places
+returns-clause-places c = grind (arith, common_steps)

@@ -1,4 +1,5 @@
 use Rattle.std.proofs.Common.{◌≡◌, ◌+◌, ◌<◌, All, length, refl, sym, ap, ◌∙◌, subst, arith}
+use Rattle.std.proofs.lemmas.Grind.{common_steps}
 use Rattle.std.proofs.lemmas.Bool.Decides.{nat_tests}
 use Rattle.seccompiler.specs.Architecture.{audit_word}
 use Rattle.seccompiler.specs.Code.{jump_equal, guard_code}
@@ -60,3 +61,9 @@ returns c =
     c.into.result c.write_chains.new.part _ words some stand
     (written ∙ cc (c.load_word.ensures.instruction, c.from.ensures, c.return_word-2.ensures.instruction)) in
     record { compiled = compiled; places = places }
+
+pub slice_bounds-write_chains-count : goal.slice_bounds-write_chains-count
+slice_bounds-write_chains-count c = grind (arith, common_steps)
+
+pub slice_bounds-write_chains-start : goal.slice_bounds-write_chains-start
+slice_bounds-write_chains-start c = grind (arith, common_steps)

@@ -5,6 +5,7 @@ use Rattle.seccompiler.specs.Reads.{Reads}
 use Rattle.seccompiler.specs.declared.backend.TargetArch.{TargetArch}
 use Rattle.seccompiler.specs.declared.json.error.JsonFrontendError.{JsonFrontendError}
 use Rattle.seccompiler.proofs.TextFilters.{reads_some}
+use Rattle.seccompiler.proofs.json.parts.OneFilter.{one_filter}
 use Rattle.seccompiler.proofs.json.texts.filters_from.Goals as goal
 
 -- An error that tells a fault of whichever architecture.
@@ -22,3 +23,12 @@ returns-in-Err-clause-fault g c = reads_some (g.R.Read.remaining c.args.reader) 
 
 pub returns-clause-fault : goal.returns-clause-fault
 returns-clause-fault g c = reads_some (g.R.Read.remaining c.args.reader) _ (λ text arch. tt)
+
+pub returns-in-Ok-clause-one_filter : goal.returns-in-Ok-clause-one_filter
+returns-in-Ok-clause-one_filter g c = one_filter
+
+pub returns-in-Err-clause-one_filter : goal.returns-in-Err-clause-one_filter
+returns-in-Err-clause-one_filter g c = one_filter
+
+pub returns-clause-one_filter : goal.returns-clause-one_filter
+returns-clause-one_filter g c = one_filter

@@ -9,7 +9,7 @@ use super::values::{Values, outcome};
 use crate::bpf::{BpfProgramRef, JUMP, LOAD, MASK, RETURN, sock_filter};
 
 /// Where a run stands: at a place, with 32 bits of the record under a mask in the accumulator.
-#[derive(Clone, Copy, Debug)]
+#[derive(Clone, Copy)]
 pub struct At {
     /// The place of the next instruction.
     pub place: usize,

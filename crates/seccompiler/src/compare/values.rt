@@ -6,7 +6,7 @@ ghost use Rattle.seccompiler.specs.WordSets.{HasValue, KeepsKnown, AreSame, AreH
 use crate::bpf::{JUMP_EQUAL, JUMP_GREATER, sock_filter};
 
 /// Numbers of 32 bits of which some bits are known, within bounds under a mask.
-#[derive(Clone, Copy, Debug)]
+#[derive(Clone, Copy)]
 pub struct Values {
     /// The bits that are known.
     pub known: u32,

@@ -6,11 +6,22 @@ use Rattle.seccompiler.specs.declared.compare.Comparison.TheVariants as comparis
 use Rattle.seccomp_warnings.proofs.Covered.{beside_met, its_number}
 use Rattle.seccomp_warnings.proofs.Quantified.{any_append, any_nil, any_one}
 use Rattle.seccomp_warnings.specs.Verdicts.{Entry, IsCovered, Meets}
-use Rattle.seccomp_warnings.specs.VerdictParts.{Answers, AreAmong, IsAmong, SaysBeside, rules_beside}
+use Rattle.std.specs.Prelude.{Any}
+use Rattle.seccomp_warnings.specs.VerdictParts.{Answers, AreAmong, IsAmong, IsMet, SaysBeside, rules_beside}
 
 -- An entry that is one of the second of two lists is one of both.
 pub among_back : (front back : List Entry) (e : Entry) → IsAmong e back → IsAmong e (front ++ back)
 among_back front back e among = λ r meets. (any_append (Meets r) front back).1 (inr (among r meets))
+
+-- So is one of the first.
+pub among_front : (front back : List Entry) (e : Entry) → IsAmong e front → IsAmong e (front ++ back)
+among_front front back e among = λ r meets. (any_append (Meets r) front back).1 (inl (among r meets))
+
+-- A call that meets none of two lists' entries meets none of both.
+pub none_of_both : (n : ℕ) (r : List ℕ) (front back : List Entry) → (Any (IsMet n r) front → ⊥) → (Any (IsMet n r) back → ⊥)
+    → Any (IsMet n r) (front ++ back) → ⊥
+none_of_both n r front back not_front not_back any =
+    elim ((any_append (IsMet n r) front back).0 any) [ inl there ↦ not_front there | inr there ↦ not_back there ]
 
 -- None of no entries is met; and one more of these is one of these.
 pub among_none : (entries : List Entry) → AreAmong [] entries

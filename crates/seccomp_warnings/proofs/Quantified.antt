@@ -17,6 +17,9 @@ module _ {X : Type 0} (P : X → Type 0) where
   pub any_nil : Any P [] → ⊥
   any_nil (k, y, within, is, has) = omega arith
 
+  pub none_is_any : (xs : List X) → All (λ x. P x → ⊥) xs → Any P xs → ⊥
+  none_is_any xs none (k, x, within, is, has) = none k x within (subst P (sym is) has)
+
   -- Some element of two lists is in the first or in the second.
   pub any_append : (xs ys : List X) → Any P (xs ++ ys) ↔ (Any P xs ⊎ Any P ys)
   any_append [] ys = (inr, λ either. elim either [ inl none ↦ absurd (any_nil none) | inr there ↦ there ])

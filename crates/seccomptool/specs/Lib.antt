@@ -38,6 +38,7 @@ pub mod Commands
 pub mod Answers
 -- Between layers: what the private steps of the engines promise each other.
 pub mod WordsParts
+pub mod ProgramParts
 pub mod CountsParts
 pub mod CompileParts
 pub mod ShowParts

@@ -1,9 +1,10 @@
 // What `clap` is told of the command line.
 
 ghost use Rattle.std.specs.Prelude.{◌≡◌, IfOk, false};
-ghost use Rattle.clap.specs.Words.{app_of};
+ghost use Rattle.clap.specs.Words.{App, Rule, app_of, new_app, rule_of, with_rule, with_subcommand};
 ghost use Rattle.clap.specs.declared.builder.command.Command.TheViews.{out-Command};
 ghost use Rattle.seccomptool.specs.CommandLine.{check_app, compile_app, deciding_app, diff_app, explain_app, import_app, policy_app, program_app, record_app, run_app, show_app, top_app, verify_app};
+ghost use Rattle.seccomptool.specs.ProgramParts.{Makes};
 
 pub mod names;
 mod options;
@@ -15,7 +16,7 @@ use crate::program::options::{
     most, new_policy, oci, old, output, policies, policy, profile, program_file, quiet, records,
     shown_policy, shown_program, strict,
 };
-use clap::Command;
+use clap::{Arg, Command};
 use std::alloc::{AllocError, Global};
 
 const AFTER: &str = "\
@@ -41,20 +42,13 @@ pub(crate) fn program<'a>(alloc: Global, names: Names<'a>) -> Result<Command<'a>
     ensures app { IfOk result (λ c. app_of c ≡ program_app names.entry) }
 {
     let archs = names.archs;
-    let stats = of_policy(alloc, "stats", STATS, archs)?;
-    let of_call = record(alloc, archs)?;
-    let diff = diff(alloc, archs)?;
-    let verify = verify(alloc, archs)?;
-    let compat = of_policy(alloc, "compat", COMPAT, archs)?;
-    let of_profile = import(alloc, archs, names.import_formats)?;
-    let deciding = deciding(alloc, names)?;
-    deciding
-        .subcommand(stats)?
-        .subcommand(of_call)?
-        .subcommand(diff)?
-        .subcommand(verify)?
-        .subcommand(compat)?
-        .subcommand(of_profile)
+    let command = deciding(alloc, names);
+    let command = beside(command, of_policy(alloc, "stats", STATS, archs));
+    let command = beside(command, record(alloc, archs));
+    let command = beside(command, diff(alloc, archs));
+    let command = beside(command, verify(alloc, archs));
+    let command = beside(command, of_policy(alloc, "compat", COMPAT, archs));
+    beside(command, import(alloc, archs, names.import_formats))
 }
 
 // The program with the commands that are of what a policy decides.
@@ -62,17 +56,15 @@ fn deciding<'a>(alloc: Global, names: Names<'a>) -> Result<Command<'a>, AllocErr
     ensures { IfOk result (λ c. app_of c ≡ deciding_app names.entry) }
 {
     let archs = names.archs;
-    let compile = compile(alloc, archs, names.layouts, names.program_formats)?;
-    let show = show(alloc, archs, names.layouts)?;
-    let check = check(alloc, archs, names.codes)?;
-    let explain = explain(alloc, archs, names.line_formats)?;
-    let of_program = run(alloc, archs)?;
-    let top = top(alloc)?;
-    top.subcommand(compile)?
-        .subcommand(show)?
-        .subcommand(check)?
-        .subcommand(explain)?
-        .subcommand(of_program)
+    let command = top(alloc);
+    let command = beside(
+        command,
+        compile(alloc, archs, names.layouts, names.program_formats),
+    );
+    let command = beside(command, show(alloc, archs, names.layouts));
+    let command = beside(command, check(alloc, archs, names.codes));
+    let command = beside(command, explain(alloc, archs, names.line_formats));
+    beside(command, run(alloc, archs))
 }
 
 fn top<'a>(alloc: Global) -> Result<Command<'a>, AllocError>
@@ -90,6 +82,35 @@ fn top<'a>(alloc: Global) -> Result<Command<'a>, AllocError>
     )
 }
 
+// A command of this name, without arguments.
+fn begun<'a>(alloc: Global, name: &'a str, about: &'a str) -> Result<Command<'a>, AllocError>
+    ensures { Makes (new_app name.entry.now) result }
+{
+    Ok(Command::new(alloc, name).about(about))
+}
+
+// The command with one argument more, where memory hasn't run out.
+fn with<'a>(
+    command: Result<Command<'a>, AllocError>,
+    arg: Arg<'a>,
+) -> Result<Command<'a>, AllocError>
+    ensures { (app : App) (rule : Rule) → Makes app command.entry → rule_of arg.entry ≡ rule → arg.entry.global ≡ false → Makes (with_rule app rule) result }
+{
+    let command = command?;
+    command.arg(arg)
+}
+
+// The command with one subcommand more, where memory hasn't run out.
+fn beside<'a>(
+    command: Result<Command<'a>, AllocError>,
+    subcommand: Result<Command<'a>, AllocError>,
+) -> Result<Command<'a>, AllocError>
+    ensures { (app inner : App) → IfOk command.entry (λ c. app_of c ≡ app) → Makes inner subcommand.entry → IfOk result (λ c. app_of c ≡ with_subcommand app inner.top) }
+{
+    let command = command?;
+    command.subcommand(subcommand?)
+}
+
 fn compile<'a>(
     alloc: Global,
     archs: &'a [&'a str],
@@ -99,15 +120,14 @@ fn compile<'a>(
     ensures app { IfOk result (λ c. app_of c ≡ compile_app archs.entry layouts.entry formats.entry) }
     ensures local { IfOk result (λ c. (out-Command c).has_globals ≡ false) }
 {
-    Command::new(alloc, "compile")
-        .about("Write the program of a filter")
-        .arg(arch(alloc, archs))?
-        .arg(filter(alloc))?
-        .arg(layout(alloc, layouts))?
-        .arg(format(alloc, formats))?
-        .arg(output(alloc))?
-        .arg(quiet(alloc))?
-        .arg(policy(alloc))
+    let command = begun(alloc, "compile", "Write the program of a filter");
+    let command = with(command, arch(alloc, archs));
+    let command = with(command, filter(alloc));
+    let command = with(command, layout(alloc, layouts));
+    let command = with(command, format(alloc, formats));
+    let command = with(command, output(alloc));
+    let command = with(command, quiet(alloc));
+    with(command, policy(alloc))
 }
 
 fn show<'a>(
@@ -118,12 +138,15 @@ fn show<'a>(
     ensures app { IfOk result (λ c. app_of c ≡ show_app archs.entry layouts.entry) }
     ensures local { IfOk result (λ c. (out-Command c).has_globals ≡ false) }
 {
-    Command::new(alloc, "show")
-        .about("Print the programs, and what their instructions are for")
-        .arg(arch(alloc, archs))?
-        .arg(layout(alloc, layouts))?
-        .arg(shown_program(alloc))?
-        .arg(shown_policy(alloc))
+    let command = begun(
+        alloc,
+        "show",
+        "Print the programs, and what their instructions are for",
+    );
+    let command = with(command, arch(alloc, archs));
+    let command = with(command, layout(alloc, layouts));
+    let command = with(command, shown_program(alloc));
+    with(command, shown_policy(alloc))
 }
 
 fn check<'a>(
@@ -134,13 +157,16 @@ fn check<'a>(
     ensures app { IfOk result (λ c. app_of c ≡ check_app archs.entry codes.entry) }
     ensures local { IfOk result (λ c. (out-Command c).has_globals ≡ false) }
 {
-    Command::new(alloc, "check")
-        .about("Print the first error of a policy with its place, or else its warnings")
-        .arg(arch(alloc, archs))?
-        .arg(deny_warnings(alloc))?
-        .arg(allow(alloc, codes))?
-        .arg(list(alloc))?
-        .arg(policies(alloc))
+    let command = begun(
+        alloc,
+        "check",
+        "Print the first error of a policy with its place, or else its warnings",
+    );
+    let command = with(command, arch(alloc, archs));
+    let command = with(command, deny_warnings(alloc));
+    let command = with(command, allow(alloc, codes));
+    let command = with(command, list(alloc));
+    with(command, policies(alloc))
 }
 
 // A subcommand of this name, of an architecture and a policy.
@@ -153,10 +179,9 @@ fn of_policy<'a>(
     ensures app { IfOk result (λ c. app_of c ≡ policy_app name.entry.now archs.entry) }
     ensures local { IfOk result (λ c. (out-Command c).has_globals ≡ false) }
 {
-    Command::new(alloc, name)
-        .about(about)
-        .arg(arch(alloc, archs))?
-        .arg(policy(alloc))
+    let command = begun(alloc, name, about);
+    let command = with(command, arch(alloc, archs));
+    with(command, policy(alloc))
 }
 
 fn explain<'a>(
@@ -167,60 +192,68 @@ fn explain<'a>(
     ensures app { IfOk result (λ c. app_of c ≡ explain_app archs.entry formats.entry) }
     ensures local { IfOk result (λ c. (out-Command c).has_globals ≡ false) }
 {
-    Command::new(alloc, "explain")
-        .about("Print what a filter decides on calls, and why")
-        .arg(arch(alloc, archs))?
-        .arg(filter(alloc))?
-        .arg(line_format(alloc, formats))?
-        .arg(records(alloc))?
-        .arg(oci(alloc))?
-        .arg(cap(alloc))?
-        .arg(kernel(alloc))?
-        .arg(given_policy(alloc))?
-        .arg(call(alloc))?
-        .arg(arguments(alloc))
+    let command = begun(
+        alloc,
+        "explain",
+        "Print what a filter decides on calls, and why",
+    );
+    let command = with(command, arch(alloc, archs));
+    let command = with(command, filter(alloc));
+    let command = with(command, line_format(alloc, formats));
+    let command = with(command, records(alloc));
+    let command = with(command, oci(alloc));
+    let command = with(command, cap(alloc));
+    let command = with(command, kernel(alloc));
+    let command = with(command, given_policy(alloc));
+    let command = with(command, call(alloc));
+    with(command, arguments(alloc))
 }
 
 fn run<'a>(alloc: Global, archs: &'a [&'a str]) -> Result<Command<'a>, AllocError>
     ensures app { IfOk result (λ c. app_of c ≡ run_app archs.entry) }
     ensures local { IfOk result (λ c. (out-Command c).has_globals ≡ false) }
 {
-    Command::new(alloc, "run")
-        .about("Print what a program returns for calls")
-        .arg(arch(alloc, archs))?
-        .arg(records(alloc))?
-        .arg(program_file(alloc))?
-        .arg(call(alloc))?
-        .arg(arguments(alloc))
+    let command = begun(alloc, "run", "Print what a program returns for calls");
+    let command = with(command, arch(alloc, archs));
+    let command = with(command, records(alloc));
+    let command = with(command, program_file(alloc));
+    let command = with(command, call(alloc));
+    with(command, arguments(alloc))
 }
 
 fn record<'a>(alloc: Global, archs: &'a [&'a str]) -> Result<Command<'a>, AllocError>
     ensures app { IfOk result (λ c. app_of c ≡ record_app archs.entry) }
     ensures local { IfOk result (λ c. (out-Command c).has_globals ≡ false) }
 {
-    Command::new(alloc, "record")
-        .about("Write the struct seccomp_data of a call, 64 bytes")
-        .arg(arch(alloc, archs))?
-        .arg(given_call(alloc))?
-        .arg(arguments(alloc))
+    let command = begun(
+        alloc,
+        "record",
+        "Write the struct seccomp_data of a call, 64 bytes",
+    );
+    let command = with(command, arch(alloc, archs));
+    let command = with(command, given_call(alloc));
+    with(command, arguments(alloc))
 }
 
 fn diff<'a>(alloc: Global, archs: &'a [&'a str]) -> Result<Command<'a>, AllocError>
     ensures app { IfOk result (λ c. app_of c ≡ diff_app archs.entry) }
     ensures local { IfOk result (λ c. (out-Command c).has_globals ≡ false) }
 {
-    Command::new(alloc, "diff")
-        .about("Print the calls that two policies decide otherwise")
-        .arg(arch(alloc, archs))?
-        .arg(compared_filter(alloc))?
-        .arg(at_most(alloc))?
-        .arg(most(alloc))?
-        .arg(quiet(alloc))?
-        .arg(compared_oci(alloc))?
-        .arg(cap(alloc))?
-        .arg(kernel(alloc))?
-        .arg(old(alloc))?
-        .arg(new_policy(alloc))
+    let command = begun(
+        alloc,
+        "diff",
+        "Print the calls that two policies decide otherwise",
+    );
+    let command = with(command, arch(alloc, archs));
+    let command = with(command, compared_filter(alloc));
+    let command = with(command, at_most(alloc));
+    let command = with(command, most(alloc));
+    let command = with(command, quiet(alloc));
+    let command = with(command, compared_oci(alloc));
+    let command = with(command, cap(alloc));
+    let command = with(command, kernel(alloc));
+    let command = with(command, old(alloc));
+    with(command, new_policy(alloc))
 }
 
 fn import<'a>(
@@ -231,27 +264,29 @@ fn import<'a>(
     ensures app { IfOk result (λ c. app_of c ≡ import_app archs.entry formats.entry) }
     ensures local { IfOk result (λ c. (out-Command c).has_globals ≡ false) }
 {
-    Command::new(alloc, "import")
-        .about(IMPORT)
-        .arg(arch(alloc, archs))?
-        .arg(cap(alloc))?
-        .arg(kernel(alloc))?
-        .arg(strict(alloc))?
-        .arg(import_format(alloc, formats))?
-        .arg(profile(alloc))
+    let command = begun(alloc, "import", IMPORT);
+    let command = with(command, arch(alloc, archs));
+    let command = with(command, cap(alloc));
+    let command = with(command, kernel(alloc));
+    let command = with(command, strict(alloc));
+    let command = with(command, import_format(alloc, formats));
+    with(command, profile(alloc))
 }
 
 fn verify<'a>(alloc: Global, archs: &'a [&'a str]) -> Result<Command<'a>, AllocError>
     ensures app { IfOk result (λ c. app_of c ≡ verify_app archs.entry) }
     ensures local { IfOk result (λ c. (out-Command c).has_globals ≡ false) }
 {
-    Command::new(alloc, "verify")
-        .about("Print the calls that a program decides otherwise than a filter")
-        .arg(arch(alloc, archs))?
-        .arg(filter(alloc))?
-        .arg(at_most(alloc))?
-        .arg(all(alloc))?
-        .arg(most(alloc))?
-        .arg(given_policy(alloc))?
-        .arg(program_file(alloc))
+    let command = begun(
+        alloc,
+        "verify",
+        "Print the calls that a program decides otherwise than a filter",
+    );
+    let command = with(command, arch(alloc, archs));
+    let command = with(command, filter(alloc));
+    let command = with(command, at_most(alloc));
+    let command = with(command, all(alloc));
+    let command = with(command, most(alloc));
+    let command = with(command, given_policy(alloc));
+    with(command, program_file(alloc))
 }

@@ -4,6 +4,9 @@ ghost use Rattle.std.specs.Prelude.{◌≡◌, false};
 ghost use Rattle.clap.specs.Words.{rule_of};
 ghost use Rattle.seccomptool.specs.CommandLine.{all_rule, allow_rule, arch_rule, arguments_rule, at_most_rule, call_rule, cap_rule, deny_warnings_rule, filter_rule, format_rule, given_call_rule, given_policy_rule, import_format_rule, kernel_rule, layout_rule, line_format_rule, list_rule, most_rule, new_policy_rule, oci_rule, old_rule, output_rule, policies_rule, policy_rule, profile_rule, program_rule, quiet_rule, records_rule, shown_policy_rule, shown_program_rule, strict_rule};
 
+mod kinds;
+
+use crate::program::options::kinds::{choice, flag, given, input, place, value};
 use clap::{Arg, ArgAction};
 use std::alloc::Global;
 
@@ -46,48 +49,56 @@ pub(super) fn layout<'a>(alloc: Global, layouts: &'a [&'a str]) -> Arg<'a>
     ensures rule { rule_of result ≡ layout_rule layouts.entry }
     ensures local { result.global ≡ false }
 {
-    Arg::new(alloc, "layout")
-        .long("layout")
-        .value_name("LAYOUT")
-        .value_parser(layouts)
-        .default_value("tree")
-        .help("How a program finds a call's rules: one call after the other, or by a tree of tests")
+    choice(
+        alloc,
+        "layout",
+        "LAYOUT",
+        layouts,
+        "tree",
+        "How a program finds a call's rules: one call after the other, or by a tree of tests",
+    )
 }
 
 pub(super) fn format<'a>(alloc: Global, formats: &'a [&'a str]) -> Arg<'a>
     ensures rule { rule_of result ≡ format_rule formats.entry }
     ensures local { result.global ≡ false }
 {
-    Arg::new(alloc, "format")
-        .long("format")
-        .value_name("FORMAT")
-        .value_parser(formats)
-        .default_value("raw")
-        .help("How the program is written: as bytes, as a listing, or as an initialiser in C")
+    choice(
+        alloc,
+        "format",
+        "FORMAT",
+        formats,
+        "raw",
+        "How the program is written: as bytes, as a listing, or as an initialiser in C",
+    )
 }
 
 pub(super) fn line_format<'a>(alloc: Global, formats: &'a [&'a str]) -> Arg<'a>
     ensures rule { rule_of result ≡ line_format_rule formats.entry }
     ensures local { result.global ≡ false }
 {
-    Arg::new(alloc, "format")
-        .long("format")
-        .value_name("FORMAT")
-        .value_parser(formats)
-        .default_value("path")
-        .help("How a line is written: with places in the policy, or in numbers for scripts")
+    choice(
+        alloc,
+        "format",
+        "FORMAT",
+        formats,
+        "path",
+        "How a line is written: with places in the policy, or in numbers for scripts",
+    )
 }
 
 pub(super) fn import_format<'a>(alloc: Global, formats: &'a [&'a str]) -> Arg<'a>
     ensures rule { rule_of result ≡ import_format_rule formats.entry }
     ensures local { result.global ≡ false }
 {
-    Arg::new(alloc, "format")
-        .long("format")
-        .value_name("FORMAT")
-        .value_parser(formats)
-        .default_value("policy")
-        .help("What it is made into: a policy, or one program")
+    choice(
+        alloc,
+        "format",
+        "FORMAT",
+        formats,
+        "policy",
+        "What it is made into: a policy, or one program",
+    )
 }
 
 pub(super) fn quiet<'a>(alloc: Global) -> Arg<'a>
@@ -116,40 +127,45 @@ pub(super) fn records<'a>(alloc: Global) -> Arg<'a>
     ensures rule { rule_of result ≡ records_rule }
     ensures local { result.global ≡ false }
 {
-    Arg::new(alloc, "records")
-        .long("records")
-        .value_name("FILE")
-        .help("Records of calls, in place of standard input, where no CALL is given")
+    value(
+        alloc,
+        "records",
+        "FILE",
+        "Records of calls, in place of standard input, where no CALL is given",
+    )
 }
 
 pub(super) fn at_most<'a>(alloc: Global) -> Arg<'a>
     ensures rule { rule_of result ≡ at_most_rule }
     ensures local { result.global ≡ false }
 {
-    Arg::new(alloc, "at-most")
-        .long("at-most")
-        .action(ArgAction::SetTrue)
-        .help("Ask only where the second one permits more than the first")
+    flag(
+        alloc,
+        "at-most",
+        "Ask only where the second one permits more than the first",
+    )
 }
 
 pub(super) fn all<'a>(alloc: Global) -> Arg<'a>
     ensures rule { rule_of result ≡ all_rule }
     ensures local { result.global ≡ false }
 {
-    Arg::new(alloc, "all")
-        .long("all")
-        .action(ArgAction::SetTrue)
-        .help("Count other architectures for the exit status too")
+    flag(
+        alloc,
+        "all",
+        "Count other architectures for the exit status too",
+    )
 }
 
 pub(super) fn deny_warnings<'a>(alloc: Global) -> Arg<'a>
     ensures rule { rule_of result ≡ deny_warnings_rule }
     ensures local { result.global ≡ false }
 {
-    Arg::new(alloc, "deny-warnings")
-        .long("deny-warnings")
-        .action(ArgAction::SetTrue)
-        .help("End with exit status 1 where there is a warning")
+    flag(
+        alloc,
+        "deny-warnings",
+        "End with exit status 1 where there is a warning",
+    )
 }
 
 pub(super) fn allow<'a>(alloc: Global, codes: &'a [&'a str]) -> Arg<'a>
@@ -168,10 +184,11 @@ pub(super) fn list<'a>(alloc: Global) -> Arg<'a>
     ensures rule { rule_of result ≡ list_rule }
     ensures local { result.global ≡ false }
 {
-    Arg::new(alloc, "list")
-        .long("list")
-        .action(ArgAction::SetTrue)
-        .help("Print what the codes of warnings are about, and check nothing")
+    flag(
+        alloc,
+        "list",
+        "Print what the codes of warnings are about, and check nothing",
+    )
 }
 
 pub(super) fn most<'a>(alloc: Global) -> Arg<'a>
@@ -189,17 +206,20 @@ pub(super) fn oci<'a>(alloc: Global) -> Arg<'a>
     ensures rule { rule_of result ≡ oci_rule }
     ensures local { result.global ≡ false }
 {
-    Arg::new(alloc, "oci")
-        .long("oci")
-        .action(ArgAction::SetTrue)
-        .help("The policy is a seccomp profile of a container runtime; --cap and --kernel need it")
+    flag(
+        alloc,
+        "oci",
+        "The policy is a seccomp profile of a container runtime; --cap and --kernel need it",
+    )
 }
 
 pub(super) fn compared_oci<'a>(alloc: Global) -> Arg<'a>
     ensures rule { rule_of result ≡ oci_rule }
     ensures local { result.global ≡ false }
 {
-    oci(alloc).help(
+    flag(
+        alloc,
+        "oci",
         "The policies are seccomp profiles of a container runtime; --cap and --kernel need it",
     )
 }
@@ -219,60 +239,71 @@ pub(super) fn kernel<'a>(alloc: Global) -> Arg<'a>
     ensures rule { rule_of result ≡ kernel_rule }
     ensures local { result.global ≡ false }
 {
-    Arg::new(alloc, "kernel")
-        .long("kernel")
-        .value_name("KERNEL")
-        .help("The kernel's version, as 6.1; newer than each where it isn't given")
+    value(
+        alloc,
+        "kernel",
+        "KERNEL",
+        "The kernel's version, as 6.1; newer than each where it isn't given",
+    )
 }
 
 pub(super) fn strict<'a>(alloc: Global) -> Arg<'a>
     ensures rule { rule_of result ≡ strict_rule }
     ensures local { result.global ≡ false }
 {
-    Arg::new(alloc, "strict")
-        .long("strict")
-        .action(ArgAction::SetTrue)
-        .help("Reject a profile that names calls which the architecture hasn't")
+    flag(
+        alloc,
+        "strict",
+        "Reject a profile that names calls which the architecture hasn't",
+    )
 }
 
 pub(super) fn profile<'a>(alloc: Global) -> Arg<'a>
     ensures rule { rule_of result ≡ profile_rule }
     ensures local { result.global ≡ false }
 {
-    Arg::new(alloc, "profile")
-        .value_name("PROFILE")
-        .default_value("-")
-        .help("The profile's file, or - for standard input")
+    input(
+        alloc,
+        "profile",
+        "PROFILE",
+        "The profile's file, or - for standard input",
+    )
 }
 
 pub(super) fn old<'a>(alloc: Global) -> Arg<'a>
     ensures rule { rule_of result ≡ old_rule }
     ensures local { result.global ≡ false }
 {
-    Arg::new(alloc, "old")
-        .value_name("OLD")
-        .required(true)
-        .help("The old policy's file, or - for standard input")
+    given(
+        alloc,
+        "old",
+        "OLD",
+        "The old policy's file, or - for standard input",
+    )
 }
 
 pub(super) fn new_policy<'a>(alloc: Global) -> Arg<'a>
     ensures rule { rule_of result ≡ new_policy_rule }
     ensures local { result.global ≡ false }
 {
-    Arg::new(alloc, "new")
-        .value_name("NEW")
-        .required(true)
-        .help("The new policy's file, or - for standard input")
+    given(
+        alloc,
+        "new",
+        "NEW",
+        "The new policy's file, or - for standard input",
+    )
 }
 
 pub(super) fn policy<'a>(alloc: Global) -> Arg<'a>
     ensures rule { rule_of result ≡ policy_rule }
     ensures local { result.global ≡ false }
 {
-    Arg::new(alloc, "policy")
-        .value_name("POLICY")
-        .default_value("-")
-        .help("The policy's file, or - for standard input")
+    input(
+        alloc,
+        "policy",
+        "POLICY",
+        "The policy's file, or - for standard input",
+    )
 }
 
 pub(super) fn policies<'a>(alloc: Global) -> Arg<'a>
@@ -288,58 +319,62 @@ pub(super) fn shown_policy<'a>(alloc: Global) -> Arg<'a>
     ensures rule { rule_of result ≡ shown_policy_rule }
     ensures local { result.global ≡ false }
 {
-    Arg::new(alloc, "policy")
-        .value_name("POLICY")
-        .help("The policy's file, or - for standard input")
+    place(
+        alloc,
+        "policy",
+        "POLICY",
+        "The policy's file, or - for standard input",
+    )
 }
 
 pub(super) fn shown_program<'a>(alloc: Global) -> Arg<'a>
     ensures rule { rule_of result ≡ shown_program_rule }
     ensures local { result.global ≡ false }
 {
-    Arg::new(alloc, "program")
-        .long("program")
-        .value_name("FILE")
-        .help("A program's file, as compile writes it, in place of a policy")
+    value(
+        alloc,
+        "program",
+        "FILE",
+        "A program's file, as compile writes it, in place of a policy",
+    )
 }
 
 pub(super) fn given_policy<'a>(alloc: Global) -> Arg<'a>
     ensures rule { rule_of result ≡ given_policy_rule }
     ensures local { result.global ≡ false }
 {
-    Arg::new(alloc, "policy")
-        .value_name("POLICY")
-        .required(true)
-        .help("The policy's file, or - for standard input")
+    given(
+        alloc,
+        "policy",
+        "POLICY",
+        "The policy's file, or - for standard input",
+    )
 }
 
 pub(super) fn program_file<'a>(alloc: Global) -> Arg<'a>
     ensures rule { rule_of result ≡ program_rule }
     ensures local { result.global ≡ false }
 {
-    Arg::new(alloc, "program")
-        .value_name("PROGRAM")
-        .required(true)
-        .help("The program's file, as compile writes it, or - for standard input")
+    given(
+        alloc,
+        "program",
+        "PROGRAM",
+        "The program's file, as compile writes it, or - for standard input",
+    )
 }
 
 pub(super) fn call<'a>(alloc: Global) -> Arg<'a>
     ensures rule { rule_of result ≡ call_rule }
     ensures local { result.global ≡ false }
 {
-    Arg::new(alloc, "call")
-        .value_name("CALL")
-        .help("The call's name or number")
+    place(alloc, "call", "CALL", "The call's name or number")
 }
 
 pub(super) fn given_call<'a>(alloc: Global) -> Arg<'a>
     ensures rule { rule_of result ≡ given_call_rule }
     ensures local { result.global ≡ false }
 {
-    Arg::new(alloc, "call")
-        .value_name("CALL")
-        .required(true)
-        .help("The call's name or number")
+    given(alloc, "call", "CALL", "The call's name or number")
 }
 
 pub(super) fn arguments<'a>(alloc: Global) -> Arg<'a>

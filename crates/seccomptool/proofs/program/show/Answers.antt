@@ -1,27 +1,19 @@
-use Rattle.std.proofs.Common.{◌≡◌, ◌∙◌, ap, codes, false}
-use Rattle.std.proofs.lemmas.Result.{IfOk-weaker}
-use Rattle.clap.specs.Words.{app_of, new_app}
-use Rattle.clap.specs.Simple.{app_of_fields}
-use Rattle.clap.specs.declared.builder.command.Command.{Command}
-use Rattle.clap.specs.declared.builder.command.Command.TheOpen.{Command-F}
-use Rattle.clap.specs.declared.builder.command.Command.TheViews.{out-Command}
-use Rattle.seccomptool.proofs.program.Apps.{local_added, rule_added}
+use Rattle.seccomptool.specs.CommandLine.{show_app}
+use Rattle.seccomptool.specs.ProgramParts.{Makes}
+use Rattle.seccomptool.proofs.program.Apps.{app_made, local_made}
 use Rattle.seccomptool.proofs.program.show.Goals as goal
 
+-- each argument in turn
+made : (c : goal.After-with) → Makes (show_app c.args.archs c.args.layouts) c.with.result
+made c =
+    let m0 = c.begun-command.ensures in
+    let m1 = c.with-command.ensures _ _ m0 c.arch.ensures.rule c.arch.ensures.local in
+    let m2 = c.with-command-2.ensures _ _ m1 c.layout.ensures.rule c.layout.ensures.local in
+    let m3 = c.with-command-3.ensures _ _ m2 c.shown_program.ensures.rule c.shown_program.ensures.local in
+    c.with.ensures _ _ m3 c.shown_policy.ensures.rule c.shown_policy.ensures.local
+
 pub returns-clause-app : goal.returns-clause-app
-returns-clause-app c =
-    let e0 : app_of c.about.result ≡ new_app (codes "show") = ap app_of_fields c.about.ensures ∙ c.new.ensures.app in
-    let e1 = rule_added _ _ _ _ _ e0 c.arch.ensures.rule c.arch.ensures.local c.in_ok-arg.ensures in
-    let e2 = rule_added _ _ _ _ _ e1 c.layout.ensures.rule c.layout.ensures.local c.in_ok-arg-2.ensures in
-    let e3 = rule_added _ _ _ _ _ e2 c.shown_program.ensures.rule c.shown_program.ensures.local c.in_ok-arg-3.ensures in
-    IfOk-weaker c.arg-4.result _ _ (λ r h. rule_added _ _ _ _ _ e3 c.shown_policy.ensures.rule c.shown_policy.ensures.local h)
-    c.arg-4.ensures
+returns-clause-app c = app_made _ c.with.result (made c)
 
 pub returns-clause-local : goal.returns-clause-local
-returns-clause-local c =
-    let l0 : (out-Command c.about.result).has_globals ≡ false =
-    ap (λ (f : Command-F Command). f.has_globals) c.about.ensures ∙ c.new.ensures.local in
-    let l1 = local_added _ _ _ l0 c.arch.ensures.local c.in_ok-arg.ensures in
-    let l2 = local_added _ _ _ l1 c.layout.ensures.local c.in_ok-arg-2.ensures in
-    let l3 = local_added _ _ _ l2 c.shown_program.ensures.local c.in_ok-arg-3.ensures in
-    IfOk-weaker c.arg-4.result _ _ (λ r h. local_added _ _ _ l3 c.shown_policy.ensures.local h) c.arg-4.ensures
+returns-clause-local c = local_made _ c.with.result (made c)

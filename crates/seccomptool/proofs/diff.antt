@@ -3,6 +3,5 @@ pub mod Decisions
 pub mod Reports
 pub mod Told
 pub mod Returned
-pub mod RefusedProfiles
 pub mod DecidedProfiles
 pub mod ToldProfiles

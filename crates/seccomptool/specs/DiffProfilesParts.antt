@@ -1,17 +1,13 @@
 -- What the private functions of `diff` on two profiles promise each other.
-use Rattle.std.specs.Prelude.{◌≡◌, ℕ, false, List, Option, ⊤}
+use Rattle.std.specs.Prelude.{◌≡◌, ℕ, List}
 use Rattle.seccompiler.specs.declared.backend.TargetArch.{TargetArch}
 use Rattle.seccompiler.specs.declared.bpf.sock_filter.{sock_filter}
 use Rattle.seccompiler.specs.declared.compare.Relation.{Relation}
 use Rattle.seccompiler.specs.Machine.{Ends}
-use Rattle.seccompiler.specs.Reads.{Reads}
-use Rattle.seccomp_oci.specs.CompiledProfile.{IsCompileFault}
-use Rattle.seccomp_oci.specs.Types.{Container}
 use Rattle.seccomptool.specs.DiffProfiles.{profiles_text}
 use Rattle.seccomptool.specs.Findings.{AreFindings, verdict_of}
-use Rattle.seccomptool.specs.Policies.{IsPolicyReadError}
 use Rattle.seccomptool.specs.declared.error.ToolError.{ToolError}
-use Rattle.seccomptool.specs.declared.error.ToolError.TheVariants.{Import, Library, NewImport, NewPolicy, OutOfMemory}
+use Rattle.seccomptool.specs.declared.error.ToolError.TheVariants.{Import, Library, NewImport, NewPolicy}
 use Rattle.seccomptool.specs.declared.findings.Finding.{Finding}
 use Rattle.seccomptool.specs.declared.findings.Report.{Report}
 
@@ -28,19 +24,6 @@ pub record IsProgramsReport (target : TargetArch) (relation : Relation) (new old
   pub are : AreFindings target relation (AreReturned new old) findings
   pub text : report.text.items ≡ profiles_text target relation findings
   pub verdict_is : report.verdict ≡ verdict_of findings
-
--- The error says why the profile of the text isn't compiled, or is want of memory.
-abbrev pub IsUncompiled : TargetArch → Container → List ℕ → ToolError → Type 0
-IsUncompiled target container text (Import fault) = IsCompileFault target container false text fault
-IsUncompiled target container text OutOfMemory = ⊤
-IsUncompiled target container text e = ⊥
-
--- Why there is no program of a profile: its reader fails, or its text isn't compiled; or want of memory.
-abbrev pub IsRefusedProfile : TargetArch → Container → Option (List ℕ) → ToolError → Type 0
-IsRefusedProfile target container known (Library e) = IsPolicyReadError (Library e)
-IsRefusedProfile target container known (Import fault) = Reads known (λ text. IsCompileFault target container false text fault)
-IsRefusedProfile target container known OutOfMemory = ⊤
-IsRefusedProfile target container known e = ⊥
 
 -- A refusal of a profile, as one of the new profile of two.
 abbrev pub of_new_profile : ToolError → ToolError

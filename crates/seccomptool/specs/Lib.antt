@@ -40,6 +40,7 @@ pub mod Answers
 pub mod WordsParts
 pub mod ProgramParts
 pub mod CountsParts
+pub mod ProfileParts
 pub mod CompileParts
 pub mod ShowParts
 pub mod StatsParts

@@ -24,6 +24,7 @@ mod notes;
 mod numbers;
 mod perform;
 mod policy;
+mod profile;
 mod program;
 mod progress;
 mod record;

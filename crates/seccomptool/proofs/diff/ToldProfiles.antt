@@ -10,8 +10,9 @@ use Rattle.seccomp_oci.specs.declared.compiled.CompiledProfile.{CompiledProfile}
 use Rattle.seccomp_oci.specs.CompiledProfile.{IsCompiledProfile}
 use Rattle.seccomp_oci.specs.Types.{Container, Profile}
 use Rattle.seccomptool.specs.DiffProfiles.{AnswersDiffProfiles, AreProfileDecisions, IsCompilableText, IsTextOf, OfProfiles, WritesProfiles}
-use Rattle.seccomptool.specs.DiffProfilesParts.{IsProgramsReport, IsRefusedProfile, of_new_profile}
+use Rattle.seccomptool.specs.DiffProfilesParts.{IsProgramsReport, of_new_profile}
 use Rattle.seccomptool.specs.Errors.{IsWriteError}
+use Rattle.seccomptool.specs.ProfileParts.{IsRefusedProfile}
 use Rattle.seccomptool.specs.declared.error.ToolError.{ToolError}
 use Rattle.seccomptool.specs.declared.error.ToolError.TheVariants as tool
 use Rattle.seccomptool.specs.declared.findings.Report.{Report}

@@ -1,21 +1,17 @@
 // What a new profile of a container runtime decides otherwise than an old one.
 
-ghost use Rattle.std.specs.Prelude.{◌≡◌, IfErr, IfOk, List, false, ℕ};
-ghost use Rattle.seccompiler.specs.Reads.{Reads};
-ghost use Rattle.seccomp_oci.specs.CompiledProfile.{IsCompileFault, IsCompiledProfile};
-ghost use Rattle.seccomp_oci.specs.Types as oci;
+ghost use Rattle.std.specs.Prelude.{◌≡◌, IfErr};
 ghost use Rattle.seccomptool.specs.DiffProfiles.{AnswersDiffProfiles};
 ghost use Rattle.seccomptool.specs.DiffProfilesParts as spec;
-ghost use Rattle.seccomptool.specs.DiffProfilesParts.{IsRefusedProfile, IsUncompiled};
 ghost use Rattle.seccomptool.specs.Errors.{KeepsOutput};
 
 use crate::diff::programs::report_of;
 use crate::error::ToolError;
 use crate::findings::{Terms, Verdict};
-use crate::policy::policy_text;
+use crate::profile::compiled_of;
 use crate::progress::Progress;
 use crate::send::send;
-use seccomp_oci::{CompiledProfile, Container, ImportError, ProfileError, compile_profile};
+use seccomp_oci::Container;
 use seccompiler::{Relation, TargetArch};
 use std::alloc::Global;
 use std::io::{Read, Write};
@@ -72,34 +68,6 @@ pub fn diff_profiles<O: Read + Drop, N: Read + Drop, W: Write, G: Progress>(
     let report = report_of(alloc, terms, new, old, progress)?;
     send(out, &report.text)?;
     Ok(report.verdict)
-}
-
-// The program of a profile, without the names that no call of the architecture has.
-fn compiled_of<P: Read + Drop>(
-    alloc: Global,
-    arch: TargetArch,
-    container: &Container,
-    profile: P,
-) -> Result<CompiledProfile, ToolError>
-    ensures compiled { IfOk result (λ compiled. Reads (P.remaining profile) (λ text. IsCompiledProfile arch container.now false text compiled)) }
-    ensures refused { IfErr result (IsRefusedProfile arch container.now (P.remaining profile)) }
-{
-    let text = policy_text(alloc, profile)?;
-    match compile_profile(alloc, arch, container, false, text.as_slice()) {
-        Ok(compiled) => Ok(compiled),
-        Err(error) => Err(uncompiled(error)),
-    }
-}
-
-// Why a profile isn't compiled.
-fn uncompiled(error: ImportError) -> ToolError
-    ensures { (arch : TargetArch) (container : oci.Container) (text : List ℕ) → IsCompileFault arch container false text error → IsUncompiled arch container text result }
-{
-    match error {
-        ImportError::OutOfMemory => ToolError::OutOfMemory,
-        ImportError::Profile(ProfileError::OutOfMemory) => ToolError::OutOfMemory,
-        error => ToolError::Import(error),
-    }
 }
 
 // A refusal, as one of the new profile.

@@ -1,8 +1,8 @@
 use Rattle.std.proofs.Common.{false, subst}
 use Rattle.std.proofs.lemmas.Result.{err_from_is_err_and}
 use Rattle.seccomp_oci.specs.CompiledProfile.{IsCompileFault, IsCompiledProfile}
-use Rattle.seccomptool.proofs.diff.RefusedProfiles.{unread, uncompiled}
-use Rattle.seccomptool.proofs.diff.profiles.compiled_of.Goals as goal
+use Rattle.seccomptool.proofs.profile.Refused.{unread, uncompiled}
+use Rattle.seccomptool.proofs.profile.compiled_of.Goals as goal
 
 pub returns-in_err-text-clause-refused : goal.returns-in_err-text-clause-refused
 returns-in_err-text-clause-refused g c =

@@ -2,7 +2,7 @@
 use Rattle.std.proofs.Common.{◌≡◌, ℕ, List, Option, IfSome}
 use Rattle.seccompiler.specs.declared.backend.TargetArch.{TargetArch}
 use Rattle.seccomp_oci.specs.Types.{Container}
-use Rattle.seccomptool.specs.DiffProfilesParts.{IsRefusedProfile, IsUncompiled}
+use Rattle.seccomptool.specs.ProfileParts.{IsRefusedProfile, IsUncompiled}
 use Rattle.seccomptool.specs.Policies.{IsPolicyReadError}
 use Rattle.seccomptool.specs.declared.error.ToolError.{ToolError}
 use Rattle.seccomptool.specs.declared.error.ToolError.TheVariants.{Import, Library, OutOfMemory}

@@ -6,8 +6,8 @@ from the program's output.
 """
 
 from . import (
-    calls, check, compat, compile, conditions, counts, diff, entries, explain, imports, oci, profile_faults, record, run, show,
-    stats, verify, warnings, words
+    calls, check, compat, compile, conditions, counts, diff, entries, explain, imports, oci, profile_faults, profile_stats, record,
+    run, show, stats, verify, warnings, words
 )
 from .forms import Case
 
@@ -29,7 +29,7 @@ CASES = [
         case
         for it in (
             show, check, warnings, conditions, calls, entries, explain, run, stats, record, counts, verify, compat, imports,
-            profile_faults, oci, words
+            profile_faults, oci, profile_stats, words
         )
         for case in it.CASES
     ],

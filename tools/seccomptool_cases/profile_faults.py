@@ -243,7 +243,8 @@ COMMANDS = [
     ("import {}", 1), ("import --strict {}", 1), ("import -a riscv64 --cap CAP_KILL --kernel 6.1 {}", 1), ("import --format raw {}", 1),
     ("import --strict --format raw {}", 1), ("explain --oci {} read", 1), ("explain --oci --format word {} read", 1),
     ("explain --oci {} < examples/records.bin", 1), ("diff --oci {} reads-profile.json", 2), ("diff --oci reads-profile.json {}", 2),
-    ("diff --oci --at-most --most 0 {} reads-profile.json", 2),
+    ("diff --oci --at-most --most 0 {} reads-profile.json", 2), ("stats --oci {}", 1),
+    ("stats --oci -a riscv64 --cap CAP_KILL --kernel 6.1 {}", 1),
 ]
 
 CASES = [

@@ -3,3 +3,4 @@ pub mod TableNumbers
 pub mod PassingRecord
 pub mod Refusals
 pub mod Measures
+pub mod ProfileMeasures

@@ -13,7 +13,7 @@ use Rattle.seccomptool.specs.Words.{Choices, Means}
 use Rattle.seccomptool.specs.declared.findings.Verdict.{Verdict}
 use Rattle.seccomptool.specs.declared.findings.Verdict.TheVariants.{Same}
 use Rattle.seccomptool.specs.declared.words.Asked.{Asked}
-use Rattle.seccomptool.specs.declared.words.Asked.TheVariants.{One, Checks, Import, DiffProfiles, ExplainProfile}
+use Rattle.seccomptool.specs.declared.words.Asked.TheVariants.{One, Checks, Import, DiffProfiles, ExplainProfile, StatsProfile}
 use Rattle.seccomptool.specs.declared.words.Command.{Command}
 use Rattle.seccomptool.specs.declared.words.Command.TheVariants.{Check}
 use Rattle.seccomptool.specs.declared.words.Command.TheVariants as command
@@ -29,6 +29,8 @@ AreCommandsOf (DiffProfiles arch container relation most old new) commands =
     (own : Bor Container) × (own.now ≡ container) × (commands ≡ command.DiffProfiles arch own relation most old new ∷ [])
 AreCommandsOf (ExplainProfile arch container format records profile) commands =
     (own : Bor Container) × (own.now ≡ container) × (commands ≡ command.ExplainProfile arch own format records profile ∷ [])
+AreCommandsOf (StatsProfile arch container profile) commands =
+    (own : Bor Container) × (own.now ≡ container) × (commands ≡ command.StatsProfile arch own profile ∷ [])
 
 -- What is asked for compares.
 abbrev pub asks_to_compare : Asked → Bool
@@ -37,6 +39,7 @@ asks_to_compare (Checks arch denied allowed policies) = false
 asks_to_compare (Import arch container strict format profile) = false
 asks_to_compare (DiffProfiles arch container relation most old new) = true
 asks_to_compare (ExplainProfile arch container format records profile) = false
+asks_to_compare (StatsProfile arch container profile) = false
 
 -- The commands end with statuses, one by one, of which this is the greatest; it is 0 where there is no command.
 pub record EndWith (commands : List Command) (status : ℕ) : Type 0 where

@@ -208,6 +208,11 @@ run_app archs =
     with_rule (with_rule (with_rule (with_rule (with_rule (new_app (codes "run")) (arch_rule archs)) records_rule) program_rule) call_rule)
     arguments_rule
 
+abbrev pub stats_app : NameList → App
+stats_app archs =
+    with_rule (with_rule (with_rule (with_rule (with_rule (new_app (codes "stats")) (arch_rule archs)) oci_rule) cap_rule) kernel_rule)
+    policy_rule
+
 abbrev pub record_app : NameList → App
 record_app archs = with_rule (with_rule (with_rule (new_app (codes "record")) (arch_rule archs)) given_call_rule) arguments_rule
 
@@ -250,7 +255,7 @@ deciding_app names =
 abbrev pub program_app : Names → App
 program_app names =
     with_subcommand (with_subcommand (with_subcommand (with_subcommand (with_subcommand (with_subcommand (deciding_app names)
-    (policy_app (codes "stats") names.archs).top)
+    (stats_app names.archs).top)
     (record_app names.archs).top)
     (diff_app names.archs).top)
     (verify_app names.archs).top)

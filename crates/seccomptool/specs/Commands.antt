@@ -16,7 +16,7 @@ use Rattle.seccomptool.specs.declared.findings.Verdict.TheVariants.{Same, Differ
 use Rattle.seccomptool.specs.declared.import.format.ImportFormat.TheVariants as import_format
 use Rattle.seccomptool.specs.declared.words.Command.{Command}
 use Rattle.seccomptool.specs.declared.words.Command.TheVariants.{Compile, Show, Check, Codes, Explain, Run, Stats, Record, Diff}
-use Rattle.seccomptool.specs.declared.words.Command.TheVariants.{Verify, Compat, Import, DiffProfiles, ExplainProfile}
+use Rattle.seccomptool.specs.declared.words.Command.TheVariants.{Verify, Compat, Import, DiffProfiles, ExplainProfile, StatsProfile}
 use Rattle.seccomptool.specs.declared.words.Records.{Records}
 use Rattle.seccomptool.specs.declared.words.Records.TheVariants as records
 use Rattle.seccomptool.specs.declared.words.Shown.{Shown}
@@ -35,6 +35,7 @@ use Rattle.seccomptool.specs.Run.{AnswersRun}
 use Rattle.seccomptool.specs.Show.{AnswersShow}
 use Rattle.seccomptool.specs.ShowProgram.{AnswersShowProgram}
 use Rattle.seccomptool.specs.Stats.{AnswersStats}
+use Rattle.seccomptool.specs.StatsProfile.{AnswersStatsProfile}
 use Rattle.seccomptool.specs.Verify.{AnswersVerify}
 use Rattle.seccomptool.specs.Compat.{AnswersCompat}
 use Rattle.seccomptool.specs.Imports.{AnswersImport}
@@ -76,6 +77,12 @@ AnswersExplainProfileOn (records.Call call arguments) format arch container prof
     AnswersCall arch call.now arguments (λ bytes. AnswersExplainProfile format arch container profile (Some bytes) answer old new) answer
 AnswersExplainProfileOn (records.In path) format arch container profile known answer old new =
     AnswersExplainProfile format arch container profile known answer old new
+
+-- The answer of `stats`, where a policy or a profile may be given: that of a profile is for a container of which nothing is said.
+abbrev pub AnswersStatsByKind : TargetArch → (given : Option (List ℕ)) → Result ⊤ ToolError → (old new : Option (List ℕ)) → Type 0
+AnswersStatsByKind arch given answer old new = AnswersByKind given None
+    (λ text. AnswersStats (arch_text arch) (Some text) answer old new)
+    (λ text. AnswersStatsProfile arch plain_container (Some text) answer old new) answer
 
 -- The answer of `run` for the records that it is asked about: that of a call, or those of the file or input.
 abbrev pub AnswersRunOn : Records → TargetArch → (program records : Option (List ℕ)) → Result ⊤ ToolError → (old new : Option (List ℕ))
@@ -158,7 +165,7 @@ AnswersCommand (Explain arch filter format asked path) policy records answer old
 AnswersCommand (Run arch asked path) policy records answer old new =
     AnswersPlain (λ plain. AnswersRunOn asked arch policy records plain old new) answer
 AnswersCommand (Stats arch path) policy records answer old new =
-    AnswersPlain (λ plain. AnswersStats (arch_text arch) policy plain old new) answer
+    AnswersPlain (λ plain. AnswersStatsByKind arch policy plain old new) answer
 AnswersCommand (Record arch call arguments) policy records answer old new =
     AnswersPlain (λ plain. AnswersRecord (arch_text arch) call.now arguments plain old new) answer
 AnswersCommand (Diff arch filter relation most quiet first second) policy records answer old new =
@@ -173,6 +180,8 @@ AnswersCommand (DiffProfiles arch container relation most first second) policy r
     AnswersFound (λ found. AnswersDiffProfiles arch container.now relation policy records found old new) answer
 AnswersCommand (ExplainProfile arch container format asked path) policy records answer old new =
     AnswersPlain (λ plain. AnswersExplainProfileOn asked format arch container.now policy records plain old new) answer
+AnswersCommand (StatsProfile arch container path) policy records answer old new =
+    AnswersPlain (λ plain. AnswersStatsProfile arch container.now policy plain old new) answer
 
 -- The path of the policy, program or profile that a command reads, that of the old policy where it compares two.
 abbrev pub policy_of : Command → Option (List ℕ)
@@ -191,6 +200,7 @@ policy_of (Compat arch path) = Some path.now
 policy_of (Import arch container strict format path) = Some path.now
 policy_of (DiffProfiles arch container relation most first second) = Some first.now
 policy_of (ExplainProfile arch container format asked path) = Some path.now
+policy_of (StatsProfile arch container path) = Some path.now
 
 -- The path of the records that a command reads, of the new policy, or of the program that is verified.
 abbrev pub records_of : Command → Option (List ℕ)

@@ -29,6 +29,7 @@ pub mod Record
 pub mod Findings
 pub mod Diff
 pub mod DiffProfiles
+pub mod StatsProfile
 pub mod Run
 pub mod ShowProgram
 pub mod Verify

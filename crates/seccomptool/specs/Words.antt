@@ -26,7 +26,7 @@ use Rattle.seccomptool.specs.declared.program.names.Names.{Names}
 use Rattle.seccomptool.specs.declared.verify.scope.Scope.{Scope}
 use Rattle.seccomptool.specs.declared.verify.scope.Scope.TheVariants.{Named, All}
 use Rattle.seccomptool.specs.declared.words.Asked.{Asked}
-use Rattle.seccomptool.specs.declared.words.Asked.TheVariants.{One, Checks, Import, DiffProfiles, ExplainProfile}
+use Rattle.seccomptool.specs.declared.words.Asked.TheVariants.{One, Checks, Import, DiffProfiles, ExplainProfile, StatsProfile}
 use Rattle.seccomptool.specs.declared.words.Command.{Command}
 use Rattle.seccomptool.specs.declared.words.Command.TheVariants.{Compile, Show, Check, Codes, Explain, Run, Stats, Record, Diff}
 use Rattle.seccomptool.specs.declared.words.Command.TheVariants.{Verify, Compat}
@@ -145,7 +145,7 @@ pub record IsCheck (rows : List Row) (arch : TargetArch) (denied : Bool) (allowe
   pub allowed_are : map code_text allowed ≡ given_codes rows
   pub policies_are : policies ≡ given_policies rows
 
--- The values of `stats` and `compat`.
+-- The values of `compat`.
 pub record IsOfPolicy (rows : List Row) (arch : TargetArch) (policy : Text) : Type 0 where
   pub arch_is : IsArch rows arch
   pub policy_is : first_of (codes "policy") rows ≡ Some policy
@@ -194,6 +194,18 @@ pub record IsExplainProfile (rows : List Row) (arch : TargetArch) (container : C
   pub format_is : first_of (codes "format") rows ≡ Some (line_format_text format)
   pub profile_is : first_of (codes "policy") rows ≡ Some profile
   pub records_are : AreRecords rows profile records
+
+-- The values of `stats` of a policy.
+pub record IsStats (rows : List Row) (arch : TargetArch) (policy : Text) : Type 0 where
+  pub no_profile : IsNoProfile rows
+  pub arch_is : IsArch rows arch
+  pub policy_is : first_of (codes "policy") rows ≡ Some policy
+
+-- The values of `stats` of a profile.
+pub record IsStatsProfile (rows : List Row) (arch : TargetArch) (container : Container) (profile : Text) : Type 0 where
+  pub profile_for : IsProfileFor rows container
+  pub arch_is : IsArch rows arch
+  pub profile_is : first_of (codes "policy") rows ≡ Some profile
 
 -- The values of `run`.
 pub record IsRun (rows : List Row) (arch : TargetArch) (records : Records) (program : Text) : Type 0 where
@@ -290,7 +302,7 @@ IsCommand name rows Codes = (name ≡ codes "check") × IsListed rows
 IsCommand name rows (Explain arch filter format records policy) =
     (name ≡ codes "explain") × IsExplain rows arch (text_of filter) format records policy.now
 IsCommand name rows (Run arch records program) = (name ≡ codes "run") × IsRun rows arch records program.now
-IsCommand name rows (Stats arch policy) = (name ≡ codes "stats") × IsOfPolicy rows arch policy.now
+IsCommand name rows (Stats arch policy) = (name ≡ codes "stats") × IsStats rows arch policy.now
 IsCommand name rows (Record arch call arguments) = (name ≡ codes "record") × IsRecord rows arch call.now arguments
 IsCommand name rows (Diff arch filter relation most quiet old new) =
     (name ≡ codes "diff") × IsDiff rows arch (text_of filter) relation most quiet old.now new.now
@@ -300,6 +312,7 @@ IsCommand name rows (Compat arch policy) = (name ≡ codes "compat") × IsOfPoli
 IsCommand name rows (command.Import arch container strict format profile) = ⊥
 IsCommand name rows (command.DiffProfiles arch container relation most old new) = ⊥
 IsCommand name rows (command.ExplainProfile arch container format records profile) = ⊥
+IsCommand name rows (command.StatsProfile arch container profile) = ⊥
 
 -- The subcommand of this name, with these values, asks for this.
 abbrev pub IsAsked : Text → List Row → Asked → Type 0
@@ -312,6 +325,7 @@ IsAsked name rows (DiffProfiles arch container relation most old new) =
     (name ≡ codes "diff") × IsDiffProfiles rows arch container relation most old.now new.now
 IsAsked name rows (ExplainProfile arch container format records profile) =
     (name ≡ codes "explain") × IsExplainProfile rows arch container format records profile.now
+IsAsked name rows (StatsProfile arch container profile) = (name ≡ codes "stats") × IsStatsProfile rows arch container profile.now
 
 -- The names that the options take.
 pub record Choices : Type 0 where

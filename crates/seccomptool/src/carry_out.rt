@@ -123,6 +123,7 @@ fn policy_of<'a>(command: Command<'a>) -> Option<&'a str>
         Command::Import { profile, .. } => Some(profile),
         Command::DiffProfiles { old, .. } => Some(old),
         Command::ExplainProfile { profile, .. } => Some(profile),
+        Command::StatsProfile { profile, .. } => Some(profile),
     }
 }
 

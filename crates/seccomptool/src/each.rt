@@ -90,6 +90,18 @@ pub(crate) fn carry_out_each<G: Progress>(
             };
             ExitCode::from(carry_out(rt, command, to_terminal, progress))
         }
+        Asked::StatsProfile {
+            arch,
+            container,
+            profile,
+        } => {
+            let command = Command::StatsProfile {
+                arch,
+                container: &container,
+                profile,
+            };
+            ExitCode::from(carry_out(rt, command, to_terminal, progress))
+        }
     }
 }
 

@@ -1,7 +1,7 @@
 // A command, carried out on what is opened for it.
 
 ghost use Rattle.std.specs.Prelude.{IfErr, Some};
-ghost use Rattle.seccomptool.specs.Commands.{AnswersCommand, AnswersExplainProfileOn, AnswersExplained, AnswersExplainedByKind, AnswersExplainedOn, AnswersRunOn, AnswersShown};
+ghost use Rattle.seccomptool.specs.Commands.{AnswersCommand, AnswersExplainProfileOn, AnswersExplained, AnswersExplainedByKind, AnswersExplainedOn, AnswersRunOn, AnswersShown, AnswersStatsByKind};
 ghost use Rattle.seccomptool.specs.Errors.{KeepsOutput};
 ghost use Rattle.seccomptool.specs.Words.{text_of};
 
@@ -24,6 +24,7 @@ use crate::progress::Progress;
 use crate::record::{called_record, record};
 use crate::run::run;
 use crate::show::{show, show_program};
+use crate::stats::profile::stats_profile;
 use crate::stats::stats;
 use crate::verify::verify;
 use crate::words::{Command, Records, Shown};
@@ -39,14 +40,14 @@ use std::io::{Read, Write};
 /// warnings, with their number; and else none. `progress` gets how far comparisons are.
 ///
 /// Where `Explain` and `Diff` have no filter, and the text of the policy, or of the old one, is an object that has a text under
-/// `defaultAction`, they do what `ExplainProfile` and `DiffProfiles` do for a container of which nothing is said. No text of a
-/// policy is such an object.
+/// `defaultAction`, they do what `ExplainProfile` and `DiffProfiles` do for a container of which nothing is said; and `Stats` does
+/// what `StatsProfile` does. No text of a policy is such an object.
 ///
 /// # Errors
 ///
 /// Those of the engine: [`compile`](crate::compile::compile), [`show`] or [`show_program`], [`check`], [`codes`], [`explain`], [`run`],
-/// [`stats`], [`record`], [`diff`](crate::diff::diff), [`verify`], [`compat`], [`import`], [`diff_profiles`] and [`explain_profile`]. In front of
-/// them, for `compile` and `explain` of a policy, where no filter is asked for: the policy's fault that keeps its names from being
+/// [`stats`], [`record`], [`diff`](crate::diff::diff), [`verify`], [`compat`], [`import`], [`diff_profiles`], [`explain_profile`]
+/// and [`stats_profile`]. In front of them, for `compile` and `explain` of a policy, where no filter is asked for: the policy's fault that keeps its names from being
 /// read, and `Unchosen` with the names where it hasn't one. In front of all, for `explain` and `run` on a call, `UnknownCall`
 /// where the architecture hasn't it.
 pub fn perform<P: Read + Drop, R: Read + Drop, W: Write, G: Progress>(
@@ -103,7 +104,7 @@ pub fn perform<P: Read + Drop, R: Read + Drop, W: Write, G: Progress>(
             records: asked,
             ..
         } => plain(alloc, run_asked(alloc, arch, asked, policy, records, out)),
-        Command::Stats { arch, .. } => plain(alloc, stats(alloc, arch.name(), policy, out)),
+        Command::Stats { arch, .. } => plain(alloc, stats_by_kind(alloc, arch, policy, out)),
         Command::Record {
             arch,
             call,
@@ -179,6 +180,11 @@ pub fn perform<P: Read + Drop, R: Read + Drop, W: Write, G: Progress>(
             alloc,
             explain_profile_asked(alloc, arch, container, format, asked, policy, records, out),
         ),
+        Command::StatsProfile {
+            arch,
+            container,
+            ..
+        } => plain(alloc, stats_profile(alloc, arch, container, policy, out)),
     }
 }
 
@@ -268,6 +274,25 @@ fn explain_filter<R: Read + Drop, W: Write>(
         records,
         out,
     )
+}
+
+// Tells how long the programs of a policy are, or that of a profile, where the text is taken for one's.
+fn stats_by_kind<P: Read + Drop, W: Write>(
+    alloc: Global,
+    arch: TargetArch,
+    given: P,
+    out: &mut W,
+) -> Result<(), ToolError>
+    ensures answers { AnswersStatsByKind arch (P.remaining given) result (W.contents out.old) (W.contents out.new) }
+    ensures unwritten { IfErr result (λ e. KeepsOutput e out.old out.new) }
+{
+    let text = policy_text(alloc, given)?;
+    let text = text.as_slice();
+    if is_taken_for_profile(alloc, text, None)? {
+        let container = plain_container(alloc);
+        return stats_profile(alloc, arch, &container, text, out);
+    }
+    stats(alloc, arch.name(), text, out)
 }
 
 // Explains what a profile decides on the records that are asked about.

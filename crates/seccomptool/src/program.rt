@@ -3,7 +3,7 @@
 ghost use Rattle.std.specs.Prelude.{◌≡◌, IfOk, false};
 ghost use Rattle.clap.specs.Words.{App, Rule, app_of, new_app, rule_of, with_rule, with_subcommand};
 ghost use Rattle.clap.specs.declared.builder.command.Command.TheViews.{out-Command};
-ghost use Rattle.seccomptool.specs.CommandLine.{check_app, compile_app, deciding_app, diff_app, explain_app, import_app, policy_app, program_app, record_app, run_app, show_app, top_app, verify_app};
+ghost use Rattle.seccomptool.specs.CommandLine.{check_app, compile_app, deciding_app, diff_app, explain_app, import_app, policy_app, program_app, record_app, run_app, show_app, stats_app, top_app, verify_app};
 ghost use Rattle.seccomptool.specs.ProgramParts.{Makes};
 
 pub mod names;
@@ -29,8 +29,6 @@ Exit status: 0; 1 where the policy is rejected or a file or the output fails; 2
 where the arguments are no command. Of `diff` and `verify`: 0 where nothing
 differs, 1 where something does, 2 on any failure, 3 where it wasn't decided.";
 
-const STATS: &str = "Print how long the programs are, and how many steps they take";
-
 const COMPAT: &str = "Print the calls that the Rust crate would decide otherwise";
 
 const IMPORT: &str = "Print a container runtime's seccomp profile as a policy or as one program";
@@ -43,7 +41,7 @@ pub(crate) fn program<'a>(alloc: Global, names: Names<'a>) -> Result<Command<'a>
 {
     let archs = names.archs;
     let command = deciding(alloc, names);
-    let command = beside(command, of_policy(alloc, "stats", STATS, archs));
+    let command = beside(command, stats(alloc, archs));
     let command = beside(command, record(alloc, archs));
     let command = beside(command, diff(alloc, archs));
     let command = beside(command, verify(alloc, archs));
@@ -219,6 +217,22 @@ fn run<'a>(alloc: Global, archs: &'a [&'a str]) -> Result<Command<'a>, AllocErro
     let command = with(command, program_file(alloc));
     let command = with(command, call(alloc));
     with(command, arguments(alloc))
+}
+
+fn stats<'a>(alloc: Global, archs: &'a [&'a str]) -> Result<Command<'a>, AllocError>
+    ensures app { IfOk result (λ c. app_of c ≡ stats_app archs.entry) }
+    ensures local { IfOk result (λ c. (out-Command c).has_globals ≡ false) }
+{
+    let command = begun(
+        alloc,
+        "stats",
+        "Print how long the programs are, and how many steps they take",
+    );
+    let command = with(command, arch(alloc, archs));
+    let command = with(command, oci(alloc));
+    let command = with(command, cap(alloc));
+    let command = with(command, kernel(alloc));
+    with(command, policy(alloc))
 }
 
 fn record<'a>(alloc: Global, archs: &'a [&'a str]) -> Result<Command<'a>, AllocError>

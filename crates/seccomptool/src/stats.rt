@@ -3,6 +3,7 @@
 mod chains;
 mod lines;
 mod measure;
+pub mod profile;
 mod ways;
 
 ghost use Rattle.std.specs.Prelude.{IfErr};

@@ -91,7 +91,7 @@ pub enum Command<'a> {
     Stats {
         /// The architecture.
         arch: TargetArch,
-        /// The policy.
+        /// The policy, or a profile.
         policy: &'a str,
     },
     /// Write the record of a call.
@@ -185,6 +185,15 @@ pub enum Command<'a> {
         /// The profile.
         profile: &'a str,
     },
+    /// Print how long the program of a profile is, and how many steps it takes: what [`Asked::StatsProfile`] has.
+    StatsProfile {
+        /// The architecture.
+        arch: TargetArch,
+        /// The container that the profile is for.
+        container: &'a Container,
+        /// The profile.
+        profile: &'a str,
+    },
 }
 
 /// What the arguments ask for.
@@ -244,6 +253,15 @@ pub enum Asked<'a> {
         /// The profile.
         profile: &'a str,
     },
+    /// `stats` of a profile.
+    StatsProfile {
+        /// The architecture.
+        arch: TargetArch,
+        /// The container that the profile is for.
+        container: Container,
+        /// The profile.
+        profile: &'a str,
+    },
 }
 
 /// What `show` prints.
@@ -276,8 +294,8 @@ pub enum Records<'a> {
 /// `clap`'s: help and the version where they are asked for, and its own error of arguments that are no
 /// command. `ValueValidation` where an ARG or the value of `--most` is no number, where `explain` or `run`
 /// is given both CALL and `--records`, or `show` both POLICY and `--program`, where the value of `--kernel` is no version, where
-/// `diff` or `explain` is given `--cap` or `--kernel` without `--oci`, or both `--oci` and `--filter`, and where two files would
-/// both be read from standard input: policy and records, program and records, policy and program, or both policies or profiles
+/// `diff`, `explain` or `stats` is given `--cap` or `--kernel` without `--oci`, or both `--oci` and `--filter`, and where two files
+/// would both be read from standard input: policy and records, program and records, policy and program, or both policies or profiles
 /// of `diff`. `OutOfMemory` may come in place of any.
 pub(crate) fn read<'a>(alloc: Global, words: &'a [String]) -> Result<Asked<'a>, clap::Error>
     // With the names that the options take.

@@ -12,7 +12,7 @@ use Rattle.seccomptool.specs.Words.{Choices, IsFault, Means}
 use Rattle.seccomptool.specs.declared.findings.Verdict.{Verdict}
 use Rattle.seccomptool.specs.declared.findings.Verdict.TheVariants.{Same, Different, Undecided}
 use Rattle.seccomptool.specs.declared.words.Asked.{Asked}
-use Rattle.seccomptool.specs.declared.words.Asked.TheVariants.{One, Checks, Import, DiffProfiles, ExplainProfile}
+use Rattle.seccomptool.specs.declared.words.Asked.TheVariants.{One, Checks, Import, DiffProfiles, ExplainProfile, StatsProfile}
 use Rattle.seccomptool.specs.declared.words.Command.{Command}
 use Rattle.seccomptool.specs.declared.words.Command.TheVariants.{Diff, Verify}
 use Rattle.seccomptool.specs.declared.words.Command.TheVariants as of_command
@@ -135,3 +135,5 @@ may_fail choices words (DiffProfiles arch container relation most old new) statu
     (subst (λ cs. EndWith cs status) ended.are.2 ended.ended) one refl)
 may_fail choices words (ExplainProfile arch container format records profile) status means ended one =
     inr (other choices (ExplainProfile arch container format records profile) means refl)
+may_fail choices words (StatsProfile arch container profile) status means ended one =
+    inr (other choices (StatsProfile arch container profile) means refl)

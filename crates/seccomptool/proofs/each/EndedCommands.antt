@@ -13,7 +13,7 @@ use Rattle.seccomp_warnings.specs.declared.code.Code.{Code}
 use Rattle.seccompiler.specs.Architecture.{arch_text}
 use Rattle.seccomptool.specs.Check.{AnswersCheck}
 use Rattle.seccomptool.specs.Answers.{EndAsAsked, EndWith}
-use Rattle.seccomptool.specs.declared.words.Asked.TheVariants.{One, Checks, Import, DiffProfiles, ExplainProfile}
+use Rattle.seccomptool.specs.declared.words.Asked.TheVariants.{One, Checks, Import, DiffProfiles, ExplainProfile, StatsProfile}
 use Rattle.seccomptool.specs.Commands.{AnswersFound, EndsWith}
 use Rattle.seccomptool.specs.declared.explain.format.LineFormat.{LineFormat}
 use Rattle.seccomptool.specs.declared.import.format.ImportFormat.{ImportFormat}
@@ -102,6 +102,13 @@ module _ (arch : TargetArch) (container : Container) (own : Bor Container) (is :
       → EndAsAsked (ExplainProfile arch container format records profile) status
   explain_profile_ended format records profile ends =
       let alone = one_ended (command.ExplainProfile arch own format records profile) status ends in
+      record { commands = alone.commands; are = (own, is, alone.are); ended = alone.ended }
+
+  -- One is measured.
+  pub stats_profile_ended : (profile : Bor (List ℕ)) → EndsWith (command.StatsProfile arch own profile) status
+      → EndAsAsked (StatsProfile arch container profile) status
+  stats_profile_ended profile ends =
+      let alone = one_ended (command.StatsProfile arch own profile) status ends in
       record { commands = alone.commands; are = (own, is, alone.are); ended = alone.ended }
 
 -- Policies that are checked, with codes behind a reference.

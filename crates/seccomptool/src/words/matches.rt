@@ -230,6 +230,9 @@ fn stats_in<'a>(found: &ArgMatches<'a>) -> Option<Command<'a>>
     ensures some { IfSome result (IsCommand (codes "stats") (rows_of (found_of found.now))) }
     ensures none { IfNone result ((c : Command) → IsCommand (codes "stats") (rows_of (found_of found.now)) c → ⊥) }
 {
+    if !is_no_profile(found) {
+        return None;
+    }
     let Some(arch) = arch_in(found) else {
         return None;
     };

@@ -28,6 +28,7 @@ pub(super) fn of_profiles_in<'a>(
         "explain" => explain_profile_in(alloc, found),
         "diff" => diff_profiles_in(alloc, found),
         "import" => import_in(alloc, found),
+        "stats" => stats_profile_in(alloc, found),
         _ => Ok(None),
     }
 }
@@ -97,6 +98,33 @@ fn diff_profiles_in<'a>(
         most,
         old,
         new,
+    }))
+}
+
+// What the matches of `stats` ask for, of a profile.
+fn stats_profile_in<'a>(
+    alloc: Global,
+    found: &ArgMatches<'a>,
+) -> Result<Option<Asked<'a>>, AllocError>
+    ensures some { IfOk result (λ o. IfSome o (IsOfProfiles (codes "stats") (rows_of (found_of found.now)))) }
+    ensures none { IfOk result (λ o. IfNone o ((asked : Asked) → IsOfProfiles (codes "stats") (rows_of (found_of found.now)) asked → ⊥)) }
+{
+    if !is_profile(found) {
+        return Ok(None);
+    }
+    let Some(arch) = arch_in(found) else {
+        return Ok(None);
+    };
+    let Some(profile) = text_in(found, "policy") else {
+        return Ok(None);
+    };
+    let Some(container) = container_in(alloc, found)? else {
+        return Ok(None);
+    };
+    Ok(Some(Asked::StatsProfile {
+        arch,
+        container,
+        profile,
     }))
 }
 

@@ -1,5 +1,6 @@
 use Rattle.std.proofs.Common.{refl}
 use Rattle.seccomptool.proofs.each.EndedCommands.{checks_ended, diff_profiles_ended, explain_profile_ended, import_ended, one_ended}
+use Rattle.seccomptool.proofs.each.EndedCommands.{stats_profile_ended}
 use Rattle.seccomptool.proofs.each.carry_out_each.Goals as goal
 
 pub returns-in-One-clause-each : goal.returns-in-One-clause-each
@@ -31,3 +32,9 @@ returns-in-ExplainProfile-clause-each g c =
     (explain_profile_ended c.in-ExplainProfile.arch c.in-ExplainProfile.container _ refl c.carry_out-in-ExplainProfile.result
     c.in-ExplainProfile.format c.in-ExplainProfile.records c.in-ExplainProfile.profile
     c.carry_out-in-ExplainProfile.ensures.performed)
+
+pub returns-in-StatsProfile-clause-each : goal.returns-in-StatsProfile-clause-each
+returns-in-StatsProfile-clause-each g c =
+    rw (c.in-StatsProfile.is, c.from-in-StatsProfile.ensures)
+    (stats_profile_ended c.in-StatsProfile.arch c.in-StatsProfile.container _ refl c.carry_out-in-StatsProfile.result
+    c.in-StatsProfile.profile c.carry_out-in-StatsProfile.ensures.performed)

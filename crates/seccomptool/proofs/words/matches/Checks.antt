@@ -18,6 +18,7 @@ module _ (rows : List Row) where
   no_command unlisted (command.Import arch container strict format profile) is = absurd is
   no_command unlisted (command.DiffProfiles arch container relation most old new) is = absurd is
   no_command unlisted (command.ExplainProfile arch container format records profile) is = absurd is
+  no_command unlisted (command.StatsProfile arch container profile) is = absurd is
   no_command unlisted Codes is = unlisted is.1
   no_command unlisted c is =
       let first = ap (λ t. slice_index t 0) is.0 in

@@ -1,0 +1,136 @@
+"""What `stats` has to do of profiles as they are: the length and the steps of the one program, and the faults.
+
+The numbers of the cases are counted by hand, and those of all other profiles by a walk over the instructions that
+`import --format raw` writes, as `struct sock_filter` and linux/bpf_common.h have them.
+"""
+
+import json
+import struct
+
+from .forms import CLOSED, FOLDER, FULL, LOGS, MISSING, OUTPUT, RESET, TOOL, Case, Failing, rejects, writes
+from .imports import PARSING, entry, profile
+from .oci import AUDIT_ARCH, COMMENTED, CONTAINER_ONLY, TOO_LONG, WRONG_DEFAULT, arch_of, file_of, misused, record_of, unnamed, ways
+from .profile_faults import NO_PROFILE
+from .profiles import PROFILES
+from .stats import LOGS_STEPS
+
+# The codes of the instructions that the programs of profiles have.
+LOAD, SET, AND, JUMP, RETURN = 0x20, 0x00, 0x54, 0x05, 0x06
+TESTS = {0x15: lambda a, k: a == k, 0x25: lambda a, k: a > k, 0x35: lambda a, k: a >= k, 0x45: lambda a, k: a & k != 0}
+
+# The containers for which the example is measured.
+CONTAINERS = ("", "--cap CAP_SYS_ADMIN", "--kernel 4.4", "-a aarch64", "-a riscv64 --cap CAP_SYS_ADMIN --kernel 4.4")
+
+
+def most_steps(program):
+    """Returns the most instructions on a way from a program's first instruction to a return, whatever its tests say."""
+    ways_behind = [0] * len(program)
+    for place in range(len(program) - 1, -1, -1):
+        code, if_so, if_not, k = program[place]
+        nexts = [] if code == RETURN else [k] if code == JUMP else [if_so, if_not] if code in TESTS else [0]
+        ways_behind[place] = 1 + max((ways_behind[place + 1 + it] for it in nexts), default=0)
+    return ways_behind[0]
+
+
+def steps_on(program, record):
+    """Returns how many instructions a program takes on a record."""
+    place = steps = accumulator = 0
+    while True:
+        code, if_so, if_not, k = program[place]
+        place, steps = place + 1, steps + 1
+        if code == RETURN:
+            return steps
+        if code in TESTS:
+            place += if_so if TESTS[code](accumulator, k) else if_not
+        elif code == JUMP:
+            place += k
+        else:
+            accumulator = {LOAD: lambda: struct.unpack_from("<I", record, k)[0], SET: lambda: k, AND: lambda: accumulator & k}[code]()
+
+
+def measured(words, written):
+    """Returns the line of the numbers of a program in bytes, by a walk over its instructions."""
+    program = list(struct.iter_unpack("<HBBI", written))
+    passing = steps_on(program, record_of(arch_of(words), 2**32 - 1, (0,) * 6))
+    return f"profile: {len(written) // 8} instructions, at most {most_steps(program)} steps, {passing} passing\n"
+
+
+def compare_measures(results, run):
+    """Compares the numbers of each profile's program, and of the example's, with those of a walk over what `import` writes."""
+    files = [(words, file_of(place)) for place, (_, words, _, _) in enumerate(PROFILES)]
+    for words, file in (*files, *[(it, "examples/oci-profile.json") for it in CONTAINERS]):
+        status, written, _ = run(f"import --format raw {words} {file}", "")
+        wanted = measured(words, written.encode("utf-8", "surrogateescape")) if status == 0 else ""
+        for asked in ways("stats", f"{words} {file}"):
+            results.compare(asked, (0, wanted, ""), run(asked, ""))
+
+
+def line(length, most, passing):
+    """Returns the line of these numbers."""
+    return f"profile: {length} instructions, at most {most} steps, {passing} passing\n"
+
+
+# One filter that allows one call: a load and a test of the architecture's word and a return, a load of the number, a test of it,
+# a return of the default action, and in place of the return that allows a jump to where the next filter would be asked. There
+# the accumulator is set and the program allows. The call takes a load, a test, a load, a test, the jump, and the last two; any
+# other call a load, a test, a load, a test and a return.
+READS = line(9, 7, 5)
+
+# The same without an entry: a load and a test of the architecture's word and a return, a load and a return, and the last two,
+# to which nothing leads.
+NOTHING = line(7, 4, 4)
+
+# No filter: the program allows.
+ALL = line(1, 1, 1)
+OPENS = json.dumps(profile(entry("open")))
+
+# Cases of files that are known as profiles, and of no container.
+KNOWN = [
+    writes("stats --oci reads-profile.json", "", READS),
+    writes("stats --oci", json.dumps(profile(entry("read"))), READS),
+    writes("stats --oci -", json.dumps(profile(entry("read"), default="SCMP_ACT_KILL")), READS),
+    writes("stats --oci -", json.dumps(profile()), NOTHING),
+    writes("stats --oci -", json.dumps(profile(entry("read"), default="SCMP_ACT_ALLOW")), ALL),
+    # Of the architecture that is named; names that it hasn't are left out, and not listed, nor are flags.
+    writes("stats --oci --arch=amd64 -", OPENS, READS),
+    writes("stats --oci -a arm64 -", OPENS, NOTHING),
+    writes("stats --oci -a riscv64 -", OPENS, NOTHING),
+    writes("stats --oci unknown-profile.json", "", READS),
+    writes("stats --oci flags-profile.json", "", READS),
+    # A program that just fits, 4090 + 1 + 1 of 583 rules, and one that is too large, though its filters fit.
+    writes("stats --oci fitting-profile.json", "", "profile: 4092 instructions, at most .."),
+    rejects("stats --oci large-profile.json", "", TOO_LONG, TOOL + "large-profile.json: "),
+    # Files, inputs and outputs that fail.
+    rejects("stats --oci missing.json", "", MISSING, TOOL + "missing.json: "),
+    rejects("stats --oci examples", "", FOLDER, TOOL + "examples: "),
+    rejects("stats --oci -", Failing(json.dumps(profile())), RESET),
+    rejects("stats --oci reads-profile.json > /dev/full", "", FULL, OUTPUT),
+    rejects("stats --oci reads-profile.json >&-", "", CLOSED, OUTPUT),
+]
+
+# The call 0 matches always. In the linear layout it has a test, two jumps and two returns, behind 4 instructions and in front of a
+# return; each call takes 3 steps to the number, a test, a jump and a return. In the tree it has a test and two returns behind 4.
+COMMENTED_STEPS = "filter a\nlinear: 10 instructions, at most 6 steps, 6 passing\ntree: 7 instructions, at most 5 steps, 5 passing\n"
+
+CASES = [
+    *KNOWN,
+    *map(unnamed, KNOWN),
+    writes("stats --oci --cap CAP_KILL --kernel 6.1 reads-profile.json", "", READS),
+    writes("stats reads-profile.json --oci --kernel=6.1 --cap=CAP_KILL --cap=CAP_CHOWN", "", READS),
+    # With `--oci` nothing else is a profile.
+    rejects("stats --oci logs.json", "", NO_PROFILE, TOOL + "logs.json: "),
+    rejects("stats --oci", "{", PARSING),
+    # Without it, a policy is one whatever its filters are named, and whatever its text has in other places.
+    writes("stats default-action.json", "", LOGS_STEPS.replace("filter a", "filter defaultAction")),
+    writes("stats", COMMENTED, COMMENTED_STEPS),
+    # So is each text that has none of the key's bytes, or another value.
+    rejects("stats", r'{"default\u0041ction": "SCMP_ACT_ALLOW"}', WRONG_DEFAULT),
+    writes("stats --oci", r'{"default\u0041ction": "SCMP_ACT_ALLOW"}', ALL),
+    rejects("stats", '{"defaultAction": null}', WRONG_DEFAULT),
+    # What is no command.
+    misused("stats --cap CAP_KILL logs.json", CONTAINER_ONLY),
+    misused("stats --kernel 6.1 reads-profile.json", CONTAINER_ONLY),
+    misused("stats --oci --kernel 6 reads-profile.json", "the value of --kernel is no version of two numbers, as 6.1"),
+    misused("stats --oci --filter a reads-profile.json", "unexpected argument '--filter' found"),
+    misused("stats --oci reads-profile.json reads-profile.json", "unexpected argument 'reads-profile.json' found"),
+]

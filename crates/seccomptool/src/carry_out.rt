@@ -197,6 +197,13 @@ fn failed(rt: &(impl Eprint + AllocGlobal), command: Command<'_>, failure: Failu
     let records = records_of(command).unwrap_or("-");
     let output = output_of(command).unwrap_or("-");
     tell(rt, &failure, told_for(command), policy, records, output);
+    trouble(command)
+}
+
+// The status of a command that fails.
+fn trouble(command: Command<'_>) -> u8
+    ensures { result ≡ spec.trouble command.entry }
+{
     match command {
         Command::Diff { .. } => 2,
         Command::DiffProfiles { .. } => 2,

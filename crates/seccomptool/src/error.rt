@@ -11,7 +11,7 @@ use std::{fmt, io};
 /// Why an engine of the program fails.
 ///
 /// Running out of memory is `OutOfMemory` alone, and never inside another variant.
-#[derive(Debug, Drop)]
+#[derive(Drop)]
 pub enum ToolError {
     /// The library's error.
     Library(seccompiler::Error),
@@ -74,8 +74,6 @@ impl fmt::Display for ToolError {
         }
     }
 }
-
-impl std::error::Error for ToolError {}
 
 /// The library's `OutOfMemory` is the program's.
 impl From<seccompiler::Error> for ToolError {

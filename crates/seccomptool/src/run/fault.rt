@@ -3,7 +3,7 @@
 use std::{fmt, io};
 
 /// Why a program isn't run, in the order in which the faults are reported.
-#[derive(Debug, Drop)]
+#[derive(Drop)]
 pub enum ProgramFault {
     /// Its bytes can't be read.
     Read(io::Error),
@@ -16,7 +16,7 @@ pub enum ProgramFault {
 }
 
 /// Why an instruction may not stand where it does.
-#[derive(Clone, Copy, Debug)]
+#[derive(Clone, Copy)]
 pub enum Amiss {
     /// Its code is this one, and none of the seven that `machine::run` knows.
     Operation(u16),

@@ -31,6 +31,12 @@ MatchesSome name entry = HasArgs entry × Names name entry
 abbrev pub NamesCall : JsonFilter → List ℕ → Type 0
 NamesCall j name = Any (Names name) j.rules
 
+-- Every call of this name is denied: an entry matches each, and the filter denies what entries match; or no entry names it, and the
+-- filter denies what no entry matches.
+abbrev pub DeniesEach : List ℕ → JsonFilter → Type 0
+DeniesEach name j = ((Permits j.match_action → ⊥) × Any (MatchesEach name) j.rules)
+    ⊎ ((Permits j.mismatch_action → ⊥) × (NamesCall j name → ⊥))
+
 -- ---- the calls that no entry names
 
 -- The calls that are looked for, in the order in which they are asked about.

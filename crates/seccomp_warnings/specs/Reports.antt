@@ -1,6 +1,7 @@
 -- The warnings of all filters of a policy, and their lines.
-use Rattle.std.specs.Prelude.{◌≡◌, ℕ, ◌+◌, ◌≤◌, List, ◌∷◌, ◌++◌, All, map, length, String, string_bytes}
+use Rattle.std.specs.Prelude.{◌≡◌, ℕ, ◌+◌, ◌≤◌, List, ◌∷◌, ◌++◌, All, map, length, String, string_bytes, if◌then◌else◌}
 use Rattle.std.specs.List.{AllZip, concat, sum_by}
+use Rattle.std.specs.Str.{bytes_eq}
 use Rattle.std.specs.declared.alloc.Global.{Global}
 use Rattle.seccompiler.specs.JsonSteps.{IsFaultless, IsPolicyRefusal}
 use Rattle.seccompiler.specs.JsonTypes.{JsonFilter}
@@ -36,17 +37,21 @@ pub record AreTrueWarnings (arch : TargetArch) (allowed : List Code) (j : JsonFi
   pub are_true : AreVerdicts arch j verdicts
   pub warnings_are : AreWarnings allowed verdicts j warnings
 
--- These are the warnings of the filter of this name.
-pub record AreWarningsOf (arch : TargetArch) (allowed : List Code) (named : String Global × JsonFilter) (own : FilterWarnings)
-    : Type 0 where
+-- The allowed codes of a filter, by its name: these of the filter of one name, and those of each other one.
+abbrev pub codes_for : (own : List ℕ) → (of_own of_others : List Code) → (name : List ℕ) → List Code
+codes_for own of_own of_others name = if bytes_eq name own then of_own else of_others
+
+-- These are the warnings of the filter of this name, but for those of the codes that are allowed for the name.
+pub record AreWarningsOf (arch : TargetArch) (allowed_for : List ℕ → List Code) (named : String Global × JsonFilter)
+    (own : FilterWarnings) : Type 0 where
   pub name : own.name ≡ string_bytes named.0
-  pub warnings : AreTrueWarnings arch allowed named.1 own.warnings
+  pub warnings : AreTrueWarnings arch (allowed_for own.name) named.1 own.warnings
 
 -- The text is the lines of the warnings of the filters, in their order, each behind this front, and there are so many.
-pub record IsReportOf (arch : TargetArch) (allowed : List Code) (front : List ℕ) (filters : NamedFilters) (text : List ℕ) (count : ℕ)
-    : Type 0 where
+pub record IsReportOf (arch : TargetArch) (allowed_for : List ℕ → List Code) (front : List ℕ) (filters : NamedFilters) (text : List ℕ)
+    (count : ℕ) : Type 0 where
   pub all : List FilterWarnings
-  pub each : AllZip (AreWarningsOf arch allowed) filters all
+  pub each : AllZip (AreWarningsOf arch allowed_for) filters all
   pub joined : text ≡ concat (map (filter_lines front) all)
   pub count_is : count ≡ count_of all
 

@@ -1,7 +1,8 @@
 // What is so of the calls that a filter names, and of those that it doesn't.
 
 ghost use Rattle.std.specs.Prelude.{◌↔◌, Any, IsTrue};
-ghost use Rattle.seccomp_warnings.specs.CallWarnings.{HasArgs, IsCloneEvaded, IsExit, IsJudged, IsKilledUnlisted, IsOfVerdict, IsSoOfEntry, IsSoOfRule, IsSoOfUnlisted, IsWithAndWithoutArgs, KillsAtExit, LetsClone3Through, MatchesEach, MatchesSome, Names, NamesCall};
+ghost use Rattle.seccomp_warnings.specs.ActionWarnings.{Permits};
+ghost use Rattle.seccomp_warnings.specs.CallWarnings.{DeniesEach, HasArgs, IsCloneEvaded, IsExit, IsJudged, IsKilledUnlisted, IsOfVerdict, IsSoOfEntry, IsSoOfRule, IsSoOfUnlisted, IsWithAndWithoutArgs, KillsAtExit, LetsClone3Through, MatchesEach, MatchesSome, Names, NamesCall};
 
 use crate::action::{kills, permits};
 use crate::code::Code;
@@ -63,6 +64,27 @@ fn names_call(filter: &JsonFilter, name: &str) -> bool
     ensures { IsTrue result ↔ NamesCall filter.now name.now }
 {
     is_named(&filter.rules, name)
+}
+
+/// Whether the filter denies every call of this name: by an entry without conditions, or since no entry names the call.
+pub fn denies_each(filter: &JsonFilter, name: &str) -> bool
+    ensures { IsTrue result ↔ DeniesEach name.now filter.now }
+{
+    is_denied_by_entry(filter, name) || is_denied_unlisted(filter, name)
+}
+
+// Whether calls that entries match are denied, and an entry matches every call of this name.
+fn is_denied_by_entry(filter: &JsonFilter, name: &str) -> bool
+    ensures { IsTrue result ↔ ((Permits filter.now.match_action → ⊥) × Any (MatchesEach name.now) filter.now.rules) }
+{
+    !permits(filter.match_action) && is_matched(&filter.rules, name)
+}
+
+// Whether calls that no entry matches are denied, and no entry names the call.
+fn is_denied_unlisted(filter: &JsonFilter, name: &str) -> bool
+    ensures { IsTrue result ↔ ((Permits filter.now.mismatch_action → ⊥) × (NamesCall filter.now name.now → ⊥)) }
+{
+    !permits(filter.mismatch_action) && !names_call(filter, name)
 }
 
 // Whether the mismatch action kills, and no entry names the call.

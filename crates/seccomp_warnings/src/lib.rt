@@ -2,8 +2,8 @@
 //!
 //! A policy with a warning is no wrong policy. [`verdicts_of`] says which entries of a filter are needed,
 //! [`warnings_of`] gives the filter's warnings, each with its [`Code`] and what it is about, [`push_lines`]
-//! writes their lines, and [`report_of`] does all this for all filters of a policy. `docs/CHECKS.md` has a
-//! section for each code.
+//! writes their lines, and [`report_of`] does all this for all filters of a policy; [`report_by_name`] leaves other codes out
+//! of one filter than of the others. `docs/CHECKS.md` has a section for each code.
 //!
 //! ```
 //! use seccomp_warnings::{Code, Report, report_of};
@@ -36,8 +36,9 @@ pub mod verdict;
 mod walk;
 pub mod warning;
 
+pub use crate::call::denies_each;
 pub use crate::code::Code;
-pub use crate::report::{Report, report_of};
+pub use crate::report::{Report, report_by_name, report_of};
 pub use crate::text::push_lines;
 pub use crate::unlisted::Unlisted;
 pub use crate::verdict::{Verdict, verdicts_of};

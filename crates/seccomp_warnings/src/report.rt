@@ -1,6 +1,6 @@
 // The warnings of all filters of a policy.
 
-ghost use Rattle.std.specs.Prelude.{IfOk, IfErr, OnOk, string_cmp};
+ghost use Rattle.std.specs.Prelude.{◌≡◌, IfOk, IfErr, OnOk, string_cmp};
 ghost use Rattle.std.specs.List.Sorted.{IsStrictlySortedBy};
 ghost use Rattle.std.specs.Map.{keys_of};
 ghost use Rattle.seccompiler.specs.JsonSteps.{IsFaultless, IsPolicyRefusal};
@@ -39,7 +39,30 @@ pub fn report_of(
     filters: &JsonFilterMap,
     allowed: &[Code],
 ) -> Result<Report, JsonFrontendError>
-    ensures report { IfOk result (λ report. spec.IsReportOf arch allowed.now front.now filters.now.0.entries report.text.items report.count) }
+    ensures report { IfOk result (λ report. spec.IsReportOf arch (λ name. allowed.now) front.now filters.now.0.entries report.text.items report.count) }
+    ensures policies { OnOk result (spec.AreFaultless arch filters.now.0.entries) }
+    ensures refusal { IfErr result (spec.IsReportRefusal arch filters.now.0.entries) }
+    ensures ordered { IsStrictlySortedBy string_cmp (keys_of filters.now.0.entries) }
+{
+    report_by_name(alloc, arch, front, filters, "", allowed, allowed)
+}
+
+/// The warnings of all filters of a policy, as [`report_of`] gives them, with allowed codes of its own for the filter of
+/// the name `own`: its are `of_own`, and those of each other filter `of_others`.
+///
+/// # Errors
+///
+/// Those of [`report_of`].
+pub fn report_by_name(
+    alloc: Global,
+    arch: TargetArch,
+    front: &[u8],
+    filters: &JsonFilterMap,
+    own: &str,
+    of_own: &[Code],
+    of_others: &[Code],
+) -> Result<Report, JsonFrontendError>
+    ensures report { IfOk result (λ report. spec.IsReportOf arch (spec.codes_for own.now of_own.now of_others.now) front.now filters.now.0.entries report.text.items report.count) }
     ensures policies { OnOk result (spec.AreFaultless arch filters.now.0.entries) }
     ensures refusal { IfErr result (spec.IsReportRefusal arch filters.now.0.entries) }
     ensures ordered { IsStrictlySortedBy string_cmp (keys_of filters.now.0.entries) }
@@ -47,17 +70,18 @@ pub fn report_of(
     let mut text = Vec::new(alloc);
     let mut count = 0;
     for (name, filter) in &filters.0 {
-        count += push_filter(
-            &mut text,
-            alloc,
-            arch,
-            front,
-            name.as_str(),
-            filter,
-            allowed,
-        )?;
+        let name = name.as_str();
+        let allowed = codes_for(own, of_own, of_others, name);
+        count += push_filter(&mut text, alloc, arch, front, name, filter, allowed)?;
     }
     Ok(Report { text, count })
+}
+
+// The allowed codes of the filter of a name.
+fn codes_for<'a>(own: &str, of_own: &'a [Code], of_others: &'a [Code], name: &str) -> &'a [Code]
+    ensures { result.now ≡ spec.codes_for own.now of_own.now of_others.now name.now }
+{
+    if name == own { of_own } else { of_others }
 }
 
 // Adds the lines of the filter of this name, and says how many there are.

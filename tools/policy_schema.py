@@ -102,7 +102,8 @@ def names_in(words):
 
 def is_profile(words, text):
     """Returns whether a command of seccomptool takes a text for a profile's."""
-    if text is None or words[:1] not in (["explain"], ["diff"], ["stats"]) or any(it.startswith(("-f", "--filter")) for it in words):
+    of_profiles = (["check"], ["diff"], ["explain"], ["stats"])
+    if text is None or words[:1] not in of_profiles or any(it.startswith(("-f", "--filter")) for it in words):
         return False
     try:
         return isinstance(json.loads(text)["defaultAction"], str)

@@ -1,5 +1,5 @@
-"""What `import`, `explain --oci` and `diff --oci` have to report of a value that is no profile: the place of its first fault,
-and what is wrong there.
+"""What `import`, and `explain`, `diff` and `check` with `--oci`, have to report of a value that is no profile: the place of its
+first fault, and what is wrong there.
 
 The texts are written by hand, from specs/Faults.antt of crates/seccomp_oci and the tables of docs/OCI.md.
 """
@@ -245,6 +245,8 @@ COMMANDS = [
     ("explain --oci {} < examples/records.bin", 1), ("diff --oci {} reads-profile.json", 2), ("diff --oci reads-profile.json {}", 2),
     ("diff --oci --at-most --most 0 {} reads-profile.json", 2), ("stats --oci {}", 1),
     ("stats --oci -a riscv64 --cap CAP_KILL --kernel 6.1 {}", 1),
+    ("check --oci {}", 1),
+    ("check --oci --deny-warnings --allow never-holds -a riscv64 --cap CAP_KILL --kernel 6.1 {}", 1),
 ]
 
 CASES = [

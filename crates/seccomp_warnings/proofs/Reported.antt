@@ -56,8 +56,8 @@ adds_lines arch allowed front name j verdicts warnings old new count are_true ar
     }
 
 -- The report of one filter more.
-pub report_more : (arch : TargetArch) (allowed_for : List ℕ → List Code) (front : List ℕ) (done : NamedFilters) (named : String Global × JsonFilter)
-    (name : List ℕ) (old new : List ℕ) (before count after : ℕ) → name ≡ string_bytes named.0
+pub report_more : (arch : TargetArch) (allowed_for : List ℕ → List Code) (front : List ℕ) (done : NamedFilters)
+    (named : String Global × JsonFilter) (name : List ℕ) (old new : List ℕ) (before count after : ℕ) → name ≡ string_bytes named.0
     → AddsLines arch (allowed_for name) front name named.1 old new count → after ≡ before + count
     → IsReportOf arch allowed_for front done old before → IsReportOf arch allowed_for front (done ++ named ∷ []) new after
 report_more arch allowed_for front done named name old new before count after is adds sum so_far =

@@ -14,11 +14,12 @@ use Rattle.seccomptool.specs.declared.findings.Verdict.{Verdict}
 use Rattle.seccomptool.specs.declared.findings.Verdict.TheVariants.{Same}
 use Rattle.seccomptool.specs.declared.words.Asked.{Asked}
 use Rattle.seccomptool.specs.declared.words.Asked.TheVariants.{One, Checks, Import, DiffProfiles, ExplainProfile, StatsProfile}
+use Rattle.seccomptool.specs.declared.words.Asked.TheVariants.{ProfileChecks}
 use Rattle.seccomptool.specs.declared.words.Command.{Command}
 use Rattle.seccomptool.specs.declared.words.Command.TheVariants.{Check}
 use Rattle.seccomptool.specs.declared.words.Command.TheVariants as command
 
--- These are the commands that are asked for, in the order in which they are carried out: of `check` one for each policy.
+-- These are the commands that are asked for, in the order in which they are carried out: of `check` one for each policy or profile.
 abbrev pub AreCommandsOf : Asked → List Command → Type 0
 AreCommandsOf (One command) commands = commands ≡ command ∷ []
 AreCommandsOf (Checks arch denied allowed policies) commands =
@@ -31,6 +32,9 @@ AreCommandsOf (ExplainProfile arch container format records profile) commands =
     (own : Bor Container) × (own.now ≡ container) × (commands ≡ command.ExplainProfile arch own format records profile ∷ [])
 AreCommandsOf (StatsProfile arch container profile) commands =
     (own : Bor Container) × (own.now ≡ container) × (commands ≡ command.StatsProfile arch own profile ∷ [])
+AreCommandsOf (ProfileChecks arch container denied allowed profiles) commands =
+    (own : Bor Container) × (own.now ≡ container) × (codes : Bor (List Code)) × (codes.now ≡ allowed.items)
+    × (commands ≡ map (command.CheckProfile arch own denied codes) profiles.items)
 
 -- What is asked for compares.
 abbrev pub asks_to_compare : Asked → Bool
@@ -40,6 +44,7 @@ asks_to_compare (Import arch container strict format profile) = false
 asks_to_compare (DiffProfiles arch container relation most old new) = true
 asks_to_compare (ExplainProfile arch container format records profile) = false
 asks_to_compare (StatsProfile arch container profile) = false
+asks_to_compare (ProfileChecks arch container denied allowed profiles) = false
 
 -- The commands end with statuses, one by one, of which this is the greatest; it is 0 where there is no command.
 pub record EndWith (commands : List Command) (status : ℕ) : Type 0 where

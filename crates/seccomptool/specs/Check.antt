@@ -28,20 +28,22 @@ abbrev pub verdict_where : Bool → ℕ → Verdict
 verdict_where false count = Same
 verdict_where true count = if count == 0 then Same else Different
 
--- These are the warnings of each name of the value and of no other, but for those of the allowed codes, in byte order of names.
-pub record AreAllWarnings (target : TargetArch) (allowed : List Code) (d : Data) (filters : List FilterWarnings) : Type 0 where
+-- These are the warnings of each name of the value and of no other, but for those of the codes that are allowed for the name, in byte
+-- order of names.
+pub record AreAllWarnings (target : TargetArch) (allowed_for : List ℕ → List Code) (d : Data) (filters : List FilterWarnings)
+    : Type 0 where
   pub ordered : IsStrictlySortedBy (slice_cmp nat_cmp) (map (λ (f : FilterWarnings). f.name) filters)
-  pub each : All (λ (f : FilterWarnings). Under d f.name (HasWarnings target allowed f)) filters
+  pub each : All (λ (f : FilterWarnings). Under d f.name (HasWarnings target (allowed_for f.name) f)) filters
   pub complete : (name : List ℕ) (value : Data) → Has d name value → Contains (map (λ (f : FilterWarnings). f.name) filters) name
 
--- What is written grew by the lines of the warnings of each name of the value, but for those of the allowed codes, in byte order
--- of names, each behind the policy's file, and this is the verdict.
-pub record WritesWarnings (target : TargetArch) (denied : Bool) (allowed : List Code) (path : List ℕ) (verdict : Verdict)
+-- What is written grew by the lines of the warnings of each name of the value, but for those of the codes that are allowed for the
+-- name, in byte order of names, each behind the policy's file, and this is the verdict.
+pub record WritesWarnings (target : TargetArch) (denied : Bool) (allowed_for : List ℕ → List Code) (path : List ℕ) (verdict : Verdict)
     (old new : Option (List ℕ)) (d : Data) : Type 0 where
   pub front : List ℕ
   pub front_is : IsFront path front
   pub filters : List FilterWarnings
-  pub are_all : AreAllWarnings target allowed d filters
+  pub are_all : AreAllWarnings target allowed_for d filters
   pub appends : Appends old new (concat (map (filter_lines front) filters))
   pub verdict_is : verdict ≡ verdict_where denied (count_of filters)
 
@@ -50,6 +52,6 @@ pub record WritesWarnings (target : TargetArch) (denied : Bool) (allowed : List 
 abbrev pub AnswersCheck : List ℕ → Bool → List Code → List ℕ → Option (List ℕ) → Result Verdict ToolError
     → Option (List ℕ) → Option (List ℕ) → Type 0
 AnswersCheck arch denied allowed path known (Ok verdict) old new = OfPolicy arch known
-    (λ target d. AreAllCompiled target d × WritesWarnings target denied allowed path verdict old new d)
+    (λ target d. AreAllCompiled target d × WritesWarnings target denied (λ name. allowed) path verdict old new d)
 AnswersCheck arch denied allowed path known (Err (Write e)) old new = OfPolicy arch known AreAllCompiled
 AnswersCheck arch denied allowed path known (Err e) old new = AnswersLint arch known (Err e)

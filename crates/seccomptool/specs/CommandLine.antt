@@ -190,8 +190,8 @@ show_app archs layouts =
 
 abbrev pub check_app : NameList → NameList → App
 check_app archs names =
-    with_rule (with_rule (with_rule (with_rule (with_rule (new_app (codes "check")) (arch_rule archs)) deny_warnings_rule)
-    (allow_rule names)) list_rule) policies_rule
+    with_rule (with_rule (with_rule (with_rule (with_rule (with_rule (with_rule (with_rule (new_app (codes "check")) (arch_rule archs))
+    deny_warnings_rule) (allow_rule names)) list_rule) oci_rule) cap_rule) kernel_rule) policies_rule
 
 -- A subcommand of this name with an architecture and a policy.
 abbrev pub policy_app : Text → NameList → App

@@ -17,11 +17,14 @@ use Rattle.seccomptool.specs.declared.import.format.ImportFormat.TheVariants as 
 use Rattle.seccomptool.specs.declared.words.Command.{Command}
 use Rattle.seccomptool.specs.declared.words.Command.TheVariants.{Compile, Show, Check, Codes, Explain, Run, Stats, Record, Diff}
 use Rattle.seccomptool.specs.declared.words.Command.TheVariants.{Verify, Compat, Import, DiffProfiles, ExplainProfile, StatsProfile}
+use Rattle.seccomptool.specs.declared.words.Command.TheVariants.{CheckProfile}
 use Rattle.seccomptool.specs.declared.words.Records.{Records}
 use Rattle.seccomptool.specs.declared.words.Records.TheVariants as records
 use Rattle.seccomptool.specs.declared.words.Shown.{Shown}
 use Rattle.seccomptool.specs.declared.words.Shown.TheVariants as shown
+use Rattle.seccomp_warnings.specs.declared.code.Code.{Code}
 use Rattle.seccomptool.specs.Check.{AnswersCheck}
+use Rattle.seccomptool.specs.CheckProfile.{AnswersCheckProfile}
 use Rattle.seccomptool.specs.Chosen.{AnswersChosen}
 use Rattle.seccomptool.specs.Codes.{AnswersCodes}
 use Rattle.seccomptool.specs.Compile.{AnswersCompile}
@@ -111,6 +114,14 @@ found_of (Err e) = Err e
 abbrev pub AnswersFound : (Result Verdict ToolError → Type 0) → Result Done ToolError → Type 0
 AnswersFound P answer = P (found_of answer) × IfOk answer (λ done. done.notes.items ≡ [])
 
+-- The answer of `check`, where a policy or a profile may be given: that of a profile is for a container of which nothing is said. That
+-- of a policy has nothing to note.
+abbrev pub AnswersCheckByKind : TargetArch → (denied : Bool) → List Code → (path : List ℕ) → (given : Option (List ℕ))
+    → Result Done ToolError → (old new : Option (List ℕ)) → Type 0
+AnswersCheckByKind arch denied allowed path given answer old new = AnswersByKind given None
+    (λ text. AnswersFound (λ found. AnswersCheck (arch_text arch) denied allowed path (Some text) found old new) answer)
+    (λ text. AnswersCheckProfile arch plain_container denied allowed path (Some text) answer old new) answer
+
 -- The answer of a command that compares nothing and has nothing to note: P holds of it, and its verdict is `Same` where it is
 -- carried out.
 pub record AnswersPlain (P : Result ⊤ ToolError → Type 0) (answer : Result Done ToolError) : Type 0 where
@@ -158,7 +169,7 @@ AnswersCommand (Compile arch filter layout format output quiet path) policy reco
 AnswersCommand (Show arch layout shown) policy records answer old new =
     AnswersPlain (λ plain. AnswersShown shown arch layout policy plain old new) answer
 AnswersCommand (Check arch denied allowed path) policy records answer old new =
-    AnswersFound (λ found. AnswersCheck (arch_text arch) denied allowed.now path.now policy found old new) answer
+    AnswersCheckByKind arch denied allowed.now path.now policy answer old new
 AnswersCommand Codes policy records answer old new = AnswersPlain (λ plain. AnswersCodes plain old new) answer
 AnswersCommand (Explain arch filter format asked path) policy records answer old new =
     AnswersPlain (λ plain. AnswersExplainedOn asked arch (text_of filter) format policy records plain old new) answer
@@ -182,6 +193,8 @@ AnswersCommand (ExplainProfile arch container format asked path) policy records 
     AnswersPlain (λ plain. AnswersExplainProfileOn asked format arch container.now policy records plain old new) answer
 AnswersCommand (StatsProfile arch container path) policy records answer old new =
     AnswersPlain (λ plain. AnswersStatsProfile arch container.now policy plain old new) answer
+AnswersCommand (CheckProfile arch container denied allowed path) policy records answer old new =
+    AnswersCheckProfile arch container.now denied allowed.now path.now policy answer old new
 
 -- The path of the policy, program or profile that a command reads, that of the old policy where it compares two.
 abbrev pub policy_of : Command → Option (List ℕ)
@@ -201,6 +214,7 @@ policy_of (Import arch container strict format path) = Some path.now
 policy_of (DiffProfiles arch container relation most first second) = Some first.now
 policy_of (ExplainProfile arch container format asked path) = Some path.now
 policy_of (StatsProfile arch container path) = Some path.now
+policy_of (CheckProfile arch container denied allowed path) = Some path.now
 
 -- The path of the records that a command reads, of the new policy, or of the program that is verified.
 abbrev pub records_of : Command → Option (List ℕ)

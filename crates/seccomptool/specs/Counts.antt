@@ -10,7 +10,7 @@ use Rattle.seccomptool.specs.Notes.{IsNote}
 -- The value has so many warnings on the architecture in all, with no code allowed.
 pub record HasCount (target : TargetArch) (count : ℕ) (d : Data) : Type 0 where
   pub filters : List FilterWarnings
-  pub are_all : AreAllWarnings target [] d filters
+  pub are_all : AreAllWarnings target (λ name. []) d filters
   pub count_is : count ≡ count_of filters
 
 -- That there are so many warnings, one or more, and which command prints them.

@@ -10,7 +10,7 @@ use Rattle.seccomptool.specs.Counts.{AreCounted, AreBothCounted, HasCount}
 -- What is found is the number of warnings of all these filters.
 pub record IsCountOf (target : TargetArch) (filters : NamedFilters) (found : Option ℕ) : Type 0 where
   pub all : List FilterWarnings
-  pub each : AllZip (AreWarningsOf target []) filters all
+  pub each : AllZip (AreWarningsOf target (λ name. [])) filters all
   pub found_is : found ≡ Some (count_of all)
 
 -- The text is of a value each of whose names has a policy on the architecture.

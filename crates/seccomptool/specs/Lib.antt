@@ -34,6 +34,7 @@ pub mod Run
 pub mod ShowProgram
 pub mod Verify
 pub mod Imports
+pub mod CheckProfile
 pub mod Kinds
 pub mod Commands
 pub mod Answers
@@ -42,6 +43,7 @@ pub mod WordsParts
 pub mod ProgramParts
 pub mod CountsParts
 pub mod ProfileParts
+pub mod CheckProfileParts
 pub mod CompileParts
 pub mod ShowParts
 pub mod StatsParts

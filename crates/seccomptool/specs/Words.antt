@@ -27,6 +27,7 @@ use Rattle.seccomptool.specs.declared.verify.scope.Scope.{Scope}
 use Rattle.seccomptool.specs.declared.verify.scope.Scope.TheVariants.{Named, All}
 use Rattle.seccomptool.specs.declared.words.Asked.{Asked}
 use Rattle.seccomptool.specs.declared.words.Asked.TheVariants.{One, Checks, Import, DiffProfiles, ExplainProfile, StatsProfile}
+use Rattle.seccomptool.specs.declared.words.Asked.TheVariants.{ProfileChecks}
 use Rattle.seccomptool.specs.declared.words.Command.{Command}
 use Rattle.seccomptool.specs.declared.words.Command.TheVariants.{Compile, Show, Check, Codes, Explain, Run, Stats, Record, Diff}
 use Rattle.seccomptool.specs.declared.words.Command.TheVariants.{Verify, Compat}
@@ -137,14 +138,6 @@ given_codes rows = unwrap_or (all_of (codes "allow") rows) []
 abbrev pub IsListed : List Row → Type 0
 IsListed rows = first_of (codes "list") rows ≡ Some (codes "true")
 
--- The values of `check`. Policies are checked where `--list` isn't given.
-pub record IsCheck (rows : List Row) (arch : TargetArch) (denied : Bool) (allowed : List Code) (policies : List Text) : Type 0 where
-  pub unlisted : IsListed rows → ⊥
-  pub arch_is : IsArch rows arch
-  pub denied_is : IsDenied rows denied
-  pub allowed_are : map code_text allowed ≡ given_codes rows
-  pub policies_are : policies ≡ given_policies rows
-
 -- The values of `compat`.
 pub record IsOfPolicy (rows : List Row) (arch : TargetArch) (policy : Text) : Type 0 where
   pub arch_is : IsArch rows arch
@@ -175,6 +168,25 @@ pub record IsProfileFor (rows : List Row) (container : Container) : Type 0 where
   pub oci : first_of (codes "oci") rows ≡ Some (codes "true")
   pub container_is : IsContainer rows container
   pub no_filter : first_of (codes "filter") rows ≡ None
+
+-- The values of `check`. Policies are checked where `--list` isn't given.
+pub record IsCheck (rows : List Row) (arch : TargetArch) (denied : Bool) (allowed : List Code) (policies : List Text) : Type 0 where
+  pub unlisted : IsListed rows → ⊥
+  pub no_profile : IsNoProfile rows
+  pub arch_is : IsArch rows arch
+  pub denied_is : IsDenied rows denied
+  pub allowed_are : map code_text allowed ≡ given_codes rows
+  pub policies_are : policies ≡ given_policies rows
+
+-- The values of `check` of profiles, which are checked where `--list` isn't given.
+pub record IsCheckProfile (rows : List Row) (arch : TargetArch) (container : Container) (denied : Bool) (allowed : List Code)
+    (profiles : List Text) : Type 0 where
+  pub unlisted : IsListed rows → ⊥
+  pub profile_for : IsProfileFor rows container
+  pub arch_is : IsArch rows arch
+  pub denied_is : IsDenied rows denied
+  pub allowed_are : map code_text allowed ≡ given_codes rows
+  pub profiles_are : profiles ≡ given_policies rows
 
 -- The values of `explain` of a policy.
 pub record IsExplain (rows : List Row) (arch : TargetArch) (filter : Option Text) (format : LineFormat) (records : Records)
@@ -313,6 +325,7 @@ IsCommand name rows (command.Import arch container strict format profile) = ⊥
 IsCommand name rows (command.DiffProfiles arch container relation most old new) = ⊥
 IsCommand name rows (command.ExplainProfile arch container format records profile) = ⊥
 IsCommand name rows (command.StatsProfile arch container profile) = ⊥
+IsCommand name rows (command.CheckProfile arch container denied allowed profile) = ⊥
 
 -- The subcommand of this name, with these values, asks for this.
 abbrev pub IsAsked : Text → List Row → Asked → Type 0
@@ -326,6 +339,8 @@ IsAsked name rows (DiffProfiles arch container relation most old new) =
 IsAsked name rows (ExplainProfile arch container format records profile) =
     (name ≡ codes "explain") × IsExplainProfile rows arch container format records profile.now
 IsAsked name rows (StatsProfile arch container profile) = (name ≡ codes "stats") × IsStatsProfile rows arch container profile.now
+IsAsked name rows (ProfileChecks arch container denied allowed profiles) =
+    (name ≡ codes "check") × IsCheckProfile rows arch container denied allowed.items (map (λ p. p.now) profiles.items)
 
 -- The names that the options take.
 pub record Choices : Type 0 where

@@ -124,6 +124,7 @@ fn policy_of<'a>(command: Command<'a>) -> Option<&'a str>
         Command::DiffProfiles { old, .. } => Some(old),
         Command::ExplainProfile { profile, .. } => Some(profile),
         Command::StatsProfile { profile, .. } => Some(profile),
+        Command::CheckProfile { profile, .. } => Some(profile),
     }
 }
 

@@ -1,5 +1,8 @@
 // The first fault of a policy, or else its warnings.
 
+pub mod given;
+pub mod profile;
+
 ghost use Rattle.std.specs.Prelude.{◌≡◌, IfErr};
 ghost use Rattle.seccomptool.specs.Check.{AnswersCheck, verdict_where};
 ghost use Rattle.seccomptool.specs.Errors.{KeepsOutput};
@@ -64,7 +67,7 @@ pub fn check<R: Read + Drop, W: Write>(
 }
 
 // The verdict where warnings are denied or not, and there are so many.
-fn verdict_where(denied: bool, count: usize) -> Verdict
+pub(crate) fn verdict_where(denied: bool, count: usize) -> Verdict
     ensures { result ≡ verdict_where denied count }
 {
     if !denied {

@@ -3,11 +3,12 @@
 ghost use Rattle.std.specs.Prelude.{◌≡◌, ◌≤◌, ◌⊎◌, map};
 ghost use Rattle.std.specs.Process.{exit_status};
 ghost use Rattle.seccomptool.specs.Answers.{EndAsAsked, EndWith};
-ghost use Rattle.seccomptool.specs.declared.words.Command.TheVariants.{Check};
+ghost use Rattle.seccomptool.specs.declared.words.Command.TheVariants.{Check, CheckProfile};
 
 use crate::carry_out::carry_out;
 use crate::progress::Progress;
 use crate::words::{Asked, Command};
+use seccomp_oci::Container;
 use seccomp_warnings::Code;
 use seccompiler::TargetArch;
 use std::process::ExitCode;
@@ -102,6 +103,22 @@ pub(crate) fn carry_out_each<G: Progress>(
             };
             ExitCode::from(carry_out(rt, command, to_terminal, progress))
         }
+        Asked::ProfileChecks {
+            arch,
+            container,
+            denied,
+            allowed,
+            profiles,
+        } => ExitCode::from(check_each_profile(
+            rt,
+            arch,
+            &container,
+            denied,
+            allowed.as_slice(),
+            &profiles,
+            to_terminal,
+            progress,
+        )),
     }
 }
 
@@ -127,6 +144,35 @@ fn check_each<G: Progress>(
             policy: *policy,
         };
         status = greater(status, carry_out(rt, command, to_terminal, progress));
+    }
+    status
+}
+
+// Checks profiles one after the other: one that is rejected doesn't keep those behind it from being checked.
+fn check_each_profile<G: Progress>(
+    rt: &(impl Files + Input + Print + Eprint + AllocGlobal),
+    arch: TargetArch,
+    container: &Container,
+    denied: bool,
+    allowed: &[Code],
+    profiles: &[&str],
+    to_terminal: bool,
+    progress: &mut G,
+) -> u8
+    ensures ended { result ≤ 3 }
+    ensures each { EndWith (map (CheckProfile arch container.entry denied allowed.entry) profiles.now) result }
+{
+    let mut status = 0;
+    for profile in profiles {
+        let command = Command::CheckProfile {
+            arch,
+            container,
+            denied,
+            allowed,
+            profile: *profile,
+        };
+        let own = carry_out(rt, command, to_terminal, progress);
+        status = greater(status, own);
     }
     status
 }

@@ -2,7 +2,7 @@
 
 mod flags;
 pub mod format;
-mod made;
+pub(crate) mod made;
 
 ghost use Rattle.std.specs.Prelude.{◌≡◌, ◌++◌, Bool, IfErr, IfOk, List, OnOk, map, string_bytes, ℕ};
 ghost use Rattle.std.specs.List.{concat};
@@ -80,7 +80,12 @@ pub fn import<R: Read + Drop, W: Write>(
 }
 
 // The notes on the profile of this path, of which this is made: that on names that are left out, and then that on flags.
-fn noted(alloc: Global, arch: TargetArch, path: &str, made: &Made) -> Result<Vec<u8>, AllocError>
+pub(crate) fn noted(
+    alloc: Global,
+    arch: TargetArch,
+    path: &str,
+    made: &Made,
+) -> Result<Vec<u8>, AllocError>
     ensures { IfOk result (λ notes. AreNoted arch path.now (map string_bytes made.now.left_out.items) made.now.flags.items notes.items) }
 {
     let mut notes = names_noted(alloc, arch, path, &made.left_out)?;
@@ -106,7 +111,7 @@ fn names_noted(
 }
 
 // Why nothing is made of a profile.
-fn unimported(alloc: Global, arch: TargetArch, error: ImportError) -> ToolError
+pub(crate) fn unimported(alloc: Global, arch: TargetArch, error: ImportError) -> ToolError
     ensures { (format : ImportFormat) (container : oci.Container) (strict : Bool) (text : List ℕ) → IsFormatFault format arch container strict text error → IsUnimported format arch container strict text result }
 {
     match error {

@@ -5,7 +5,8 @@ ghost use Rattle.seccomptool.specs.Commands.{AnswersCommand, AnswersExplainProfi
 ghost use Rattle.seccomptool.specs.Errors.{KeepsOutput};
 ghost use Rattle.seccomptool.specs.Words.{text_of};
 
-use crate::check::check;
+use crate::check::given::check_given;
+use crate::check::profile::check_profile;
 use crate::chosen::chosen_name;
 use crate::codes::codes;
 use crate::compat::compat;
@@ -36,18 +37,19 @@ use std::io::{Read, Write};
 /// Carries out a command on its policy or profile, or `run` and `show` on their program, and `explain` and `run` on their records,
 /// those of a call aside; `diff` on the old policy or profile and, in place of records, the new one, and `verify` on the policy
 /// and, in place of records, the program. The verdict is that of `diff`, `verify` and `check`, and else `Same`. The notes are
-/// those of `import`; of `compile` and `diff` of policies, unless they are quiet, a line for each policy for which `check` has
-/// warnings, with their number; and else none. `progress` gets how far comparisons are.
+/// those of `import`, and of `check` of a profile; of `compile` and `diff` of policies, unless they are quiet, a line for each
+/// policy for which `check` has warnings, with their number; and else none. `progress` gets how far comparisons are.
 ///
 /// Where `Explain` and `Diff` have no filter, and the text of the policy, or of the old one, is an object that has a text under
-/// `defaultAction`, they do what `ExplainProfile` and `DiffProfiles` do for a container of which nothing is said; and `Stats` does
-/// what `StatsProfile` does. No text of a policy is such an object.
+/// `defaultAction`, they do what `ExplainProfile` and `DiffProfiles` do for a container of which nothing is said; and so do `Stats`
+/// what `StatsProfile` does, and `Check` what `CheckProfile` does. No text of a policy is such an object.
 ///
 /// # Errors
 ///
-/// Those of the engine: [`compile`](crate::compile::compile), [`show`] or [`show_program`], [`check`], [`codes`], [`explain`], [`run`],
-/// [`stats`], [`record`], [`diff`](crate::diff::diff), [`verify`], [`compat`], [`import`], [`diff_profiles`], [`explain_profile`]
-/// and [`stats_profile`]. In front of them, for `compile` and `explain` of a policy, where no filter is asked for: the policy's fault that keeps its names from being
+/// Those of the engine: [`compile`](crate::compile::compile), [`show`] or [`show_program`], [`check`](crate::check::check), [`codes`],
+/// [`explain`], [`run`], [`stats`], [`record`], [`diff`](crate::diff::diff), [`verify`], [`compat`], [`import`], [`diff_profiles`],
+/// [`explain_profile`], [`stats_profile`] and [`check_profile`]. In front of them, for `compile` and `explain` of a policy, where no
+/// filter is asked for: the policy's fault that keeps its names from being
 /// read, and `Unchosen` with the names where it hasn't one. In front of all, for `explain` and `run` on a call, `UnknownCall`
 /// where the architecture hasn't it.
 pub fn perform<P: Read + Drop, R: Read + Drop, W: Write, G: Progress>(
@@ -84,10 +86,7 @@ pub fn perform<P: Read + Drop, R: Read + Drop, W: Write, G: Progress>(
             denied,
             allowed,
             policy: path,
-        } => found(
-            alloc,
-            check(alloc, arch.name(), denied, allowed, path, policy, out),
-        ),
+        } => check_given(alloc, arch, denied, allowed, path, policy, out),
         Command::Codes => plain(alloc, codes(alloc, out)),
         Command::Explain {
             arch,
@@ -185,6 +184,15 @@ pub fn perform<P: Read + Drop, R: Read + Drop, W: Write, G: Progress>(
             container,
             ..
         } => plain(alloc, stats_profile(alloc, arch, container, policy, out)),
+        Command::CheckProfile {
+            arch,
+            container,
+            denied,
+            allowed,
+            profile,
+        } => check_profile(
+            alloc, arch, container, denied, allowed, profile, policy, out,
+        ),
     }
 }
 

@@ -11,10 +11,10 @@ mod options;
 
 use crate::program::names::Names;
 use crate::program::options::{
-    all, allow, arch, arguments, at_most, call, cap, compared_filter, compared_oci, deny_warnings,
-    filter, format, given_call, given_policy, import_format, kernel, layout, line_format, list,
-    most, new_policy, oci, old, output, policies, policy, profile, program_file, quiet, records,
-    shown_policy, shown_program, strict,
+    all, allow, arch, arguments, at_most, call, cap, compared_filter, deny_warnings, filter,
+    format, given_call, given_policy, import_format, kernel, layout, line_format, list, most,
+    new_policy, oci, old, output, policies, policies_oci, policy, profile, program_file, quiet,
+    records, shown_policy, shown_program, strict,
 };
 use clap::{Arg, Command};
 use std::alloc::{AllocError, Global};
@@ -164,6 +164,9 @@ fn check<'a>(
     let command = with(command, deny_warnings(alloc));
     let command = with(command, allow(alloc, codes));
     let command = with(command, list(alloc));
+    let command = with(command, policies_oci(alloc));
+    let command = with(command, cap(alloc));
+    let command = with(command, kernel(alloc));
     with(command, policies(alloc))
 }
 
@@ -263,7 +266,7 @@ fn diff<'a>(alloc: Global, archs: &'a [&'a str]) -> Result<Command<'a>, AllocErr
     let command = with(command, at_most(alloc));
     let command = with(command, most(alloc));
     let command = with(command, quiet(alloc));
-    let command = with(command, compared_oci(alloc));
+    let command = with(command, policies_oci(alloc));
     let command = with(command, cap(alloc));
     let command = with(command, kernel(alloc));
     let command = with(command, old(alloc));

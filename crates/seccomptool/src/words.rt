@@ -4,6 +4,7 @@ ghost use Rattle.std.specs.Prelude.{◌≡◌, IfOk, IfErr, map, string_bytes};
 ghost use Rattle.seccomptool.specs.Words.{Choices, Means, IsFault, IsOwn};
 
 mod arguments;
+mod checks;
 mod codes;
 mod container;
 mod matches;
@@ -60,7 +61,7 @@ pub enum Command<'a> {
         denied: bool,
         /// The codes whose warnings aren't printed.
         allowed: &'a [Code],
-        /// The policy.
+        /// The policy, or a profile.
         policy: &'a str,
     },
     /// Print the codes of warnings.
@@ -194,6 +195,19 @@ pub enum Command<'a> {
         /// The profile.
         profile: &'a str,
     },
+    /// Print why a profile isn't imported, or else the warnings of its filters: one of those that [`Asked::ProfileChecks`] has.
+    CheckProfile {
+        /// The architecture.
+        arch: TargetArch,
+        /// The container that the profile is for.
+        container: &'a Container,
+        /// Whether warnings count for the exit status.
+        denied: bool,
+        /// The codes whose warnings aren't printed.
+        allowed: &'a [Code],
+        /// The profile.
+        profile: &'a str,
+    },
 }
 
 /// What the arguments ask for.
@@ -201,7 +215,7 @@ pub enum Command<'a> {
 pub enum Asked<'a> {
     /// A command, other than `check` of policies and what is done with profiles.
     One(Command<'a>),
-    /// `check` of policies, one after the other.
+    /// `check` of policies, or of profiles that are known as such, one after the other.
     Checks {
         /// The architecture.
         arch: TargetArch,
@@ -262,6 +276,19 @@ pub enum Asked<'a> {
         /// The profile.
         profile: &'a str,
     },
+    /// `check` of profiles, one after the other.
+    ProfileChecks {
+        /// The architecture.
+        arch: TargetArch,
+        /// The container that the profiles are for.
+        container: Container,
+        /// Whether warnings count for the exit status.
+        denied: bool,
+        /// The codes whose warnings aren't printed.
+        allowed: Vec<Code>,
+        /// The profiles.
+        profiles: Vec<&'a str>,
+    },
 }
 
 /// What `show` prints.
@@ -294,9 +321,9 @@ pub enum Records<'a> {
 /// `clap`'s: help and the version where they are asked for, and its own error of arguments that are no
 /// command. `ValueValidation` where an ARG or the value of `--most` is no number, where `explain` or `run`
 /// is given both CALL and `--records`, or `show` both POLICY and `--program`, where the value of `--kernel` is no version, where
-/// `diff`, `explain` or `stats` is given `--cap` or `--kernel` without `--oci`, or both `--oci` and `--filter`, and where two files
-/// would both be read from standard input: policy and records, program and records, policy and program, or both policies or profiles
-/// of `diff`. `OutOfMemory` may come in place of any.
+/// `check`, `diff`, `explain` or `stats` is given `--cap` or `--kernel` without `--oci`, or both `--oci` and `--filter`, and where
+/// two files would both be read from standard input: policy and records, program and records, policy and program, or both policies
+/// or profiles of `diff`. `OutOfMemory` may come in place of any.
 pub(crate) fn read<'a>(alloc: Global, words: &'a [String]) -> Result<Asked<'a>, clap::Error>
     // With the names that the options take.
     ensures { (choices : Choices) × IfOk result (Means choices (map string_bytes words.now))

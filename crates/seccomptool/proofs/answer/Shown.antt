@@ -13,6 +13,7 @@ use Rattle.seccomptool.specs.declared.findings.Verdict.{Verdict}
 use Rattle.seccomptool.specs.declared.findings.Verdict.TheVariants.{Same, Different, Undecided}
 use Rattle.seccomptool.specs.declared.words.Asked.{Asked}
 use Rattle.seccomptool.specs.declared.words.Asked.TheVariants.{One, Checks, Import, DiffProfiles, ExplainProfile, StatsProfile}
+use Rattle.seccomptool.specs.declared.words.Asked.TheVariants.{ProfileChecks}
 use Rattle.seccomptool.specs.declared.words.Command.{Command}
 use Rattle.seccomptool.specs.declared.words.Command.TheVariants.{Diff, Verify}
 use Rattle.seccomptool.specs.declared.words.Command.TheVariants as of_command
@@ -137,3 +138,5 @@ may_fail choices words (ExplainProfile arch container format records profile) st
     inr (other choices (ExplainProfile arch container format records profile) means refl)
 may_fail choices words (StatsProfile arch container profile) status means ended one =
     inr (other choices (StatsProfile arch container profile) means refl)
+may_fail choices words (ProfileChecks arch container denied allowed profiles) status means ended one =
+    inr (other choices (ProfileChecks arch container denied allowed profiles) means refl)

@@ -48,7 +48,7 @@ module _ (arch : List ℕ) (denied : Bool) (allowed : List Code) (path : List �
       module _ (filters : JsonFilterMap) (of_text : OfValue text (λ d. AreFilters d filters)) (order : IsStrictlySortedBy string_cmp
           (keys_of filters.0.entries))
           (front : List ℕ) (is_front : IsFront path front)
-          (told : List ℕ) (count : ℕ) (report : IsReportOf fine.0 allowed front filters.0.entries told count) where
+          (told : List ℕ) (count : ℕ) (report : IsReportOf fine.0 (λ name. allowed) front filters.0.entries told count) where
         -- The value that is read, of which the filters are.
         compiled : OfValue text (AreAllCompiled fine.0)
         compiled = subst (λ t. OfValue t (AreAllCompiled fine.0)) fine.2.1 fine.2.2
@@ -60,12 +60,12 @@ module _ (arch : List ℕ) (denied : Bool) (allowed : List Code) (path : List �
         are = filters_of_value text filters (text, refl, of_text) d compiled.1
 
         written : (verdict : Verdict) (sent : List ℕ) (old new : Option (List ℕ)) → sent ≡ told → Appends old new sent
-            → verdict ≡ verdict_where denied count → WritesWarnings fine.0 denied allowed path verdict old new d
+            → verdict ≡ verdict_where denied count → WritesWarnings fine.0 denied (λ name. allowed) path verdict old new d
         written verdict sent old new is appends verdict_is = record {
           front = front;
           front_is = is_front;
           filters = report.all;
-          are_all = are_all_warnings fine.0 allowed filters order d are report.all report.each;
+          are_all = are_all_warnings fine.0 (λ name. allowed) filters order d are report.all report.each;
           appends = subst (Appends old new) (is ∙ report.joined) appends;
           verdict_is = verdict_is ∙ ap (verdict_where denied) report.count_is;
         }

@@ -23,7 +23,7 @@ text_count target text filters found of_text order is = (
     of_text.1,
     record {
       filters = is.all;
-      are_all = are_all_warnings target [] filters order of_text.0 of_text.2 is.all is.each;
+      are_all = are_all_warnings target (λ name. []) filters order of_text.0 of_text.2 is.all is.each;
       count_is = refl;
     },
   ),

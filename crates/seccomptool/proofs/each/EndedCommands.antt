@@ -1,4 +1,4 @@
--- For `carry_out_each` and `check_each`: the statuses of commands, one by one.
+-- For `carry_out_each`, `check_each` and `check_each_profile`: the statuses of commands, one by one.
 use Rattle.std.proofs.Common.{◌≡◌, ◌∙◌, ℕ, ◌+◌, ◌≤◌, ◌<◌, Bool, List, [], ◌∷◌, ◌++◌, All, Contains, ap, arith, get_or}
 use Rattle.std.proofs.Common.{Global, inl, inr, length, map, Ok, refl, subst, sym, take}
 use Rattle.std.specs.Borrow.{Bor}
@@ -10,15 +10,15 @@ use Rattle.seccompiler.specs.declared.backend.TargetArch.{TargetArch}
 use Rattle.seccompiler.specs.declared.compare.Relation.{Relation}
 use Rattle.seccomp_oci.specs.Types.{Container}
 use Rattle.seccomp_warnings.specs.declared.code.Code.{Code}
-use Rattle.seccompiler.specs.Architecture.{arch_text}
-use Rattle.seccomptool.specs.Check.{AnswersCheck}
+use Rattle.seccomptool.specs.CheckProfile.{AnswersCheckProfile}
 use Rattle.seccomptool.specs.Answers.{EndAsAsked, EndWith}
 use Rattle.seccomptool.specs.declared.words.Asked.TheVariants.{One, Checks, Import, DiffProfiles, ExplainProfile, StatsProfile}
-use Rattle.seccomptool.specs.Commands.{AnswersFound, EndsWith}
+use Rattle.seccomptool.specs.declared.words.Asked.TheVariants.{ProfileChecks}
+use Rattle.seccomptool.specs.Commands.{AnswersCheckByKind, EndsWith}
 use Rattle.seccomptool.specs.declared.explain.format.LineFormat.{LineFormat}
 use Rattle.seccomptool.specs.declared.import.format.ImportFormat.{ImportFormat}
 use Rattle.seccomptool.specs.declared.words.Command.{Command}
-use Rattle.seccomptool.specs.declared.words.Command.TheVariants.{Check}
+use Rattle.seccomptool.specs.declared.words.Command.TheVariants.{Check, CheckProfile}
 use Rattle.seccomptool.specs.declared.words.Command.TheVariants as command
 use Rattle.seccomptool.specs.declared.words.Records.{Records}
 
@@ -73,9 +73,28 @@ moved_check arch denied own other path status same ends = λ verdict is fails.
       old = done.old;
       new = done.new;
       done = done.done;
-      answers = subst (λ allowed. AnswersFound
-          (λ found. AnswersCheck (arch_text arch) denied allowed path.now done.policy found done.old done.new) (Ok done.done))
+      answers = subst (λ allowed. AnswersCheckByKind arch denied allowed path.now done.policy (Ok done.done) done.old done.new)
           (sym same) done.answers;
+      found = done.found;
+    }
+
+-- The same of a check of a profile, and of a container behind another reference.
+pub moved_profile_check : (arch : TargetArch) (own_container other_container : Bor Container) (denied : Bool)
+    (own other : Bor (List Code)) (path : Bor (List ℕ)) (status : ℕ) → own_container.now ≡ other_container.now → own.now ≡ other.now
+    → EndsWith (CheckProfile arch other_container denied other path) status
+    → EndsWith (CheckProfile arch own_container denied own path) status
+moved_profile_check arch own_container other_container denied own other path status same_container same ends = λ verdict is fails.
+    let done = ends verdict is fails in
+    record {
+      policy = done.policy;
+      records = done.records;
+      old = done.old;
+      new = done.new;
+      done = done.done;
+      answers = subst (λ allowed. AnswersCheckProfile arch own_container.now denied allowed path.now done.policy (Ok done.done) done.old
+          done.new) (sym same)
+          (subst (λ container. AnswersCheckProfile arch container denied other.now path.now done.policy (Ok done.done) done.old done.new)
+          (sym same_container) done.answers);
       found = done.found;
     }
 
@@ -122,16 +141,25 @@ checks_ended arch denied allowed own policies checked status is_own is_checked e
   ended = ended;
 }
 
--- One policy more that is checked. The default is any.
-pub check_more : (arch : TargetArch) (denied : Bool) (allowed : Bor (List Code)) (policies : List (Bor (List ℕ))) (at : ℕ)
-    (default : Bor (List ℕ)) (before own after : ℕ)
-    → at < length policies → EndWith (map (Check arch denied allowed) (take at policies)) before
-    → EndsWith (Check arch denied allowed (get_or policies at default)) own
-    → before ≤ after → own ≤ after → (after ≡ before) ⊎ (after ≡ own)
-    → EndWith (map (Check arch denied allowed) (take (at + 1) policies)) after
-check_more arch denied allowed policies at default before own after room ended ends above covers either =
-    let command_of = Check arch denied allowed in
-    let policy = get_or policies at default in
-    let more = ap (map command_of) (take_more policies at default room) ∙ map_push command_of (take at policies) policy in
+-- Profiles that are checked, with a container and codes behind references.
+pub profile_checks_ended : (arch : TargetArch) (container : Container) (own_container : Bor Container) (denied : Bool)
+    (allowed : Vec Code Global) (own : Bor (List Code)) (profiles : Vec (Bor (List ℕ)) Global) (checked : List (Bor (List ℕ)))
+    (status : ℕ) → own_container.now ≡ container → own.now ≡ allowed.items → checked ≡ profiles.items
+    → EndWith (map (CheckProfile arch own_container denied own) checked) status
+    → EndAsAsked (ProfileChecks arch container denied allowed profiles) status
+profile_checks_ended arch container own_container denied allowed own profiles checked status is_container is_own is_checked ended = record {
+  commands = map (CheckProfile arch own_container denied own) checked;
+  are = (own_container, is_container, own, is_own, ap (map (CheckProfile arch own_container denied own)) is_checked);
+  ended = ended;
+}
+
+-- One policy or profile more that is checked. The default is any.
+pub check_more : (command_of : Bor (List ℕ) → Command) (paths : List (Bor (List ℕ))) (at : ℕ) (default : Bor (List ℕ))
+    (before own after : ℕ) → at < length paths → EndWith (map command_of (take at paths)) before
+    → EndsWith (command_of (get_or paths at default)) own → before ≤ after → own ≤ after → (after ≡ before) ⊎ (after ≡ own)
+    → EndWith (map command_of (take (at + 1) paths)) after
+check_more command_of paths at default before own after room ended ends above covers either =
+    let path = get_or paths at default in
+    let more = ap (map command_of) (take_more paths at default room) ∙ map_push command_of (take at paths) path in
     subst (λ cs. EndWith cs after) (sym more)
-    (one_more (map command_of (take at policies)) (command_of policy) before own after ended ends above covers either)
+    (one_more (map command_of (take at paths)) (command_of path) before own after ended ends above covers either)

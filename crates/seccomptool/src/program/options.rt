@@ -213,7 +213,7 @@ pub(super) fn oci<'a>(alloc: Global) -> Arg<'a>
     )
 }
 
-pub(super) fn compared_oci<'a>(alloc: Global) -> Arg<'a>
+pub(super) fn policies_oci<'a>(alloc: Global) -> Arg<'a>
     ensures rule { rule_of result ≡ oci_rule }
     ensures local { result.global ≡ false }
 {

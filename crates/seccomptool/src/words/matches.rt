@@ -6,11 +6,11 @@ ghost use Rattle.seccomptool.specs.Words.{IsAsked, IsCommand};
 ghost use Rattle.seccomptool.specs.declared.words.Asked.{Asked};
 ghost use Rattle.seccomptool.specs.declared.words.Command.{Command};
 
+use super::checks::checks_in;
 use super::profiles::{is_no_profile, misuse_of_profile, of_profiles_in};
 use super::values::{
-    allowed_in, arch_in, arguments_in, compared_in, denied_in, format_in, is_listed, is_quiet,
-    layout_in, line_format_in, most_in, policies_in, records_in, relation_in, scope_in, shown_in,
-    text_in,
+    arch_in, arguments_in, compared_in, format_in, is_listed, is_quiet, layout_in, line_format_in,
+    most_in, records_in, relation_in, scope_in, shown_in, text_in,
 };
 use super::{Asked, Command};
 use clap::ArgMatches;
@@ -32,29 +32,6 @@ pub(crate) fn asked_in<'a>(
         Some(command) => Ok(Some(Asked::One(command))),
         None => of_profiles_in(alloc, name, found),
     }
-}
-
-// What the matches of `check` ask for.
-fn checks_in<'a>(alloc: Global, found: &ArgMatches<'a>) -> Result<Option<Asked<'a>>, AllocError>
-    ensures some { IfOk result (λ o. IfSome o (IsAsked (codes "check") (rows_of (found_of found.now)))) }
-    ensures none { IfOk result (λ o. IfNone o ((asked : Asked) → IsAsked (codes "check") (rows_of (found_of found.now)) asked → ⊥)) }
-{
-    if let Some(command) = codes_in(found) {
-        return Ok(Some(Asked::One(command)));
-    }
-    let Some(arch) = arch_in(found) else {
-        return Ok(None);
-    };
-    let Some(allowed) = allowed_in(alloc, found)? else {
-        return Ok(None);
-    };
-    let policies = policies_in(alloc, found)?;
-    Ok(Some(Asked::Checks {
-        arch,
-        denied: denied_in(found),
-        allowed,
-        policies,
-    }))
 }
 
 // The command that the matches of the subcommand of this name are, the check of policies and what is done with profiles aside.
@@ -164,7 +141,7 @@ fn show_in<'a>(found: &ArgMatches<'a>) -> Option<Command<'a>>
 }
 
 // The command that the matches of `check` are where they ask for the codes.
-fn codes_in<'a>(found: &ArgMatches<'a>) -> Option<Command<'a>>
+pub(super) fn codes_in<'a>(found: &ArgMatches<'a>) -> Option<Command<'a>>
     ensures some { IfSome result (IsCommand (codes "check") (rows_of (found_of found.now))) }
     ensures none { IfNone result ((c : Command) → IsCommand (codes "check") (rows_of (found_of found.now)) c → ⊥) }
 {

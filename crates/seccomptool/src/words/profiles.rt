@@ -15,7 +15,7 @@ use super::values::{
 use clap::ArgMatches;
 use std::alloc::{AllocError, Global};
 
-// What the matches of the subcommand of this name ask for, of what is done with profiles.
+// What the matches of the subcommand of this name ask for, of what is done with profiles, `check` aside.
 pub(super) fn of_profiles_in<'a>(
     alloc: Global,
     name: &str,
@@ -155,7 +155,7 @@ fn import_in<'a>(alloc: Global, found: &ArgMatches<'a>) -> Result<Option<Asked<'
 }
 
 // Whether a profile is given: `--oci` is, and `--filter` isn't.
-fn is_profile(found: &ArgMatches<'_>) -> bool
+pub(super) fn is_profile(found: &ArgMatches<'_>) -> bool
     ensures { IsTrue result ↔ ((first_of (codes "oci") (rows_of (found_of found.now)) ≡ Some (codes "true")) × (first_of (codes "filter") (rows_of (found_of found.now)) ≡ None)) }
 {
     is_oci(found) && text_in(found, "filter").is_none()

@@ -15,9 +15,10 @@ loop-name-preserved c =
     let e : String Global × JsonFilter = (c.in-Some.name.now, c.in-Some.filter.now) in
     let left : NamedFilters = c.next.new.self in
     let allowed_for = codes_for c.args.own.now c.args.of_own.now c.args.of_others.now in
-    let adds : AddsLines c.args.arch (allowed_for c.as_str-name.result.now) c.args.front.now c.as_str-name.result.now e.1 c.loop-name.text.items
+    let name = c.as_str-name.result.now in
+    let adds : AddsLines c.args.arch (allowed_for name) c.args.front.now name e.1 c.loop-name.text.items
     c.push_filter.new.text.items c.in_ok-count.field-0 =
-    subst (λ codes. AddsLines c.args.arch codes c.args.front.now c.as_str-name.result.now e.1 c.loop-name.text.items
+    subst (λ codes. AddsLines c.args.arch codes c.args.front.now name e.1 c.loop-name.text.items
     c.push_filter.new.text.items c.in_ok-count.field-0) c.codes_for-allowed.ensures c.in_ok-count.ensures.added in
     let before : c.loop-name.count ≤ length c.loop-name.text.items = so_far.few in
     let more = adds.few in
@@ -25,7 +26,7 @@ loop-name-preserved c =
       done = done ++ e ∷ [];
       whole = so_far.whole ∙ ap (λ (es : NamedFilters). done ++ es) c.in-Some.ensures.steps ∙ sym (append_assoc done (e ∷ []) left);
       fine = All-push (λ named. IsFaultless c.args.arch named.1) done e so_far.fine c.in_ok-count.ensures.policy;
-      report = report_more c.args.arch allowed_for c.args.front.now done e c.as_str-name.result.now c.loop-name.text.items
+      report = report_more c.args.arch allowed_for c.args.front.now done e name c.loop-name.text.items
           c.push_filter.new.text.items c.loop-name.count c.in_ok-count.field-0 (c.loop-name.count + c.in_ok-count.field-0)
           c.as_str-name.ensures.value adds refl so_far.report;
       few = omega arith;

@@ -77,8 +77,8 @@ returns-clause-answers g c =
     let front = c.in_ok-front.front.items in
     let fine = c.in_ok-lint.ensures.answers in
     let same : c.in_ok-target.target ≡ fine.0 = same_target _ _ _ refl (c.in_ok-target.ensures.named fine.0 fine.1) in
-    let is_report = subst (λ t. IsReportOf t c.args.allowed.now front filters.0.entries report.text.items report.count) same
-    (subst (λ f. IsReportOf c.in_ok-target.target c.args.allowed.now f filters.0.entries report.text.items report.count)
+    let is_report = subst (λ t. IsReportOf t (λ name. c.args.allowed.now) front filters.0.entries report.text.items report.count) same
+    (subst (λ f. IsReportOf c.in_ok-target.target (λ name. c.args.allowed.now) f filters.0.entries report.text.items report.count)
     c.deref.ensures.value c.in-Ok.ensures.report) in
     lines_sent c.args.arch.now c.args.denied c.args.allowed.now c.args.path.now known text own c.in_ok-lint.ensures.answers filters of_text
     c.in-Ok.ensures.ordered front c.in_ok-front.ensures

@@ -1,6 +1,7 @@
 use Rattle.std.proofs.Common.{refl}
 use Rattle.seccomptool.proofs.each.EndedCommands.{checks_ended, diff_profiles_ended, explain_profile_ended, import_ended, one_ended}
 use Rattle.seccomptool.proofs.each.EndedCommands.{stats_profile_ended}
+use Rattle.seccomptool.proofs.each.EndedCommands.{profile_checks_ended}
 use Rattle.seccomptool.proofs.each.carry_out_each.Goals as goal
 
 pub returns-in-One-clause-each : goal.returns-in-One-clause-each
@@ -38,3 +39,11 @@ returns-in-StatsProfile-clause-each g c =
     rw (c.in-StatsProfile.is, c.from-in-StatsProfile.ensures)
     (stats_profile_ended c.in-StatsProfile.arch c.in-StatsProfile.container _ refl c.carry_out-in-StatsProfile.result
     c.in-StatsProfile.profile c.carry_out-in-StatsProfile.ensures.performed)
+
+pub returns-in-ProfileChecks-clause-each : goal.returns-in-ProfileChecks-clause-each
+returns-in-ProfileChecks-clause-each g c =
+    let here = c.in-ProfileChecks in
+    rw (here.is, c.from-in-ProfileChecks.ensures)
+    (profile_checks_ended here.arch here.container _ here.denied here.allowed c.as_slice.result here.profiles
+    c.deref-in-ProfileChecks.result.now c.check_each_profile.result refl c.as_slice.ensures.value
+    c.deref-in-ProfileChecks.ensures.value c.check_each_profile.ensures.each)

@@ -17,7 +17,7 @@ loop-policy-preserved g c =
       | inl same ↦ let le = before.1 in omega (arith, same, le)
       | inr same ↦ omega (arith, same, own_status)
     ] in (
-      λ own same. check_more c.args.arch c.args.denied own c.args.policies.now c.loop-policy.policy-index _ c.loop-policy.status
+      λ own same. check_more (Check c.args.arch c.args.denied own) c.args.policies.now c.loop-policy.policy-index _ c.loop-policy.status
           c.carry_out.result c.greater-status.result c.loop-policy-test.true (before.0 own same)
           (moved_check c.args.arch c.args.denied own c.args.allowed _ c.carry_out.result same c.carry_out.ensures.performed)
           greater.0 greater.1 greater.2,

@@ -11,7 +11,10 @@ made c =
     let m2 = c.with-command-2.ensures _ _ m1 c.deny_warnings.ensures.rule c.deny_warnings.ensures.local in
     let m3 = c.with-command-3.ensures _ _ m2 c.allow.ensures.rule c.allow.ensures.local in
     let m4 = c.with-command-4.ensures _ _ m3 c.list.ensures.rule c.list.ensures.local in
-    c.with.ensures _ _ m4 c.policies.ensures.rule c.policies.ensures.local
+    let m5 = c.with-command-5.ensures _ _ m4 c.policies_oci.ensures.rule c.policies_oci.ensures.local in
+    let m6 = c.with-command-6.ensures _ _ m5 c.cap.ensures.rule c.cap.ensures.local in
+    let m7 = c.with-command-7.ensures _ _ m6 c.kernel.ensures.rule c.kernel.ensures.local in
+    c.with.ensures _ _ m7 c.policies.ensures.rule c.policies.ensures.local
 
 pub returns-clause-app : goal.returns-clause-app
 returns-clause-app c = app_made _ c.with.result (made c)

@@ -4,7 +4,7 @@ use Rattle.clap.specs.Words.{Row, Text}
 use Rattle.seccomptool.specs.Words.{IsAsked, IsCommand}
 use Rattle.seccomptool.specs.WordsParts.{IsOfProfiles}
 use Rattle.seccomptool.specs.declared.words.Asked.{Asked}
-use Rattle.seccomptool.specs.declared.words.Asked.TheVariants.{One, Checks}
+use Rattle.seccomptool.specs.declared.words.Asked.TheVariants.{One, Checks, ProfileChecks}
 use Rattle.seccomptool.specs.declared.words.Command.{Command}
 use Rattle.seccomptool.proofs.words.matches.asked_in.Goals as goal
 
@@ -13,6 +13,7 @@ module _ (name : Text) (rows : List Row) where
   asked_of : (asked : Asked) → IsOfProfiles name rows asked → IsAsked name rows asked
   asked_of (One c) is = absurd is
   asked_of (Checks arch denied allowed policies) is = absurd is
+  asked_of (ProfileChecks arch container denied allowed profiles) is = absurd is
   asked_of asked is = is
 
   some_asked : (r : Result (Option Asked) AllocError) → IfOk r (λ o. IfSome o (IsOfProfiles name rows))
@@ -21,11 +22,12 @@ module _ (name : Text) (rows : List Row) where
   some_asked (Ok None) is = tt
   some_asked (Ok (Some asked)) is = asked_of asked is
 
-  -- Nothing is asked for where no command is, no check of policies, and nothing of profiles.
+  -- Nothing is asked for where no command is, no check, and nothing of profiles.
   module _ (other : name ≡ codes "check" → ⊥) (alone : (c : Command) → IsCommand name rows c → ⊥) where
     none_of : ((asked : Asked) → IsOfProfiles name rows asked → ⊥) → (asked : Asked) → IsAsked name rows asked → ⊥
     none_of none (One c) is = alone c is
     none_of none (Checks arch denied allowed policies) is = other is.0
+    none_of none (ProfileChecks arch container denied allowed profiles) is = other is.0
     none_of none asked is = none asked is
 
     none_asked : (r : Result (Option Asked) AllocError) → IfOk r (λ o. IfNone o ((asked : Asked) → IsOfProfiles name rows asked → ⊥))

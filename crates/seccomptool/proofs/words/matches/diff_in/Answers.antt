@@ -7,6 +7,7 @@ use Rattle.seccompiler.specs.declared.compare.Relation.{Relation}
 use Rattle.seccomptool.specs.Words.{IsCommand, IsDiff, text_of}
 use Rattle.seccomptool.specs.declared.words.Command.{Command}
 use Rattle.seccomptool.specs.declared.words.Command.TheVariants.{Check, Diff, Import, DiffProfiles, ExplainProfile, StatsProfile}
+use Rattle.seccomptool.specs.declared.words.Command.TheVariants.{CheckProfile}
 use Rattle.seccomptool.proofs.words.matches.diff_in.Goals as goal
 
 -- The rows are no command where they are no comparison.
@@ -19,6 +20,7 @@ no_diff rows none (Import arch container strict format profile) is = absurd is
 no_diff rows none (DiffProfiles arch container relation most old new) is = absurd is
 no_diff rows none (ExplainProfile arch container format records profile) is = absurd is
 no_diff rows none (StatsProfile arch container profile) is = absurd is
+no_diff rows none (CheckProfile arch container denied allowed profile) is = absurd is
 no_diff rows none c is = let first = ap (λ t. slice_index t 0) is.0 in omega (arith, first)
 
 pub returns-then-not-is_no_profile-clause-none : goal.returns-then-not-is_no_profile-clause-none

@@ -4,6 +4,7 @@ use Rattle.clap.specs.Words.{Row}
 use Rattle.seccomptool.specs.Words.{IsCommand, IsMost}
 use Rattle.seccomptool.specs.declared.words.Command.{Command}
 use Rattle.seccomptool.specs.declared.words.Command.TheVariants.{Check, Verify, Import, DiffProfiles, ExplainProfile, StatsProfile}
+use Rattle.seccomptool.specs.declared.words.Command.TheVariants.{CheckProfile}
 use Rattle.seccomptool.proofs.words.matches.verify_in.Goals as goal
 
 -- without a number of sets the rows are no command
@@ -14,6 +15,7 @@ no_most rows none (Import arch container strict format profile) is = absurd is
 no_most rows none (DiffProfiles arch container relation most old new) is = absurd is
 no_most rows none (ExplainProfile arch container format records profile) is = absurd is
 no_most rows none (StatsProfile arch container profile) is = absurd is
+no_most rows none (CheckProfile arch container denied allowed profile) is = absurd is
 no_most rows none c is = let first = ap (λ t. slice_index t 0) is.0 in omega (arith, first)
 
 pub returns-in_default-most_in-clause-none : goal.returns-in_default-most_in-clause-none

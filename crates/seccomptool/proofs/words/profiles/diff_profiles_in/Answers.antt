@@ -8,7 +8,7 @@ use Rattle.seccomp_oci.specs.declared.types.Kernel.{Kernel}
 use Rattle.seccomptool.specs.Words.{IsContainer, IsDiffProfiles, IsGivenKernel, given_caps}
 use Rattle.seccomptool.specs.WordsParts.{IsOfProfiles}
 use Rattle.seccomptool.specs.declared.words.Asked.{Asked}
-use Rattle.seccomptool.specs.declared.words.Asked.TheVariants.{One, Checks, DiffProfiles}
+use Rattle.seccomptool.specs.declared.words.Asked.TheVariants.{One, Checks, DiffProfiles, ProfileChecks}
 use Rattle.seccomptool.proofs.words.profiles.diff_profiles_in.Goals as goal
 
 -- Nothing is asked for where no comparison of profiles is.
@@ -16,6 +16,7 @@ none_asked : (rows : List Row) → ((arch : TargetArch) (container : Container) 
     → IsDiffProfiles rows arch container relation most old new → ⊥) → (asked : Asked) → IsOfProfiles (codes "diff") rows asked → ⊥
 none_asked rows none (One c) is = absurd is
 none_asked rows none (Checks arch denied allowed policies) is = absurd is
+none_asked rows none (ProfileChecks arch container denied allowed profiles) is = absurd is
 none_asked rows none (DiffProfiles arch container relation most old new) is = none arch container relation most old.now new.now is.1
 none_asked rows none asked is = let first = ap (λ t. slice_index t 0) is.0 in omega (arith, first)
 

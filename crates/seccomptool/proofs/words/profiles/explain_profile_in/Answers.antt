@@ -8,7 +8,7 @@ use Rattle.seccomptool.specs.Words.{IsContainer, IsExplainProfile, IsGivenKernel
 use Rattle.seccomptool.specs.WordsParts.{IsOfProfiles}
 use Rattle.seccomptool.specs.declared.explain.format.LineFormat.{LineFormat}
 use Rattle.seccomptool.specs.declared.words.Asked.{Asked}
-use Rattle.seccomptool.specs.declared.words.Asked.TheVariants.{One, Checks, ExplainProfile}
+use Rattle.seccomptool.specs.declared.words.Asked.TheVariants.{One, Checks, ExplainProfile, ProfileChecks}
 use Rattle.seccomptool.specs.declared.words.Records.{Records}
 use Rattle.seccomptool.proofs.words.profiles.explain_profile_in.Goals as goal
 
@@ -17,5 +17,6 @@ none_asked : (rows : List Row) → ((arch : TargetArch) (container : Container) 
     → IsExplainProfile rows arch container format records profile → ⊥) → (asked : Asked) → IsOfProfiles (codes "explain") rows asked → ⊥
 none_asked rows none (One c) is = absurd is
 none_asked rows none (Checks arch denied allowed policies) is = absurd is
+none_asked rows none (ProfileChecks arch container denied allowed profiles) is = absurd is
 none_asked rows none (ExplainProfile arch container format records profile) is = none arch container format records profile.now is.1
 none_asked rows none asked is = let first = ap (λ t. slice_index t 0) is.0 in omega (arith, first)

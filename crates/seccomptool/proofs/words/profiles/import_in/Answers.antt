@@ -8,7 +8,7 @@ use Rattle.seccomptool.specs.Words.{IsContainer, IsGivenKernel, IsImport, given_
 use Rattle.seccomptool.specs.WordsParts.{IsOfProfiles}
 use Rattle.seccomptool.specs.declared.import.format.ImportFormat.{ImportFormat}
 use Rattle.seccomptool.specs.declared.words.Asked.{Asked}
-use Rattle.seccomptool.specs.declared.words.Asked.TheVariants.{One, Checks, Import}
+use Rattle.seccomptool.specs.declared.words.Asked.TheVariants.{One, Checks, Import, ProfileChecks}
 use Rattle.seccomptool.proofs.words.profiles.import_in.Goals as goal
 
 -- Nothing is asked for where no import is.
@@ -16,5 +16,6 @@ none_asked : (rows : List Row) → ((arch : TargetArch) (container : Container) 
     → IsImport rows arch container strict format profile → ⊥) → (asked : Asked) → IsOfProfiles (codes "import") rows asked → ⊥
 none_asked rows none (One c) is = absurd is
 none_asked rows none (Checks arch denied allowed policies) is = absurd is
+none_asked rows none (ProfileChecks arch container denied allowed profiles) is = absurd is
 none_asked rows none (Import arch container strict format profile) is = none arch container strict format profile.now is.1
 none_asked rows none asked is = let first = ap (λ t. slice_index t 0) is.0 in omega (arith, first)

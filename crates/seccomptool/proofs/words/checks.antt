@@ -1,0 +1,2 @@
+-- Lemmas for the functions of `words::checks`.
+pub mod AllChecks

@@ -1,0 +1,90 @@
+// The checks that clap's matches ask for, of policies or of profiles.
+
+ghost use Rattle.std.specs.Prelude.{IfNone, IfOk, IfSome, codes};
+ghost use Rattle.clap.specs.Words.{found_of, rows_of};
+ghost use Rattle.seccomptool.specs.Words.{IsAsked, IsListed};
+ghost use Rattle.seccomptool.specs.WordsParts.{AreChecks, AreProfileChecks};
+ghost use Rattle.seccomptool.specs.declared.words.Asked.{Asked};
+
+use super::Asked;
+use super::container::container_in;
+use super::matches::codes_in;
+use super::profiles::{is_no_profile, is_profile};
+use super::values::{allowed_in, arch_in, denied_in, policies_in};
+use clap::ArgMatches;
+use std::alloc::{AllocError, Global};
+
+// What the matches of `check` ask for.
+pub(super) fn checks_in<'a>(
+    alloc: Global,
+    found: &ArgMatches<'a>,
+) -> Result<Option<Asked<'a>>, AllocError>
+    ensures some { IfOk result (λ o. IfSome o (IsAsked (codes "check") (rows_of (found_of found.now)))) }
+    ensures none { IfOk result (λ o. IfNone o ((asked : Asked) → IsAsked (codes "check") (rows_of (found_of found.now)) asked → ⊥)) }
+{
+    if let Some(command) = codes_in(found) {
+        return Ok(Some(Asked::One(command)));
+    }
+    if is_profile(found) {
+        return profile_checks_in(alloc, found);
+    }
+    policy_checks_in(alloc, found)
+}
+
+// The checks of policies that the matches of `check` ask for.
+fn policy_checks_in<'a>(
+    alloc: Global,
+    found: &ArgMatches<'a>,
+) -> Result<Option<Asked<'a>>, AllocError>
+    requires { IsListed (rows_of (found_of found.now)) → ⊥ }
+    ensures some { IfOk result (λ o. IfSome o (AreChecks (rows_of (found_of found.now)))) }
+    ensures none { IfOk result (λ o. IfNone o ((asked : Asked) → AreChecks (rows_of (found_of found.now)) asked → ⊥)) }
+{
+    if !is_no_profile(found) {
+        return Ok(None);
+    }
+    let Some(arch) = arch_in(found) else {
+        return Ok(None);
+    };
+    let Some(allowed) = allowed_in(alloc, found)? else {
+        return Ok(None);
+    };
+    let policies = policies_in(alloc, found)?;
+    Ok(Some(Asked::Checks {
+        arch,
+        denied: denied_in(found),
+        allowed,
+        policies,
+    }))
+}
+
+// The checks of profiles that the matches of `check` ask for.
+fn profile_checks_in<'a>(
+    alloc: Global,
+    found: &ArgMatches<'a>,
+) -> Result<Option<Asked<'a>>, AllocError>
+    requires { IsListed (rows_of (found_of found.now)) → ⊥ }
+    ensures some { IfOk result (λ o. IfSome o (AreProfileChecks (rows_of (found_of found.now)))) }
+    ensures none { IfOk result (λ o. IfNone o ((asked : Asked) → AreProfileChecks (rows_of (found_of found.now)) asked → ⊥)) }
+{
+    if !is_profile(found) {
+        return Ok(None);
+    }
+    let Some(arch) = arch_in(found) else {
+        return Ok(None);
+    };
+    let Some(allowed) = allowed_in(alloc, found)? else {
+        return Ok(None);
+    };
+    let Some(container) = container_in(alloc, found)? else {
+        return Ok(None);
+    };
+    let profiles = policies_in(alloc, found)?;
+    Ok(Some(Asked::ProfileChecks {
+        arch,
+        container,
+        denied: denied_in(found),
+        allowed,
+        profiles,
+    }))
+}

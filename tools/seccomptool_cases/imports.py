@@ -146,6 +146,7 @@ CRITERIA = [
     ({"excludes": {"arches": ["riscv64", "arm"]}}, ("", "-a arm64"), ("-a riscv64",)),
     ({"includes": {"minKernel": "4.8"}}, FROM, BEFORE),
     ({"excludes": {"minKernel": "4.8"}}, BEFORE, FROM),
+    ({"includes": {"minKernel": "4294967295.0"}}, ("", "--kernel 4294967295.0"), ("--kernel 4294967294.9",)),
     ({"includes": {"minKernel": "3.0"}, "excludes": {"minKernel": "4.8"}}, ("--kernel 3.0", "--kernel 4.7"),
      ("", "--kernel 2.6", "--kernel 4.8")),
     ({"includes": {"caps": ["CAP_SYS_ADMIN"], "minKernel": "4.8"}, "excludes": {"arches": ["arm64"], "caps": ["CAP_KILL"]}},

@@ -193,6 +193,19 @@ def misused(words, told):
 # 4097 + 1 + 1 of 584.
 TOO_LONG = "One program of the profile needs 4099 instructions; 4096 fit\n"
 
+
+def alternating(count):
+    """Returns a profile that allows by default, with so many entries of one call, each of another action than the one in front."""
+    return json.dumps(profile(*[entry("read", f"SCMP_ACT_{('LOG', 'TRAP')[it % 2]}") for it in range(count)], default="SCMP_ACT_ALLOW"))
+
+
+# The tree of a filter of one call, whose number is 0, has 7 instructions: a load, a test and a return for the architecture, a
+# load of the number, a test of it and two returns. So 511 filters take 511 * (7 + 1) + 1 instructions, and 512 are too many.
+# A rule of six conditions, of 4 instructions each, takes two jumps and a return more, so 400 take 400 * 27. The range of their
+# call has two returns more; beside it the tree has a test of two instructions, the return of the other range, and four in front;
+# and the program two more.
+SIX_CONDITIONS = json.dumps(profile(*[entry("read", args=[when(it, "EQ", 1) for it in range(6)])] * 400))
+
 READS = "profile: different\n  read: errno 1 -> allow, more: read(0x0, 0x0, 0x0, 0x0, 0x0, 0x0)\n"
 CONTAINER_ONLY = "--cap and --kernel are for --oci"
 
@@ -211,6 +224,7 @@ KNOWN = [
     writes("explain --oci reads-profile.json", "", ""),
     # Names that the architecture hasn't are no reason, and aren't listed.
     writes("explain --oci unknown-profile.json read", "", "allow: syscalls[0] (read)\n"),
+    writes("explain --oci - open", json.dumps(profile(entry("read"), entry("no_such_call open"))), "allow: syscalls[1] (open)\n"),
     writes("diff --oci unknown-profile.json reads-profile.json", "", "profile: same\n"),
     differ("reads-profile.json -", "profile: different\n  read: allow -> log, less: read(0x0, 0x0, 0x0, 0x0, 0x0, 0x0)\n",
            json.dumps(profile(entry("read", "SCMP_ACT_LOG")))),
@@ -300,6 +314,13 @@ CASES = [
     rejects("import --strict --format raw unknown-profile.json", "", "names of no system call of x86_64 (2): mmap2, waitpid\n",
             TOOL + "unknown-profile.json: "),
     writes("import --format raw fitting-profile.json | wc -c | tr -d ' '", "", f"{8 * 4092}\n"),
+    writes("import --format raw | wc -c | tr -d ' '", alternating(1), f"{8 * 9}\n"),
+    writes("import --format raw | wc -c | tr -d ' '", alternating(511), f"{8 * 4089}\n"),
+    rejects("import --format raw", alternating(512), "One program of the profile needs 4097 instructions; 4096 fit\n"),
+    rejects("import --format raw", SIX_CONDITIONS, "One program of the profile needs 10811 instructions; 4096 fit\n"),
+    # Where nothing that denies is left, the program is one return.
+    writes("import --format raw | od -An -tx1", json.dumps(profile(entry("read"), default="SCMP_ACT_ALLOW")),
+           " 06 00 00 00 00 00 ff 7f\n"),
     rejects("import --format raw reads-profile.json > /dev/full", "", FULL, OUTPUT),
     # What is no command.
     misused("diff --oci -f a reads-profile.json reads-profile.json", "--filter can't be given with --oci"),

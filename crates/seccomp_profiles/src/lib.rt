@@ -1,20 +1,11 @@
-// Tests of profiles of OCI runtimes: their parts, what is read, decided, imported and compiled of them, and why some
-// are rejected.
+// Tests of what no program shows of profiles of OCI runtimes: programs that are joined, texts of policies that no profile has,
+// and the library's own texts of errors. What is read, decided, imported and compiled of profiles is tried by the built
+// program, in tools/seccomptool_cases.
 #![tactic(auto)]
 
-#[cfg(test)]
-mod compiled_profiles;
-#[cfg(test)]
-mod decided;
-#[cfg(test)]
-mod decisions;
-#[cfg(test)]
-mod faults;
 #[cfg(test)]
 mod imports;
 #[cfg(test)]
 mod policies;
 #[cfg(test)]
 mod programs;
-#[cfg(test)]
-mod tests;

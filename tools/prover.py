@@ -1,0 +1,58 @@
+"""The prover of the kit, called over the libraries that `rt ci` or `rt lib` built: rt's own checks would build these
+anew where `rt ci` did."""
+
+import pathlib
+import subprocess
+import sys
+
+TOP = pathlib.Path(__file__).resolve().parent.parent
+
+
+def kit():
+    """Returns the folder of the kit."""
+    page = subprocess.run(["rt", "doc"], check=True, stdout=subprocess.PIPE, text=True).stdout
+    return pathlib.Path(page.strip()).parent
+
+
+def listed():
+    """Returns what crates.txt lists: of each crate whether it is a static library, and what it uses."""
+    rows = [row.partition(":") for row in (TOP / "crates.txt").read_text(encoding="utf-8").splitlines()]
+    return {head.split()[0]: ("staticlib" in head.split(), uses.split()) for head, _, uses in rows}
+
+
+def below(name, crates):
+    """Returns the crates of this repository that a crate stands on."""
+    found = {it for it in crates[name][1] if it in crates}
+    return found.union(*(below(it, crates) for it in found))
+
+
+def words(name):
+    """Returns the words of a check or a build of a crate by one job: what it is, and where its libraries are."""
+    crates, top = listed(), kit()
+    (is_static, uses), others = crates[name], sorted(below(name, crates))
+    built = {it: TOP / "crates" / it / "out/rlib" / f"{it}.rlib" for it in others}
+    lacking = [it for it in others if not built[it].exists()]
+    if lacking:
+        sys.exit(f"crates/{lacking[0]} isn't built: `rt ci` builds all libraries, and `rt lib` there this one")
+    root = "src/main.rt" if (TOP / "crates" / name / "src/main.rt").exists() else "src/lib.rt"
+    found = ["--crate-name", name, root, "--links", f"{name}=", "--jobs", "1"]
+    for it in ["std", *uses]:
+        found += ["--extern", f"{it}={built.get(it, top / 'rlibs' / f'{it}.rlib')}"]
+    for it in [top / "rlibs", *(built[it].parent for it in others)]:
+        found += ["-L", f"dependency={it}"]
+    found += ["--antt-project", str(top / "rattle/logic/antt-project.json"), "--logic-built", str(top / "logic_built")]
+    return found + ["--crate-type", "staticlib"] * is_static
+
+
+def run(command, name, more, folder):
+    """Runs a command of the prover in a crate's folder, and returns how it ended and what it said."""
+    ran = subprocess.run(
+        [kit() / "bin/rattle", command, *words(name), *more],
+        cwd=folder,
+        check=False,
+        stdin=subprocess.DEVNULL,
+        stdout=subprocess.PIPE,
+        stderr=subprocess.STDOUT,
+        errors="replace",
+    )
+    return ran.returncode, ran.stdout

@@ -1,0 +1,59 @@
+"""The functions of a source, as tools/try-edits cuts them out of its text."""
+
+import functools
+import re
+
+HEAD = r'(?m)^( *)(?:pub(?:\((?:crate|super)\))? )?(?:unsafe )?(?:extern "C" )?fn (\w+)(?:.|\n)*?(?: \{$|^\1\{$|;$)'
+TYPE = r"(?m)^ *(?:pub(?:\((?:crate|super)\))? )?(?:struct|enum|union) (\w+)"
+
+
+class Function:
+    """A function of a source: its name, its type's where it is a method, where its text begins, with what stands above
+    it, and where its body does."""
+
+    def __init__(self, text, head):
+        self.indent, self.name, self.begin = head[1], head[2], head.end()
+        self.end = text.find(f"\n{self.indent}}}\n", self.begin) + len(self.indent) + 3
+        above = text[text.rfind("\n\n", 0, head.start()) + 2 : head.start()]
+        self.start = head.start() - len(above.rpartition(" {\n")[2])
+        self.head, self.body = text[self.start : self.begin], text[self.begin : self.end]
+        block = re.findall(r"(?m)^(?:impl|trait)\b.* \{$", text[: self.start])[-1:] if self.indent else []
+        self.is_of_trait = any(" for " in it or it.startswith("trait") for it in block)
+        self.type = re.sub(r"^impl(<[^>]*>)? |<.*| \{$", "", block[0]) if block else ""
+
+    def calls(self):
+        """Returns the names of what its body may call: those that stand before a parenthesis."""
+        return set(re.findall(r"\b(\w+)\(", self.body))
+
+    def cycle(self):
+        """Returns the name of the cycle of calls that it says it is in, or None."""
+        found = re.search(r"#\[cycle\((\w+)\)\]", self.head)
+        return found[1] if found else self.name if self.name in self.calls() else None
+
+    def copy(self, text, name, changes):
+        """Returns its text under another name, with the body changed, or None where there is no such copy: of a
+        trait's method, of a function that calls itself, and where a change isn't of the body."""
+        body = self.body
+        if self.is_of_trait or self.cycle():
+            return None
+        for old, new in changes:
+            if body.count(old) != 1 or text.count(old) != 1:
+                return None
+            body = body.replace(old, new)
+        return re.sub(rf"\bfn {self.name}\b", f"fn {name}", self.head, count=1) + body
+
+    def without_body(self):
+        """Returns its text with a body that never ends, which may stand wherever another does."""
+        head = re.sub(r"(?m)^ *#\[cycle\(.*\n", "", self.head)
+        return f"{head}\n{self.indent}    loop {{}}\n{self.indent}}}\n"
+
+
+@functools.lru_cache(maxsize=None)
+def functions_of(text):
+    """Returns the functions of a source that have bodies, in their order."""
+    return [Function(text, it) for it in re.finditer(HEAD, text) if text[it.end() - 1] == "{"]
+
+
+def types_of(text):
+    """Returns the names of the types that a source declares."""
+    return re.findall(TYPE, text)

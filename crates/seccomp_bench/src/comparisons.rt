@@ -6,12 +6,11 @@ use crate::failure::Failure;
 use crate::filters::{calls, filter_of, rules};
 use crate::texts::whole_input;
 use crate::times::Each;
+use seccomp_compare::{Calls, Comparison, Relation, compare};
 use seccompiler::SeccompCmpArgLen::{self, Dword, Qword};
 use seccompiler::SeccompCmpOp::{self, Eq, MaskedEq};
-use seccompiler::compare::compare;
 use seccompiler::{
-    BpfProgramRef, Calls, Comparison, JsonCompiler, Relation, SeccompCondition, SeccompFilter,
-    SeccompRule, TargetArch,
+    BpfProgramRef, JsonCompiler, SeccompCondition, SeccompFilter, SeccompRule, TargetArch,
 };
 use std::alloc::Global;
 use std::collections::BTreeMap;

@@ -3,13 +3,12 @@
 use crate::comparisons::answer_of;
 use crate::failure::Failure;
 use crate::filters::{filter_of, rules};
+use seccomp_compare::{Calls, Comparison, Relation, compare_filters};
 use seccompiler::SeccompCmpArgLen::{Dword, Qword};
 use seccompiler::SeccompCmpOp::{self, Eq, Ge, Gt, Le, Lt, MaskedEq, Ne};
 use seccompiler::bpf::{bpf_jump, bpf_stmt, sock_filter};
 use seccompiler::machine::check;
-use seccompiler::{
-    Calls, Comparison, Relation, SeccompCondition, SeccompFilter, SeccompRule, TargetArch,
-};
+use seccompiler::{SeccompCondition, SeccompFilter, SeccompRule, TargetArch};
 use std::alloc::Global;
 use std::collections::BTreeMap;
 
@@ -129,7 +128,8 @@ fn is_compared(
     let tree = filter.to_tree_bpf(alloc)?;
     let layouts = answer_of(alloc, &program, &tree, MOST)?;
     let calls = Calls::of_arch(TargetArch::x86_64);
-    let others = filter.compare(alloc, other, &calls, Relation::AtMostAsPermissive, MOST)?;
+    let relation = Relation::AtMostAsPermissive;
+    let others = compare_filters(alloc, filter, other, &calls, relation, MOST)?;
     Ok(matches!(layouts, Comparison::Holds) && !matches!(others, Comparison::Undecided))
 }
 

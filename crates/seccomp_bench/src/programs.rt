@@ -2,9 +2,10 @@
 
 use crate::comparisons::answer_of;
 use crate::failure::Failure;
+use seccomp_compare::Comparison;
+use seccompiler::BpfProgram;
 use seccompiler::bpf::sock_filter;
 use seccompiler::machine::{check, run};
-use seccompiler::{BpfProgram, Comparison};
 use std::io::Read;
 use std::rt::{Env, Files};
 use std::{env, fs};

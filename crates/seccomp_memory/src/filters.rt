@@ -3,13 +3,11 @@
 use crate::answers::{Ending, Row, ensure, ensure_code, ensure_rows};
 use crate::lent::Lent;
 use crate::samples::{EQUAL, MASKED, condition, long_rule, no_calls, one_rule, rule, two_calls};
+use seccomp_compare::{Calls, Comparison, Relation, compare, compare_filters, compare_program};
 use seccompiler::SeccompCmpArgLen::Dword;
 use seccompiler::SeccompCmpOp::Eq;
 use seccompiler::backend::build_arch_validation_sequence;
-use seccompiler::compare::compare;
-use seccompiler::{
-    BackendError, Calls, Comparison, Relation, SeccompFilter, SeccompRule, TargetArch,
-};
+use seccompiler::{BackendError, SeccompFilter, SeccompRule, TargetArch};
 use std::alloc::Global;
 
 // As many sets as no comparison of these programs takes.
@@ -143,7 +141,14 @@ fn ask_of_places(alloc: Global, filter: &SeccompFilter) -> Result<(), Ending> {
     let (program, places) = filter.to_bpf_with_places(alloc)?;
     ensure_rows("a program with its places", &program, &PROGRAM)?;
     ensure(places.len() == program.len(), "the places of a program")?;
-    let compared = filter.compare_program(alloc, &program, &Calls::all(), Relation::Alike, SETS)?;
+    let compared = compare_program(
+        alloc,
+        &program,
+        filter,
+        &Calls::all(),
+        Relation::Alike,
+        SETS,
+    )?;
     ensure(
         matches!(compared, Comparison::Holds),
         "a filter and its program compared",
@@ -151,19 +156,20 @@ fn ask_of_places(alloc: Global, filter: &SeccompFilter) -> Result<(), Ending> {
 }
 
 // Compares a filter with itself and with another.
-fn compare_filters(
+fn ask_of_two_filters(
     alloc: Global,
     filter: &SeccompFilter,
     other: &SeccompFilter,
 ) -> Result<(), Ending> {
     let calls = Calls::of_numbers(TargetArch::x86_64, 0, 288);
-    let compared = filter.compare(alloc, filter, &calls, Relation::Alike, SETS)?;
+    let compared = compare_filters(alloc, filter, filter, &calls, Relation::Alike, SETS)?;
     ensure(
         matches!(compared, Comparison::Holds),
         "a filter and itself compared",
     )?;
     // The other one allows all calls.
-    let compared = other.compare(alloc, filter, &calls, Relation::AtMostAsPermissive, SETS)?;
+    let relation = Relation::AtMostAsPermissive;
+    let compared = compare_filters(alloc, other, filter, &calls, relation, SETS)?;
     ensure(
         matches!(compared, Comparison::Fails(_)),
         "two filters compared",
@@ -188,7 +194,14 @@ fn compare_too_large(
     filter: &SeccompFilter,
     too_large: &SeccompFilter,
 ) -> Result<(), Ending> {
-    match filter.compare(alloc, too_large, &Calls::all(), Relation::Alike, SETS) {
+    match compare_filters(
+        alloc,
+        filter,
+        too_large,
+        &Calls::all(),
+        Relation::Alike,
+        SETS,
+    ) {
         Ok(_) => Err(Ending::Wrong("a filter too large compared")),
         Err(BackendError::FilterTooLarge(10130)) => Ok(()),
         Err(refusal) => Err(Ending::from(refusal)),
@@ -226,7 +239,7 @@ impl Lent for Filters {
         ask_of_rule(alloc, &self.rule)?;
         ask_of_filter(alloc, &self.filter)?;
         ask_of_places(alloc, &self.filter)?;
-        compare_filters(alloc, &self.filter, &self.other)?;
+        ask_of_two_filters(alloc, &self.filter, &self.other)?;
         ask_of_too_large(alloc, &self.too_large)?;
         compare_too_large(alloc, &self.filter, &self.too_large)
     }

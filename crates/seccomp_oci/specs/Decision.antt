@@ -5,7 +5,7 @@ use Rattle.seccompiler.specs.declared.backend.SeccompAction.{SeccompAction}
 use Rattle.seccompiler.specs.declared.backend.TargetArch.{TargetArch}
 use Rattle.seccompiler.specs.declared.backend.TargetArch.TheVariants.{x86_64, aarch64, riscv64}
 use Rattle.seccompiler.specs.Architecture.{table_of}
-use Rattle.seccompiler.specs.Compare.{rank}
+use Rattle.seccomp_compare.specs.Compare.{rank}
 use Rattle.seccompiler.specs.Machine.{argument_at, word_at}
 use Rattle.seccompiler.specs.Policy.{word_of}
 use Rattle.seccompiler.specs.SyscallTable.{number_of}

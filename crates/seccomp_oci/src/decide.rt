@@ -13,7 +13,7 @@ ghost use Rattle.seccomp_oci.specs.Types.{Entry, Profile};
 use crate::rules::{condition_for, share_argument};
 use crate::scope::applies;
 use crate::types::{Argument, Container, Entry, Profile};
-use seccompiler::compare::rank;
+use seccomp_compare::rank;
 use seccompiler::{JsonCondition, SeccompAction, SeccompCondition, SyscallTable, TargetArch};
 
 /// What a profile decides of a call, and by which of its entries.
@@ -29,7 +29,7 @@ pub struct ProfileDecision {
 ///
 /// It is the strictest action of the entries that count for the call, of equally strict ones the first entry's;
 /// and the default action where no entry counts, which isn't compared with those of entries. How strict an action is,
-/// the [`rank`](seccompiler::compare::rank) of its return value says, as in `seccomp(2)`: the least is the strictest.
+/// the [`rank`](seccomp_compare::rank) of its return value says, as in `seccomp(2)`: the least is the strictest.
 ///
 /// An entry *counts* where it [`applies`](crate::applies) to the container, one of its names is that of the
 /// call, and its conditions are met. All of them have to be; but where two of them are on one argument, it is enough

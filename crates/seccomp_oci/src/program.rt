@@ -12,8 +12,8 @@ use crate::filters::{json_filters_of, policies_of};
 use crate::join::joined;
 use crate::trees::fitting_programs;
 use crate::types::{Container, Profile};
+use seccomp_compare::rank;
 use seccompiler::bpf::{RETURN, bpf_stmt};
-use seccompiler::compare::rank;
 use seccompiler::{BpfProgram, JsonFilter, JsonFrontendError, SeccompAction, TargetArch};
 use std::alloc::{AllocError, Global};
 

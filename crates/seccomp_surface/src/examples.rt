@@ -7,6 +7,7 @@ mod filters;
 mod front;
 mod jailer;
 mod machines;
+mod permitted;
 mod policies;
 mod readme;
 mod widened;

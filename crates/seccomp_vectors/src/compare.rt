@@ -2,9 +2,9 @@
 
 use crate::builders::{AARCH64, ALLOW, KILL_PROCESS, TRAP, X86_64};
 use crate::instructions::{give, jump, jump_at_least, jump_equal, jump_greater, load, mask};
+use seccomp_compare::{Calls, Comparison, Relation, compare};
 use seccompiler::TargetArch;
 use seccompiler::bpf::sock_filter;
-use seccompiler::compare::{Calls, Comparison, Relation, compare};
 use seccompiler::machine::{check, run};
 use std::alloc::Global;
 use std::process::Abort;

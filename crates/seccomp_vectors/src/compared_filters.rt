@@ -2,10 +2,10 @@
 
 use crate::builders::{ALLOW, TRAP};
 use crate::policies::{Policy, refused_length};
+use seccomp_compare::{Calls, Comparison, Relation, compare_filters};
 use seccompiler::backend::BackendError::{FilterTooLarge, InvalidSyscallNumber};
 use seccompiler::backend::SeccompCmpArgLen::{Dword, Qword};
 use seccompiler::backend::SeccompCmpOp::{Eq, Ge, MaskedEq};
-use seccompiler::compare::{Calls, Comparison, Relation};
 use std::alloc::Global;
 use std::process::Abort;
 use std::test::Fail;
@@ -33,7 +33,7 @@ fn answer_of(
     let filter = policy.filter(alloc)?;
     let other = other.filter(alloc)?;
     Ok(
-        match filter.compare(alloc, &other, &Calls::all(), relation, ENOUGH) {
+        match compare_filters(alloc, &filter, &other, &Calls::all(), relation, ENOUGH) {
             Ok(Comparison::Holds) => Answer::Holds,
             Ok(Comparison::Fails(call)) => {
                 let [first, second, third, fourth, ..] = call;

@@ -1,8 +1,8 @@
 -- For `met` and `beside`: entries that a call meets, among others.
 use Rattle.std.proofs.Common.{◌≡◌, ◌++◌, ◌∷◌, [], ℕ, pos, List, Some, inl, inr, refl}
 use Rattle.seccompiler.specs.declared.backend.TargetArch.{TargetArch}
-use Rattle.seccompiler.specs.declared.compare.Comparison.{Comparison}
-use Rattle.seccompiler.specs.declared.compare.Comparison.TheVariants as comparison
+use Rattle.seccomp_compare.specs.declared.Comparison.{Comparison}
+use Rattle.seccomp_compare.specs.declared.Comparison.TheVariants as comparison
 use Rattle.seccomp_warnings.proofs.Covered.{beside_met, its_number}
 use Rattle.seccomp_warnings.proofs.Quantified.{any_append, any_nil, any_one}
 use Rattle.seccomp_warnings.specs.Verdicts.{Entry, IsCovered, Meets}

@@ -9,16 +9,16 @@ use Rattle.std.proofs.lemmas.Bool.Decides.{Decides-int_eq}
 use Rattle.std.proofs.lemmas.List.Concat.{flat_map-cons}
 use Rattle.std.proofs.lemmas.List.Elements.{All-nil}
 use Rattle.seccompiler.specs.Architecture.{audit_word}
-use Rattle.seccompiler.specs.Compare.{CallSet, IsCallOf, rank}
-use Rattle.seccompiler.specs.CompareFilters.{ComparesFilters}
+use Rattle.seccomp_compare.specs.Compare.{CallSet, IsCallOf, rank}
+use Rattle.seccomp_compare.specs.CompareFilters.{ComparesFilters}
 use Rattle.seccompiler.specs.JsonPolicyOf.{is_number}
 use Rattle.seccompiler.specs.Machine.{IsRecord, word_at}
 use Rattle.seccompiler.specs.Policy.{Condition, Rule, Chain, ChainMatches, Holds, IsDecision, Matches, RuleHolds, chain_under}
 use Rattle.seccompiler.specs.Policy.{other_architecture, policy_matches, policy_differs}
 use Rattle.seccompiler.specs.declared.backend.TargetArch.{TargetArch}
-use Rattle.seccompiler.specs.declared.compare.Comparison.{Comparison}
-use Rattle.seccompiler.specs.declared.compare.Comparison.TheVariants as comparison
-use Rattle.seccompiler.specs.declared.compare.Relation.TheVariants.{AtMostAsPermissive}
+use Rattle.seccomp_compare.specs.declared.Comparison.{Comparison}
+use Rattle.seccomp_compare.specs.declared.Comparison.TheVariants as comparison
+use Rattle.seccomp_compare.specs.declared.Relation.TheVariants.{AtMostAsPermissive}
 use Rattle.seccomp_warnings.proofs.Quantified.{any_head, any_tail, any_nil, any_append, any_one, all_append, any_cases, any_weaker}
 use Rattle.seccomp_warnings.specs.Verdicts.{Entry, IsCovered, Meets}
 use Rattle.seccomp_warnings.specs.VerdictParts.{Answers, IsAlways, SaysBeside, chain_of, chains_with, filter_of, filter_with}

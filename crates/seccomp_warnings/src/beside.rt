@@ -6,7 +6,7 @@ ghost use Rattle.seccomp_warnings.specs.VerdictParts.{SaysBeside};
 use crate::cover::{cover, cover_by, push_rules};
 use crate::entry::{Entry, copy_of};
 use crate::met::other_met;
-use seccompiler::compare::Comparison;
+use seccomp_compare::Comparison;
 use seccompiler::{BackendError, TargetArch};
 use std::alloc::Global;
 

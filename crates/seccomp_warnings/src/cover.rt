@@ -4,7 +4,7 @@ ghost use Rattle.std.specs.Prelude.{◌≡◌, ◌++◌, ◌∷◌, [], pos, IfO
 ghost use Rattle.seccomp_warnings.specs.VerdictParts.{Answers, chain_of, rules_beside, filter_with, filter_of};
 
 use crate::entry::{Entry, is_of};
-use seccompiler::compare::{Calls, Comparison, Relation};
+use seccomp_compare::{Calls, Comparison, Relation, compare_filters};
 use seccompiler::{
     BackendError, SeccompAction, SeccompCondition, SeccompFilter, SeccompRule, TargetArch,
 };
@@ -119,7 +119,8 @@ pub(crate) fn cover(
     let alone = filter_with(alloc, arch, number, chain_of(alloc, own)?)?;
     let others = filter_of(alloc, arch, number, rules)?;
     let calls = Calls::of_number(arch, number);
-    let answer = alone.compare(alloc, &others, &calls, Relation::AtMostAsPermissive, most)?;
+    let relation = Relation::AtMostAsPermissive;
+    let answer = compare_filters(alloc, &alone, &others, &calls, relation, most)?;
     Ok(answer)
 }
 

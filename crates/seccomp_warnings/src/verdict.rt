@@ -11,7 +11,7 @@ ghost use Rattle.seccomp_warnings.specs.VerdictParts.{SaysBeside};
 
 use crate::beside::compared;
 use crate::entry::{Entry, entries_of, is_any_always, number_of};
-use seccompiler::compare::Comparison;
+use seccomp_compare::Comparison;
 use seccompiler::{
     BackendError, JsonCompiler, JsonFilter, JsonFrontendError, JsonRule, TargetArch,
 };

@@ -2,4 +2,3 @@
 pub mod Chains
 pub mod FilterEquality
 pub mod Reordering
-pub mod ComparedDecisions

@@ -21,7 +21,7 @@ pub mod UnderNames
 pub mod JsonPrograms
 pub mod Reads
 -- What other calls promise: the code of conditions and rules; the tree layout, and either layout; the places of a program;
--- programs and filters compared; the first place of a program that isn't taken; each step from JSON to filters; entries
+-- the first place of a program that isn't taken; each step from JSON to filters; entries
 -- without conditions; errors and their texts; installing; the order of rules; the low half of an argument; conditions
 -- that hold for every argument, or for none; equality.
 pub mod Code
@@ -33,8 +33,6 @@ pub mod Places
 pub mod PlaceLists
 pub mod TreePlaces
 pub mod Layouts
-pub mod Compare
-pub mod CompareFilters
 pub mod FirstUnfit
 pub mod JsonSteps
 pub mod JsonOrigins
@@ -52,9 +50,6 @@ pub mod JsonEquality
 pub mod Relay
 pub mod ChainCode
 pub mod TreeCode
-pub mod WordSets
-pub mod RecordSets
-pub mod CompareTasks
 pub mod BlankProgram
 pub mod JsonGathered
 pub mod ByName

@@ -10,25 +10,19 @@ use std::alloc::{AllocError, AllocFailed, Global};
 use std::{error, fmt};
 
 // The words that a program returns, as `linux/seccomp.h` has them.
-pub(crate) const SECCOMP_RET_KILL_PROCESS: u32 = 0x8000_0000;
+const SECCOMP_RET_KILL_PROCESS: u32 = 0x8000_0000;
 
-pub(crate) const SECCOMP_RET_KILL_THREAD: u32 = 0x0000_0000;
+const SECCOMP_RET_KILL_THREAD: u32 = 0x0000_0000;
 
-pub(crate) const SECCOMP_RET_TRAP: u32 = 0x0003_0000;
+const SECCOMP_RET_TRAP: u32 = 0x0003_0000;
 
-pub(crate) const SECCOMP_RET_ERRNO: u32 = 0x0005_0000;
+const SECCOMP_RET_ERRNO: u32 = 0x0005_0000;
 
-// No action of a filter has it; programs of other compilers may return it.
-pub(crate) const SECCOMP_RET_USER_NOTIF: u32 = 0x7fc0_0000;
+const SECCOMP_RET_TRACE: u32 = 0x7ff0_0000;
 
-pub(crate) const SECCOMP_RET_TRACE: u32 = 0x7ff0_0000;
+const SECCOMP_RET_LOG: u32 = 0x7ffc_0000;
 
-pub(crate) const SECCOMP_RET_LOG: u32 = 0x7ffc_0000;
-
-pub(crate) const SECCOMP_RET_ALLOW: u32 = 0x7fff_0000;
-
-// The part of such a word that names the action.
-pub(crate) const SECCOMP_RET_ACTION_FULL: u32 = 0xffff_0000;
+const SECCOMP_RET_ALLOW: u32 = 0x7fff_0000;
 
 // The part of such a word that is the action's data.
 const SECCOMP_RET_DATA: u32 = 0x0000_ffff;

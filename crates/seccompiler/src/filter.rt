@@ -1,7 +1,5 @@
 // A policy on system calls.
 
-mod comparison;
-
 use crate::backend::{BackendError, SeccompAction, TargetArch};
 use crate::bpf::{SECCOMP_DATA_ARCH_OFFSET, SECCOMP_DATA_NR_OFFSET};
 use crate::chain::{chain_matches, clone_chain};

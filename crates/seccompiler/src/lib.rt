@@ -47,7 +47,6 @@
 pub mod backend;
 pub mod bpf;
 pub(crate) mod chain;
-pub mod compare;
 pub mod compile;
 pub mod condition;
 pub mod equality;
@@ -63,7 +62,6 @@ pub mod syscall_table;
 
 pub use backend::{BackendError, SeccompAction, SeccompCmpArgLen, SeccompCmpOp, TargetArch};
 pub use bpf::{BpfProgram, BpfProgramRef, sock_filter};
-pub use compare::{Calls, Comparison, Relation};
 pub use compile::{BpfMap, compile_from_json, compile_from_json_in_order, compile_policies};
 pub use condition::SeccompCondition;
 pub use equality::EqualByParts;

@@ -1,11 +1,11 @@
 -- What a comparison of two programs answers, and which place of a program isn't taken.
 use Rattle.std.specs.Prelude.{◌≡◌, ◌≢◌, ◌≤◌, ℕ, ℤ, pos, List}
 use Rattle.seccompiler.specs.Machine.{IsChecked, IsRecord, word_at}
-use Rattle.seccompiler.specs.Compare.{AnswersRelated, AnswersUnrelated}
+use Rattle.seccomp_compare.specs.Compare.{AnswersRelated, AnswersUnrelated}
 use Rattle.seccompiler.specs.FirstUnfit.{IsFirstUnfit}
 use Rattle.seccompiler.specs.declared.bpf.sock_filter.{sock_filter}
-use Rattle.seccompiler.specs.declared.compare.Relation.{Relation}
-use Rattle.seccompiler.specs.declared.compare.Relation.TheVariants.{Alike, AtMostAsPermissive}
+use Rattle.seccomp_compare.specs.declared.Relation.{Relation}
+use Rattle.seccomp_compare.specs.declared.Relation.TheVariants.{Alike, AtMostAsPermissive}
 use Rattle.seccompiler_c.specs.Arguments.{IsNoArchitecture}
 use Rattle.seccompiler_c.specs.Codes.{code_number}
 use Rattle.seccompiler_c.specs.declared.comparison.Asked.{Asked}

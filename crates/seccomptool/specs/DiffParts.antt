@@ -5,9 +5,9 @@ use Rattle.std.specs.declared.alloc.Global.{Global}
 use Rattle.seccompiler.specs.declared.backend.BackendError.{BackendError}
 use Rattle.seccompiler.specs.declared.backend.BackendError.TheVariants.{OutOfMemory}
 use Rattle.seccompiler.specs.declared.backend.TargetArch.{TargetArch}
-use Rattle.seccompiler.specs.declared.compare.Relation.{Relation}
+use Rattle.seccomp_compare.specs.declared.Relation.{Relation}
 use Rattle.seccompiler.specs.declared.error.Error.TheVariants as library
-use Rattle.seccompiler.specs.CompareFilters.{IsComparisonRefusal}
+use Rattle.seccomp_compare.specs.CompareFilters.{IsComparisonRefusal}
 use Rattle.seccompiler.specs.Policy.{Filter}
 use Rattle.seccomptool.specs.Diff.{Told, only_new, IsToldOf, verdict_told, NameReport, report_text, verdict_all, Policies, AreReportsOn}
 use Rattle.seccomptool.specs.Diff.{AreReports, AreRefused}

@@ -2,7 +2,7 @@
 use Rattle.std.specs.Prelude.{◌≡◌, ℕ, List}
 use Rattle.seccompiler.specs.declared.backend.TargetArch.{TargetArch}
 use Rattle.seccompiler.specs.declared.bpf.sock_filter.{sock_filter}
-use Rattle.seccompiler.specs.declared.compare.Relation.{Relation}
+use Rattle.seccomp_compare.specs.declared.Relation.{Relation}
 use Rattle.seccompiler.specs.Machine.{Ends}
 use Rattle.seccomptool.specs.DiffProfiles.{profiles_text}
 use Rattle.seccomptool.specs.Findings.{AreFindings, verdict_of}

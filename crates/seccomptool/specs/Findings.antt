@@ -5,10 +5,10 @@ use Rattle.std.specs.Fmt.{digits}
 use Rattle.std.specs.Ordering.{int_eq}
 use Rattle.std.specs.List.{concat}
 use Rattle.seccompiler.specs.declared.backend.TargetArch.{TargetArch}
-use Rattle.seccompiler.specs.declared.compare.Relation.{Relation}
-use Rattle.seccompiler.specs.declared.compare.Relation.TheVariants.{Alike, AtMostAsPermissive}
+use Rattle.seccomp_compare.specs.declared.Relation.{Relation}
+use Rattle.seccomp_compare.specs.declared.Relation.TheVariants.{Alike, AtMostAsPermissive}
 use Rattle.seccompiler.specs.Architecture.{audit_word, table_of}
-use Rattle.seccompiler.specs.Compare.{Related, rank}
+use Rattle.seccomp_compare.specs.Compare.{Related, rank}
 use Rattle.seccompiler.specs.Machine.{IsRecord, word_at, argument_at}
 use Rattle.seccompiler.specs.SyscallTable.{Pair}
 use Rattle.seccomp_command_line.specs.Names.{readable}

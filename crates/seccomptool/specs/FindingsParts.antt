@@ -2,10 +2,11 @@
 use Rattle.std.specs.Prelude.{◌≡◌, ℕ, ◌-◌, List, [], ◌∷◌, nat_eq, if◌then◌else◌, ⊤}
 use Rattle.seccompiler.specs.declared.backend.BackendError.{BackendError}
 use Rattle.seccompiler.specs.declared.backend.BackendError.TheVariants.{OutOfMemory}
-use Rattle.seccompiler.specs.declared.compare.Comparison.{Comparison}
-use Rattle.seccompiler.specs.declared.compare.Relation.{Relation}
-use Rattle.seccompiler.specs.Compare.{CallSet, Compares}
-use Rattle.seccompiler.specs.CompareFilters.{ComparesFilters, ComparesProgram, IsCompilableInSome, IsComparisonRefusal, IsProgramRefusal}
+use Rattle.seccomp_compare.specs.declared.Comparison.{Comparison}
+use Rattle.seccomp_compare.specs.declared.Relation.{Relation}
+use Rattle.seccomp_compare.specs.Compare.{CallSet, Compares}
+use Rattle.seccomp_compare.specs.CompareFilters.{ComparesFilters, ComparesProgram}
+use Rattle.seccomp_compare.specs.CompareFilters.{IsCompilableInSome, IsComparisonRefusal, IsProgramRefusal}
 use Rattle.seccompiler.specs.Machine.{IsChecked}
 use Rattle.seccomptool.specs.declared.findings.Part.{Part}
 use Rattle.seccomptool.specs.declared.findings.Part.TheVariants.{Unnamed}

@@ -7,12 +7,12 @@ use Rattle.seccompiler.specs.declared.backend.BackendError.{BackendError}
 use Rattle.seccompiler.specs.declared.backend.BackendError.TheVariants as backend
 use Rattle.seccompiler.specs.declared.backend.TargetArch.{TargetArch}
 use Rattle.seccompiler.specs.declared.bpf.sock_filter.{sock_filter}
-use Rattle.seccompiler.specs.declared.compare.Relation.{Relation}
+use Rattle.seccomp_compare.specs.declared.Relation.{Relation}
 use Rattle.seccompiler.specs.declared.error.Error.{Error}
 use Rattle.seccompiler.specs.declared.error.Error.TheVariants as library
 use Rattle.seccompiler.specs.Architecture.{audit_word}
-use Rattle.seccompiler.specs.Compare.{Related}
-use Rattle.seccompiler.specs.CompareFilters.{IsCompilableInSome, IsProgramRefusal}
+use Rattle.seccomp_compare.specs.Compare.{Related}
+use Rattle.seccomp_compare.specs.CompareFilters.{IsCompilableInSome, IsProgramRefusal}
 use Rattle.seccompiler.specs.JsonAnswers.{OfValue, ArePoliciesOf}
 use Rattle.seccompiler.specs.Machine.{IsRecord, Ends, word_at}
 use Rattle.seccompiler.specs.Policy.{Filter, IsDecision}

@@ -5,8 +5,8 @@ use Rattle.seccompiler.specs.declared.backend.BackendError.{BackendError}
 use Rattle.seccompiler.specs.declared.backend.BackendError.TheVariants as backend
 use Rattle.seccompiler.specs.declared.backend.TargetArch.{TargetArch}
 use Rattle.seccompiler.specs.declared.bpf.sock_filter.{sock_filter}
-use Rattle.seccompiler.specs.declared.compare.Relation.{Relation}
-use Rattle.seccompiler.specs.CompareFilters.{IsCompilableInSome, IsProgramRefusal}
+use Rattle.seccomp_compare.specs.declared.Relation.{Relation}
+use Rattle.seccomp_compare.specs.CompareFilters.{IsCompilableInSome, IsProgramRefusal}
 use Rattle.seccompiler.specs.Policy.{Filter}
 use Rattle.seccomptool.specs.Diff.{Policies}
 use Rattle.seccomptool.specs.Findings.{IsFound}

@@ -7,8 +7,8 @@ use Rattle.clap.specs.declared.error.Error.{Error}
 use Rattle.clap.specs.declared.error.kind.ErrorKind.TheVariants.{OutOfMemory, ValueValidation}
 use Rattle.seccompiler.specs.declared.backend.TargetArch.{TargetArch}
 use Rattle.seccompiler.specs.declared.backend.TargetArch.TheVariants.{x86_64, aarch64, riscv64}
-use Rattle.seccompiler.specs.declared.compare.Relation.{Relation}
-use Rattle.seccompiler.specs.declared.compare.Relation.TheVariants.{Alike, AtMostAsPermissive}
+use Rattle.seccomp_compare.specs.declared.Relation.{Relation}
+use Rattle.seccomp_compare.specs.declared.Relation.TheVariants.{Alike, AtMostAsPermissive}
 use Rattle.seccompiler.specs.declared.layout.Layout.{Layout}
 use Rattle.seccompiler.specs.declared.layout.Layout.TheVariants.{Linear, Tree}
 use Rattle.seccomp_oci.specs.Types.{Container}

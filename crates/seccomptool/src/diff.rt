@@ -15,7 +15,8 @@ use crate::error::ToolError;
 use crate::findings::{Terms, Verdict};
 use crate::progress::Progress;
 use crate::send::send;
-use seccompiler::{JsonCompiler, Relation, TargetArch};
+use seccomp_compare::Relation;
+use seccompiler::{JsonCompiler, TargetArch};
 use std::alloc::Global;
 use std::io::{Read, Write};
 

@@ -6,11 +6,12 @@ pub(crate) mod parts;
 pub(crate) mod tries;
 
 ghost use Rattle.std.specs.Prelude.{◌≡◌, ℕ, List, ◌↔◌};
-ghost use Rattle.seccompiler.specs.Compare.{IsCallOf};
+ghost use Rattle.seccomp_compare.specs.Compare.{IsCallOf};
 ghost use Rattle.seccomptool.specs.Findings as spec;
 ghost use Rattle.seccomptool.specs.Findings.{IsInPart, worse, verdict_of};
 
-use seccompiler::{Calls, Relation, TargetArch};
+use seccomp_compare::{Calls, Relation};
+use seccompiler::TargetArch;
 
 /// On which terms two sides are compared.
 #[derive(Clone, Copy)]

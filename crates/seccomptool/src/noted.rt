@@ -2,7 +2,7 @@
 
 ghost use Rattle.std.specs.Prelude.{◌≡◌, IfErr, IfOk, IfSome, List, Option, Some, ℕ};
 ghost use Rattle.seccompiler.specs.Architecture.{arch_text};
-ghost use Rattle.seccompiler.specs.declared.compare.Relation as spec;
+ghost use Rattle.seccomp_compare.specs.declared.Relation as spec;
 ghost use Rattle.seccomptool.specs.Commands.{AnswersCompileAsked, AnswersCompileNoted, AnswersDiffByKind, AnswersDiffNoted, AnswersFound};
 ghost use Rattle.seccomptool.specs.Diff.{AnswersDiff};
 ghost use Rattle.seccomptool.specs.DiffProfiles.{AnswersDiffProfiles};

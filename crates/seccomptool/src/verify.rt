@@ -17,7 +17,8 @@ use crate::send::send;
 use crate::verify::choice::choose;
 use crate::verify::report::report_of;
 use crate::verify::scope::Scope;
-use seccompiler::{JsonCompiler, Relation, TargetArch};
+use seccomp_compare::Relation;
+use seccompiler::{JsonCompiler, TargetArch};
 use std::alloc::Global;
 use std::io::{Read, Write};
 

@@ -19,9 +19,10 @@ use crate::program::program;
 use crate::verify::scope::Scope;
 use crate::words::matches::{asked_in, misuse_in};
 use clap::error::ErrorKind;
+use seccomp_compare::Relation;
 use seccomp_oci::Container;
 use seccomp_warnings::Code;
-use seccompiler::{Layout, Relation, TargetArch};
+use seccompiler::{Layout, TargetArch};
 use std::alloc::Global;
 
 /// A command of the program. A policy and records are paths, or `-` for standard input.

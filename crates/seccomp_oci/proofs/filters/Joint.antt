@@ -7,7 +7,7 @@ use Rattle.seccompiler.specs.declared.backend.SeccompAction.{SeccompAction}
 use Rattle.seccompiler.specs.declared.backend.SeccompAction.TheVariants.{Allow}
 use Rattle.seccompiler.specs.declared.backend.TargetArch.{TargetArch}
 use Rattle.seccompiler.specs.Architecture.{audit_word}
-use Rattle.seccompiler.specs.Compare.{rank}
+use Rattle.seccomp_compare.specs.Compare.{rank}
 use Rattle.seccompiler.specs.JsonPolicyOf.{IsPolicyOf}
 use Rattle.seccompiler.specs.JsonTypes.{JsonFilter}
 use Rattle.seccompiler.specs.Machine.{word_at}

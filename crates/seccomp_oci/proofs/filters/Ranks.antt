@@ -4,7 +4,7 @@ use Rattle.std.specs.Int.Bits.{and_zero_r}
 use Rattle.std.proofs.lemmas.Nat.{and_block}
 use Rattle.seccompiler.specs.declared.backend.SeccompAction.{SeccompAction}
 use Rattle.seccompiler.specs.declared.backend.SeccompAction.TheVariants.{Allow, Errno, KillThread, KillProcess, Log, Trace, Trap}
-use Rattle.seccompiler.specs.Compare.{rank_of_action}
+use Rattle.seccomp_compare.specs.Compare.{rank_of_action}
 use Rattle.seccomp_oci.specs.Decision.{rank_of_kept}
 
 -- The upper half of a return value, whatever its data.

@@ -4,7 +4,7 @@ use Rattle.std.specs.List.{AllZip}
 use Rattle.seccompiler.specs.declared.backend.TargetArch.{TargetArch}
 use Rattle.seccompiler.specs.declared.bpf.sock_filter.{sock_filter}
 use Rattle.seccompiler.specs.Architecture.{audit_word}
-use Rattle.seccompiler.specs.Compare.{rank}
+use Rattle.seccomp_compare.specs.Compare.{rank}
 use Rattle.seccompiler.specs.JsonPolicyOf.{IsPolicyOf}
 use Rattle.seccompiler.specs.JsonTypes.{JsonFilter}
 use Rattle.seccompiler.specs.Machine.{word_at}

@@ -1,11 +1,11 @@
 // The examples of comparisons: of programs, of filters, and of sets of calls.
 
+use seccomp_compare::{Calls, Comparison, Relation, compare, compare_filters};
 use seccompiler::bpf::{
     BPF_ABS, BPF_JEQ, BPF_JMP, BPF_K, BPF_LD, BPF_RET, BPF_W, bpf_jump, bpf_stmt,
 };
-use seccompiler::compare::compare;
 use seccompiler::machine::check;
-use seccompiler::{Calls, Comparison, Relation, SeccompAction, SeccompFilter, TargetArch};
+use seccompiler::{SeccompAction, SeccompFilter, TargetArch};
 use std::alloc::Global;
 use std::collections::BTreeMap;
 use std::test::Fail;
@@ -36,7 +36,7 @@ fn programs(rt: HostRuntime) -> Result<(), Fail> {
 }
 
 // The filter that allows these calls of x86_64, and traps others.
-fn allowed(alloc: Global, numbers: &[i64]) -> Result<SeccompFilter, Fail> {
+pub(crate) fn allowed(alloc: Global, numbers: &[i64]) -> Result<SeccompFilter, Fail> {
     let mut rules = BTreeMap::new(alloc);
     for number in numbers {
         drop(rules.insert(*number, Vec::new(alloc))?);
@@ -53,7 +53,7 @@ fn filters(rt: HostRuntime) -> Result<(), Fail> {
     // The new policy permits something of x86_64 that the old one doesn't.
     let calls = Calls::of_arch(TargetArch::x86_64);
     let relation = Relation::AtMostAsPermissive;
-    let answer = new.compare(alloc, &old, &calls, relation, 1_000_000)?;
+    let answer = compare_filters(alloc, &new, &old, &calls, relation, 1_000_000)?;
     assert!(rt; matches!(answer, Comparison::Fails(_)));
     Ok(())
 }
@@ -65,7 +65,8 @@ fn calls_without_a_name(rt: HostRuntime) -> Result<(), Fail> {
     let other = allowed(alloc, &[39, 335, 424])?;
     // x86_64 has no name for these numbers.
     let unnamed = Calls::of_numbers(TargetArch::x86_64, 336, 423);
-    let answer = filter.compare(alloc, &other, &unnamed, Relation::Alike, 1_000_000)?;
+    let (relation, most) = (Relation::Alike, 1_000_000);
+    let answer = compare_filters(alloc, &filter, &other, &unnamed, relation, most)?;
     assert!(rt; matches!(answer, Comparison::Holds));
     Ok(())
 }

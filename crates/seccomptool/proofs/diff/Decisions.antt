@@ -3,10 +3,10 @@ use Rattle.std.proofs.Common.{◌≡◌, ◌↔◌, ℕ, List}
 use Rattle.seccompiler.specs.declared.backend.BackendError.{BackendError}
 use Rattle.seccompiler.specs.declared.backend.BackendError.TheVariants as backend
 use Rattle.seccompiler.specs.declared.backend.TargetArch.{TargetArch}
-use Rattle.seccompiler.specs.declared.compare.Comparison.TheVariants as comparison
-use Rattle.seccompiler.specs.declared.compare.Relation.{Relation}
-use Rattle.seccompiler.specs.Compare.{CallSet, IsCallOf}
-use Rattle.seccompiler.specs.CompareFilters.{ComparesFilters, IsComparisonRefusal}
+use Rattle.seccomp_compare.specs.declared.Comparison.TheVariants as comparison
+use Rattle.seccomp_compare.specs.declared.Relation.{Relation}
+use Rattle.seccomp_compare.specs.Compare.{CallSet, IsCallOf}
+use Rattle.seccomp_compare.specs.CompareFilters.{ComparesFilters, IsComparisonRefusal}
 use Rattle.seccompiler.specs.Policy.{Filter, IsDecision}
 use Rattle.seccomptool.specs.Diff.{AreDecisions}
 use Rattle.seccomptool.specs.DiffParts.{IsPairRefusal}

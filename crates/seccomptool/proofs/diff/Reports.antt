@@ -15,7 +15,7 @@ use Rattle.std.proofs.lemmas.Map.Text.{text_cmp}
 use Rattle.seccompiler.specs.declared.backend.BackendError.{BackendError}
 use Rattle.seccompiler.specs.declared.backend.BackendError.TheVariants as backend
 use Rattle.seccompiler.specs.declared.backend.TargetArch.{TargetArch}
-use Rattle.seccompiler.specs.declared.compare.Relation.{Relation}
+use Rattle.seccomp_compare.specs.declared.Relation.{Relation}
 use Rattle.seccompiler.specs.Errors.{from_backend}
 use Rattle.seccompiler.specs.Policy.{Filter}
 use Rattle.seccomp_command_line.proofs.ByName.{by_text, each_found, found_name, found_there, names_ordered}

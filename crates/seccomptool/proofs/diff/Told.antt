@@ -2,7 +2,7 @@
 use Rattle.std.proofs.Common.{◌≡◌, ℕ, List, Option, Some, None, Ok, Err, ◌∙◌, subst}
 use Rattle.std.specs.Io.KnownBytes.{Appends}
 use Rattle.seccompiler.specs.declared.backend.TargetArch.{TargetArch}
-use Rattle.seccompiler.specs.declared.compare.Relation.{Relation}
+use Rattle.seccomp_compare.specs.declared.Relation.{Relation}
 use Rattle.seccompiler.specs.JsonAnswers.{OfValue, ArePoliciesOf}
 use Rattle.seccompiler.specs.Reads.{Reads}
 use Rattle.seccomptool.specs.Diff.{Policies, OfPolicies, WritesReports, of_old, of_filters, AnswersDiff}

@@ -2,7 +2,7 @@
 use Rattle.std.proofs.Common.{◌≡◌, ◌∙◌, ℕ, false, List, Option, Ok, Err, subst, sym}
 use Rattle.std.specs.Io.KnownBytes.{Appends}
 use Rattle.seccompiler.specs.declared.backend.TargetArch.{TargetArch}
-use Rattle.seccompiler.specs.declared.compare.Relation.{Relation}
+use Rattle.seccomp_compare.specs.declared.Relation.{Relation}
 use Rattle.seccompiler.specs.declared.error.Error.TheVariants as library
 use Rattle.seccompiler.specs.declared.json.error.JsonFrontendError.TheVariants as json
 use Rattle.seccompiler.specs.Reads.{Reads}

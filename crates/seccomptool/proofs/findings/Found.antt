@@ -4,7 +4,7 @@ use Rattle.std.proofs.Common.{arith}
 use Rattle.std.proofs.lemmas.List.{take_more, map-append}
 use Rattle.std.proofs.lemmas.List.Elements.{All-push}
 use Rattle.seccompiler.specs.declared.backend.TargetArch.{TargetArch}
-use Rattle.seccompiler.specs.declared.compare.Relation.{Relation}
+use Rattle.seccomp_compare.specs.declared.Relation.{Relation}
 use Rattle.seccompiler.specs.SyscallTable.{Pair}
 use Rattle.seccomptool.specs.Findings.{ArePartsBelow, no_part, then_named, then_gap, IsFound}
 use Rattle.seccomptool.specs.declared.findings.Finding.{Finding}

@@ -2,7 +2,7 @@
 use Rattle.std.proofs.Common.{◌≡◌, ℕ, ◌^◌, List, [], ◌∷◌, map, All, sym, subst}
 use Rattle.std.proofs.lemmas.List.Elements.{All-nil, All-cons, All-head, All-tail, All-push}
 use Rattle.seccompiler.specs.declared.backend.TargetArch.{TargetArch}
-use Rattle.seccompiler.specs.declared.compare.Relation.{Relation}
+use Rattle.seccomp_compare.specs.declared.Relation.{Relation}
 use Rattle.seccompiler.specs.Architecture.{audit_word, table_of}
 use Rattle.seccompiler.specs.Machine.{IsRecord, word_at}
 use Rattle.seccompiler.specs.SyscallTable.{Pair}

@@ -1,7 +1,7 @@
 -- For `diff_policies`: the answer on the texts that were read, and that nothing is at fault in them where they are compared.
 use Rattle.std.proofs.Common.{◌≡◌, ◌∙◌, ℕ, Bool, List, Option, Some, None, IfSome, Result, Ok, Err, refl, subst}
 use Rattle.seccompiler.specs.declared.backend.TargetArch.{TargetArch}
-use Rattle.seccompiler.specs.declared.compare.Relation.{Relation}
+use Rattle.seccomp_compare.specs.declared.Relation.{Relation}
 use Rattle.seccompiler.specs.declared.error.Error.{Error}
 use Rattle.seccompiler.specs.Architecture.{arch_text}
 use Rattle.seccompiler.specs.JsonAnswers.{ArePoliciesOf, HasPolicy, HasSomePolicy, OfValue}

@@ -2,10 +2,10 @@
 use Rattle.std.proofs.Common.{◌≡◌, ◌↔◌, ℕ, List}
 use Rattle.seccompiler.specs.declared.backend.TargetArch.{TargetArch}
 use Rattle.seccompiler.specs.declared.bpf.sock_filter.{sock_filter}
-use Rattle.seccompiler.specs.declared.compare.Comparison.TheVariants as comparison
-use Rattle.seccompiler.specs.declared.compare.Relation.{Relation}
-use Rattle.seccompiler.specs.Compare.{CallSet, IsCallOf}
-use Rattle.seccompiler.specs.CompareFilters.{ComparesProgram}
+use Rattle.seccomp_compare.specs.declared.Comparison.TheVariants as comparison
+use Rattle.seccomp_compare.specs.declared.Relation.{Relation}
+use Rattle.seccomp_compare.specs.Compare.{CallSet, IsCallOf}
+use Rattle.seccomp_compare.specs.CompareFilters.{ComparesProgram}
 use Rattle.seccompiler.specs.Machine.{Ends}
 use Rattle.seccompiler.specs.Policy.{Filter, IsDecision}
 use Rattle.seccomptool.specs.Findings.{IsInPart, IsFound}

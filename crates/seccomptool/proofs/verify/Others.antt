@@ -3,7 +3,7 @@ use Rattle.std.proofs.Common.{◌≡◌, ℕ, ◌+◌, ◌-◌, ◌^◌, ◌<◌
 use Rattle.std.proofs.lemmas.Bool.{cases_lt}
 use Rattle.std.proofs.lemmas.List.Elements.{All-head, All-tail}
 use Rattle.seccompiler.specs.declared.backend.TargetArch.{TargetArch}
-use Rattle.seccompiler.specs.declared.compare.Relation.{Relation}
+use Rattle.seccomp_compare.specs.declared.Relation.{Relation}
 use Rattle.seccompiler.specs.Architecture.{audit_word}
 use Rattle.seccompiler.specs.Machine.{IsRecord, word_at}
 use Rattle.seccomptool.specs.Findings.{IsFound, verdict_of}

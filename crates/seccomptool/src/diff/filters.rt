@@ -1,7 +1,7 @@
 // What is told of the filters that two policies have under a name.
 
 ghost use Rattle.std.specs.Prelude.{◌≡◌, ◌++◌, IfOk, IfErr, OnOk, Some, option_map};
-ghost use Rattle.seccompiler.specs.CompareFilters.{IsCompilableInSome};
+ghost use Rattle.seccomp_compare.specs.CompareFilters.{IsCompilableInSome};
 ghost use Rattle.seccomptool.specs.Findings.{AreFindings, IsFound};
 ghost use Rattle.seccomptool.specs.Diff.{AreDecisions, report_text};
 ghost use Rattle.seccomptool.specs.DiffParts.{AddsReport, IsPairRefusal, IsRefusalOf, lone};
@@ -13,7 +13,8 @@ use crate::findings::parts::parts;
 use crate::findings::tries::{Sides, try_comparisons};
 use crate::findings::{Answer, Finding, Part, Terms, Verdict, calls_of, verdict_of};
 use crate::progress::Progress;
-use seccompiler::{BackendError, Comparison, SeccompFilter};
+use seccomp_compare::Comparison;
+use seccompiler::{BackendError, SeccompFilter};
 use std::alloc::{AllocError, Global};
 
 // Adds what is to be told of a filter of the old policy, where the new one has this under its name.

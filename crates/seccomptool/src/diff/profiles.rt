@@ -11,8 +11,9 @@ use crate::findings::{Terms, Verdict};
 use crate::profile::compiled_of;
 use crate::progress::Progress;
 use crate::send::send;
+use seccomp_compare::Relation;
 use seccomp_oci::Container;
-use seccompiler::{Relation, TargetArch};
+use seccompiler::TargetArch;
 use std::alloc::Global;
 use std::io::{Read, Write};
 

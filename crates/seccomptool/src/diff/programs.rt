@@ -13,7 +13,8 @@ use crate::findings::parts::parts;
 use crate::findings::tries::{Sides, try_comparisons};
 use crate::findings::{Answer, Finding, Part, Report, Terms, calls_of, verdict_of};
 use crate::progress::Progress;
-use seccompiler::{BackendError, BpfProgramRef, Comparison, machine};
+use seccomp_compare::Comparison;
+use seccompiler::{BackendError, BpfProgramRef, machine};
 use std::alloc::{AllocError, Global};
 
 // What is told of two programs; the progress is shown meanwhile.

@@ -5,7 +5,7 @@ ghost use Rattle.seccomptool.specs.Findings.{heading, verdict_text};
 
 use crate::findings::Verdict;
 use seccomp_command_line::names::push_readable;
-use seccompiler::Relation;
+use seccomp_compare::Relation;
 use std::alloc::AllocError;
 
 // Adds the heading of a name, and what follows it.

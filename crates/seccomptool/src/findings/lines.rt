@@ -6,8 +6,8 @@ ghost use Rattle.seccomptool.specs.Findings.{kind_text, argument_text, arguments
 
 use crate::findings::parts::name_of;
 use crate::findings::{Answer, Finding, Part};
+use seccomp_compare::rank;
 use seccompiler::TargetArch;
-use seccompiler::compare::rank;
 use std::alloc::{AllocError, Global};
 use std::fmt;
 

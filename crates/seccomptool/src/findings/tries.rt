@@ -5,8 +5,8 @@ ghost use Rattle.seccomptool.specs.FindingsParts.{AreComparable, AreCompilable, 
 
 use crate::findings::{Part, Terms};
 use crate::progress::Progress;
-use seccompiler::compare::compare;
-use seccompiler::{BackendError, BpfProgramRef, Calls, Comparison, Relation, SeccompFilter};
+use seccomp_compare::{Calls, Comparison, Relation, compare, compare_filters, compare_program};
+use seccompiler::{BackendError, BpfProgramRef, SeccompFilter};
 use std::alloc::Global;
 
 // So many sets are looked at in the first of several tries.
@@ -104,9 +104,9 @@ fn compare_sides(
     ensures refused { IfErr result (IsSidesRefusal sides.entry) }
 {
     match sides {
-        Sides::Filters { new, old } => new.compare(alloc, old, calls, relation, most),
+        Sides::Filters { new, old } => compare_filters(alloc, new, old, calls, relation, most),
         Sides::Program { program, filter } => {
-            filter.compare_program(alloc, program, calls, relation, most)
+            compare_program(alloc, program, filter, calls, relation, most)
         }
         Sides::Programs { new, old } => compare(alloc, new, old, calls, relation, most),
     }

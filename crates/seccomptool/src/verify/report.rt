@@ -1,7 +1,7 @@
 // What is told of a program and a filter.
 
 ghost use Rattle.std.specs.Prelude.{◌≡◌, IfOk, IfErr, OnOk};
-ghost use Rattle.seccompiler.specs.CompareFilters.{IsCompilableInSome};
+ghost use Rattle.seccomp_compare.specs.CompareFilters.{IsCompilableInSome};
 ghost use Rattle.seccompiler.specs.Machine.{IsChecked};
 ghost use Rattle.seccomptool.specs.Findings.{IsFound};
 ghost use Rattle.seccomptool.specs.Verify.{AreAnswers, IsReport, counted, other_parts, report_text};
@@ -15,7 +15,8 @@ use crate::findings::{Answer, Finding, Part, Report, Terms, Verdict, calls_of, v
 use crate::progress::Progress;
 use crate::verify::lines::{Numbers, push_among};
 use crate::verify::scope::Scope;
-use seccompiler::{BackendError, BpfProgramRef, Comparison, SeccompFilter, TargetArch, machine};
+use seccomp_compare::Comparison;
+use seccompiler::{BackendError, BpfProgramRef, SeccompFilter, TargetArch, machine};
 use std::alloc::{AllocError, Global};
 
 // What is told of a program and of the filter of this name; the progress is shown meanwhile.

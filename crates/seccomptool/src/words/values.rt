@@ -24,8 +24,9 @@ use crate::import::format::ImportFormat;
 use crate::numbers::read_number;
 use crate::verify::scope::Scope;
 use clap::ArgMatches;
+use seccomp_compare::Relation;
 use seccomp_warnings::Code;
-use seccompiler::{Layout, Relation, TargetArch};
+use seccompiler::{Layout, TargetArch};
 use std::alloc::{AllocError, Global};
 
 // The value of an argument of this name.

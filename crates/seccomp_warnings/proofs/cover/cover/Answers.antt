@@ -1,7 +1,7 @@
 use Rattle.std.proofs.Common.{◌≡◌, ◌∷◌, [], pos, ap, ◌∙◌, subst}
-use Rattle.seccompiler.specs.CompareFilters.{ComparesFilters}
+use Rattle.seccomp_compare.specs.CompareFilters.{ComparesFilters}
 use Rattle.seccompiler.specs.Policy.{Filter}
-use Rattle.seccompiler.specs.declared.compare.Relation.TheVariants.{AtMostAsPermissive}
+use Rattle.seccomp_compare.specs.declared.Relation.TheVariants.{AtMostAsPermissive}
 use Rattle.seccomp_warnings.specs.VerdictParts.{chain_of, filter_with, filter_of}
 use Rattle.seccomp_warnings.proofs.Covered.{answers}
 use Rattle.seccomp_warnings.proofs.cover.cover.Goals as goal

@@ -1,6 +1,6 @@
 use Rattle.std.proofs.Common.{◌≡◌, sym, subst}
-use Rattle.seccompiler.specs.declared.compare.Comparison.{Comparison}
-use Rattle.seccompiler.specs.CompareFilters.{ComparesFilters}
+use Rattle.seccomp_compare.specs.declared.Comparison.{Comparison}
+use Rattle.seccomp_compare.specs.CompareFilters.{ComparesFilters}
 use Rattle.seccomptool.specs.Diff.{AreDecisions}
 use Rattle.seccomptool.specs.Findings.{IsFound}
 use Rattle.std.proofs.lemmas.Result.{err_from_is_err_and}

@@ -1,6 +1,6 @@
 use Rattle.std.proofs.Common.{◌≡◌, sym, subst}
-use Rattle.seccompiler.specs.declared.compare.Comparison.{Comparison}
-use Rattle.seccompiler.specs.Compare.{Compares}
+use Rattle.seccomp_compare.specs.declared.Comparison.{Comparison}
+use Rattle.seccomp_compare.specs.Compare.{Compares}
 use Rattle.seccomptool.specs.DiffProfilesParts.{AreReturned}
 use Rattle.seccomptool.specs.Findings.{IsFound}
 use Rattle.seccomptool.proofs.diff.Returned.{holds_found, fails_found}

@@ -1,6 +1,6 @@
 use Rattle.std.proofs.Common.{◌≡◌, sym, subst}
-use Rattle.seccompiler.specs.declared.compare.Comparison.{Comparison}
-use Rattle.seccompiler.specs.CompareFilters.{ComparesProgram}
+use Rattle.seccomp_compare.specs.declared.Comparison.{Comparison}
+use Rattle.seccomp_compare.specs.CompareFilters.{ComparesProgram}
 use Rattle.seccomptool.specs.Findings.{IsFound}
 use Rattle.seccomptool.specs.Verify.{AreAnswers}
 use Rattle.seccomptool.proofs.verify.Answered.{holds_found, fails_found}

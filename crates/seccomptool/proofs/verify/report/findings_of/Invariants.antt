@@ -1,5 +1,5 @@
 use Rattle.std.proofs.Common.{◌≡◌, ◌<◌, All, map, take}
-use Rattle.seccompiler.specs.CompareFilters.{IsCompilableInSome}
+use Rattle.seccomp_compare.specs.CompareFilters.{IsCompilableInSome}
 use Rattle.seccomptool.specs.Findings.{IsFound}
 use Rattle.seccomptool.specs.Verify.{AreAnswers}
 use Rattle.seccomptool.specs.declared.findings.Finding.{Finding}

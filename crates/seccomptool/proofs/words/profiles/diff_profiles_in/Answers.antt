@@ -2,7 +2,7 @@ use Rattle.std.proofs.Common.{IfNone, IfSome, List, ap, arith, codes, refl, rule
 use Rattle.std.specs.Prelude.{Bool, Option, slice_index}
 use Rattle.clap.specs.Words.{Row, Text, found_of, rows_of}
 use Rattle.seccompiler.specs.declared.backend.TargetArch.{TargetArch}
-use Rattle.seccompiler.specs.declared.compare.Relation.{Relation}
+use Rattle.seccomp_compare.specs.declared.Relation.{Relation}
 use Rattle.seccomp_oci.specs.Types.{Container}
 use Rattle.seccomp_oci.specs.declared.types.Kernel.{Kernel}
 use Rattle.seccomptool.specs.Words.{IsContainer, IsDiffProfiles, IsGivenKernel, given_caps}

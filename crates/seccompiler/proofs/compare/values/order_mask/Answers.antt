@@ -1,5 +1,0 @@
-use Rattle.seccompiler.proofs.compare.Masks.{under_part}
-use Rattle.seccompiler.proofs.compare.values.order_mask.Goals as goal
-
-pub returns-clause-same : goal.returns-clause-same
-returns-clause-same c = λ x fits. under_part x c.args.bounds c.args.mask c.ranges.bounds.fits c.if-mask-bounds.false

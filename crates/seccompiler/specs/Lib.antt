@@ -21,7 +21,7 @@ pub mod UnderNames
 pub mod JsonPrograms
 pub mod Reads
 -- What other calls promise: the code of conditions and rules; the tree layout, and either layout; the places of a program;
--- the first place of a program that isn't taken; each step from JSON to filters; entries
+-- the first place of a program that isn't taken; each step from JSON to filters; which records meet an entry; entries
 -- without conditions; errors and their texts; installing; the order of rules; the low half of an argument; conditions
 -- that hold for every argument, or for none; equality.
 pub mod Code
@@ -35,6 +35,7 @@ pub mod TreePlaces
 pub mod Layouts
 pub mod FirstUnfit
 pub mod JsonSteps
+pub mod JsonEntries
 pub mod JsonOrigins
 pub mod JsonWidened
 pub mod Texts

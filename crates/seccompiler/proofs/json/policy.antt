@@ -6,3 +6,4 @@ pub mod EntryFaults
 pub mod NumberedChains
 pub mod Policies
 pub mod WidenedNumbers
+pub mod MetEntries

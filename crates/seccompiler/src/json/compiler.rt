@@ -9,6 +9,7 @@ ghost use Rattle.serde_json.specs.Data.{Data};
 ghost use Rattle.seccompiler.specs.Errors.{IsNoMemoryInFrontend};
 ghost use Rattle.seccompiler.specs.JsonOrigins.{AreOfChains, AreOrigins};
 ghost use Rattle.seccompiler.specs.JsonAnswers.{IsValueOf, OfValue, ArePoliciesOf, TellsFrontendFault};
+ghost use Rattle.seccompiler.specs.JsonEntries.{PoliciesMatchEntries};
 ghost use Rattle.seccompiler.specs.JsonSteps.{AreFilters, ArePoliciesFor, HaveTableNumbers, IsLeastPolicyRefusal, IsNoFailedRead, IsPolicyRefusal};
 ghost use Rattle.seccompiler.specs.Reads.{Reads};
 ghost use Rattle.seccompiler.specs.Policy.{Filter};
@@ -89,6 +90,9 @@ impl JsonCompiler {
         ensures only_fault { (a b : Fault) → IsFirstFault self.now filter.now a → IsFirstFault self.now filter.now b → a ≡ b }
         ensures not_both { (f : Filter) (fault : Fault) → IsPolicyOf self.now filter.now f → IsFirstFault self.now filter.now fault → ⊥ }
         ensures one_of_both { ((f : Filter) × IsPolicyOf self.now filter.now f) ⊎ ((fault : Fault) × IsFirstFault self.now filter.now fault) }
+
+        // The policy of each JSON filter matches exactly the records that meet one of its entries.
+        ensures entries { PoliciesMatchEntries self.now }
     {
         seccomp_filter(alloc, self.arch, filter)
     }
@@ -125,6 +129,9 @@ impl JsonCompiler {
 
         // Each JSON filter has a policy or a first fault, and never both.
         ensures not_both { (f : Filter) (fault : Fault) → IsPolicyOf self.now filter.now f → IsFirstFault self.now filter.now fault → ⊥ }
+
+        // The policy of each JSON filter matches exactly the records that meet one of its entries.
+        ensures entries { PoliciesMatchEntries self.now }
 
         // Off the numbers that have both kinds of entries, the Rust crate's policy decides alike.
         ensures alike { (numbers : List ℤ) → ((number : ℤ) → Contains numbers number ↔ IsWidened self.now filter.now number) → DecideAlikeOff numbers self.now filter.now }

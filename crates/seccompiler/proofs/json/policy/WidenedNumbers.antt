@@ -33,7 +33,7 @@ module _ (arch : TargetArch) where
   abbrev has_conditions : ℤ → JsonRule → Bool
   has_conditions number entry = is_for arch number entry && is_some entry.conditions
 
-  always_decides : (number : ℤ) (entries : List JsonRule)
+  pub always_decides : (number : ℤ) (entries : List JsonRule)
       → Decides (list_any (is_always arch number) entries) (Any (λ entry. IsFor arch number entry × (entry.conditions ≡ None)) entries)
   always_decides number = any_decides (is_always arch number) (λ entry. IsFor arch number entry × (entry.conditions ≡ None))
       (λ entry. Decides-and (is_for arch number entry) (is_none entry.conditions) (for_decides arch number entry)

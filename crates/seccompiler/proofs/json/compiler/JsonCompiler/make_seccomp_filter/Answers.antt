@@ -4,6 +4,7 @@ use Rattle.seccompiler.specs.JsonPolicyOf.{IsPolicyOf}
 use Rattle.seccompiler.specs.Policy.{Filter}
 use Rattle.seccompiler.specs.Compiled.{numbers_of}
 use Rattle.seccompiler.specs.SyscallTable.{IsTableNumber}
+use Rattle.seccompiler.proofs.json.policy.MetEntries.{policies_match_entries}
 use Rattle.seccompiler.proofs.json.policy.Policies.{one_policy, one_fault, not_both, policy_or_fault, numbers_in_range}
 use Rattle.seccompiler.proofs.json.compiler.JsonCompiler.make_seccomp_filter.Goals as goal
 
@@ -24,3 +25,6 @@ returns-clause-numbers c =
     IfOk-weaker c.seccomp_filter.result (IsPolicyOf c.self.inside.arch c.args.filter.now)
     (λ (f : Filter). All IsTableNumber (numbers_of f.chains))
     (numbers_in_range c.self.inside.arch c.args.filter.now) c.seccomp_filter.ensures.policy
+
+pub returns-clause-entries : goal.returns-clause-entries
+returns-clause-entries c = policies_match_entries c.args.self.now

@@ -1,6 +1,7 @@
 use Rattle.std.proofs.Common.{rules}
 use Rattle.seccompiler.specs.JsonOrigins.{AreOrigins}
 use Rattle.seccompiler.proofs.json.compiler.ChainOrigins.{of_chains}
+use Rattle.seccompiler.proofs.json.policy.MetEntries.{policies_match_entries}
 use Rattle.seccompiler.proofs.json.policy.Policies.{not_both}
 use Rattle.seccompiler.proofs.json.policy.WidenedNumbers.{alike_off}
 use Rattle.seccompiler.proofs.json.compiler.JsonCompiler.make_with_origins.Goals as goal
@@ -21,3 +22,12 @@ returns-in_err-made-clause-alike c = λ numbers. alike_off c.args.self.now c.arg
 
 pub returns-in_err-origins-clause-alike : goal.returns-in_err-origins-clause-alike
 returns-in_err-origins-clause-alike c = λ numbers. alike_off c.args.self.now c.args.filter.now numbers
+
+pub returns-in_err-made-clause-entries : goal.returns-in_err-made-clause-entries
+returns-in_err-made-clause-entries c = policies_match_entries c.args.self.now
+
+pub returns-in_err-origins-clause-entries : goal.returns-in_err-origins-clause-entries
+returns-in_err-origins-clause-entries c = policies_match_entries c.args.self.now
+
+pub returns-clause-entries : goal.returns-clause-entries
+returns-clause-entries c = policies_match_entries c.args.self.now

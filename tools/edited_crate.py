@@ -19,6 +19,9 @@ pub {name}_spec : {{M : Type 1}} → statement M
 {name}_spec = assumed
 """
 
+# An error of a written proof: its file, the goal or lemma, and what is wrong with it, which may go on on further lines.
+ERROR = r"(?m)^\./proofs/(\S+)\.antt:\d+:\d+: error: `([^`]*)`: (.*(?:\n  .*)*)$"
+
 
 class Crate:
     """A crate as it stands: the texts of its files by their paths, and where its functions and types are."""
@@ -161,19 +164,22 @@ class Said:
 
     def open_goals(self, function):
         """Returns the goals of a function's proof that are open, and the lemmas that it stands on and that are refused.
-        Not those for which a written proof only names something that is gone: that would be refused of a right body too."""
+        Not those for which a written proof only names something that is gone: that would be refused of a right body too.
+        Where what is gone is a goal, none of those counts for which nothing is written."""
         above, _, last = function.partition("::")[2].replace("::", "/").rpartition("/")
         place = re.compile(re.escape(above + "/" if above else "") + r"\+?" + re.escape(last) + r"/\w+")
         gone = r"has no field|is not in scope|has no `|was not admitted"
-        refused, told, said = [], set(), self.of.get(function, "")
-        for path, name, why in re.findall(r"(?m)^\./proofs/(\S+)\.antt:\d+:\d+: error: `([^`]*)`: (.*)$", self.text):
+        refused, told, said, is_goal_gone = [], set(), self.of.get(function, ""), False
+        for path, name, why in re.findall(ERROR, self.text):
             lemma = f"{path.replace('/', '.')}.{name}"
             if place.fullmatch(path) or f".proofs.{lemma}`" in said:
                 refused.append(name if place.fullmatch(path) else lemma)
                 told |= set() if re.search(gone, why) else {refused[-1]}
+                is_goal_gone |= f"has no `{name}`" in why
         asked = re.findall(r"(?m)^note: `([^`]*)` of proofs/(\S+)\.antt must prove", self.text)
-        found = [*refused, *(name for name, path in asked if place.fullmatch(path))]
+        found = [name for name, path in asked if place.fullmatch(path)]
         found += re.findall(r"`([^`]*)`", said.partition("did not prove ")[2].partition("; it ")[0])
+        found = refused + found * (not is_goal_gone)
         return [it for it in dict.fromkeys(found) if it in told or it not in refused]
 
     def verdict(self, edit, function):

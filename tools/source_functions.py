@@ -3,7 +3,9 @@
 import functools
 import re
 
-HEAD = r'(?m)^( *)(?:pub(?:\((?:crate|super)\))? )?(?:unsafe )?(?:extern "C" )?fn (\w+)(?:.|\n)*?(?: \{$|^\1\{$|;$)'
+# A head ends with the brace that begins the body, behind a line of clauses or on the last line of the signature, or
+# with the whole of a body without statements, or with a semicolon where there is no body.
+HEAD = r'(?m)^( *)(?:pub(?:\((?:crate|super)\))? )?(?:unsafe )?(?:extern "C" )?fn (\w+)(?:.|\n)*?(?:(?: |^\1)\{\}?$|;$)'
 TYPE = r"(?m)^ *(?:pub(?:\((?:crate|super)\))? )?(?:struct|enum|union) (\w+)"
 
 
@@ -12,8 +14,9 @@ class Function:
     it, and where its body does."""
 
     def __init__(self, text, head):
-        self.indent, self.name, self.begin = head[1], head[2], head.end()
-        self.end = text.find(f"\n{self.indent}}}\n", self.begin) + len(self.indent) + 3
+        self.indent, self.name, self.begin = head[1], head[2], text.rindex("{", 0, head.end()) + 1
+        is_empty = text[self.begin] == "}"
+        self.end = head.end() + 1 if is_empty else text.find(f"\n{self.indent}}}\n", self.begin) + len(self.indent) + 3
         above = text[text.rfind("\n\n", 0, head.start()) + 2 : head.start()]
         self.start = head.start() - len(above.rpartition(" {\n")[2])
         self.head, self.body = text[self.start : self.begin], text[self.begin : self.end]
@@ -51,9 +54,41 @@ class Function:
 @functools.lru_cache(maxsize=None)
 def functions_of(text):
     """Returns the functions of a source that have bodies, in their order."""
-    return [Function(text, it) for it in re.finditer(HEAD, text) if text[it.end() - 1] == "{"]
+    return [Function(text, it) for it in re.finditer(HEAD, text) if text[it.end() - 1] != ";"]
 
 
 def types_of(text):
     """Returns the names of the types that a source declares."""
     return re.findall(TYPE, text)
+
+
+# A source of each form of a body, and the names and bodies of its functions.
+SAMPLE = """pub fn two() -> u8 {
+    2
+}
+
+impl Kept {
+    /// Computes nothing.
+    pub fn agree(&self)
+        ensures { result }
+    {}
+
+    fn behind(&self, part: &[u8])
+        requires { part }
+    {
+        part.len()
+    }
+}
+
+trait Asked {
+    fn ask(&self) -> bool;
+}
+"""
+BODIES = [("two", "\n    2\n}\n"), ("agree", "}\n"), ("behind", "\n        part.len()\n    }\n")]
+
+
+def check_itself():
+    """Fails where the sample's functions are cut out otherwise: then an edit could change another function's body."""
+    found = [(it.name, it.body) for it in functions_of(SAMPLE)]
+    assert found == BODIES, found
+    assert "".join(it.without_body() for it in functions_of(SAMPLE)).count("loop {}") == len(BODIES)

@@ -32,10 +32,12 @@ class Crate:
         self.texts = {str(it.relative_to(folder)): it.read_text(encoding="utf-8") for it in files}
         sources = {path: text for path, text in self.texts.items() if path.endswith(".rt")}
         self.types = {name: self.module(path) for path, text in sources.items() for name in types_of(text)}
-        self.calls = {}
-        for path, text in sources.items():
-            for it in functions_of(text):
-                self.calls[self.path_of(path, it)] = it.calls()
+        found = [(path, it) for path, text in sources.items() for it in functions_of(text)]
+        self.functions = {self.path_of(path, it): it for path, it in found}
+
+    def calls_of(self, function):
+        """Returns the names of what a function may call."""
+        return self.functions[function].calls() if function in self.functions else set()
 
     def module(self, path):
         """Returns the path of a source's module."""
@@ -49,15 +51,23 @@ class Crate:
     @functools.lru_cache(maxsize=None)
     def copy_of(self, edit, ending=""):
         """Returns an edit's function with the edit, under a name that ends so; or None where there is no such copy, or a
-        proof beside the function's names what is the function's."""
+        proof beside the function's names what is the function's, or its own is one of a cycle."""
         above = proofs_of(edit.function)
         (path, *more) = {path for path, _, _ in edit.changes}
         if more or not path.startswith("src/") or f"{above}.antt" in self.texts or self.is_cited(above):
+            return None
+        if self.calls_itself(edit.function):
             return None
         text = self.texts[path]
         changes = [(old, new) for _, old, new in edit.changes]
         found = [it for it in functions_of(text) if self.path_of(path, it) == edit.function]
         return found[0].copy(text, found[0].name + ending, changes) if found else None
+
+    def calls_itself(self, function):
+        """Returns whether what is written for a function's proof is for one that calls itself. A name alone doesn't tell: a
+        rule's `write` calls a condition's."""
+        above, _, name = proofs_of(function).rpartition("/")
+        return any(it.startswith(f"{above}/+{name}/") for it in self.texts)
 
     def is_cited(self, folder):
         """Returns whether a proof outside a folder names what is in it."""
@@ -131,9 +141,8 @@ class EditedCrate:
         """Writes an empty file of answers for a function that has none. Where there is none, a check of a wrong body makes
         one to print it, which takes it some time. A function that calls itself has its answers in another folder."""
         folder = proofs_of(function)
-        above, _, name = folder.rpartition("/")
-        calls_itself = any(it.startswith(f"{above}/+{name}/") for it in self.texts)
-        if not calls_itself and not any(f"{folder}/{it}" in self.texts for it in ("Answers.antt", "Proof.antt")):
+        is_written = any(f"{folder}/{it}" in self.texts for it in ("Answers.antt", "Proof.antt"))
+        if not is_written and not self.crate.calls_itself(function):
             self.texts[f"{folder}/Answers.antt"] = "-- found by search\n"
 
     def write_proofs_of_copies(self):

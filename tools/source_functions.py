@@ -22,22 +22,26 @@ class Function:
         self.head, self.body = text[self.start : self.begin], text[self.begin : self.end]
         block = re.findall(r"(?m)^(?:impl|trait)\b.* \{$", text[: self.start])[-1:] if self.indent else []
         self.is_of_trait = any(" for " in it or it.startswith("trait") for it in block)
-        self.type = re.sub(r"^impl(<[^>]*>)? |<.*| \{$", "", block[0]) if block else ""
+        self.type = type_of(block[0]) if block else ""
 
     def calls(self):
         """Returns the names of what its body may call: those that stand before a parenthesis."""
         return set(re.findall(r"\b(\w+)\(", self.body))
 
     def cycle(self):
+        """Returns the name of the cycle of calls that it says it is in, or its own where it may call itself, or None."""
+        return self.cycle_said() or (self.name if self.name in self.calls() else None)
+
+    def cycle_said(self):
         """Returns the name of the cycle of calls that it says it is in, or None."""
         found = re.search(r"#\[cycle\((\w+)\)\]", self.head)
-        return found[1] if found else self.name if self.name in self.calls() else None
+        return found[1] if found else None
 
     def copy(self, text, name, changes):
         """Returns its text under another name, with the body changed, or None where there is no such copy: of a
-        trait's method, of a function that calls itself, and where a change isn't of the body."""
+        trait's method, of a function that says it is in a cycle, and where a change isn't of the body."""
         body = self.body
-        if self.is_of_trait or self.cycle():
+        if self.is_of_trait or self.cycle_said():
             return None
         for old, new in changes:
             if body.count(old) != 1 or text.count(old) != 1:
@@ -49,6 +53,15 @@ class Function:
         """Returns its text with a body that never ends, which may stand wherever another does."""
         head = re.sub(r"(?m)^ *#\[cycle\(.*\n", "", self.head)
         return f"{head}\n{self.indent}    loop {{}}\n{self.indent}}}\n"
+
+
+def type_of(block):
+    """Returns what a check calls the type that a block's functions are of, by the block's first line: `TargetArch`, or
+    `TargetArchDisplay` and `U32FromSeccompAction` where the block is of a trait."""
+    found = re.match(r"impl(?:<[^>]*>)? (?:\w+::)*(\w+)(?:<(\w+)>)? for (\w)(\w*)", block)
+    if found:
+        return found[3].upper() + found[4] + found[1] + (found[2] or "")
+    return re.sub(r"^impl(<[^>]*>)? |<.*| \{$", "", block)
 
 
 @functools.lru_cache(maxsize=None)

@@ -19,6 +19,9 @@ pub {name}_spec : {{M : Type 1}} → statement M
 {name}_spec = assumed
 """
 
+# An error of a written proof: its file, the goal or lemma, and what is wrong with it, which may go on on further lines.
+ERROR = r"(?m)^\./proofs/(\S+)\.antt:\d+:\d+: error: `([^`]*)`: (.*(?:\n  .*)*)$"
+
 
 class Crate:
     """A crate as it stands: the texts of its files by their paths, and where its functions and types are."""
@@ -29,10 +32,12 @@ class Crate:
         self.texts = {str(it.relative_to(folder)): it.read_text(encoding="utf-8") for it in files}
         sources = {path: text for path, text in self.texts.items() if path.endswith(".rt")}
         self.types = {name: self.module(path) for path, text in sources.items() for name in types_of(text)}
-        self.calls = {}
-        for path, text in sources.items():
-            for it in functions_of(text):
-                self.calls[self.path_of(path, it)] = it.calls()
+        found = [(path, it) for path, text in sources.items() for it in functions_of(text)]
+        self.functions = {self.path_of(path, it): it for path, it in found}
+
+    def calls_of(self, function):
+        """Returns the names of what a function may call."""
+        return self.functions[function].calls() if function in self.functions else set()
 
     def module(self, path):
         """Returns the path of a source's module."""
@@ -46,15 +51,23 @@ class Crate:
     @functools.lru_cache(maxsize=None)
     def copy_of(self, edit, ending=""):
         """Returns an edit's function with the edit, under a name that ends so; or None where there is no such copy, or a
-        proof beside the function's names what is the function's."""
+        proof beside the function's names what is the function's, or its own is one of a cycle."""
         above = proofs_of(edit.function)
         (path, *more) = {path for path, _, _ in edit.changes}
         if more or not path.startswith("src/") or f"{above}.antt" in self.texts or self.is_cited(above):
+            return None
+        if self.calls_itself(edit.function):
             return None
         text = self.texts[path]
         changes = [(old, new) for _, old, new in edit.changes]
         found = [it for it in functions_of(text) if self.path_of(path, it) == edit.function]
         return found[0].copy(text, found[0].name + ending, changes) if found else None
+
+    def calls_itself(self, function):
+        """Returns whether what is written for a function's proof is for one that calls itself. A name alone doesn't tell: a
+        rule's `write` calls a condition's."""
+        above, _, name = proofs_of(function).rpartition("/")
+        return any(it.startswith(f"{above}/+{name}/") for it in self.texts)
 
     def is_cited(self, folder):
         """Returns whether a proof outside a folder names what is in it."""
@@ -128,9 +141,8 @@ class EditedCrate:
         """Writes an empty file of answers for a function that has none. Where there is none, a check of a wrong body makes
         one to print it, which takes it some time. A function that calls itself has its answers in another folder."""
         folder = proofs_of(function)
-        above, _, name = folder.rpartition("/")
-        calls_itself = any(it.startswith(f"{above}/+{name}/") for it in self.texts)
-        if not calls_itself and not any(f"{folder}/{it}" in self.texts for it in ("Answers.antt", "Proof.antt")):
+        is_written = any(f"{folder}/{it}" in self.texts for it in ("Answers.antt", "Proof.antt"))
+        if not is_written and not self.crate.calls_itself(function):
             self.texts[f"{folder}/Answers.antt"] = "-- found by search\n"
 
     def write_proofs_of_copies(self):
@@ -161,19 +173,22 @@ class Said:
 
     def open_goals(self, function):
         """Returns the goals of a function's proof that are open, and the lemmas that it stands on and that are refused.
-        Not those for which a written proof only names something that is gone: that would be refused of a right body too."""
+        Not those for which a written proof only names something that is gone: that would be refused of a right body too.
+        Where what is gone is a goal, none of those counts for which nothing is written."""
         above, _, last = function.partition("::")[2].replace("::", "/").rpartition("/")
         place = re.compile(re.escape(above + "/" if above else "") + r"\+?" + re.escape(last) + r"/\w+")
         gone = r"has no field|is not in scope|has no `|was not admitted"
-        refused, told, said = [], set(), self.of.get(function, "")
-        for path, name, why in re.findall(r"(?m)^\./proofs/(\S+)\.antt:\d+:\d+: error: `([^`]*)`: (.*)$", self.text):
+        refused, told, said, is_goal_gone = [], set(), self.of.get(function, ""), False
+        for path, name, why in re.findall(ERROR, self.text):
             lemma = f"{path.replace('/', '.')}.{name}"
             if place.fullmatch(path) or f".proofs.{lemma}`" in said:
                 refused.append(name if place.fullmatch(path) else lemma)
                 told |= set() if re.search(gone, why) else {refused[-1]}
+                is_goal_gone |= f"has no `{name}`" in why
         asked = re.findall(r"(?m)^note: `([^`]*)` of proofs/(\S+)\.antt must prove", self.text)
-        found = [*refused, *(name for name, path in asked if place.fullmatch(path))]
+        found = [name for name, path in asked if place.fullmatch(path)]
         found += re.findall(r"`([^`]*)`", said.partition("did not prove ")[2].partition("; it ")[0])
+        found = refused + found * (not is_goal_gone)
         return [it for it in dict.fromkeys(found) if it in told or it not in refused]
 
     def verdict(self, edit, function):

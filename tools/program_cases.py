@@ -130,7 +130,13 @@ CASES = [
 
 # The script with a program that writes `ran` and its words and ends with status 7, and an `rt` that
 # is told how to end: what is done before, the words, the status, standard output, and standard error.
-BUILDS = "seccompc: proving and building the program\n"
+# The crates are seccompiler and seccompc.
+BUILDS = "seccompc: proving and building seccompiler seccompc\n"
+UNBUILT = "seccompc: the program can't be built; the whole log is .."
+# What rt prints as it proves a library in parts, and then the program.
+PROVES = "rt: chose --jobs 2 for seccompiler\nso far: 0 of 2 functions checked; the verdict comes last\nchecked it, 1 of 2\n" \
+    "so far: 2 of 2 functions checked\nlogic=proved\nrt: chose --jobs 1 for seccompc\n"
+PROVING = f"printf '{PROVES}' > said; echo 'cat ../../said' > bin/rt;"
 ONCE = "(PATH=$PWD/bin:$PATH ./seccompc list; rm bin/rt) > /dev/null 2>&1; "
 TOLD = "tools/run-program --built seccompc; rm bin/rt; "
 FAILS = "mkdir -p crates/seccompc/out/seccompc.checksums.new; "
@@ -157,10 +163,19 @@ SCRIPT_CASES = [
     ("of other sources, with a command's words", "rm bin/rt;", "list --help", 3, "", THERE_IS_NO_RT),
     ("not built before, and no checksums can be kept", FAILS, LIST, 7, RAN, BUILDS),
     ("not built before, and rt fails", "echo 'echo why; exit 1' > bin/rt;", LIST, 3, "",
-     BUILDS + "why\nseccompc: the program cannot be built\n"),
+     BUILDS + "why\n" + UNBUILT),
+    ("not built before, and rt fails behind many lines", "echo 'seq 100; exit 1' > bin/rt;", LIST, 3, "",
+     BUILDS + "".join(f"{it}\n" for it in range(81, 101)) + UNBUILT),
+    ("not built before, and rt says how far it is", PROVING, LIST, 7, RAN,
+     BUILDS + "seccompc: proving seccompiler\nseccompc: proving seccompc\n"),
     ("missing, asked for help", "rm crates/seccompc/out/seccompc bin/rt;", "--help", 3, "", THERE_IS_NO_RT),
     ("missing, and rt builds none", "rm crates/seccompc/out/seccompc;", LIST, 3, "",
-     BUILDS + "\nseccompc: the program cannot be built\n"),
+     BUILDS + UNBUILT),
     ("without what it runs", "rm tools/run-program;", LIST, 3, "", ".."),
-    ("without sources that can be listed", ONCE + "rm crates.txt;", LIST, 3, "", THERE_IS_NO_RT),
+    ("without sources that can be listed", ONCE + "rm crates.txt;", LIST, 3, "", "seccompc: proving and building\n.."),
 ]
+
+# What a terminal gets of the script where rt proves a library in parts: a line, and one that is written anew.
+ON_TERMINAL = BUILDS.replace("\n", "\r\n") + "".join(
+    f"\r{it:72}" for it in ("seccompc: proving seccompiler", "seccompc: proving seccompiler, 0 of 2 functions",
+                            "seccompc: proving seccompiler, 2 of 2 functions", "seccompc: proving seccompc", "")) + "\r"

@@ -308,6 +308,12 @@ static const struct {
     {"they aren't for calls 39 and 40", LAX, 4, STRICT, 4, 0, AUDIT_ARCH_AARCH64, 39, 40, 1000, 0},
     {"they are for no calls", LAX, 4, STRICT, 4, 0, AUDIT_ARCH_RISCV64, 40, 39, 1000, 1},
     {"the same program", LAX, 4, LAX, 4, 0, 0, 0, 0, 1000, 1},
+    /* All calls are five sets, by the test for 39: all of them, which are split below 39; those below; those from 39 on,
+     * which are split behind it; 39 alone; and those above. Those below show that the lax one permits more. */
+    {"as many sets as it takes", STRICT, 4, LAX, 4, 1, 0, 0, 0, 5, 1},
+    {"one set less", STRICT, 4, LAX, 4, 1, 0, 0, 0, 4, SECCOMPILER_UNDECIDED},
+    {"as many sets as a difference takes", LAX, 4, STRICT, 4, 1, 0, 0, 0, 2, 0},
+    {"one set less than that", LAX, 4, STRICT, 4, 1, 0, 0, 0, 1, SECCOMPILER_UNDECIDED},
 };
 
 /* What is not decided. Each row has the faults of all later ones that it can have. */

@@ -19,6 +19,8 @@ FILES = {
     "no-filters.json": {},
     "empty": "",
     "no-json.json": "{1}",
+    "large-number.json": "1e999",
+    "comma.json": "[1,]",
     "list.json": [],
     "repeated.json": '{"a":{"x":1,"x":1}}',
     "no-filter.json": {"a": {}},
@@ -79,7 +81,11 @@ CASES = [
     ("list x8664 < no-json.json", 1, "", "Backend error: Invalid target arch: x8664.\n"),
     ("run x8664 logs.json b < 63-bytes", 1, "", "Backend error: Invalid target arch: x8664.\n"),
     # Policies that are refused, and names that no filter has.
-    ("list x86_64 < empty", 1, "", FRONTEND + "Error parsing Json: .."),
+    # Of JSON that can't be read the whole text, which ends with what serde_json of the kit says. The first is what that of
+    # Rust says too; the others have its places, and fewer words.
+    ("list x86_64 < large-number.json", 1, "", FRONTEND + "Error parsing Json: number out of range at line 1 column 5\n"),
+    ("list x86_64 < empty", 1, "", FRONTEND + "Error parsing Json: EOF while parsing at line 1 column 0\n"),
+    ("list x86_64 < comma.json", 1, "", FRONTEND + "Error parsing Json: invalid JSON at line 1 column 4\n"),
     ("list x86_64 < no-json.json", 1, "", FRONTEND + "Error parsing Json: .."),
     ("list x86_64 < repeated.json", 1, "", FRONTEND + "Repeated key in Json.\n"),
     ("list x86_64 < list.json", 1, "", FRONTEND + "Json is not an object of filters.\n"),
@@ -130,7 +136,13 @@ CASES = [
 
 # The script with a program that writes `ran` and its words and ends with status 7, and an `rt` that
 # is told how to end: what is done before, the words, the status, standard output, and standard error.
-BUILDS = "seccompc: proving and building the program\n"
+# The crates are seccompiler and seccompc.
+BUILDS = "seccompc: proving and building seccompiler seccompc\n"
+UNBUILT = "seccompc: the program can't be built; the whole log is .."
+# What rt prints as it proves a library in parts, and then the program.
+PROVES = "rt: chose --jobs 2 for seccompiler\nso far: 0 of 2 functions checked; the verdict comes last\nchecked it, 1 of 2\n" \
+    "so far: 2 of 2 functions checked\nlogic=proved\nrt: chose --jobs 1 for seccompc\n"
+PROVING = f"printf '{PROVES}' > said; echo 'cat ../../said' > bin/rt;"
 ONCE = "(PATH=$PWD/bin:$PATH ./seccompc list; rm bin/rt) > /dev/null 2>&1; "
 TOLD = "tools/run-program --built seccompc; rm bin/rt; "
 FAILS = "mkdir -p crates/seccompc/out/seccompc.checksums.new; "
@@ -157,10 +169,19 @@ SCRIPT_CASES = [
     ("of other sources, with a command's words", "rm bin/rt;", "list --help", 3, "", THERE_IS_NO_RT),
     ("not built before, and no checksums can be kept", FAILS, LIST, 7, RAN, BUILDS),
     ("not built before, and rt fails", "echo 'echo why; exit 1' > bin/rt;", LIST, 3, "",
-     BUILDS + "why\nseccompc: the program cannot be built\n"),
+     BUILDS + "why\n" + UNBUILT),
+    ("not built before, and rt fails behind many lines", "echo 'seq 100; exit 1' > bin/rt;", LIST, 3, "",
+     BUILDS + "".join(f"{it}\n" for it in range(81, 101)) + UNBUILT),
+    ("not built before, and rt says how far it is", PROVING, LIST, 7, RAN,
+     BUILDS + "seccompc: proving seccompiler\nseccompc: proving seccompc\n"),
     ("missing, asked for help", "rm crates/seccompc/out/seccompc bin/rt;", "--help", 3, "", THERE_IS_NO_RT),
     ("missing, and rt builds none", "rm crates/seccompc/out/seccompc;", LIST, 3, "",
-     BUILDS + "\nseccompc: the program cannot be built\n"),
+     BUILDS + UNBUILT),
     ("without what it runs", "rm tools/run-program;", LIST, 3, "", ".."),
-    ("without sources that can be listed", ONCE + "rm crates.txt;", LIST, 3, "", THERE_IS_NO_RT),
+    ("without sources that can be listed", ONCE + "rm crates.txt;", LIST, 3, "", "seccompc: proving and building\n.."),
 ]
+
+# What a terminal gets of the script where rt proves a library in parts: a line, and one that is written anew.
+ON_TERMINAL = BUILDS.replace("\n", "\r\n") + "".join(
+    f"\r{it:72}" for it in ("seccompc: proving seccompiler", "seccompc: proving seccompiler, 0 of 2 functions",
+                            "seccompc: proving seccompiler, 2 of 2 functions", "seccompc: proving seccompc", "")) + "\r"

@@ -139,8 +139,10 @@ IN_A_CONDITION = [
     stands(condition('{"index":6,"type":"dword","op":"eq","val":0}'), CONDITION + ".index", "6", INDEX),
 ]
 
-# A name that is one edit away, or one for each three of its bytes; the first of several that are as near; and
-# none that is further, or longer than any call's name.
+# How far a call's name may be from the one that stands there, in characters that are put in, left out or replaced and
+# neighbours that are exchanged: one, or one for each three of its bytes. So 9 bytes have a name at 3, and 5 bytes none at 2
+# nor 6 at 3. Of several the nearest: `getgid`, at 2, stands in front of `getpid`; and of those that are as near the first in
+# byte order, as `dup` in front of `dup2` and `dup3`.
 SUGGESTIONS = [
     unknown(entries('{"syscall":"%s"}' % name), "a.filter[0].syscall", f'"{name}"', near)
     for name, near in [
@@ -154,6 +156,9 @@ SUGGESTIONS = [
         ("clock_nano_sleeep", "clock_nanosleep"),
         ("exit-group", "exit_group"),
         ("open64", "open"),
+        ("socketts2", "socket"),
+        ("brk12", None),
+        ("oepn64", None),
         ("", None),
         ("x" * 65, None),
     ]

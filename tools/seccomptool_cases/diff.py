@@ -93,6 +93,10 @@ CASES = [
     Case("diff --most 0 logs.json logs.json", 3, "filter a: undecided\n  read: undecided\n  write: undecided\n..", ""),
     Case("diff --most=0x0 --at-most logs.json logs.json", 3, "filter a: undecided\n  read: undecided\n..", ""),
     same("--most 0x10 logs.json logs.json", SAME),
+    # The calls of `read` take five sets, by the test of an argument for 5: all of them, which are split below 5; those below;
+    # those from 5 on, which are split behind it; 5 alone; and those above. Every other part takes one set.
+    same("--most 5 allows-read-of-5.json allows-read-of-5.json", SAME),
+    Case("diff --most 4 allows-read-of-5.json allows-read-of-5.json", 3, "filter a: undecided\n  read: undecided\n", ""),
     # A filter that neither has.
     fails("-f b logs.json logs.json", "No filter has this name: b.\n"),
     # The faults of the old policy, and then those of the new one.

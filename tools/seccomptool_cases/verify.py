@@ -126,6 +126,9 @@ CASES = [
     # No set may be looked at, or few.
     Case("verify --most 0 logs.json logs.bpf", 3, UNDECIDED + "  read: undecided\n  write: undecided\n..", ""),
     same("--most 0x10 --at-most allows-read.json reads.bpf", NO_MORE + OTHERS_NO_MORE),
+    # The calls of `read` take five sets, as with `diff`, and those of every other part take one.
+    same("--most 5 allows-read-of-5.json reads-5.bpf", SAME + OTHERS_SAME),
+    Case("verify --most 4 allows-read-of-5.json reads-5.bpf", 3, UNDECIDED + "  read: undecided\n" + OTHERS_SAME, ""),
     # The faults of the policy, of the choice of its filter, and then of the program.
     fails("missing.json reads.bpf", MISSING, TOOL + "missing.json: "),
     fails("examples reads.bpf", FOLDER, TOOL + "examples: "),

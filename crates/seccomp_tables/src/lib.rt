@@ -1,8 +1,7 @@
 // The names and numbers of Linux system calls, for each architecture, which tools/generate_tables
 // writes, and what holds of each table.
 //
-// An architecture has two calls here: the definition of its table unfolds for the proof of the private
-// one, and stays closed in that of the public one, which would take long with hundreds of pairs in sight.
+// The proofs are written answers: a search would take long with hundreds of pairs in sight.
 #![tactic(auto)]
 
 ghost use Rattle.std.specs.Prelude.{◌≡◌};
@@ -20,17 +19,9 @@ pub use x86_64::X86_64;
 ///
 /// There are 255 to 511 pairs, in byte order of names, each of ASCII, no name stands twice, and the
 /// numbers lie within 0 to 462.
-#[tactic(auto, using(crate::proofs::TableFacts::x86_64_table))]
 pub fn x86_64_calls() -> &'static [(&'static str, i64)]
     ensures pairs { pairs_of result.now ≡ x86_64_pairs }
     ensures table { IsCallTable x86_64_pairs }
-{
-    x86_64_array()
-}
-
-#[tactic(auto, unfolding(crate::specs::Tables::x86_64_pairs))]
-fn x86_64_array() -> &'static [(&'static str, i64)]
-    ensures { pairs_of result.now ≡ x86_64_pairs }
 {
     &X86_64
 }
@@ -39,17 +30,9 @@ fn x86_64_array() -> &'static [(&'static str, i64)]
 ///
 /// There are 255 to 511 pairs, in byte order of names, each of ASCII, no name stands twice, and the
 /// numbers lie within 0 to 462.
-#[tactic(auto, using(crate::proofs::TableFacts::aarch64_table))]
 pub fn aarch64_calls() -> &'static [(&'static str, i64)]
     ensures pairs { pairs_of result.now ≡ aarch64_pairs }
     ensures table { IsCallTable aarch64_pairs }
-{
-    aarch64_array()
-}
-
-#[tactic(auto, unfolding(crate::specs::Tables::aarch64_pairs))]
-fn aarch64_array() -> &'static [(&'static str, i64)]
-    ensures { pairs_of result.now ≡ aarch64_pairs }
 {
     &AARCH64
 }
@@ -58,17 +41,9 @@ fn aarch64_array() -> &'static [(&'static str, i64)]
 ///
 /// There are 255 to 511 pairs, in byte order of names, each of ASCII, no name stands twice, and the
 /// numbers lie within 0 to 462.
-#[tactic(auto, using(crate::proofs::TableFacts::riscv64_table))]
 pub fn riscv64_calls() -> &'static [(&'static str, i64)]
     ensures pairs { pairs_of result.now ≡ riscv64_pairs }
     ensures table { IsCallTable riscv64_pairs }
-{
-    riscv64_array()
-}
-
-#[tactic(auto, unfolding(crate::specs::Tables::riscv64_pairs))]
-fn riscv64_array() -> &'static [(&'static str, i64)]
-    ensures { pairs_of result.now ≡ riscv64_pairs }
 {
     &RISCV64
 }

@@ -37,7 +37,6 @@ fn main(rt: HostRuntime) -> ExitCode {
 
 // Carries out a command, from standard input to standard output; where there is none, says how the
 // program is called.
-#[tactic(auto, using(crate::proofs::Statuses::performed, crate::proofs::Statuses::performed_faultless))]
 fn carry_out(
     rt: &(impl Files + Input + Print + Eprint + AllocGlobal),
     command: Option<Command<'_>>,

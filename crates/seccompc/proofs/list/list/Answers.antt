@@ -1,11 +1,25 @@
+use Rattle.std.proofs.Common.{Result, Ok, Err, IfErr}
 use Rattle.std.proofs.lemmas.Result.{err_from_is_err_and}
+use Rattle.std.specs.Prelude.{⊤}
 use Rattle.std.specs.BTreeMap.{get_by_text}
 use Rattle.seccomp_command_line.proofs.Answers.{refused_at_once, sent_at_once}
 use Rattle.seccomp_command_line.proofs.ByName.{by_text}
+use Rattle.seccomp_command_line.specs.Errors.{IsWriteError, KeepsOutput}
 use Rattle.seccomp_command_line.specs.Policies.{IsRefusedPolicy}
+use Rattle.seccomp_command_line.specs.declared.error.ToolError.{ToolError}
+use Rattle.seccomp_command_line.specs.declared.error.ToolError.TheVariants.{Write}
 use Rattle.seccompc.specs.Policies.{IsListing}
 use Rattle.seccompc.proofs.Policies.{listed}
 use Rattle.seccompc.proofs.list.list.Goals as goal
+
+-- Of an error of writing, nothing is said of what is written.
+write_keeps : {W : Type 0} (r : Result ⊤ ToolError) (old new : W) → IfErr r IsWriteError → IfErr r (λ e. KeepsOutput e old new)
+write_keeps (Ok done) old new cause = tt
+write_keeps (Err (Write e)) old new cause = tt
+write_keeps (Err _) old new cause = absurd cause
+
+pub returns-clause-unwritten : goal.returns-clause-unwritten
+returns-clause-unwritten g c = write_keeps c.send.result c.args.out.now c.send.new.out c.send.ensures.cause
 
 pub returns-in_err-programs-clause-answers : goal.returns-in_err-programs-clause-answers
 returns-in_err-programs-clause-answers g c =

@@ -6,10 +6,8 @@ use Rattle.std.specs.declared.io.ErrorKind.TheVariants as kind
 use Rattle.seccompiler.specs.declared.error.Error.{Error as LibraryError}
 use Rattle.seccompiler.specs.declared.error.Error.TheVariants as library
 use Rattle.seccompiler.specs.Errors.{error_text}
-use Rattle.seccompiler.specs.Architecture.{arch_text}
 use Rattle.seccomp_command_line.specs.declared.error.ToolError.{ToolError}
-use Rattle.seccomp_command_line.specs.declared.error.ToolError.TheVariants.{Library, NoFilter, UnknownCall, ShortRecord, Read, Fault, Write}
-use Rattle.seccomp_command_line.specs.declared.error.ToolError.TheVariants.{OutOfMemory}
+use Rattle.seccomp_command_line.specs.declared.error.ToolError.TheVariants.{Library, NoFilter, ShortRecord, Read, Write, OutOfMemory}
 
 -- A refusal of the library; want of memory stays want of memory.
 abbrev pub from_library : LibraryError → ToolError
@@ -20,11 +18,8 @@ from_library refusal = Library refusal
 abbrev pub tool_text : ToolError → Option (List ℕ)
 tool_text (Library e) = error_text e
 tool_text (NoFilter name) = Some (codes "No filter has this name: " ++ string_bytes name ++ codes ".")
-tool_text (UnknownCall call target) =
-    Some (codes "No call of " ++ arch_text target ++ codes " has this name or number: " ++ string_bytes call ++ codes ".")
 tool_text (ShortRecord rest) = Some (codes "The input ends inside a record, after " ++ decimal rest ++ codes " bytes of it.")
 tool_text (Read e) = Some (codes "Error reading input.")
-tool_text (Fault told) = Some (string_bytes told)
 tool_text (Write e) = Some (codes "Error writing output.")
 tool_text OutOfMemory = Some (codes "Out of memory.")
 

@@ -1,7 +1,7 @@
 // Why an engine of a program fails.
 
+use seccompiler::BackendError;
 use seccompiler::json::JsonFrontendError;
-use seccompiler::{BackendError, TargetArch};
 use std::alloc::{AllocError, AllocFailed};
 use std::{fmt, io};
 
@@ -14,14 +14,10 @@ pub enum ToolError {
     Library(seccompiler::Error),
     /// No filter of the policy has this name.
     NoFilter(String),
-    /// The architecture has no call of this name or number.
-    UnknownCall(String, TargetArch),
     /// The records end inside a record, after so many bytes of it, from 1 to 63.
     ShortRecord(usize),
     /// The records can't be read.
     Read(io::Error),
-    /// The policy has a fault that has a place; the text names the place, what stands there and what may.
-    Fault(String),
     /// The output can't be written; how much of it went out is not known.
     Write(io::Error),
     /// Memory ran out, here or in a reader.
@@ -38,9 +34,6 @@ impl fmt::Display for ToolError {
         match self {
             ToolError::Library(error) => write!(f, "{error}"),
             ToolError::NoFilter(name) => write!(f, "No filter has this name: {name}."),
-            ToolError::UnknownCall(call, arch) => {
-                write!(f, "No call of {arch} has this name or number: {call}.")
-            }
             ToolError::ShortRecord(rest) => {
                 write!(
                     f,
@@ -48,7 +41,6 @@ impl fmt::Display for ToolError {
                 )
             }
             ToolError::Read(_) => f.write_str("Error reading input."),
-            ToolError::Fault(told) => f.write_str(told.as_str()),
             ToolError::Write(_) => f.write_str("Error writing output."),
             ToolError::OutOfMemory => f.write_str("Out of memory."),
         }

@@ -29,10 +29,8 @@ of_new_policy e = e
 abbrev pub from_shared : SharedError → ToolError
 from_shared (shared.Library e) = Library e
 from_shared (shared.NoFilter name) = NoFilter name
-from_shared (shared.UnknownCall call target) = UnknownCall call target
 from_shared (shared.ShortRecord rest) = ShortRecord rest
 from_shared (shared.Read e) = Read e
-from_shared (shared.Fault told) = Fault told
 from_shared (shared.Write e) = Write e
 from_shared shared.OutOfMemory = OutOfMemory
 

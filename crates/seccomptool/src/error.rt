@@ -149,10 +149,8 @@ impl From<SharedError> for ToolError {
         match told {
             SharedError::Library(refusal) => ToolError::Library(refusal),
             SharedError::NoFilter(name) => ToolError::NoFilter(name),
-            SharedError::UnknownCall(call, target) => ToolError::UnknownCall(call, target),
             SharedError::ShortRecord(rest) => ToolError::ShortRecord(rest),
             SharedError::Read(error) => ToolError::Read(error),
-            SharedError::Fault(text) => ToolError::Fault(text),
             SharedError::Write(error) => ToolError::Write(error),
             SharedError::OutOfMemory => ToolError::OutOfMemory,
         }

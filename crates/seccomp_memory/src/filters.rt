@@ -133,14 +133,9 @@ fn ask_of_filter(alloc: Global, filter: &SeccompFilter) -> Result<(), Ending> {
     )
 }
 
-// Asks what stands at each place of its programs, and compares one of them with it.
-fn ask_of_places(alloc: Global, filter: &SeccompFilter) -> Result<(), Ending> {
-    let (tree, places) = filter.to_tree_bpf_with_places(alloc)?;
-    ensure_rows("a tree with its places", &tree, &TREE)?;
-    ensure(places.len() == tree.len(), "the places of a tree")?;
-    let (program, places) = filter.to_bpf_with_places(alloc)?;
-    ensure_rows("a program with its places", &program, &PROGRAM)?;
-    ensure(places.len() == program.len(), "the places of a program")?;
+// Compares a filter with its program.
+fn ask_of_program(alloc: Global, filter: &SeccompFilter) -> Result<(), Ending> {
+    let program = filter.to_bpf(alloc)?;
     let compared = compare_program(
         alloc,
         &program,
@@ -238,7 +233,7 @@ impl Lent for Filters {
         ask_for_parts(alloc)?;
         ask_of_rule(alloc, &self.rule)?;
         ask_of_filter(alloc, &self.filter)?;
-        ask_of_places(alloc, &self.filter)?;
+        ask_of_program(alloc, &self.filter)?;
         ask_of_two_filters(alloc, &self.filter, &self.other)?;
         ask_of_too_large(alloc, &self.too_large)?;
         compare_too_large(alloc, &self.filter, &self.too_large)

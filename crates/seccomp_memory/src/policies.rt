@@ -63,26 +63,6 @@ fn ask_of_entries(
     }
 }
 
-// Wants these indices under the number, and those of so many numbers.
-fn ask_of_origins(
-    alloc: Global,
-    entries: &JsonFilter,
-    numbers: usize,
-    number: i64,
-    wanted: &[usize],
-) -> Result<(), Ending> {
-    match JsonCompiler::new(TargetArch::x86_64).make_with_origins(alloc, entries) {
-        Ok(policy) => match policy.origins.get(&number) {
-            Some(indices) => ensure(
-                policy.origins.len() == numbers && indices.as_slice() == wanted,
-                "the origins",
-            ),
-            None => Err(Ending::Wrong("a number without origins")),
-        },
-        Err(error) => ensure_fault("origins", fault_of_frontend(&error), None),
-    }
-}
-
 fn ask_of_widened(alloc: Global, entries: &JsonFilter, wanted: &[i64]) -> Result<(), Ending> {
     match JsonCompiler::new(TargetArch::x86_64).widened(alloc, entries) {
         Ok(numbers) => ensure(numbers.as_slice() == wanted, "the widened numbers"),
@@ -195,9 +175,7 @@ impl Lent for WidenedEntries {
 
     fn make_calls(&self, alloc: Global) -> Result<(), Ending> {
         ask_of_widened(alloc, &self.both_kinds, &[0])?;
-        ask_of_widened(alloc, &self.several, &[0, 3])?;
-        ask_of_origins(alloc, &self.both_kinds, 1, 0, &[0, 1])?;
-        ask_of_origins(alloc, &self.several, 3, 3, &[0, 2])
+        ask_of_widened(alloc, &self.several, &[0, 3])
     }
 }
 

@@ -202,26 +202,6 @@ fn filters_of_a_text_by_their_module(rt: HostRuntime) -> Result<(), Fail> {
     Ok(())
 }
 
-// Whether the policy is that of the filter in both forms, whose one entry is of `fcntl`: number 72.
-fn is_of_one_entry(policy: &seccompiler::JsonPolicy, wanted: &seccompiler::SeccompFilter) -> bool {
-    are_equal(&policy.filter, wanted)
-        && policy.origins.len() == 1
-        && policy
-            .origins
-            .get(&72)
-            .is_some_and(|indices| indices.as_slice() == [0].as_slice())
-}
-
-#[test]
-fn origins_by_the_root(rt: HostRuntime) -> Result<(), Fail> {
-    let filter = duplicates_in_json(rt.alloc())?;
-    let compiler = seccompiler::JsonCompiler::new(ARCHITECTURE);
-    let policy: seccompiler::JsonPolicy = compiler.make_with_origins(rt.alloc(), &filter)?;
-    let wanted = duplicates(rt.alloc())?;
-    assert!(rt; is_of_one_entry(&policy, &wanted));
-    Ok(())
-}
-
 #[test]
 fn steps_by_their_paths(rt: HostRuntime) -> Result<(), Fail> {
     let named = seccompiler::json::filters_of(rt.alloc(), NO_FILTERS)?;

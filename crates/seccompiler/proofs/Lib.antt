@@ -14,7 +14,6 @@ pub mod CappedLengths
 pub mod FoundChains
 pub mod ChainNumbers
 pub mod RangesOnly
-pub mod RangesOf
 pub mod TableFacts
 pub mod TableNames
 pub mod ByName

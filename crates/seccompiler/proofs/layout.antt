@@ -1,3 +1,2 @@
--- Lemmas for the functions of both layouts: the guard in front of a program, and what stands at the places behind it.
+-- Lemmas for the functions of both layouts: the guard in front of a program.
 pub mod Guarded
-pub mod FilterPlaces

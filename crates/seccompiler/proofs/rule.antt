@@ -3,4 +3,3 @@ pub mod GroupCuts
 pub mod RuleCode
 pub mod RelayCount
 pub mod RuleLoops
-pub mod RulePlaces

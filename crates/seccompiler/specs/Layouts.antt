@@ -1,13 +1,10 @@
 -- What is said of a filter and its program in either layout.
-use Rattle.std.specs.Prelude.{◌≡◌, List}
+use Rattle.std.specs.Prelude.{List}
 use Rattle.seccompiler.specs.declared.backend.BackendError.{BackendError}
 use Rattle.seccompiler.specs.declared.bpf.sock_filter.{sock_filter}
 use Rattle.seccompiler.specs.declared.layout.Layout.{Layout}
 use Rattle.seccompiler.specs.declared.layout.Layout.TheVariants.{Linear, Tree}
-use Rattle.seccompiler.specs.declared.layout.places.Place.{Place}
 use Rattle.seccompiler.specs.Policy.{Filter}
-use Rattle.seccompiler.specs.PlaceLists.{linear_places}
-use Rattle.seccompiler.specs.TreePlaces.{AreTreePlaces}
 use Rattle.seccompiler.specs.Compiled.{IsCompiled, IsCompilable, IsRefusal}
 use Rattle.seccompiler.specs.Tree.{IsTreeCompiled, IsTreeCompilable, IsTreeRefusal}
 
@@ -25,8 +22,3 @@ IsCompilableIn Tree f = IsTreeCompilable f
 abbrev pub IsRefusalIn : Layout → Filter → BackendError → Type 0
 IsRefusalIn Linear f e = IsRefusal f e
 IsRefusalIn Tree f e = IsTreeRefusal f e
-
--- These are the places of the filter's program in the layout, in their order.
-abbrev pub AreInOrder : Layout → Filter → List Place → Type 0
-AreInOrder Linear f places = places ≡ linear_places f.chains
-AreInOrder Tree f places = AreTreePlaces f places

@@ -20,7 +20,7 @@ pub mod JsonAnswers
 pub mod UnderNames
 pub mod JsonPrograms
 pub mod Reads
--- What other calls promise: the code of conditions and rules; the tree layout, and either layout; the places of a program;
+-- What other calls promise: the code of conditions and rules; the tree layout, and either layout;
 -- the first place of a program that isn't taken; each step from JSON to filters; which records meet an entry; entries
 -- without conditions; errors and their texts; installing; the order of rules; the low half of an argument; conditions
 -- that hold for every argument, or for none; equality.
@@ -29,14 +29,10 @@ pub mod ConditionCode
 pub mod Pieces
 pub mod Ranges
 pub mod Tree
-pub mod Places
-pub mod PlaceLists
-pub mod TreePlaces
 pub mod Layouts
 pub mod FirstUnfit
 pub mod JsonSteps
 pub mod JsonEntries
-pub mod JsonOrigins
 pub mod JsonWidened
 pub mod Texts
 pub mod Errors

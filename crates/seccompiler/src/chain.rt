@@ -1,17 +1,12 @@
 // The rules of one call number, and their code.
 
-pub(crate) mod places;
-
-ghost use Rattle.std.specs.Prelude.{◌≡◌, ℕ, ◌≤◌, ◌+◌, ◌↔◌, pos, min, length, take, IsTrue, IsNone, IfOk, IfSome, IsOkUnless};
+ghost use Rattle.std.specs.Prelude.{◌≡◌, ◌≤◌, ◌+◌, ◌↔◌, pos, min, length, take, IsTrue, IsNone, IfOk, IfSome, IsOkUnless};
 ghost use Rattle.std.specs.BTreeMap.{keys};
 ghost use Rattle.seccompiler.specs.declared.backend.BackendError.TheVariants.{OutOfMemory};
 ghost use Rattle.seccompiler.specs.Machine.{greatest_length};
-ghost use Rattle.seccompiler.specs.Policy.{Filter, IsCallNumber, ChainMatches, word_of};
+ghost use Rattle.seccompiler.specs.Policy.{IsCallNumber, ChainMatches};
 ghost use Rattle.seccompiler.specs.Layout.{rule_length, rules_length};
 ghost use Rattle.seccompiler.specs.Compiled.{AreCallNumbers, IsLeastUnfit};
-ghost use Rattle.std.specs.List.{AllZip};
-ghost use Rattle.seccompiler.specs.Places.{HasChain, HasRule, Stands};
-ghost use Rattle.seccompiler.specs.PlaceLists.{numbered_places, rules_places};
 ghost use Rattle.seccompiler.specs.ChainCode.{IsReturningRuleCode, IsRulesCode};
 
 use crate::backend::BackendError;
@@ -89,7 +84,6 @@ pub(crate) fn write_rules(part: &mut [sock_filter], chain: &[SeccompRule], match
     requires short { length part.old ≤ greatest_length }
     ensures length { result ≡ rules_length chain.now }
     ensures code { IsRulesCode chain.now matched (take result part.new) }
-    ensures places { (f : Filter) (n : ℕ) → HasChain f n chain.now → matched ≡ word_of f.match_action → AllZip (Stands f) (rules_places n 0 chain.now) (take result part.new) }
 {
     let mut start = 0;
     for rule in chain {
@@ -104,7 +98,6 @@ fn write_rule(part: &mut [sock_filter], rule: &SeccompRule, matched: u32) -> usi
     requires short { length part.old ≤ greatest_length }
     ensures length { result ≡ rule_length rule.now + 1 }
     ensures code { IsReturningRuleCode rule.now matched (take result part.new) }
-    ensures places { (f : Filter) (n j : ℕ) → HasRule f n j rule.now → matched ≡ word_of f.match_action → AllZip (Stands f) (numbered_places n j rule.now) (take result part.new) }
 {
     let end = rule.code_len();
     rule.write(&mut part[..end]);

@@ -1,7 +1,5 @@
 // One comparison of an argument of a system call.
 
-mod places;
-
 use crate::backend::{BackendError, SeccompCmpArgLen, SeccompCmpOp};
 use crate::bpf::{
     ARG_NUMBER_MAX, CONDITION_MAX_LEN, SECCOMP_DATA_ARG_SIZE, SECCOMP_DATA_ARGS_OFFSET, and_mask,

@@ -1,7 +1,6 @@
-// The two layouts of a filter's program, and what stands at its places.
+// The two layouts of a filter's program.
 
 mod linear;
-pub mod places;
 mod tree;
 
 use crate::backend::BackendError;
@@ -9,7 +8,6 @@ use crate::bpf::BpfProgram;
 use crate::chain::unfit_number;
 use crate::equality::EqualByParts;
 use crate::filter::SeccompFilter;
-use crate::layout::places::Place;
 use std::alloc::Global;
 
 /// How a filter's program finds the rules of a call number.
@@ -39,8 +37,7 @@ impl SeccompFilter {
     ghost use Rattle.std.specs.Prelude.{◌≡◌, ℤ, IfOk, IfErr, OnOk};
     ghost use Rattle.seccompiler.specs.declared.backend.BackendError.TheVariants.{InvalidSyscallNumber};
     ghost use Rattle.seccompiler.specs.Compiled.{AreCallNumbers, IsLeastUnfit, numbers_of};
-    ghost use Rattle.seccompiler.specs.Layouts.{AreInOrder, IsCompiledIn, IsCompilableIn, IsRefusalIn};
-    ghost use Rattle.seccompiler.specs.Places.{ArePlaces};
+    ghost use Rattle.seccompiler.specs.Layouts.{IsCompiledIn, IsCompilableIn, IsRefusalIn};
 
     /// The filter's program in a layout: that of [`to_bpf`](SeccompFilter::to_bpf), or that of
     /// [`to_tree_bpf`](SeccompFilter::to_tree_bpf).
@@ -64,36 +61,6 @@ impl SeccompFilter {
         match layout {
             Layout::Linear => self.to_bpf(alloc),
             Layout::Tree => self.to_tree_bpf(alloc),
-        }
-    }
-
-    /// The filter's program in a layout, the one that [`to_bpf_in`](SeccompFilter::to_bpf_in) gives,
-    /// and what stands at each of its places: at each index the instruction is what the place says.
-    ///
-    /// # Errors
-    ///
-    /// Those of `to_bpf_in`, in the same order; `OutOfMemory` also where memory for the places runs out.
-    ///
-    /// # Examples
-    ///
-    /// ```
-    /// let (program, places) = filter.to_bpf_with_places_in(alloc, Layout::Tree)?;
-    /// assert!(rt; places.len() == program.len());
-    /// ```
-    pub fn to_bpf_with_places_in(
-        &self,
-        alloc: Global,
-        layout: Layout,
-    ) -> Result<(BpfProgram, Vec<Place>), BackendError>
-        ensures compiled { IfOk result (λ r. IsCompiledIn layout self.now r.0.items) }
-        ensures places { IfOk result (λ r. ArePlaces self.now r.1.items r.0.items) }
-        ensures order { IfOk result (λ r. AreInOrder layout self.now r.1.items) }
-        ensures compilable { OnOk result (IsCompilableIn layout self.now) }
-        ensures refused { IfErr result (IsRefusalIn layout self.now) }
-    {
-        match layout {
-            Layout::Linear => self.to_bpf_with_places(alloc),
-            Layout::Tree => self.to_tree_bpf_with_places(alloc),
         }
     }
 

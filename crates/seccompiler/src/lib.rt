@@ -69,7 +69,7 @@ pub use error::{Error, Result};
 pub use filter::SeccompFilter;
 pub use install::{Kernel, apply_filter, apply_filter_all_threads};
 pub use json::{
-    JsonCompiler, JsonCondition, JsonFilter, JsonFilterMap, JsonFrontendError, JsonPolicy, JsonRule,
+    JsonCompiler, JsonCondition, JsonFilter, JsonFilterMap, JsonFrontendError, JsonRule,
 };
 pub use layout::Layout;
 pub use machine::Outcome;

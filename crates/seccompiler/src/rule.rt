@@ -1,7 +1,5 @@
 // Conditions that must all hold.
 
-mod places;
-
 use crate::backend::BackendError;
 use crate::bpf::{BpfProgram, jump_over, return_word, sock_filter};
 use crate::condition::{GREATEST_OFFSET, SeccompCondition};
@@ -38,9 +36,6 @@ impl SeccompRule {
     ghost use Rattle.seccompiler.specs.Policy.{RuleHolds};
     ghost use Rattle.seccompiler.specs.Layout.{greatest_offset, total_size, groups_of, relays, IsOnlyCut, rule_length};
     ghost use Rattle.seccompiler.specs.Pieces.{IsRuleCode};
-    ghost use Rattle.std.specs.List.{AllZip};
-    ghost use Rattle.seccompiler.specs.Places.{StandsInRule};
-    ghost use Rattle.seccompiler.specs.PlaceLists.{rule_places};
 
     /// Makes a rule of the conditions, joined by and.
     ///
@@ -161,7 +156,6 @@ impl SeccompRule {
     pub fn write(&self, part: &mut [sock_filter])
         requires room { length part.old ≡ rule_length self.now }
         ensures code { IsRuleCode self.now part.new }
-        ensures places { AllZip (StandsInRule self.now) (rule_places self.now) part.new }
     {
         let mut end = part.len();
         let mut offset: u8 = 1;

@@ -2,4 +2,5 @@
 pub mod Ascending
 pub mod EntrySearches
 pub mod Explanations
+pub mod Places
 pub mod ProfileLines

@@ -1,3 +1,2 @@
 -- Lemmas for the functions of `show`.
-pub mod Lines
-pub mod Texts
+pub mod Shown

@@ -95,10 +95,9 @@ AnswersRunOn (records.Call call arguments) arch program known answer old new =
 AnswersRunOn (records.In path) arch program known answer old new = AnswersRun program known answer old new
 
 -- The answer of `show` for what it is to print: the programs of a policy, or a program.
-abbrev pub AnswersShown : Shown → TargetArch → Layout → (given : Option (List ℕ)) → Result ⊤ ToolError → (old new : Option (List ℕ))
-    → Type 0
-AnswersShown (shown.Policy path) arch layout policy answer old new = AnswersShow (arch_text arch) policy layout answer old new
-AnswersShown (shown.Program path) arch layout program answer old new = AnswersShowProgram program answer old new
+abbrev pub AnswersShown : Shown → TargetArch → Layout → (given : Option (List ℕ)) → Result ⊤ ToolError → Type 0
+AnswersShown (shown.Policy path) arch layout policy answer = AnswersShow (arch_text arch) policy layout answer
+AnswersShown (shown.Program path) arch layout program answer = AnswersShowProgram program answer
 
 -- An answer without what is found and noted.
 abbrev pub plain_of : Result Done ToolError → Result ⊤ ToolError
@@ -167,7 +166,7 @@ abbrev pub AnswersCommand : Command → (policy records : Option (List ℕ)) →
 AnswersCommand (Compile arch filter layout format output quiet path) policy records answer old new =
     AnswersCompileNoted format arch (text_of filter) layout quiet path.now policy answer old new
 AnswersCommand (Show arch layout shown) policy records answer old new =
-    AnswersPlain (λ plain. AnswersShown shown arch layout policy plain old new) answer
+    AnswersPlain (λ plain. AnswersShown shown arch layout policy plain) answer
 AnswersCommand (Check arch denied allowed path) policy records answer old new =
     AnswersCheckByKind arch denied allowed.now path.now policy answer old new
 AnswersCommand Codes policy records answer old new = AnswersPlain (λ plain. AnswersCodes plain old new) answer

@@ -10,8 +10,6 @@ pub mod Errors
 pub mod Policies
 pub mod Chosen
 pub mod Compile
-pub mod ShowText
-pub mod ShowLabels
 pub mod Show
 pub mod Ways
 pub mod Stats

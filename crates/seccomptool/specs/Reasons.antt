@@ -1,18 +1,29 @@
 -- Why a filter decides a record as it does: the reasons, and their texts in numbers.
-use Rattle.std.specs.Prelude.{◌≡◌, ◌≢◌, ℕ, pos, ◌+◌, ◌<◌, List, [], ◌∷◌, ◌++◌, length, take, slice_get, Some, All, IfSome, codes, decimal}
+use Rattle.std.specs.Prelude.{◌≡◌, ◌≢◌, ◌↔◌, ℕ, ℤ, pos, ◌+◌, ◌<◌, List, [], ◌∷◌, ◌++◌, length, take, slice_get, Some, All, IfSome, Contains}
+use Rattle.std.specs.Prelude.{codes, decimal}
+use Rattle.std.specs.List.Sorted.{IsStrictlySortedBy}
+use Rattle.std.specs.Ordering.{nat_cmp}
 use Rattle.seccompiler.specs.declared.backend.SeccompAction.{SeccompAction}
 use Rattle.seccompiler.specs.declared.backend.SeccompAction.TheVariants.{KillProcess}
 use Rattle.seccompiler.specs.declared.backend.TargetArch.{TargetArch}
 use Rattle.seccompiler.specs.declared.json.types.JsonCondition.{JsonCondition}
 use Rattle.seccompiler.specs.Architecture.{audit_word}
 use Rattle.seccompiler.specs.Policy.{Holds}
-use Rattle.seccompiler.specs.JsonOrigins.{AreIndicesFor}
-use Rattle.seccompiler.specs.JsonPolicyOf.{condition_of}
+use Rattle.seccompiler.specs.JsonPolicyOf.{IsFor, condition_of}
 use Rattle.seccompiler.specs.JsonTypes.{JsonRule, JsonFilter}
 use Rattle.seccompiler.specs.Machine.{word_at}
 use Rattle.seccomptool.specs.declared.explain.reason.Miss.{Miss}
 use Rattle.seccomptool.specs.declared.explain.reason.Reason.{Reason}
 use Rattle.seccomptool.specs.declared.explain.reason.Reason.TheVariants.{AnotherArchitecture, NoEntry, NoMatch, Entry}
+
+-- The index, from 0, is that of an entry whose call has this number on the architecture.
+abbrev pub IsIndexFor : TargetArch → List JsonRule → ℤ → ℕ → Type 0
+IsIndexFor arch entries number index = (entry : JsonRule) × (slice_get entries index ≡ Some entry) × IsFor arch number entry
+
+-- The list has exactly the indices of the entries whose call has this number, ascending.
+pub record AreIndicesFor (arch : TargetArch) (entries : List JsonRule) (number : ℤ) (indices : List ℕ) : Type 0 where
+  pub exactly : (index : ℕ) → Contains indices index ↔ IsIndexFor arch entries number index
+  pub ascending : IsStrictlySortedBy nat_cmp indices
 
 -- The condition holds on the record.
 abbrev pub ConditionHolds : List ℕ → JsonCondition → Type 0

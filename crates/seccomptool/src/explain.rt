@@ -16,7 +16,7 @@ use crate::error::ToolError;
 use crate::explain::filters::usable_filters;
 use crate::explain::format::LineFormat;
 use crate::explain::records::explain_records;
-use seccompiler::{JsonCompiler, TargetArch};
+use seccompiler::TargetArch;
 use std::alloc::Global;
 use std::io::{Read, Write};
 
@@ -84,6 +84,5 @@ pub fn explain<P: Read + Drop, R: Read + Drop, W: Write>(
     let Some(filter) = filters.0.get(name) else {
         return Err(ToolError::NoFilter(String::from_str(alloc, name)?));
     };
-    let made = JsonCompiler::new(target).make_with_origins(alloc, filter)?;
-    explain_records(alloc, format, target, name, filter, &made, records, out)
+    explain_records(alloc, format, target, name, filter, records, out)
 }

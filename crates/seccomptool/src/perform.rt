@@ -205,12 +205,12 @@ fn show_asked<P: Read + Drop, W: Write>(
     given: P,
     out: &mut W,
 ) -> Result<(), ToolError>
-    ensures answers { AnswersShown shown.entry arch layout (P.remaining given) result (W.contents out.old) (W.contents out.new) }
+    ensures answers { AnswersShown shown.entry arch layout (P.remaining given) result }
     ensures unwritten { IfErr result (λ e. KeepsOutput e out.old out.new) }
 {
     match shown {
         Shown::Policy(_) => show(alloc, arch.name(), layout, given, out),
-        Shown::Program(_) => show_program(alloc, given, out),
+        Shown::Program(_) => show_program(alloc, arch, given, out),
     }
 }
 

@@ -127,24 +127,6 @@ fn a_program_in_either_layout(rt: HostRuntime) -> Result<(), Fail> {
 }
 
 #[test]
-fn the_places_of_a_program(rt: HostRuntime) -> Result<(), Fail> {
-    let alloc = rt.alloc();
-    let filter = logging(alloc)?;
-    let (program, places) = filter.to_bpf_with_places(alloc)?;
-    assert!(rt; places.len() == program.len());
-    Ok(())
-}
-
-#[test]
-fn the_places_of_a_program_in_either_layout(rt: HostRuntime) -> Result<(), Fail> {
-    let alloc = rt.alloc();
-    let filter = logging(alloc)?;
-    let (program, places) = filter.to_bpf_with_places_in(alloc, Layout::Tree)?;
-    assert!(rt; places.len() == program.len());
-    Ok(())
-}
-
-#[test]
 fn a_program_in_a_buffer(rt: HostRuntime) -> Result<(), Fail> {
     let filter = logging(rt.alloc())?;
     let mut buffer = [bpf_stmt(BPF_RET | BPF_K, 0); 16];

@@ -1,3 +1,2 @@
 -- Lemmas for the functions of `json::compiler`.
 pub mod TextPolicies
-pub mod ChainOrigins

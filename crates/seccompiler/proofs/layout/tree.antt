@@ -7,6 +7,4 @@ pub mod RangesMade
 pub mod RangesExist
 pub mod TreeLengths
 pub mod TreeCode
-pub mod RowPlaces
-pub mod TreePlaces
 pub mod TreeProgram

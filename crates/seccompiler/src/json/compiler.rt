@@ -7,7 +7,6 @@ ghost use Rattle.std.specs.List.Sorted.{IsStrictlySortedBy};
 ghost use Rattle.std.specs.Ordering.{int_cmp};
 ghost use Rattle.serde_json.specs.Data.{Data};
 ghost use Rattle.seccompiler.specs.Errors.{IsNoMemoryInFrontend};
-ghost use Rattle.seccompiler.specs.JsonOrigins.{AreOfChains, AreOrigins};
 ghost use Rattle.seccompiler.specs.JsonAnswers.{IsValueOf, OfValue, ArePoliciesOf, TellsFrontendFault};
 ghost use Rattle.seccompiler.specs.JsonEntries.{PoliciesMatchEntries};
 ghost use Rattle.seccompiler.specs.JsonSteps.{AreFilters, ArePoliciesFor, HaveTableNumbers, IsLeastPolicyRefusal, IsNoFailedRead, IsPolicyRefusal};
@@ -21,7 +20,6 @@ ghost use Rattle.seccompiler.specs.JsonWidened.{DecideAlikeOff, KeepsMatches, Ma
 use crate::backend::TargetArch;
 use crate::filter::SeccompFilter;
 use crate::json::error::JsonFrontendError;
-use crate::json::origins::{JsonPolicy, origins_of};
 use crate::json::policy::{seccomp_filter, widened_numbers};
 use crate::json::texts::filters_from;
 use crate::json::types::{JsonFilter, JsonFilterMap};
@@ -95,53 +93,6 @@ impl JsonCompiler {
         ensures entries { PoliciesMatchEntries self.now }
     {
         seccomp_filter(alloc, self.arch, filter)
-    }
-
-    /// Makes the same filter as `make_seccomp_filter`, and says of each of its call numbers which
-    /// entries its chain comes from.
-    ///
-    /// Under a number stand the indices of exactly the entries whose call has this number, ascending,
-    /// whether they have conditions or not. A number has indices exactly where the filter has a chain
-    /// for it.
-    ///
-    /// # Errors
-    ///
-    /// Those of `make_seccomp_filter`, in the same order.
-    ///
-    /// # Examples
-    ///
-    /// ```
-    /// let policy = JsonCompiler::new(TargetArch::x86_64).make_with_origins(alloc, filter)?;
-    /// // The entries 1 and 3 of this filter are of `read`, whose number is 0.
-    /// let indices = policy.origins.get(&0).ok_or("no entry is of read")?;
-    /// assert!(rt; indices.as_slice() == [1, 3].as_slice());
-    /// ```
-    pub fn make_with_origins(
-        &self,
-        alloc: Global,
-        filter: &JsonFilter,
-    ) -> Result<JsonPolicy, JsonFrontendError>
-        ensures policy { IfOk result (λ made. IsPolicyOf self.now filter.now made.filter) }
-        ensures origins { IfOk result (λ made. AreOrigins self.now filter.now.rules made.origins) }
-        ensures chains { IfOk result (λ made. AreOfChains made.filter made.origins) }
-        ensures numbers { IfOk result (λ made. All IsTableNumber (numbers_of made.filter.chains)) }
-        ensures refusal { IfErr result (IsPolicyRefusal self.now filter.now) }
-
-        // Each JSON filter has a policy or a first fault, and never both.
-        ensures not_both { (f : Filter) (fault : Fault) → IsPolicyOf self.now filter.now f → IsFirstFault self.now filter.now fault → ⊥ }
-
-        // The policy of each JSON filter matches exactly the records that meet one of its entries.
-        ensures entries { PoliciesMatchEntries self.now }
-
-        // Off the numbers that have both kinds of entries, the Rust crate's policy decides alike.
-        ensures alike { (numbers : List ℤ) → ((number : ℤ) → Contains numbers number ↔ IsWidened self.now filter.now number) → DecideAlikeOff numbers self.now filter.now }
-    {
-        let made = self.make_seccomp_filter(alloc, filter)?;
-        let origins = origins_of(alloc, self.arch, filter.rules.as_slice())?;
-        Ok(JsonPolicy {
-            filter: made,
-            origins,
-        })
     }
 
     /// The numbers of the calls that have both an entry without conditions and one with conditions,

@@ -1,16 +1,11 @@
 // The linear layout of a filter's program: the chains of its call numbers, one after the other.
 
-mod places;
-
 ghost use Rattle.std.specs.Prelude.{◌≡◌, ◌≤◌, min, length, take};
 ghost use Rattle.std.specs.BTreeMap.{keys};
 ghost use Rattle.seccompiler.specs.Machine.{greatest_length};
-ghost use Rattle.seccompiler.specs.Policy.{Filter, chains_of};
+ghost use Rattle.seccompiler.specs.Policy.{chains_of};
 ghost use Rattle.seccompiler.specs.Layout.{chain_length, chains_length};
 ghost use Rattle.seccompiler.specs.Compiled.{AreCallNumbers};
-ghost use Rattle.std.specs.List.{AllZip};
-ghost use Rattle.seccompiler.specs.Places.{HasChain, Stands};
-ghost use Rattle.seccompiler.specs.PlaceLists.{AreWords, chain_places, chains_places};
 ghost use Rattle.seccompiler.specs.ChainCode.{IsChainCode, IsChainsCode};
 
 use crate::backend::{BackendError, GUARD_LEN, arch_guard};
@@ -40,8 +35,6 @@ impl SeccompFilter {
     ghost use Rattle.seccompiler.specs.declared.backend.BackendError.TheVariants.{OutOfMemory};
     ghost use Rattle.seccompiler.specs.Layout.{counted_length};
     ghost use Rattle.seccompiler.specs.Compiled.{IsCompiled, numbers_of, IsCompilable, IsRefusal};
-    ghost use Rattle.seccompiler.specs.Places.{ArePlaces};
-    ghost use Rattle.seccompiler.specs.PlaceLists.{linear_places};
 
     /// The filter's program.
     ///
@@ -130,7 +123,6 @@ impl SeccompFilter {
         requires compilable { IsCompilable self.now }
         requires room { length program.old ≡ counted_length self.now }
         ensures compiled { IsCompiled self.now program.new }
-        ensures places { ArePlaces self.now (linear_places self.now.chains) program.new }
     {
         let mismatch = u32::from(self.mismatch_action);
         program[..GUARD_LEN].copy_from_slice(&arch_guard(self.target_arch));
@@ -171,7 +163,6 @@ pub(crate) fn write_chains(
     requires room { length part.old ≡ chains_length (chains_of rules.now.entries) }
     requires short { length part.old ≤ greatest_length }
     ensures code { IsChainsCode (chains_of rules.now.entries) mismatch matched part.new }
-    ensures places { (f : Filter) → f.chains ≡ chains_of rules.now.entries → AreWords f mismatch matched → AllZip (Stands f) (chains_places (chains_of rules.now.entries)) part.new }
 {
     let mut start = 0;
     for (number, chain) in rules {
@@ -198,7 +189,6 @@ fn write_chain(
     requires short { length part.old ≤ greatest_length }
     ensures length { result ≡ chain_length chain.now }
     ensures code { IsChainCode number chain.now mismatch matched (take result part.new) }
-    ensures places { (f : Filter) → HasChain f number chain.now → AreWords f mismatch matched → AllZip (Stands f) (chain_places number chain.now) (take result part.new) }
 {
     if chain.is_empty() {
         part[..EMPTY_CHAIN_LEN].copy_from_slice(&[

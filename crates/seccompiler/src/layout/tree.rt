@@ -1,16 +1,9 @@
 // A tree of tests over ranges of call numbers: the code of the ranges.
 
-mod places;
 mod program;
 mod ranges;
 
 ghost use Rattle.std.specs.Prelude.{◌≡◌, ◌≤◌, ◌<◌, ◌+◌, ◌-◌, ◌^◌, ◌∷◌, ◌++◌, [], ◌↔◌, IsTrue, Some, List, min, length};
-ghost use Rattle.std.specs.List.{AllZip};
-ghost use Rattle.seccompiler.specs.declared.layout.places.Place.TheVariants.{TestLeast};
-ghost use Rattle.seccompiler.specs.Places.{Stands};
-ghost use Rattle.seccompiler.specs.PlaceLists.{AreWords};
-ghost use Rattle.seccompiler.specs.TreePlaces.{AreRangesOf, HasPlaces, IsBlockPlaces, IsRangeOf, IsTreePlaces, alone_places, first_start, own_places, row_places, row_test_place, test_places};
-ghost use Rattle.seccompiler.specs.Policy.{Filter};
 ghost use Rattle.seccompiler.specs.Machine.{greatest_length};
 ghost use Rattle.seccompiler.specs.Ranges.{Range, Ascends};
 ghost use Rattle.seccompiler.specs.Tree.{alike, row, own_length, tests_length, block_length, test_length, tree_length};
@@ -104,7 +97,6 @@ impl<'a> CallRange<'a> {
         requires room { length part.old ≡ own_length self.now.chain }
         requires short { length part.old ≤ greatest_length }
         ensures code { IsOwnCode self.now mismatch matched part.new }
-        ensures places { (f : Filter) → IsRangeOf f self.now → AreWords f mismatch matched → AllZip (Stands f) (own_places self.now) part.new }
     {
         if let Some(chain) = self.chain {
             if chain.is_empty() {
@@ -120,7 +112,6 @@ impl<'a> CallRange<'a> {
         requires room { length part.old ≡ own_length self.now.chain + 1 }
         requires short { length part.old ≤ greatest_length }
         ensures code { IsTreeCode (self.now ∷ []) mismatch matched part.new }
-        ensures places { (f : Filter) → IsRangeOf f self.now → AreWords f mismatch matched → AllZip (Stands f) (alone_places self.now) part.new }
     {
         if self.is_matched() {
             part.copy_from_slice(&[return_word(matched)]);
@@ -246,7 +237,6 @@ fn row_test(ranges: &[CallRange<'_>], to_one: u8, to_rest: u8) -> sock_filter
     requires some { 2 ≤ length ranges.now }
     requires ascends { Ascends ranges.now }
     ensures fork { (one : Range) (rest : List Range) → Settles ranges.now one rest → IsFork ranges.now (one ∷ []) rest to_one to_rest result }
-    ensures place { (f : Filter) → Stands f (row_test_place ranges.now) result }
 {
     let border = ranges[1].start();
     if stands_out(ranges) {
@@ -267,7 +257,6 @@ fn border_test(
     requires high { 1 ≤ length high.now }
     requires ascends { Ascends (low.now ++ high.now) }
     ensures fork { IsFork (low.now ++ high.now) low.now high.now to_low to_high result }
-    ensures place { (f : Filter) → Stands f (TestLeast (first_start high.now)) result }
 {
     jump_if_at_least(high[0].start(), to_high, to_low)
 }
@@ -286,7 +275,6 @@ fn write_row(
     requires room { length part.old ≡ row_length ranges.now }
     requires short { length part.old + after ≤ 255 }
     ensures code { IsPartCode ranges.now mismatch matched after (row ranges.now) part.new }
-    ensures places { (f : Filter) → AreRangesOf f ranges.now → AreWords f mismatch matched → AllZip (Stands f) (row_places ranges.now) part.new }
 {
     if ranges.len() == 1 {
         ranges[0].write_own(part, mismatch, matched);
@@ -320,7 +308,6 @@ fn write_halved(
     requires room { length part.old ≡ block_length ranges.now }
     requires short { length part.old + after ≤ 255 }
     ensures code { IsHalvedCode ranges.now mismatch matched after part.new }
-    ensures places { HasPlaces (IsBlockPlaces ranges.now) ranges.now mismatch matched part.new }
 {
     if row_len(ranges) <= MOST {
         write_row(part, ranges, mismatch, matched, after);
@@ -348,7 +335,6 @@ fn write_block(part: &mut [sock_filter], ranges: &[CallRange<'_>], mismatch: u32
     requires room { length part.old ≡ block_length ranges.now + 2 }
     requires short { block_length ranges.now ≤ 255 }
     ensures code { IsTreeCode ranges.now mismatch matched part.new }
-    ensures places { HasPlaces (IsTreePlaces ranges.now) ranges.now mismatch matched part.new }
 {
     let (code, returns) = part.split_at_mut(part.len() - 2);
     write_halved(code, ranges, mismatch, matched, 0);
@@ -360,7 +346,6 @@ fn write_test(part: &mut [sock_filter], border: u32, distance: usize)
     requires room { length part.old ≡ test_length distance }
     requires short { distance ≤ greatest_length }
     ensures code { IsTestCode border distance part.new }
-    ensures places { (f : Filter) → AllZip (Stands f) (test_places border distance) part.new }
 {
     if distance <= 255 {
         part.copy_from_slice(&[jump_if_at_least(border, distance as u8, 0)]);
@@ -380,7 +365,6 @@ pub(crate) fn write_tree(
     requires room { length part.old ≡ tree_length ranges.now }
     requires short { length part.old ≤ greatest_length }
     ensures code { IsTreeCode ranges.now mismatch matched part.new }
-    ensures places { HasPlaces (IsTreePlaces ranges.now) ranges.now mismatch matched part.new }
 {
     if ranges.len() == 1 {
         ranges[0].write_alone(part, mismatch, matched);

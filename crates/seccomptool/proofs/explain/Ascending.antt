@@ -7,13 +7,8 @@ use Rattle.std.specs.List.{AllByRecursion}
 use Rattle.std.specs.List.Sorted.{IsStrictlySortedBy}
 use Rattle.std.specs.Ordering.{nat_cmp}
 use Rattle.seccompiler.specs.declared.backend.TargetArch.{TargetArch}
-use Rattle.seccompiler.specs.JsonOrigins.{AreIndicesFor}
 use Rattle.seccompiler.specs.JsonTypes.{JsonRule}
-
--- A list without items ascends.
-pub nothing_ascends : IsStrictlySortedBy nat_cmp []
-unfolding IsStrictlySortedBy
-nothing_ascends = tt
+use Rattle.seccomptool.specs.Reasons.{AreIndicesFor}
 
 -- A number is in front of a list or in it.
 here_or_later : (x : ℕ) (xs : List ℕ) (k : ℕ) → Contains (x ∷ xs) k → (k ≡ x) ⊎ Contains xs k

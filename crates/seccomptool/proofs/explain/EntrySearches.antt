@@ -1,23 +1,18 @@
--- For `first_failing`, `reason_among`, `reason_on_target` and `reason_of`: what a search among the entries of a call has
--- shown, and that there is one reason.
+-- For `first_failing`, `reason_among` and `reason_of`: what a search among the entries of a call has shown, and that there is
+-- one reason.
 use Rattle.std.proofs.Common.{◌≡◌, ℕ, ℤ, pos, ◌+◌, ◌<◌, ◌≤◌, List, [], ◌∷◌, ◌++◌, length, take, Option, Some, None}
 use Rattle.std.proofs.Common.{true, false, nat_le, refl, sym, subst, ap, ◌∙◌, inl, inr, append_assoc, length-append, length-take-le}
 use Rattle.std.proofs.Common.{arith}
-use Rattle.std.specs.Prelude.{All, Any, Contains, IfSome, Vec, slice_get}
-use Rattle.std.specs.BTreeMap.{BTreeMap}
-use Rattle.std.specs.List.{list_any}
-use Rattle.std.specs.declared.alloc.Global.{Global}
+use Rattle.std.specs.Prelude.{All, Contains, IfSome, slice_get}
 use Rattle.std.proofs.Math.Seq.{take-append_seam}
 use Rattle.std.proofs.lemmas.Bool.{true≢false, cases_Bool, cases_lt}
 use Rattle.std.proofs.lemmas.Bool.Decides.{Decides-int_eq, nat_tests}
 use Rattle.std.proofs.lemmas.List.{take_all, get_or-take}
 use Rattle.std.proofs.lemmas.List.Elements.{All-append, All-cons, All-contains_itself, All-nil, All-push, All-same}
 use Rattle.std.proofs.lemmas.List.Elements.{All-weaker}
-use Rattle.std.proofs.lemmas.List.Folds.{Any-from_list_any, list_any-from_Any}
 use Rattle.std.proofs.lemmas.Option.{get_or_from_slice_get, slice_get_within}
 use Rattle.seccompiler.specs.declared.backend.TargetArch.{TargetArch}
 use Rattle.seccompiler.specs.declared.json.types.JsonCondition.{JsonCondition}
-use Rattle.seccompiler.specs.JsonOrigins.{AreIndicesFor, AreOrigins, indices_at}
 use Rattle.seccompiler.specs.JsonPolicyOf.{is_for, is_number, IsFor}
 use Rattle.seccompiler.specs.JsonTypes.{JsonRule}
 use Rattle.seccompiler.specs.Machine.{word_at}
@@ -28,8 +23,8 @@ use Rattle.seccomptool.specs.declared.explain.reason.Reason.{Reason}
 use Rattle.seccomptool.specs.declared.explain.reason.Reason.TheVariants.{AnotherArchitecture, NoEntry, NoMatch, Entry}
 use Rattle.seccomptool.specs.ExplainSteps.{HasPlaces, nearer}
 use Rattle.seccomptool.specs.Reasons.{ConditionHolds, EntryHolds, EntryFails, FirstFails, OfEntry, FailsBelow, IsNearest, IsFirstMatch}
-use Rattle.seccomptool.specs.Reasons.{IsReasonAmong, IsReason, of_another, of_call}
-use Rattle.seccomptool.proofs.explain.Ascending.{nothing_ascends, same_indices}
+use Rattle.seccomptool.specs.Reasons.{AreIndicesFor, IsReasonAmong, IsReason, of_another, of_call}
+use Rattle.seccomptool.proofs.explain.Ascending.{same_indices}
 
 -- ---- lists
 
@@ -77,46 +72,6 @@ module _ (target : TargetArch) (number : ℤ) (entry : JsonRule) where
       by : (o : Option ℤ) → is_number number o ≡ true → o ≡ Some number
       by None h = absurd (true≢false (sym h))
       by (Some other) h = ap Some (sym ((Decides-int_eq number other).0 h))
-
--- Some entry is for a number, or none is.
-module _ (target : TargetArch) (number : ℤ) (entries : List JsonRule) (origins : BTreeMap ℤ (Vec ℕ Global))
-    (are : AreOrigins target entries origins) where
-  -- What is found under a number are the indices of its entries.
-  pub found_indices : (indices : List ℕ) → indices_at origins number ≡ Some indices → AreIndicesFor target entries number indices
-  found_indices indices found = elim (cases_Bool (list_any (is_for target number) entries)) [
-    | inl some ↦ given (Any-from_list_any (is_for target number) entries some)
-    | inr none ↦ absurd (let nothing : Some indices ≡ None = sym found ∙ are.no_other number (λ any. unlisted any none) in cc)
-  ]
-    where
-      given : Any (λ entry. is_for target number entry ≡ true) entries → AreIndicesFor target entries number indices
-      given (k, entry, within, is, passes) =
-          let listed = are.each number (k, entry, within, is, yes_for target number entry passes) in
-          let both : Some listed.0 ≡ Some indices = sym listed.1 ∙ found in
-          let same : listed.0 ≡ indices = cc in
-          subst (AreIndicesFor target entries number) same listed.2
-
-      unlisted : Any (IsFor target number) entries → list_any (is_for target number) entries ≡ false → ⊥
-      unlisted (k, entry, within, is, for) none = true≢false
-          (sym (list_any-from_Any (is_for target number) entries (k, entry, within, is, for_yes target number entry for)) ∙ none)
-
-  -- Where nothing is found under it, there is no entry.
-  pub none_found : indices_at origins number ≡ None → AreIndicesFor target entries number []
-  none_found none = record {
-    exactly = λ index. (
-      λ among. absurd (let within : among.0 < 0 = among.1 in omega (arith, within)),
-      λ (entry, there, for). absurd (
-          let listed = are.each number (
-            index,
-            entry,
-            slice_get_within entries index entry there,
-            get_or_from_slice_get entries index entry
-                entry there,
-            for,
-          ) in
-          let both : Some listed.0 ≡ None = sym listed.1 ∙ none in cc),
-    );
-    ascending = nothing_ascends;
-  }
 
 -- The indices of a number are those of entries.
 pub all_within : (target : TargetArch) (number : ℤ) (entries : List JsonRule) (indices : List ℕ)

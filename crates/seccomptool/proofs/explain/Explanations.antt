@@ -4,19 +4,14 @@ use Rattle.std.specs.Prelude.{⊤}
 use Rattle.std.specs.BTreeMap.{get_by_text}
 use Rattle.serde_json.specs.Data.{Data}
 use Rattle.seccompiler.specs.declared.backend.TargetArch.{TargetArch}
-use Rattle.seccompiler.specs.declared.json.error.JsonFrontendError.{JsonFrontendError}
-use Rattle.seccompiler.specs.declared.json.error.JsonFrontendError.TheVariants as json
 use Rattle.seccompiler.specs.declared.json.types.JsonFilterMap.{JsonFilterMap}
-use Rattle.seccompiler.specs.Errors.{from_frontend}
 use Rattle.seccompiler.specs.JsonAnswers.{OfValue}
 use Rattle.seccompiler.specs.JsonFilters.{AreAll}
-use Rattle.seccompiler.specs.JsonPolicyOf.{Fault, IsPolicyOf, IsFirstFault}
+use Rattle.seccompiler.specs.JsonPolicyOf.{IsPolicyOf}
 use Rattle.seccompiler.specs.JsonShape.{Lacks}
-use Rattle.seccompiler.specs.JsonSteps.{IsPolicyRefusal}
 use Rattle.seccompiler.specs.JsonTypes.{JsonFilter}
 use Rattle.seccompiler.specs.Policy.{Filter}
 use Rattle.seccompiler.specs.Reads.{Reads}
-use Rattle.seccomptool.specs.Errors.{from_library}
 use Rattle.seccomptool.specs.Explain.{AreLinesOf, AreCompilable, OfFilter, AnswersExplain}
 use Rattle.seccomp_command_line.proofs.Records.{retold}
 use Rattle.seccomp_command_line.specs.Records.{WritesLines}
@@ -39,16 +34,6 @@ module _ (format : LineFormat) (arch : List ℕ) (known : Option (List ℕ)) (na
   name_untold (tool.Library e) old new refused = no_architecture refused
   name_untold tool.OutOfMemory old new refused = tt
   name_untold _ old new refused = absurd refused
-
-  -- A filter that has a policy is refused for want of memory alone.
-  pub no_refusal : (target : TargetArch) (filter : JsonFilter) (policy : Filter) (e : JsonFrontendError) (old new : Option (List ℕ))
-      → IsPolicyOf target filter policy
-      → ((f : Filter) (fault : Fault) → IsPolicyOf target filter f → IsFirstFault target filter fault → ⊥) → IsPolicyRefusal target filter e
-      → AnswersExplain format arch known name records (Err (from_library (from_frontend e))) old new
-  no_refusal target filter policy (json.Backend cause) old new is not_both refused = absurd (not_both policy _ is refused.0)
-  no_refusal target filter policy (json.SyscallName call other) old new is not_both refused = absurd (not_both policy _ is refused)
-  no_refusal target filter policy json.OutOfMemory old new is not_both refused = tt
-  no_refusal target filter policy _ old new is not_both refused = absurd refused
 
   -- ---- what is found
 

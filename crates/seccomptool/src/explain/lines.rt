@@ -1,8 +1,8 @@
 // The lines of records.
 
-ghost use Rattle.std.specs.Prelude.{◌≡◌, ◌++◌, ◌<◌, length, IfOk, OnOk, codes, decimal};
-ghost use Rattle.seccompiler.specs.JsonOrigins.{AreOrigins};
-ghost use Rattle.seccompiler.specs.JsonPolicyOf.{IsPolicyOf};
+ghost use Rattle.std.specs.Prelude.{◌≡◌, ◌++◌, ◌<◌, length, All, IfOk, OnOk, codes, decimal};
+ghost use Rattle.seccompiler.specs.JsonPolicyOf.{IsFineEntry, IsPolicyOf};
+ghost use Rattle.seccompiler.specs.Policy.{Filter};
 ghost use Rattle.seccomptool.specs.ExplainLines.{AreLines, action_name, among, call_text, entry_path, line_of, miss_path, reason_path};
 ghost use Rattle.seccomptool.specs.ExplainSteps.{HasPlaces};
 ghost use Rattle.seccomptool.specs.Reasons.{reason_action};
@@ -13,29 +13,27 @@ use crate::explain::search::reason_of;
 use itoa::Buffer;
 use seccomp_command_line::hexadecimal::eight_digits;
 use seccomp_command_line::names::push_readable;
-use seccompiler::{JsonFilter, JsonPolicy, JsonRule, SeccompAction, TargetArch};
+use seccompiler::{JsonFilter, JsonRule, SeccompAction, TargetArch};
 use std::alloc::{AllocError, Global};
 
-// The lines of the JSON filter of this name and its policy on records, one for each, in order.
+// The lines of the JSON filter of this name on records, one for each, in order.
 pub(crate) fn lines(
     alloc: Global,
     format: LineFormat,
     target: TargetArch,
     name: &str,
     filter: &JsonFilter,
-    made: &JsonPolicy,
     records: &[[u8; 64]],
 ) -> Result<Vec<u8>, AllocError>
-    requires policy { IsPolicyOf target filter.now made.now.filter }
-    requires origins { AreOrigins target filter.now.rules made.now.origins }
-    ensures { IfOk result (λ text. AreLines format target name.now filter.now made.now.filter records.now text.items) }
+    requires fine { All (IsFineEntry target) filter.now.rules }
+    ensures { IfOk result (λ text. (policy : Filter) → IsPolicyOf target filter.now policy → AreLines format target name.now filter.now policy records.now text.items) }
 {
     let mut shown = Vec::new(alloc);
     push_readable(&mut shown, name)?;
     let entries = filter.rules.as_slice();
     let mut text = Vec::new(alloc);
     'records: for record in records {
-        let reason = reason_of(target, entries, &made.origins, record);
+        let reason = reason_of(alloc, target, entries, record)?;
         push_line(alloc, &mut text, format, shown.as_slice(), filter, reason)?;
     }
     Ok(text)

@@ -1,8 +1,8 @@
 // Records in, their lines out.
 
-ghost use Rattle.std.specs.Prelude.{◌≡◌, IfOk, IfErr, IfSome};
-ghost use Rattle.seccompiler.specs.JsonOrigins.{AreOrigins};
-ghost use Rattle.seccompiler.specs.JsonPolicyOf.{IsPolicyOf};
+ghost use Rattle.std.specs.Prelude.{◌≡◌, All, IfOk, IfErr, IfSome};
+ghost use Rattle.seccompiler.specs.JsonPolicyOf.{IsFineEntry, IsPolicyOf};
+ghost use Rattle.seccompiler.specs.Policy.{Filter};
 ghost use Rattle.seccompiler.specs.Reads.{Reads};
 ghost use Rattle.seccomptool.specs.Errors.{KeepsOutput};
 ghost use Rattle.seccomptool.specs.ExplainLines.{AreLines, AnswersRecords};
@@ -12,7 +12,7 @@ use crate::error::ToolError;
 use crate::explain::format::LineFormat;
 use crate::explain::lines::lines;
 use crate::send::send;
-use seccompiler::{JsonFilter, JsonPolicy, TargetArch};
+use seccompiler::{JsonFilter, TargetArch};
 use std::alloc::Global;
 use std::io::{ErrorKind, Read, Write};
 
@@ -25,19 +25,17 @@ pub(crate) fn explain_records<R: Read + Drop, W: Write>(
     target: TargetArch,
     name: &str,
     filter: &JsonFilter,
-    made: &JsonPolicy,
     records: R,
     out: &mut W,
 ) -> Result<(), ToolError>
-    requires policy { IsPolicyOf target filter.now made.now.filter }
-    requires origins { AreOrigins target filter.now.rules made.now.origins }
-    ensures lines { Reads (R.remaining records) (λ bytes. AnswersRecords (AreLines format target name.now filter.now made.now.filter) bytes result (W.contents out.old) (W.contents out.new)) }
+    requires fine { All (IsFineEntry target) filter.now.rules }
+    ensures lines { (policy : Filter) → IsPolicyOf target filter.now policy → Reads (R.remaining records) (λ bytes. AnswersRecords (AreLines format target name.now filter.now policy) bytes result (W.contents out.old) (W.contents out.new)) }
     ensures cause { IfErr result IsRecordsError }
     ensures unwritten { IfErr result (λ e. KeepsOutput e out.old out.new) }
 {
     let bytes = read_whole(alloc, records)?;
     let (records, rest) = bytes.as_slice().as_chunks::<64>();
-    let text = lines(alloc, format, target, name, filter, made, records)?;
+    let text = lines(alloc, format, target, name, filter, records)?;
     send(out, text.as_slice())?;
     match rest.len() {
         0 => Ok(()),

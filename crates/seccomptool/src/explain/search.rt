@@ -1,52 +1,60 @@
 // The search for the reason of a decision.
 
-ghost use Rattle.std.specs.Prelude.{◌≡◌, ◌≤◌, ◌<◌, ◌↔◌, length, All, IfSome, IfNone, IsTrue};
-ghost use Rattle.seccompiler.specs.Architecture.{audit_word};
-ghost use Rattle.seccompiler.specs.JsonOrigins.{AreOrigins};
-ghost use Rattle.seccompiler.specs.JsonPolicyOf.{IsFineEntry, AreFineArgs};
+ghost use Rattle.std.specs.Prelude.{◌≡◌, ◌≤◌, ◌<◌, ◌↔◌, pos, length, All, IfOk, IfSome, IfNone, IsTrue};
+ghost use Rattle.seccompiler.specs.JsonPolicyOf.{IsFineEntry, AreFineArgs, is_for};
 ghost use Rattle.seccompiler.specs.Machine.{word_at};
 ghost use Rattle.seccomptool.specs.declared.explain.reason.Reason.{Reason};
 ghost use Rattle.seccomptool.specs.ExplainSteps.{nearer};
-ghost use Rattle.seccomptool.specs.Reasons.{ConditionHolds, EntryHolds, EntryFails, FirstFails, IsReason, IsReasonAmong, IsReasonOfCall};
+ghost use Rattle.seccomptool.specs.Reasons.{AreIndicesFor, ConditionHolds, EntryHolds, EntryFails, FirstFails, IsReason, IsReasonAmong};
 
 use crate::explain::reason::{Miss, Reason};
-use seccompiler::{JsonCondition, JsonRule, SeccompCondition, TargetArch};
-use std::collections::BTreeMap;
+use seccompiler::{JsonCondition, JsonRule, SeccompCondition, SyscallTable, TargetArch};
+use std::alloc::{AllocError, Global};
 
-// Why a filter of these entries decides a record as it does. The origins are the indices of the entries
-// of each call number.
+// Why a filter of these entries decides a record as it does.
 pub(crate) fn reason_of(
+    alloc: Global,
     target: TargetArch,
     entries: &[JsonRule],
-    origins: &BTreeMap<i64, Vec<usize>>,
     call: &[u8; 64],
-) -> Reason
+) -> Result<Reason, AllocError>
     requires fine { All (IsFineEntry target) entries.now }
-    requires origins { AreOrigins target entries.now origins.now }
-    ensures reason { IsReason target entries.now call.now result }
-    ensures only { (other : Reason) → IsReason target entries.now call.now other → other ≡ result }
+    ensures reason { IfOk result (IsReason target entries.now call.now) }
+    ensures only { IfOk result (λ reason. (other : Reason) → IsReason target entries.now call.now other → other ≡ reason) }
 {
     if word_at(call, 4) != target.get_audit_value() {
-        return Reason::AnotherArchitecture;
+        return Ok(Reason::AnotherArchitecture);
     }
-    reason_on_target(target, entries, origins, call)
+    let number = word_at(call, 0);
+    let indices = indices_for(alloc, target, entries, number)?;
+    Ok(reason_among(entries, indices.as_slice(), call))
 }
 
-// Why it does so on a record of its architecture.
-fn reason_on_target(
+// The indices of the entries whose call has this number.
+fn indices_for(
+    alloc: Global,
     target: TargetArch,
     entries: &[JsonRule],
-    origins: &BTreeMap<i64, Vec<usize>>,
-    call: &[u8; 64],
-) -> Reason
-    requires fine { All (IsFineEntry target) entries.now }
-    requires origins { AreOrigins target entries.now origins.now }
-    ensures { IsReasonOfCall target entries.now call.now result }
+    number: u32,
+) -> Result<Vec<usize>, AllocError>
+    ensures { IfOk result (λ indices. AreIndicesFor target entries.now (pos number) indices.items) }
 {
-    let number = word_at(call, 0);
-    match origins.get(&i64::from(number)) {
-        Some(indices) => reason_among(entries, indices.as_slice(), call),
-        None => Reason::NoEntry { number },
+    let mut indices = Vec::new(alloc);
+    for (index, entry) in entries.iter().enumerate() {
+        if is_for(target, entry, number) {
+            indices.push(index)?;
+        }
+    }
+    Ok(indices)
+}
+
+// Whether the entry's call has this number.
+fn is_for(target: TargetArch, entry: &JsonRule, number: u32) -> bool
+    ensures { result ≡ is_for target (pos number) entry.now }
+{
+    match SyscallTable::new(target).get_syscall_nr(entry.syscall.as_str()) {
+        Some(other) => other == i64::from(number),
+        None => false,
     }
 }
 

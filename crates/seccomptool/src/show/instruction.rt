@@ -1,9 +1,4 @@
-// An instruction in words, and what it stands for by itself.
-
-ghost use Rattle.std.specs.Prelude.{◌≡◌, ◌<◌, ◌^◌, ◌++◌, IfOk, codes, string_bytes};
-ghost use Rattle.seccompiler.specs.Policy.{word_of};
-ghost use Rattle.seccompiler.specs.declared.backend.SeccompAction.{SeccompAction};
-ghost use Rattle.seccomptool.specs.ShowText.{action_text, loaded, meaning_of, operand, returned, tested, words_of};
+// An instruction in words, and what a load and a returned value stand for.
 
 use seccompiler::bpf::{
     BPF_ABS, BPF_ALU, BPF_AND, BPF_JA, BPF_JEQ, BPF_JGE, BPF_JGT, BPF_JMP, BPF_K, BPF_LD, BPF_RET,
@@ -33,16 +28,13 @@ pub(crate) fn words(
     alloc: Global,
     place: usize,
     instruction: &sock_filter,
-) -> Result<String, AllocError>
-    requires { place < 2 ^ 60 }
-    ensures { IfOk result (λ text. string_bytes text ≡ words_of place instruction.now) }
-{
+) -> Result<String, AllocError> {
     let k = instruction.k;
     match instruction.code {
         LOAD => format!(in alloc; "ld [{k}]"),
         MASK => format!(in alloc; "and #0x{k:x}"),
         JUMP => {
-            let to = place + 1 + k as usize;
+            let to = place.saturating_add(1).saturating_add(k as usize);
             format!(in alloc; "ja {to}")
         }
         JUMP_EQUAL => test(alloc, "jeq", place, instruction),
@@ -59,61 +51,29 @@ fn test(
     name: &str,
     place: usize,
     instruction: &sock_filter,
-) -> Result<String, AllocError>
-    requires { place < 2 ^ 60 }
-    ensures { IfOk result (λ text. string_bytes text ≡ tested name.now place instruction.now) }
-{
+) -> Result<String, AllocError> {
     let sock_filter { code: _, jt, jf, k } = *instruction;
-    let met = place + 1 + jt as usize;
-    let unmet = place + 1 + jf as usize;
-    let condition = condition(alloc, name, k)?;
-    format!(in alloc; "{condition}, {met}, {unmet}")
-}
-
-// What such a jump tests.
-fn condition(alloc: Global, name: &str, k: u32) -> Result<String, AllocError>
-    ensures { IfOk result (λ text. string_bytes text ≡ name.now ++ codes " " ++ operand k) }
-{
-    format!(in alloc; "{name} #0x{k:x}")
-}
-
-// What an instruction loads or returns, in words.
-pub(crate) fn meaning(alloc: Global, instruction: &sock_filter) -> Result<String, AllocError>
-    ensures { IfOk result (λ text. string_bytes text ≡ meaning_of instruction.now) }
-{
-    match instruction.code {
-        LOAD => load_meaning(alloc, instruction.k),
-        RETURN => word_meaning(alloc, instruction.k),
-        _ => Ok(String::new(alloc)),
-    }
+    let next = place.saturating_add(1);
+    let met = next.saturating_add(jt as usize);
+    let unmet = next.saturating_add(jf as usize);
+    format!(in alloc; "{name} #0x{k:x}, {met}, {unmet}")
 }
 
 // What a load gets that begins at this byte of a record.
-fn load_meaning(alloc: Global, k: u32) -> Result<String, AllocError>
-    ensures { IfOk result (λ text. string_bytes text ≡ loaded k) }
-{
+pub(crate) fn load_meaning(alloc: Global, k: u32) -> Result<String, AllocError> {
     match k {
         0 => String::from_str(alloc, "the call number"),
         4 => String::from_str(alloc, "the architecture"),
         0..16 => String::from_str(alloc, "the instruction pointer"),
         _ => {
-            let argument = (k - 16) / 8;
-            if k % 8 == 0 {
-                format!(in alloc; "the low half of argument {argument}")
-            } else {
-                format!(in alloc; "the high half of argument {argument}")
-            }
+            let half = if k % 8 == 0 { "low" } else { "high" };
+            format!(in alloc; "the {half} half of argument {}", (k - 16) / 8)
         }
     }
 }
 
 // The action that a returned word stands for, in words; nothing where it stands for none.
-fn word_meaning(alloc: Global, word: u32) -> Result<String, AllocError>
-    ensures text { IfOk result (λ text. string_bytes text ≡ returned word) }
-
-    // The word of each action is told as that action.
-    ensures actions { (action : SeccompAction) → returned (word_of action) ≡ action_text action }
-{
+pub(crate) fn word_meaning(alloc: Global, word: u32) -> Result<String, AllocError> {
     let number = word % 0x1_0000;
     match (word / 0x1_0000, number) {
         (0x7fff, 0) => String::from_str(alloc, "allow"),

@@ -1,103 +1,56 @@
 // The text of programs for people.
 
-ghost use Rattle.std.specs.Prelude.{◌≡◌, ◌<◌, ◌^◌, ◌++◌, IfOk, OnOk, codes, replicate, string_bytes};
-ghost use Rattle.seccomptool.specs.ShowText.{header_of, note_of, noted, place_text, line_of};
-
-use crate::show::instruction::{meaning, words};
+use crate::show::instruction::words;
+use crate::show::notes::notes;
+use crate::show::programs::NamedProgram;
 use seccomp_command_line::names::push_readable;
-use seccompiler::sock_filter;
+use seccompiler::{BpfProgramRef, TargetArch};
 use std::alloc::{AllocError, Global};
 
-// The bytes that an instruction's words fill where a note stands beside them.
-const WORDS_WIDTH: usize = 28;
-
-// The bytes that a place fills.
-const PLACE_WIDTH: usize = 4;
-
-// Adds the line in front of a program.
-pub(crate) fn push_header(
-    alloc: Global,
-    text: &mut Vec<u8>,
-    count: usize,
-    name: &str,
-) -> Result<(), AllocError>
-    ensures { OnOk result (text.new.items ≡ text.old.items ++ header_of count name.now) }
-{
-    text.extend_from_slice(format!(in alloc; "filter {count} ")?.as_bytes())?;
-    push_readable(text, name)?;
-    text.extend_from_slice(b"\n")
+// The text of programs, each behind a line with its length and its name.
+pub(crate) fn text_of(alloc: Global, programs: &[NamedProgram]) -> Result<Vec<u8>, AllocError> {
+    let mut text = Vec::new(alloc);
+    for named in programs {
+        let count = named.program.len();
+        text.extend_from_slice(format!(in alloc; "filter {count} ")?.as_bytes())?;
+        push_readable(&mut text, named.name.as_str())?;
+        text.push(b'\n')?;
+        push_instructions(alloc, &mut text, None, &named.program)?;
+    }
+    Ok(text)
 }
 
-// Adds so many spaces.
-fn push_spaces(text: &mut Vec<u8>, count: usize) -> Result<(), AllocError>
-    ensures { OnOk result (text.new.items ≡ text.old.items ++ replicate count 32) }
-{
-    for _ in 0..count {
-        text.push(b' ')?;
+// Adds the lines of a program's instructions. Its calls are those of this architecture where it tests for none.
+pub(crate) fn push_instructions(
+    alloc: Global,
+    text: &mut Vec<u8>,
+    arch: Option<TargetArch>,
+    program: BpfProgramRef<'_>,
+) -> Result<(), AllocError> {
+    let notes = notes(alloc, arch, program)?;
+    for (place, instruction) in program.iter().enumerate() {
+        let words = words(alloc, place, instruction)?;
+        let note = match notes.get(place) {
+            Some(note) => note.as_str(),
+            None => "",
+        };
+        push_line(alloc, text, place, words.as_str(), note)?;
     }
     Ok(())
 }
 
-// Adds a place, right-aligned.
-fn push_place(alloc: Global, text: &mut Vec<u8>, place: usize) -> Result<(), AllocError>
-    ensures { OnOk result (text.new.items ≡ text.old.items ++ place_text place) }
-{
-    let digits = format!(in alloc; "{place}")?;
-    push_spaces(text, PLACE_WIDTH.saturating_sub(digits.len()))?;
-    text.extend_from_slice(digits.as_bytes())
-}
-
-#[tactic(auto, using(crate::proofs::show::Lines::note_unlabelled, crate::proofs::show::Lines::note_meaningless, crate::proofs::show::Lines::note_joined))]
-// A label and a meaning, with a colon between them where both are there.
-fn note(alloc: Global, label: &str, meaning: &str) -> Result<String, AllocError>
-    ensures { IfOk result (λ note. string_bytes note ≡ note_of label.now meaning.now) }
-{
-    if label.is_empty() {
-        return String::from_str(alloc, meaning);
-    }
-    if meaning.is_empty() {
-        return String::from_str(alloc, label);
-    }
-    labelled(alloc, label, meaning)
-}
-
-// A label and a meaning, with a colon between them.
-fn labelled(alloc: Global, label: &str, meaning: &str) -> Result<String, AllocError>
-    ensures { IfOk result (λ note. string_bytes note ≡ label.now ++ codes ": " ++ meaning.now) }
-{
-    format!(in alloc; "{label}: {meaning}")
-}
-
-#[tactic(auto, using(crate::proofs::show::Lines::noted_alone, crate::proofs::show::Lines::noted_beside))]
-// Adds words, and beside them a note, where there is one.
-fn push_noted(text: &mut Vec<u8>, words: &str, note: &str) -> Result<(), AllocError>
-    ensures { OnOk result (text.new.items ≡ text.old.items ++ noted words.now note.now) }
-{
-    text.extend_from_slice(words.as_bytes())?;
-    if note.is_empty() {
-        return Ok(());
-    }
-    push_spaces(text, WORDS_WIDTH.saturating_sub(words.len()))?;
-    text.extend_from_slice(b"; ")?;
-    text.extend_from_slice(note.as_bytes())
-}
-
-// Adds the line of an instruction that stands at this place and has this label.
-pub(crate) fn push_line(
+// Adds the line of an instruction that stands at this place, with its note, where there is one.
+fn push_line(
     alloc: Global,
     text: &mut Vec<u8>,
     place: usize,
-    label: &str,
-    instruction: &sock_filter,
-) -> Result<(), AllocError>
-    requires { place < 2 ^ 60 }
-    ensures { OnOk result (text.new.items ≡ text.old.items ++ line_of place label.now instruction.now) }
-{
-    push_place(alloc, text, place)?;
-    text.extend_from_slice(b"  ")?;
-    let words = words(alloc, place, instruction)?;
-    let meaning = meaning(alloc, instruction)?;
-    let note = note(alloc, label, meaning.as_str())?;
-    push_noted(text, words.as_str(), note.as_str())?;
-    text.extend_from_slice(b"\n")
+    words: &str,
+    note: &str,
+) -> Result<(), AllocError> {
+    let line = if note.is_empty() {
+        format!(in alloc; "{place:4}  {words}\n")?
+    } else {
+        format!(in alloc; "{place:4}  {words:28}; {note}\n")?
+    };
+    text.extend_from_slice(line.as_bytes())
 }

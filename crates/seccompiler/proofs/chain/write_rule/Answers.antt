@@ -1,6 +1,5 @@
 use Rattle.std.proofs.Common.{arith}
 use Rattle.seccompiler.proofs.chain.RulesCode.{with_return}
-use Rattle.seccompiler.proofs.chain.RulesPlaces.{numbered_stand}
 use Rattle.seccompiler.proofs.Parts.{front-written}
 use Rattle.seccompiler.proofs.chain.write_rule.Goals as goal
 
@@ -11,11 +10,3 @@ returns-clause-code c =
     let written = front-written c.code_len-end.result c.args.part.now own c.return_word.result
     (omega (arith, c.write.ensures.code.long, long, c.requires.room, c.requires.short)) (omega (arith, long, c.requires.room)) in
     rw (written, c.return_word.ensures.instruction) (with_return c.args.rule.now c.args.matched own (omega arith) c.write.ensures.code)
-
-pub returns-clause-places : goal.returns-clause-places
-returns-clause-places c = λ f n j has is.
-    let long = c.code_len-end.ensures.length in
-    let own = c.write.new.part in
-    let written = front-written c.code_len-end.result c.args.part.now own c.return_word.result
-    (omega (arith, c.write.ensures.code.long, long, c.requires.room, c.requires.short)) (omega (arith, long, c.requires.room)) in
-    rw (written, c.return_word.ensures.instruction) (numbered_stand f n j c.args.rule.now c.args.matched own has is c.write.ensures.places)

@@ -6,7 +6,6 @@ use Rattle.seccompiler.specs.Policy.{Rule, Chain}
 use Rattle.seccompiler.specs.Layout.{rule_length, rules_length}
 use Rattle.seccompiler.specs.ChainCode.{IsRulesCode}
 use Rattle.seccompiler.proofs.Parts.{take-front, length-part}
-use Rattle.seccompiler.proofs.chain.RulesPlaces.{rules_stand, all_rules_stand}
 use Rattle.seccompiler.proofs.chain.RulesCode.{rules_empty, rules_step, rules_all, rules_room}
 use Rattle.seccompiler.proofs.chain.write_rules.Goals as goal
 
@@ -19,7 +18,7 @@ room chain i start w part q within is code le fits =
     omega (arith, fits, rules_room chain i start q within is start_is)
 
 pub loop-rule-init : goal.loop-rule-init
-loop-rule-init c = record { code = rules_empty c.args.matched; places = λ f n has is. tt; within = omega arith }
+loop-rule-init c = record { code = rules_empty c.args.matched; within = omega arith }
 
 pub loop-rule-preserved : goal.loop-rule-preserved
 loop-rule-preserved c =
@@ -35,9 +34,6 @@ loop-rule-preserved c =
       code = rules_step c.args.chain.now l.rule-index c.args.matched c.rule-item.result (take l.start l.part)
           (take c.write_rule-start.result c.write_rule-start.new.part) _ c.loop-rule-test.true
           c.rule-item.is c.write_rule-start.ensures.code written l.invariant.code;
-      places = λ f n has is. rules_stand f n l.rule-index c.args.chain.now c.rule-item.result
-          (take l.start l.part) (take c.write_rule-start.result c.write_rule-start.new.part) _ c.loop-rule-test.true c.rule-item.is
-          (λ here. c.write_rule-start.ensures.places f n l.rule-index here is) written has (l.invariant.places f n has is);
       within = omega (
         arith,
         fits,
@@ -53,6 +49,4 @@ returns c =
     record {
       length = sym (length-take-le l.start l.part l.invariant.within) ∙ all.long;
       code = all;
-      places = λ f n has is. all_rules_stand f n l.rule-index c.args.chain.now (take l.start l.part) c.loop-rule-test.false
-          (l.invariant.places f n has is);
     }

@@ -61,14 +61,6 @@ settles_owned ranges one rest (stands x z behind is left e) =
     ∙ owned_first one (z ∷ behind) ∙ ap (λ l. own_length one.chain + owned l) (sym left)
 settles_owned ranges one rest (is_first is some e) = ap owned is ∙ owned_first one rest
 
-pub settles_fewer : (ranges : List Range) (one : Range) (rest : List Range) → Settles ranges one rest
-    → (length rest < length ranges) × (1 ≤ length rest)
-settles_fewer ranges one rest (stands x z behind is left e) =
-    let all = ap length is in
-    let some = ap length left in
-    (omega (arith, all, some), omega (arith, some))
-settles_fewer ranges one rest (is_first is some e) = let all = ap length is in (omega (arith, all), some)
-
 -- the range and the rest are those at these places
 settle_at : (ranges : List Range) (one : Range) (rest : List Range) → 2 ≤ length ranges → one ≡ get_or ranges (settled ranges - 1) one
     → rest ≡ drop (settled ranges) ranges → Settles ranges one rest

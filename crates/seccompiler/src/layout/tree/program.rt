@@ -20,7 +20,6 @@ impl SeccompFilter {
     ghost use Rattle.seccompiler.specs.Compiled.{numbers_of, AreCallNumbers, IsCompiled};
     ghost use Rattle.seccompiler.specs.Layout.{guard_length};
     ghost use Rattle.seccompiler.specs.Ranges.{AreRanges, HasRanges};
-    ghost use Rattle.seccompiler.specs.TreePlaces.{HasProgramPlaces};
     ghost use Rattle.seccompiler.specs.Tree.{tree_length, IsTreeCompiled, IsTreeCompilable, IsTreeRefusal, AnswerAlike};
 
     /// The filter's program in a second layout, which finds a call's rules by few tests.
@@ -72,7 +71,6 @@ impl SeccompFilter {
         requires numbers { AreCallNumbers (numbers_of self.now.chains) }
         requires ranges { AreRanges self.now.chains ranges.now }
         ensures compiled { IfOk result (λ program. IsTreeCompiled self.now program.items) }
-        ensures places { IfOk result (λ program. HasProgramPlaces self.now ranges.now program.items) }
         ensures compilable { OnOk result (IsTreeCompilable self.now) }
         ensures refused { IfErr result (IsTreeRefusal self.now) }
     {
@@ -97,7 +95,6 @@ impl SeccompFilter {
         requires room { length program.old ≡ guard_length + 1 + tree_length ranges.now }
         requires short { length program.old ≤ greatest_length }
         ensures compiled { IsTreeCompiled self.now program.new }
-        ensures places { HasProgramPlaces self.now ranges.now program.new }
     {
         let (head, tree) = program.split_at_mut(GUARD_LEN + 1);
         head[..GUARD_LEN].copy_from_slice(&arch_guard(self.target_arch));

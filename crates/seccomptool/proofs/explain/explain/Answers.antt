@@ -1,7 +1,7 @@
 use Rattle.std.proofs.Common.{sym}
 use Rattle.std.proofs.lemmas.Result.{err_from_is_err_and}
 use Rattle.seccomptool.proofs.Faults.{name_refused}
-use Rattle.seccomptool.proofs.explain.Explanations.{name_untold, no_refusal, no_filter, some_policy, told}
+use Rattle.seccomptool.proofs.explain.Explanations.{name_untold, no_filter, some_policy, told}
 use Rattle.seccomptool.proofs.explain.explain.Goals as goal
 
 pub returns-in_err-target-clause-answers : goal.returns-in_err-target-clause-answers
@@ -22,27 +22,26 @@ returns-in_default-clause-answers g c =
           (sym c.in_default.ensures.value),
     )
 
-pub returns-in_err-made-clause-answers : goal.returns-in_err-made-clause-answers
-returns-in_err-made-clause-answers g c =
-    let error = err_from_is_err_and c.from_residual-in_err-made.result c.from_residual-in_err-made.ensures.1 in
+pub explain_records-requires : goal.explain_records-requires
+explain_records-requires g c =
+    let policy = some_policy c.args.format c.args.arch.now (g.P.Read.remaining c.args.policy) c.args.name.now
+    (g.R.Read.remaining c.args.records) c.in_ok-target.target c.in_ok-filters.filters c.in_ok-target.ensures.read
+    c.in_ok-filters.ensures.filters c.in-Some.filter.now (sym c.in-Some.ensures.value) in
+    record { fine = policy.1.entries }
+
+pub returns-clause-answers : goal.returns-clause-answers
+returns-clause-answers g c =
+    let contents = g.W.Write.contents in
     let arch = c.args.arch.now in
     let known = g.P.Read.remaining c.args.policy in
     let name = c.args.name.now in
     let records = g.R.Read.remaining c.args.records in
     let target = c.in_ok-target.target in
+    let filters = c.in_ok-filters.filters in
     let filter = c.in-Some.filter.now in
-    let out = g.W.Write.contents c.args.out.now in
-    let policy = some_policy c.args.format arch known name records target c.in_ok-filters.filters c.in_ok-target.ensures.read
-    c.in_ok-filters.ensures.filters filter (sym c.in-Some.ensures.value) in
-    rw (error.1, error.2) (no_refusal c.args.format arch known name records target filter policy.0 c.in_err-made.field-0.0 out out
-    policy.1 (rw c.new.ensures at c.in_err-made.ensures.not_both) (rw c.new.ensures at c.in_err-made.ensures.refusal))
-
-pub returns-clause-answers : goal.returns-clause-answers
-returns-clause-answers g c =
-    let contents = g.W.Write.contents in
-    told c.args.format c.args.arch.now (g.P.Read.remaining c.args.policy) c.args.name.now
-    (g.R.Read.remaining c.args.records) c.in_ok-target.target c.in_ok-filters.filters c.in_ok-target.ensures.read
-    c.in_ok-filters.ensures.filters
-    c.in-Some.filter.now (sym c.in-Some.ensures.value) c.in_ok-made.made.filter (rw c.new.ensures at c.in_ok-made.ensures.policy)
-    c.explain_records.result (contents c.args.out.now)
-    (contents c.explain_records.new.out) c.explain_records.ensures.lines c.explain_records.ensures.cause
+    let found = sym c.in-Some.ensures.value in
+    let read = c.in_ok-filters.ensures.filters in
+    let policy = some_policy c.args.format arch known name records target filters c.in_ok-target.ensures.read read filter found in
+    told c.args.format arch known name records target filters c.in_ok-target.ensures.read read filter found policy.0 policy.1
+    c.explain_records.result (contents c.args.out.now) (contents c.explain_records.new.out)
+    (c.explain_records.ensures.lines policy.0 policy.1) c.explain_records.ensures.cause

@@ -14,13 +14,12 @@ use Rattle.seccompiler.specs.declared.json.types.JsonCondition.{JsonCondition}
 use Rattle.seccompiler.specs.Architecture.{audit_word}
 use Rattle.seccompiler.specs.Policy.{word_of, Condition, Holds, Rule, Filter, RuleHolds, ChainMatches, Matches, IsDecision}
 use Rattle.seccompiler.specs.Policy.{other_architecture, policy_matches, policy_differs}
-use Rattle.seccompiler.specs.JsonOrigins.{AreIndicesFor}
 use Rattle.seccompiler.specs.JsonPolicyOf.{condition_of, rules_of, rules_for, is_for, is_always, IsFor, chain_for, all_rules, IsPolicyOf}
 use Rattle.seccompiler.specs.JsonTypes.{JsonRule, JsonFilter}
 use Rattle.seccompiler.specs.Machine.{word_at}
 use Rattle.seccomptool.specs.declared.explain.reason.Reason.{Reason}
 use Rattle.seccomptool.specs.declared.explain.reason.Reason.TheVariants.{AnotherArchitecture, NoEntry, NoMatch, Entry}
-use Rattle.seccomptool.specs.Reasons.{EntryHolds, OfEntry, IsFirstMatch, IsReasonAmong, IsReason, of_another, of_call}
+use Rattle.seccomptool.specs.Reasons.{AreIndicesFor, EntryHolds, OfEntry, IsFirstMatch, IsReasonAmong, IsReason, of_another, of_call}
 use Rattle.seccomptool.specs.Reasons.{reason_action}
 use Rattle.seccomptool.proofs.explain.EntrySearches as search
 use Rattle.seccomptool.proofs.explain.EntrySearches.{contained, for_yes, yes_for}

@@ -33,6 +33,3 @@ returns-in_err-program-clause-refused c =
 
 pub returns-clause-compiled : goal.returns-clause-compiled
 returns-clause-compiled c = grind (arith, common_steps)
-
-pub returns-clause-places : goal.returns-clause-places
-returns-clause-places c = grind (arith, common_steps)

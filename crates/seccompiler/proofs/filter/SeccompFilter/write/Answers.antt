@@ -9,7 +9,6 @@ use Rattle.seccompiler.proofs.Parts.{four-written, headed}
 use Rattle.seccompiler.proofs.ChainNumbers.{numbers_are_keys}
 use Rattle.seccompiler.proofs.layout.Guarded.{words_of}
 use Rattle.seccompiler.proofs.layout.linear.WholeProgram.{written_full, written_empty, counted_full, counted_empty}
-use Rattle.seccompiler.proofs.layout.FilterPlaces.{are_words, places_empty, places_full}
 use Rattle.seccompiler.proofs.filter.SeccompFilter.write.Goals as goal
 
 pub returns-then-is_empty : goal.returns-then-is_empty
@@ -26,9 +25,7 @@ returns-then-is_empty c =
     c.from-mismatch.result _ c.self.view_is c.from-mismatch.ensures refl in
     let compiled = written_empty c.args.self.now c.self.inside.rules.entries c.from-mismatch.result _ _ words none
     (written ∙ cc (c.return_word.ensures.instruction)) in
-    let places = places_empty c.args.self.now c.self.inside.rules.entries c.from-mismatch.result _ _ words none
-    (written ∙ cc (c.return_word.ensures.instruction)) in
-    record { compiled = compiled; places = places }
+    record { compiled = compiled }
 
 pub write_chains-requires-clause-numbers : goal.write_chains-requires-clause-numbers
 write_chains-requires-clause-numbers c =
@@ -55,12 +52,7 @@ returns c =
     let compiled = written_full c.args.self.now c.self.inside.rules.entries c.from-mismatch.result c.into.result c.write_chains.new.part
     _ words some c.requires.compilable.short c.write_chains.ensures.code
     (written ∙ cc (c.load_word.ensures.instruction, c.from.ensures, c.return_word-2.ensures.instruction)) in
-    let stand = c.write_chains.ensures.places c.args.self.now (sym words.chains)
-    (are_words c.args.self.now c.self.inside.rules.entries c.from-mismatch.result c.into.result words) in
-    let places = places_full c.args.self.now c.self.inside.rules.entries c.from-mismatch.result
-    c.into.result c.write_chains.new.part _ words some stand
-    (written ∙ cc (c.load_word.ensures.instruction, c.from.ensures, c.return_word-2.ensures.instruction)) in
-    record { compiled = compiled; places = places }
+    record { compiled = compiled }
 
 pub slice_bounds-write_chains-count : goal.slice_bounds-write_chains-count
 slice_bounds-write_chains-count c = grind (arith, common_steps)

@@ -6,7 +6,6 @@ use Rattle.seccompiler.specs.Policy.{Filter}
 use Rattle.seccompiler.proofs.Parts.{four-written}
 use Rattle.seccompiler.proofs.layout.Guarded.{words_of}
 use Rattle.seccompiler.proofs.layout.tree.TreeProgram.{written_tree}
-use Rattle.seccompiler.proofs.layout.FilterPlaces.{places_of_ranges}
 use Rattle.seccompiler.proofs.filter.SeccompFilter.write_by_ranges.Goals as goal
 
 pub returns : goal.returns
@@ -25,9 +24,5 @@ returns c =
       compiled =
           written_tree c.args.self.now c.self.inside.rules.entries c.into.result c.into-2.result c.args.ranges.now tree _ words
           c.requires.ranges (omega (arith, long, c.requires.short)) c.write_tree.ensures.code
-          (ap (λ (l : List sock_filter). l ++ tree) written ∙ cc (c.load_word.ensures.instruction, c.from.ensures));
-      places =
-          places_of_ranges c.args.self.now c.self.inside.rules.entries c.into.result c.into-2.result c.args.ranges.now tree _ words
-          c.requires.ranges c.write_tree.ensures.places
           (ap (λ (l : List sock_filter). l ++ tree) written ∙ cc (c.load_word.ensures.instruction, c.from.ensures));
     }

@@ -8,7 +8,6 @@ use Rattle.seccompiler.specs.Layout.{chain_length, chains_length}
 use Rattle.seccompiler.specs.ChainCode.{IsChainsCode}
 use Rattle.seccompiler.proofs.Parts.{length-part, take-front}
 use Rattle.seccompiler.proofs.layout.linear.AllChains.{chains_empty, chains_step, chains_room}
-use Rattle.seccompiler.proofs.layout.linear.ChainPlaces.{chains_stand}
 use Rattle.seccompiler.proofs.FoundChains.{MapEntry, key_fits, rest_step}
 use Rattle.seccompiler.proofs.layout.linear.write_chains.Goals as goal
 
@@ -28,7 +27,6 @@ loop-number-init c = record {
   done = [];
   rest = c.into_iter-number-iterator.ensures.into_iter_gives.0;
   made = chains_empty c.args.mismatch c.args.matched;
-  places = λ f is words. tt;
   within = omega arith;
 }
 
@@ -57,11 +55,6 @@ loop-number-preserved c =
           c.deref.result.now (take l.start l.part)
           (take c.write_chain-start.result c.write_chain-start.new.part) _ c.call_number.ensures
           c.deref.ensures.value c.write_chain-start.ensures.code written l.invariant.made;
-      places = λ f is words. chains_stand f c.args.rules.now.entries l.invariant.done l.number-iterator c.next.new.self c.in-Some.number.now
-          c.in-Some.chain.now c.call_number.result c.deref.result.now (take l.start l.part)
-          (take c.write_chain-start.result c.write_chain-start.new.part) _
-          is c.in-Some.ensures.steps l.invariant.rest c.call_number.ensures c.deref.ensures.value
-          (λ has. c.write_chain-start.ensures.places f has words) written (l.invariant.places f is words);
       within = omega (
         arith,
         fits,

@@ -4,7 +4,6 @@ use Rattle.seccompiler.specs.Tree.{row, block_length}
 use Rattle.seccompiler.proofs.layout.tree.RangesFound.{halves_ascend, halves_long}
 use Rattle.seccompiler.proofs.layout.tree.TreeLengths.{row_long, block_row, block_cut}
 use Rattle.seccompiler.proofs.layout.tree.PartCode.{halved_row, halves_joined}
-use Rattle.seccompiler.proofs.layout.tree.TreePlaces.{block_of_row, block_of_halves}
 use Rattle.seccompiler.proofs.layout.tree.+write_halved.Goals as goal
 
 pub write_row-requires-clause-room : goal.write_row-requires-clause-room
@@ -18,7 +17,6 @@ returns-then-row_len-le-MOST t c =
     record {
       code = halved_row c.args.ranges.now c.args.mismatch c.args.matched c.args.after c.write_row.new.part
           c.requires.some short c.write_row.ensures.code;
-      places = block_of_row c.args.ranges.now c.args.mismatch c.args.matched c.write_row.new.part short c.write_row.ensures.places;
     }
 
 pub overflow_sub-end : goal.overflow_sub-end
@@ -106,7 +104,4 @@ returns t c =
     c.write_halved-2.ensures.code in
     record {
       code = code;
-      places = block_of_halves c.args.ranges.now low high c.args.mismatch c.args.matched
-          c.border_test.result c.copy_from_slice.new.self front back long c.halves.ensures
-          c.copy_from_slice.ensures.after c.border_test.ensures.place c.write_halved.ensures.places c.write_halved-2.ensures.places;
     }

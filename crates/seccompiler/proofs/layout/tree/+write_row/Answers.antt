@@ -3,7 +3,6 @@ use Rattle.std.proofs.lemmas.Bool.Decides.{nat_tests}
 use Rattle.seccompiler.specs.Tree.{own_length, row}
 use Rattle.seccompiler.proofs.layout.tree.Rows.{settles_row, row_room}
 use Rattle.seccompiler.proofs.layout.tree.PartCode.{row_alone, fork_joined}
-use Rattle.seccompiler.proofs.layout.tree.RowPlaces.{settled_of, row_one_stands, row_stands}
 use Rattle.seccompiler.proofs.Parts.{only_one}
 use Rattle.seccompiler.proofs.layout.tree.+write_row.Goals as goal
 
@@ -14,8 +13,6 @@ returns-then-ranges-eq1 t c =
     record {
       code = row_alone c.args.ranges.now c.index-ranges-0.result c.args.mismatch c.args.matched
           c.args.after c.write_own.new.part is c.write_own.ensures.code;
-      places = λ f all words. row_one_stands f c.args.ranges.now c.index-ranges-0.result c.write_own.new.part is all
-          (λ of. c.write_own.ensures.places f of words);
     }
 
 pub returns : goal.returns
@@ -46,9 +43,4 @@ returns t c =
     (omega (arith, tests)) in
     record {
       code = code;
-      places = λ f all words.
-          let of = settled_of f ranges one rest c.settle.ensures all in
-          row_stands f ranges one rest c.row_test.result c.copy_from_slice.new.self front
-          back c.settle.ensures c.copy_from_slice.ensures.after (c.row_test.ensures.place f)
-          (c.write_own-2.ensures.places f of.0 words) (c.write_row.ensures.places f of.1 words);
     }

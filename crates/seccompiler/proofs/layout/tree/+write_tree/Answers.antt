@@ -1,19 +1,11 @@
 use Rattle.std.proofs.Common.{◌≡◌, ◌-◌, ◌^◌, ◌<◌, ◌≤◌, length, ap, subst, ◌∙◌, arith}
 use Rattle.std.proofs.lemmas.Bool.Decides.{nat_tests}
 use Rattle.seccompiler.specs.Tree.{block_length, test_length, tree_length}
-use Rattle.seccompiler.proofs.layout.tree.RangesFound.{some_ranges, halves_ascend, halves_long, shorter}
+use Rattle.seccompiler.proofs.layout.tree.RangesFound.{some_ranges, halves_ascend, shorter}
 use Rattle.seccompiler.proofs.layout.tree.TreeLengths.{length_one, tree_block, tree_halved, capped_exact, capped_more}
 use Rattle.seccompiler.proofs.layout.tree.TreeCode.{tree_cut}
-use Rattle.seccompiler.proofs.layout.tree.TreePlaces.{starts_at, tree_of_one, tree_of_halves}
 use Rattle.seccompiler.proofs.Parts.{only_one}
 use Rattle.seccompiler.proofs.layout.tree.+write_tree.Goals as goal
-
-pub returns-then-ranges-eq1-clause-places : goal.returns-then-ranges-eq1-clause-places
-returns-then-ranges-eq1-clause-places t c =
-    let one : length c.args.ranges.now ≡ 1 = grind (arith, nat_tests) in
-    let is = only_one c.args.ranges.now c.index-ranges-0.result one c.index-ranges-0.is in
-    tree_of_one c.args.ranges.now c.index-ranges-0.result c.args.mismatch c.args.matched c.write_alone.new.part is
-    (λ f of words. c.write_alone.ensures.places f of words)
 
 pub write_alone-requires-clause-room : goal.write_alone-requires-clause-room
 write_alone-requires-clause-room t c =
@@ -104,18 +96,10 @@ returns t c =
     let cut = tree_halved c.args.ranges.now c.halves.result.0.now c.halves.result.1.now some more c.halves.ensures in
     let exact : c.tree_len-distance.result ≡ tree_length c.halves.result.0.now =
     omega (arith, cut, c.requires.room, c.requires.short, c.tree_len-distance.ensures) in
-    let halved = halves_long c.args.ranges.now c.halves.result.0.now c.halves.result.1.now c.halves.ensures in
     record {
       code =
           tree_cut c.args.mismatch c.args.matched c.args.ranges.now c.halves.result.0.now c.halves.result.1.now c.index-high-0.result
           c.start.result c.tree_len-distance.result c.write_test.new.part c.write_tree.new.part c.write_tree-2.new.part c.requires.ascends
           some cut c.halves.ensures c.index-high-0.is c.start.ensures exact c.write_test.ensures.code
           c.write_tree.ensures.code c.write_tree-2.ensures.code;
-      places =
-          tree_of_halves c.args.ranges.now c.halves.result.0.now c.halves.result.1.now c.args.mismatch
-          c.args.matched c.start.result c.tree_len-distance.result
-          c.write_test.new.part c.write_tree.new.part c.write_tree-2.new.part some more c.halves.ensures
-          (starts_at c.halves.result.1.now c.index-high-0.result c.start.result
-          (omega (arith, halved, some, c.halves.ensures.half)) c.index-high-0.is c.start.ensures) exact c.write_test.ensures.places
-          c.write_tree.ensures.places c.write_tree-2.ensures.places;
     }

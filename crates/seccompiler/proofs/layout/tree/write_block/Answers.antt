@@ -2,9 +2,7 @@ use Rattle.std.proofs.Common.{◌≡◌, ◌∷◌, [], ◌++◌, length, ap₂,
 use Rattle.seccompiler.specs.declared.bpf.sock_filter.{sock_filter}
 use Rattle.seccompiler.specs.Tree.{block_length}
 use Rattle.seccompiler.specs.TreeCode.{IsTreeCode}
-use Rattle.seccompiler.specs.TreePlaces.{IsTreePlaces, HasPlaces}
 use Rattle.seccompiler.proofs.layout.tree.TreeCode.{block_closed}
-use Rattle.seccompiler.proofs.layout.tree.TreePlaces.{tree_of_block}
 use Rattle.seccompiler.proofs.layout.tree.write_block.Goals as goal
 
 pub returns : goal.returns
@@ -20,6 +18,4 @@ returns c =
       code = subst (λ l. IsTreeCode ranges c.args.mismatch c.args.matched (code ++ l)) (sym written)
           (block_closed ranges c.args.mismatch c.args.matched code c.requires.some (omega arith) (omega arith) long c.requires.short
           c.write_halved.ensures.code);
-      places = subst (λ l. HasPlaces (IsTreePlaces ranges) ranges c.args.mismatch c.args.matched (code ++ l)) (sym written)
-          (tree_of_block ranges c.args.mismatch c.args.matched code c.requires.some c.requires.short c.write_halved.ensures.places);
     }

@@ -2,7 +2,6 @@ use Rattle.std.proofs.Common.{◌<◌, ◌≤◌, [], ◌∷◌, ap, ap₂, ◌�
 use Rattle.std.proofs.lemmas.Bool.Decides.{nat_tests}
 use Rattle.seccompiler.specs.declared.bpf.sock_filter.{sock_filter}
 use Rattle.seccompiler.proofs.layout.tree.TreeCode.{near_test, far_test}
-use Rattle.seccompiler.proofs.layout.tree.TreePlaces.{near_places, far_places}
 use Rattle.seccompiler.proofs.layout.tree.write_test.Goals as goal
 
 pub returns-then-distance-le255 : goal.returns-then-distance-le255
@@ -11,7 +10,6 @@ returns-then-distance-le255 c =
     let written = c.copy_from_slice.ensures.after ∙ ap (λ (i : sock_filter). i ∷ []) c.jump_if_at_least.ensures.instruction in
     record {
       code = near_test c.args.border c.args.distance _ (omega arith) near written;
-      places = λ f. near_places f c.args.border c.args.distance _ near written;
     }
 
 pub returns : goal.returns
@@ -21,5 +19,4 @@ returns c =
     ∙ ap₂ (λ (i j : sock_filter). i ∷ j ∷ []) c.jump_if_at_least-2.ensures.instruction c.jump_over.ensures.instruction in
     record {
       code = far_test c.args.border c.args.distance _ (omega arith) far (omega arith) written;
-      places = λ f. far_places f c.args.border c.args.distance _ far written;
     }

@@ -4,13 +4,9 @@ use lib.Seq.{length-take-le}
 use borrow.Rule.Slice.PartMut.{put_mid}
 use Rattle.seccompiler.specs.Layout.{rule_length}
 use Rattle.seccompiler.specs.Policy.{Rule}
-use Rattle.std.specs.List.{AllZip}
-use Rattle.seccompiler.specs.Places.{StandsInRule}
-use Rattle.seccompiler.specs.PlaceLists.{rule_places}
 use Rattle.seccompiler.specs.Relay.{relay_front}
 use Rattle.seccompiler.specs.Pieces.{IsConditionCode, IsRuleCode}
 use Rattle.seccompiler.proofs.rule.RuleLoops.{Built, built_empty, built_step, built_all, built_rule, entry_room, room_at, end_within}
-use Rattle.seccompiler.proofs.rule.RulePlaces.{none_stand, more_stand, rule_stands, StandSoFar}
 use Rattle.seccompiler.proofs.Parts.{drop-written, length-part}
 use Rattle.seccompiler.proofs.rule.SeccompRule.write.Goals as goal
 
@@ -20,7 +16,6 @@ loop-condition-init c =
     let same = c.deref-condition-items.ensures.value ∙ c.self.view_is in
     record {
       built = subst (λ l. Built [] l 1) (sym none) built_empty;
-      stand = subst (λ l. StandSoFar c.deref-condition-items.result.now 0 l 1) (sym none) (none_stand c.deref-condition-items.result.now);
       free = omega (arith, ap length none, c.requires.room, ap rule_length same);
     }
 
@@ -76,14 +71,8 @@ loop-condition-preserved c =
     built_step q l.condition-index c.condition-item.result (drop l.end l.part) c.write.new.part
     _ l.offset _ c.loop-condition-test.true c.condition-item.is own written
     (omega (arith, relay.offset, size)) l.invariant.built in
-    let stand = more_stand q l.condition-index c.condition-item.result
-    (drop l.end l.part) c.write.new.part _ l.offset c.relay_if_far-front.result.1
-    (c.relay_if_far-front.result.1 + c.code_len-size.result) c.loop-condition-test.true
-    c.condition-item.is relay.offset c.write.ensures.code written
-    (omega (arith, relay.offset, size)) l.invariant.stand in
     record {
       built = built;
-      stand = stand;
       free = omega (
         arith,
         ap length written,
@@ -116,9 +105,4 @@ returns c =
     (ap (λ e. e ++ drop l.end l.part) c.write_entry.ensures.code) in
     let whole = c.write_entry.new.part ++ drop l.end l.part in
     let same = c.deref-condition-items.ensures.value ∙ c.self.view_is in
-    let places = rule_stands q l.condition-index (drop l.end l.part) whole l.offset c.loop-condition-test.false l.invariant.stand
-    (ap (λ e. e ++ drop l.end l.part) c.write_entry.ensures.code) in
-    record {
-      code = subst (λ (r : Rule). IsRuleCode r whole) same code;
-      places = subst (λ (r : Rule). AllZip (StandsInRule r) (rule_places r) whole) same places;
-    }
+    record { code = subst (λ (r : Rule). IsRuleCode r whole) same code }

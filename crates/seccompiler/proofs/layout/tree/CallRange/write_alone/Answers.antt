@@ -2,7 +2,6 @@ use Rattle.std.proofs.Common.{◌≡◌, ◌∷◌, [], ◌++◌, length, ap, sy
 use Rattle.seccompiler.specs.declared.bpf.sock_filter.{sock_filter}
 use Rattle.seccompiler.specs.Tree.{own_length}
 use Rattle.seccompiler.proofs.layout.tree.TreeCode.{alone_rest, alone_matched}
-use Rattle.seccompiler.proofs.layout.tree.RowPlaces.{alone_match, alone_stand}
 use Rattle.seccompiler.proofs.layout.tree.CallRange.write_alone.Goals as goal
 
 pub returns-then-is_matched : goal.returns-then-is_matched
@@ -10,9 +9,6 @@ returns-then-is_matched c =
     record {
       code =
           alone_matched c.args.self.now c.args.mismatch c.args.matched _ (omega arith) (c.is_matched.ensures.0 c.if-is_matched.true)
-          (c.copy_from_slice.ensures.after ∙ ap (λ (i : sock_filter). i ∷ []) c.return_word.ensures.instruction);
-      places = λ f of words.
-          alone_match f c.args.self.now c.args.mismatch c.args.matched _ (c.is_matched.ensures.0 c.if-is_matched.true) words
           (c.copy_from_slice.ensures.after ∙ ap (λ (i : sock_filter). i ∷ []) c.return_word.ensures.instruction);
     }
 
@@ -23,11 +19,6 @@ returns c =
     record {
       code = alone_rest c.args.self.now c.args.mismatch c.args.matched c.write_own.new.part _ (omega arith)
           (λ e. let t = sym c.if-is_matched.false ∙ c.is_matched.ensures.1 e in absurd (cc)) long c.write_own.ensures.code
-          (ap (λ l. c.write_own.new.part ++ l)
-          (c.copy_from_slice-2.ensures.after ∙ ap (λ (i : sock_filter). i ∷ []) c.return_word-2.ensures.instruction));
-      places = λ f of words.
-          alone_stand f c.args.self.now c.args.mismatch c.args.matched c.write_own.new.part _
-          (λ e. let t = sym c.if-is_matched.false ∙ c.is_matched.ensures.1 e in absurd (cc)) words (c.write_own.ensures.places f of words)
           (ap (λ l. c.write_own.new.part ++ l)
           (c.copy_from_slice-2.ensures.after ∙ ap (λ (i : sock_filter). i ∷ []) c.return_word-2.ensures.instruction));
     }

@@ -5,7 +5,6 @@ use Rattle.seccompiler.specs.Ranges.{Range}
 use Rattle.seccompiler.specs.Tree.{own_length}
 use Rattle.seccompiler.proofs.layout.tree.TreeCode.{own_some}
 use Rattle.seccompiler.proofs.layout.tree.PartCode.{own_empty, own_gap, own_rules}
-use Rattle.seccompiler.proofs.layout.tree.RowPlaces.{own_stand, own_empty_stands, own_gap_stands, range_chain}
 use Rattle.seccompiler.proofs.Parts.{last-written}
 use Rattle.seccompiler.proofs.layout.tree.CallRange.write_own.Goals as goal
 
@@ -16,7 +15,6 @@ returns-then-is_empty c =
     ap (λ (x : Range). x.chain) (sym c.self.view_is) ∙ ap (option_map (λ (chain : Bor Chain). chain.now)) c.in-Some.is in
     record {
       code = own_empty c.args.self.now c.in-Some.chain.now c.args.mismatch c.args.matched _ has none c.requires.room;
-      places = λ f of words. own_empty_stands f c.args.self.now c.in-Some.chain.now _ has none c.requires.room;
     }
 
 pub returns-else-is_empty : goal.returns-else-is_empty
@@ -40,11 +38,6 @@ returns-else-is_empty c =
       code =
           own_rules c.args.self.now c.in-Some.chain.now c.args.mismatch c.args.matched rules _ has some (omega arith)
           c.write_rules-end.ensures.code (written ∙ ap (λ x. rules ++ x ∷ []) c.return_word.ensures.instruction);
-      places = λ f of words.
-          own_stand f c.args.self.now c.in-Some.chain.now c.args.mismatch c.args.matched rules _ has some of words
-          (c.write_rules-end.ensures.places f c.args.self.now.start
-          (range_chain f c.args.self.now c.in-Some.chain.now has some of) words.matched_is)
-          (written ∙ ap (λ x. rules ++ x ∷ []) c.return_word.ensures.instruction);
     }
 
 pub returns-in_default : goal.returns-in_default
@@ -53,5 +46,4 @@ returns-in_default c =
     ap (λ (x : Range). x.chain) (sym c.self.view_is) ∙ ap (option_map (λ (chain : Bor Chain). chain.now)) c.in_default.is in
     record {
       code = own_gap c.args.self.now c.args.mismatch c.args.matched _ has c.requires.room;
-      places = λ f of words. own_gap_stands f c.args.self.now _ has c.requires.room;
     }

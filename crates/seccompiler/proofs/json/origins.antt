@@ -1,2 +1,0 @@
--- Lemmas for the functions of `json::origins`.
-pub mod Places

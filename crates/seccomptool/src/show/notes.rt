@@ -1,0 +1,206 @@
+// What the instructions of a program are for, read off the program itself, of whichever compiler it is.
+
+use crate::findings::parts::name_of;
+use crate::show::instruction::{
+    JUMP, JUMP_AT_LEAST, JUMP_EQUAL, JUMP_GREATER, LOAD, MASK, RETURN, load_meaning, word_meaning,
+};
+use seccompiler::{BpfProgramRef, TargetArch, sock_filter};
+use std::alloc::{AllocError, Global};
+
+// What the accumulator holds: the word of the record that begins at this byte, as far as the mask keeps it.
+#[derive(Clone, Copy, PartialEq, Eq)]
+struct Word {
+    byte: u32,
+    mask: u32,
+}
+
+// What is known at an instruction on whichever way a run comes there.
+#[derive(Clone, Copy)]
+struct Known {
+    word: Option<Word>,
+    // The record's `AUDIT_ARCH_*` value.
+    arch: Option<u32>,
+}
+
+// The notes on a program's instructions, one for each, which is empty where there is nothing to say. Call numbers are those of
+// the architecture that the program tests for, and those of the one given where it tests for none.
+pub(crate) fn notes(
+    alloc: Global,
+    arch: Option<TargetArch>,
+    program: BpfProgramRef<'_>,
+) -> Result<Vec<String>, AllocError> {
+    let mut known = vec![in alloc; None; program.len()]?;
+    let arch = arch.map(|target| target.get_audit_value());
+    lead(&mut known, 0, Known { word: None, arch });
+    let mut notes = Vec::new(alloc);
+    for (place, instruction) in program.iter().enumerate() {
+        // Jumps lead forward alone, so all that is known here is there already.
+        let here = match known.get(place) {
+            Some(Some(here)) => *here,
+            _ => Known {
+                word: None,
+                arch: None,
+            },
+        };
+        go_on(&mut known, place, here, instruction);
+        notes.push(note(alloc, here, instruction)?)?;
+    }
+    Ok(notes)
+}
+
+// Takes what is known at an instruction on to those behind it that it leads to.
+fn go_on(known: &mut [Option<Known>], place: usize, here: Known, instruction: &sock_filter) {
+    let sock_filter { code, jt, jf, k } = *instruction;
+    let next = place.saturating_add(1);
+    match code {
+        LOAD => {
+            let word = Some(Word {
+                byte: k,
+                mask: u32::MAX,
+            });
+            lead(known, next, Known { word, ..here });
+        }
+        MASK => {
+            let word = masked(here.word, k);
+            lead(known, next, Known { word, ..here });
+        }
+        JUMP => lead(known, next.saturating_add(k as usize), here),
+        JUMP_EQUAL | JUMP_GREATER | JUMP_AT_LEAST => {
+            let (met, unmet) = tested(here, code, k);
+            lead(known, next.saturating_add(jt as usize), met);
+            lead(known, next.saturating_add(jf as usize), unmet);
+        }
+        _ => {}
+    }
+}
+
+// A word of which a mask is kept.
+fn masked(word: Option<Word>, mask: u32) -> Option<Word> {
+    let word = word?;
+    Some(Word {
+        byte: word.byte,
+        mask: word.mask & mask,
+    })
+}
+
+// What is known where a test is met, and where it isn't: a test of the architecture tells it.
+fn tested(here: Known, code: u16, k: u32) -> (Known, Known) {
+    let of_arch = Some(Word {
+        byte: 4,
+        mask: u32::MAX,
+    });
+    if code != JUMP_EQUAL || here.word != of_arch {
+        return (here, here);
+    }
+    let others = if here.arch == Some(k) {
+        None
+    } else {
+        here.arch
+    };
+    (
+        Known {
+            arch: Some(k),
+            ..here
+        },
+        Known {
+            arch: others,
+            ..here
+        },
+    )
+}
+
+// Adds a way to a place: what differs from what is known on the others isn't known any more.
+fn lead(known: &mut [Option<Known>], place: usize, here: Known) {
+    if place >= known.len() {
+        return;
+    }
+    known[place] = Some(match known[place] {
+        Some(other) => Known {
+            word: if other.word == here.word {
+                here.word
+            } else {
+                None
+            },
+            arch: if other.arch == here.arch {
+                here.arch
+            } else {
+                None
+            },
+        },
+        None => here,
+    });
+}
+
+// The note on an instruction.
+fn note(alloc: Global, here: Known, instruction: &sock_filter) -> Result<String, AllocError> {
+    let k = instruction.k;
+    match (instruction.code, here.word) {
+        (LOAD, _) => load_meaning(alloc, k),
+        (RETURN, _) => word_meaning(alloc, k),
+        (MASK, Some(word)) => part(alloc, word),
+        (JUMP_EQUAL | JUMP_GREATER | JUMP_AT_LEAST, Some(word)) => {
+            test_note(alloc, here.arch, word, instruction)
+        }
+        _ => Ok(String::new(alloc)),
+    }
+}
+
+// The note on a test of a word.
+fn test_note(
+    alloc: Global,
+    arch: Option<u32>,
+    word: Word,
+    instruction: &sock_filter,
+) -> Result<String, AllocError> {
+    let k = instruction.k;
+    match (word.byte, word.mask, instruction.code) {
+        (0, u32::MAX, JUMP_EQUAL) => call(alloc, arch, k),
+        (0, u32::MAX, JUMP_AT_LEAST) => format!(in alloc; "calls from {k} on"),
+        (0, u32::MAX, _) => format!(in alloc; "calls above {k}"),
+        (4, u32::MAX, JUMP_EQUAL) => match arch_of(k) {
+            Some(target) => target.to_string(alloc),
+            None => part(alloc, word),
+        },
+        _ => part(alloc, word),
+    }
+}
+
+// A call: its name on the architecture of this value, or its number.
+fn call(alloc: Global, arch: Option<u32>, number: u32) -> Result<String, AllocError> {
+    let name = match arch {
+        Some(value) => match arch_of(value) {
+            Some(target) => name_of(target, number),
+            None => None,
+        },
+        None => None,
+    };
+    match name {
+        Some(name) => String::from_str(alloc, name),
+        None => format!(in alloc; "call {number}"),
+    }
+}
+
+// The architecture of an `AUDIT_ARCH_*` value.
+fn arch_of(value: u32) -> Option<TargetArch> {
+    for target in TargetArch::all() {
+        if target.get_audit_value() == value {
+            return Some(*target);
+        }
+    }
+    None
+}
+
+// The part of a record that a word is.
+fn part(alloc: Global, word: Word) -> Result<String, AllocError> {
+    let Word { byte, mask } = word;
+    let text = if byte < 16 {
+        load_meaning(alloc, byte)?
+    } else {
+        let half = if byte % 8 == 0 { "low" } else { "high" };
+        format!(in alloc; "argument {}, {half} half", (byte - 16) / 8)?
+    };
+    if mask == u32::MAX {
+        return Ok(text);
+    }
+    format!(in alloc; "{text} & 0x{mask:x}")
+}

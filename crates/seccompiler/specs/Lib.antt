@@ -17,7 +17,6 @@ pub mod JsonFilters
 pub mod SyscallTable
 pub mod JsonPolicyOf
 pub mod JsonAnswers
-pub mod UnderNames
 pub mod JsonPrograms
 pub mod Reads
 -- What other calls promise: the code of conditions and rules; the tree layout, and either layout; the places of a program;

@@ -12,11 +12,10 @@ ghost use Rattle.seccomptool.specs.Show.{AnswersShow, AreCompiled, IsShown};
 ghost use Rattle.seccomptool.specs.ShowParts.{IsRefused};
 
 use crate::error::ToolError;
-use crate::policy::{filters, policy_text};
+use crate::policy::{filters, filters_from, policy_text};
 use crate::send::send;
 use crate::show::listing::listing;
 pub use crate::show::program::show_program;
-use seccompiler::json::filters_from;
 use seccompiler::{Layout, TargetArch};
 use std::alloc::Global;
 use std::io::{Read, Write};

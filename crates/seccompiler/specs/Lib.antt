@@ -21,8 +21,8 @@ pub mod JsonPrograms
 pub mod Reads
 -- What other calls promise: the code of conditions and rules; the tree layout, and either layout; the places of a program;
 -- programs and filters compared; the first place of a program that isn't taken; each step from JSON to filters; entries
--- without conditions; errors and their texts; installing; the order of rules; the low half of an argument; conditions
--- that hold for every argument, or for none; equality.
+-- without conditions; errors and their texts; installing; the order of rules; the low half of an argument;
+-- equality.
 pub mod Code
 pub mod ConditionCode
 pub mod Pieces
@@ -43,7 +43,6 @@ pub mod Errors
 pub mod Install
 pub mod Reorder
 pub mod LowHalf
-pub mod AnyArgument
 pub mod Equality
 pub mod JsonEquality
 -- Between layers: what private functions promise each other, and laws that the tests of equality need. No promise rests

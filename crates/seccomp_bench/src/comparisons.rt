@@ -156,7 +156,7 @@ pub(crate) fn write_times_of_policy(
 ) -> Result<(), Failure> {
     let text = whole_input(rt)?;
     let compiler = JsonCompiler::new(TargetArch::x86_64);
-    let filters = compiler.compile_in_order(rt.alloc(), text.as_slice())?;
+    let filters = compiler.policies_of(rt.alloc(), text.as_slice())?;
     for (name, filter) in &filters {
         write_row(rt, name.as_str(), filter)?;
     }

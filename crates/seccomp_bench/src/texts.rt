@@ -1,7 +1,7 @@
 // Text to program, and what of that `serde_json` takes to make the text's value and to drop it.
 
 use crate::failure::Failure;
-use seccompiler::{TargetArch, compile_from_json_in_order};
+use seccompiler::{TargetArch, programs_of};
 use serde_json::Value;
 use std::io::Read;
 use std::time::{Clock, Instant};
@@ -14,7 +14,7 @@ fn least_of_programs(rt: &(impl Clock + AllocGlobal), text: &[u8]) -> Result<u12
     let mut least = u128::MAX;
     for _ in 0..RUNS {
         let start = Instant::now(rt)?;
-        drop(compile_from_json_in_order(rt.alloc(), text, TargetArch::x86_64)?);
+        drop(programs_of(rt.alloc(), text, TargetArch::x86_64)?);
         least = least.min(start.elapsed(rt)?.as_nanos());
     }
     Ok(least)

@@ -11,7 +11,6 @@ use Rattle.seccompiler.specs.declared.json.error.JsonFrontendError.TheVariants a
 use Rattle.seccompiler.specs.Errors.{IsNoMemoryInside}
 use Rattle.seccompiler.specs.JsonAnswers.{IsReadAs, IsValueOf, OfValue, TellsFrontendFault}
 use Rattle.seccompiler.specs.JsonPrograms.{AreProgramsOf, IsProgramOf, TellsFirstFault}
-use Rattle.seccompiler.specs.Reads.{Reads}
 use Rattle.seccomp_check.specs.Checks.{AreAllCompiled, IsPlaced, IsRejection, TellsFaultOf, cause_told, frontend_cause, from_library}
 use Rattle.seccomp_check.specs.Faults.{IsFaultIn}
 use Rattle.seccomp_check.specs.Texts.{fault_text}
@@ -21,9 +20,8 @@ use Rattle.seccomp_command_line.proofs.Found.{all_values}
 
 -- Values that have programs are all compiled.
 pub all_compiled : (target : TargetArch) (text : List ℕ) (find : List ℕ → Option (Vec sock_filter Global))
-    → Reads (Some text) (λ t. OfValue t (AreProgramsOf target find)) → OfValue text (AreAllCompiled target)
-all_compiled target text find h =
-    let value = subst (λ t. OfValue t (AreProgramsOf target find)) h.1 h.2 in
+    → OfValue text (AreProgramsOf target find) → OfValue text (AreAllCompiled target)
+all_compiled target text find value =
     let Compiled : Data → Type 0 = λ v. (program : List sock_filter) × IsProgramOf target v program in
     (value.0, value.1, all_values _ find value.0 value.2 Compiled (λ v program is. (program.items, is)))
 

@@ -42,7 +42,7 @@ pub use crate::rejection::Rejection;
 use crate::text::fault_text;
 use crate::walk::in_policy;
 use seccompiler::json::JsonFrontendError;
-use seccompiler::{BackendError, Error, TargetArch, compile_from_json_in_order};
+use seccompiler::{BackendError, Error, TargetArch, programs_of};
 use serde_json::Value;
 use std::alloc::{AllocError, Global};
 
@@ -72,7 +72,7 @@ pub fn check(alloc: Global, target: TargetArch, text: &[u8]) -> Result<(), Rejec
     ensures compiled { OnOk result (OfValue text.now (AreAllCompiled target)) }
     ensures rejected { IfErr result (IsRejection target text.now) }
 {
-    match compile_from_json_in_order(alloc, text, target) {
+    match programs_of(alloc, text, target) {
         Ok(_) => Ok(()),
         Err(refusal) => Err(placed(alloc, target, text, refusal)),
     }

@@ -9,7 +9,7 @@ use crate::samples::{
 use seccompiler::SeccompAction::Trap;
 use seccompiler::SeccompCmpArgLen::Dword;
 use seccompiler::SeccompCmpOp::Eq;
-use seccompiler::json::{JsonFilterMap, filters_from, filters_of, read_filters};
+use seccompiler::json::{JsonFilterMap, filters_of, read_filters, text_of};
 use seccompiler::{
     BackendError, JsonCompiler, JsonFilter, JsonFrontendError, SeccompFilter, TargetArch,
 };
@@ -91,6 +91,12 @@ fn ask_of_faulty_value(alloc: Global, value: &Value, wanted: Fault) -> Result<()
     }
 }
 
+// The JSON filters of what a reader gives.
+fn filters_read(alloc: Global, text: &str) -> Result<JsonFilterMap, JsonFrontendError> {
+    let text = text_of(alloc, text.as_bytes())?;
+    filters_of(alloc, text.as_slice())
+}
+
 /// The value and the entries of two calls.
 #[derive(Drop)]
 pub struct TwoCalls {
@@ -113,10 +119,8 @@ impl Lent for TwoCalls {
     fn make_calls(&self, alloc: Global) -> Result<(), Ending> {
         let read = read_filters(alloc, &self.value);
         ensure_filter("a value", read, "a", &self.entries)?;
-        let read = filters_from(alloc, TWO_CALLS_TEXT.as_bytes());
+        let read = filters_read(alloc, TWO_CALLS_TEXT);
         ensure_filter("a text", read, "a", &self.entries)?;
-        let read = filters_of(alloc, TWO_CALLS_TEXT.as_bytes());
-        ensure_filter("a text in memory", read, "a", &self.entries)?;
         ask_of_entries(alloc, &self.entries, &two_calls(alloc)?)
     }
 }
@@ -148,7 +152,7 @@ impl Lent for MainThread {
             "main_thread",
             &self.entries,
         )?;
-        let read = filters_from(alloc, MAIN_THREAD_TEXT.as_bytes());
+        let read = filters_read(alloc, MAIN_THREAD_TEXT);
         ensure_filter("the main thread's text", read, "main_thread", &self.entries)?;
         ask_of_entries(alloc, &self.entries, &main_thread(alloc)?)
     }

@@ -5,13 +5,10 @@ use crate::compiled::{CompiledFilter, compiled_filter};
 use crate::lent::Lent;
 use crate::samples::{Chains, MAIN_THREAD_TEXT, TWO_CALLS_TEXT, filter, main_thread, two_calls};
 use seccompiler::SeccompAction::Trap;
-use seccompiler::json::filters_of;
 use seccompiler::{
-    BackendError, BpfProgram, JsonCompiler, JsonFrontendError, SeccompFilter, TargetArch,
-    compile_from_json, compile_from_json_in_order, compile_policies,
+    BackendError, BpfProgram, JsonCompiler, TargetArch, compile_from_json, programs_of,
 };
 use std::alloc::Global;
-use std::collections::BTreeMap;
 
 // An entry without conditions, and one with, of the same call.
 const BOTH_KINDS_TEXT: &str =
@@ -76,7 +73,7 @@ fn compile_filters_in_order(
     name: &str,
     wanted: &CompiledFilter,
 ) -> Result<(), Ending> {
-    match JsonCompiler::new(TargetArch::x86_64).compile_in_order(alloc, text.as_bytes()) {
+    match JsonCompiler::new(TargetArch::x86_64).policies_of(alloc, text.as_bytes()) {
         Ok(found) => ensure(
             found.len() == 1 && found.get(name) == Some(&wanted.filter),
             text,
@@ -103,34 +100,10 @@ fn compile_in_order(
     name: &str,
     wanted: &BpfProgram,
 ) -> Result<(), Ending> {
-    match compile_from_json_in_order(alloc, text.as_bytes(), TargetArch::x86_64) {
+    match programs_of(alloc, text.as_bytes(), TargetArch::x86_64) {
         Ok(found) => ensure(found.len() == 1 && found.get(name) == Some(wanted), text),
         Err(error) => ensure_fault(text, fault_of_library(&error), None),
     }
-}
-
-// Wants the text's only program by its steps from a text in memory to be this one, under this name.
-fn compile_by_steps(
-    alloc: Global,
-    text: &'static str,
-    name: &str,
-    wanted: &BpfProgram,
-) -> Result<(), Ending> {
-    match policies_of(alloc, text) {
-        Ok(policies) => {
-            let found = compile_policies(alloc, policies)?;
-            ensure(found.len() == 1 && found.get(name) == Some(wanted), text)
-        }
-        Err(error) => ensure_fault(text, fault_of_frontend(&error), None),
-    }
-}
-
-fn policies_of(
-    alloc: Global,
-    text: &str,
-) -> Result<BTreeMap<String, SeccompFilter>, JsonFrontendError> {
-    let filters = filters_of(alloc, text.as_bytes())?;
-    JsonCompiler::new(TargetArch::x86_64).policies(alloc, filters)
 }
 
 fn ask_of_text(
@@ -142,8 +115,7 @@ fn ask_of_text(
     compile(alloc, text, name, wanted)?;
     compile_filters_in_order(alloc, text, name, wanted)?;
     compile_programs(alloc, text, name, &wanted.program)?;
-    compile_in_order(alloc, text, name, &wanted.program)?;
-    compile_by_steps(alloc, text, name, &wanted.program)
+    compile_in_order(alloc, text, name, &wanted.program)
 }
 
 fn compile_faulty(
@@ -164,7 +136,7 @@ fn compile_faulty_filters_in_order(
     text: &str,
     wanted: Fault,
 ) -> Result<(), Ending> {
-    match JsonCompiler::new(TargetArch::x86_64).compile_in_order(alloc, text.as_bytes()) {
+    match JsonCompiler::new(TargetArch::x86_64).policies_of(alloc, text.as_bytes()) {
         Ok(_) => Err(Ending::Wrong(what)),
         Err(error) => ensure_fault(what, fault_of_frontend(&error), Some(wanted)),
     }
@@ -189,7 +161,7 @@ fn compile_faulty_in_order(
     text: &str,
     wanted: Fault,
 ) -> Result<(), Ending> {
-    match compile_from_json_in_order(alloc, text.as_bytes(), TargetArch::x86_64) {
+    match programs_of(alloc, text.as_bytes(), TargetArch::x86_64) {
         Ok(_) => Err(Ending::Wrong(what)),
         Err(error) => ensure_fault(what, fault_of_library(&error), Some(wanted)),
     }

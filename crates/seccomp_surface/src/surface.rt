@@ -190,24 +190,26 @@ fn texts_by_the_root(rt: HostRuntime) -> Result<(), Fail> {
 
 #[test]
 fn texts_in_order_by_the_root(rt: HostRuntime) -> Result<(), Fail> {
-    let programs = seccompiler::compile_from_json_in_order(rt.alloc(), NO_FILTERS, ARCHITECTURE)?;
+    let programs = seccompiler::programs_of(rt.alloc(), NO_FILTERS, ARCHITECTURE)?;
     assert!(rt; programs.len() == 0);
     Ok(())
 }
 
 #[test]
 fn filters_of_a_text_by_their_module(rt: HostRuntime) -> Result<(), Fail> {
-    let named = seccompiler::json::filters_from(rt.alloc(), NO_FILTERS)?;
+    let text = seccompiler::json::text_of(rt.alloc(), NO_FILTERS)?;
+    let named = seccompiler::json::filters_of(rt.alloc(), text.as_slice())?;
     assert!(rt; named.0.len() == 0);
     Ok(())
 }
 
 #[test]
-fn steps_by_their_paths(rt: HostRuntime) -> Result<(), Fail> {
-    let named = seccompiler::json::filters_of(rt.alloc(), NO_FILTERS)?;
-    let policies = seccompiler::JsonCompiler::new(ARCHITECTURE).policies(rt.alloc(), named)?;
-    let programs = seccompiler::compile_policies(rt.alloc(), policies)?;
-    assert!(rt; programs.len() == 0);
+fn policies_by_their_path(rt: HostRuntime) -> Result<(), Fail> {
+    let policies = seccompiler::JsonCompiler::new(ARCHITECTURE).policies_of(
+        rt.alloc(),
+        NO_FILTERS,
+    )?;
+    assert!(rt; policies.len() == 0);
     Ok(())
 }
 

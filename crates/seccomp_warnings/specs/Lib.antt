@@ -2,6 +2,7 @@
 -- warnings a filter has, their lines, and the report of a policy.
 pub mod Codes
 pub mod ActionWarnings
+pub mod AnyArgument
 pub mod CallWarnings
 pub mod Verdicts
 pub mod VerdictPolicies

@@ -5,10 +5,10 @@ use Rattle.seccompiler.specs.declared.backend.SeccompCmpArgLen.TheVariants.{Dwor
 use Rattle.seccompiler.specs.declared.backend.SeccompCmpOp.{SeccompCmpOp}
 use Rattle.seccompiler.specs.declared.backend.SeccompCmpOp.TheVariants.{Eq, MaskedEq}
 use Rattle.seccompiler.specs.declared.json.types.JsonCondition.{JsonCondition}
-use Rattle.seccompiler.specs.AnyArgument.{HoldsForAll, HoldsForNone}
 use Rattle.seccompiler.specs.JsonTypes.{JsonRule, JsonFilter}
 use Rattle.seccompiler.specs.Policy.{Condition, part_of}
 use Rattle.seccomp_warnings.specs.ActionWarnings.{Permits, IsSoOfAction}
+use Rattle.seccomp_warnings.specs.AnyArgument.{HoldsForAll, HoldsForNone}
 use Rattle.seccomp_warnings.specs.CallWarnings.{IsJudged, IsSoOfEntry, IsSoOfUnlisted, all_unlisted}
 use Rattle.seccomp_warnings.specs.declared.warning.Actions.{Actions}
 use Rattle.seccomp_warnings.specs.declared.warning.Comparison.{Comparison}

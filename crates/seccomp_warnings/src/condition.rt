@@ -1,13 +1,14 @@
 // What is so of a condition.
 
-ghost use Rattle.std.specs.Prelude.{◌↔◌, IsTrue};
-ghost use Rattle.seccompiler.specs.AnyArgument.{HoldsForAll, HoldsForNone};
+ghost use Rattle.std.specs.Prelude.{◌≡◌, ◌↔◌, IsTrue, IsFalse};
+ghost use Rattle.seccompiler.specs.Policy.{part_of};
+ghost use Rattle.seccomp_warnings.specs.AnyArgument.{HoldsForAll, HoldsForNone, HoldsForSome, FailsForSome};
 ghost use Rattle.seccomp_warnings.specs.Warnings.{IsSoOfCondition, condition_in, HasIgnoredHalf, HasValueOutside, IsEvaded};
 
 use crate::action::permits;
 use crate::code::Code;
 use crate::warning::{Actions, Comparison};
-use seccompiler::{SeccompCmpArgLen, SeccompCmpOp, SeccompCondition};
+use seccompiler::{SeccompCmpArgLen, SeccompCmpOp};
 
 // The greatest number of 32 bits.
 const LOW_HALF: u64 = 0xffff_ffff;
@@ -37,35 +38,51 @@ fn has_value_outside(comparison: Comparison) -> bool
     }
 }
 
-// Whether the condition holds for every argument. Which argument it is plays no part.
-fn always_holds(comparison: Comparison) -> bool
-    ensures { IsTrue result ↔ HoldsForAll (condition_in comparison) }
+// What a length compares of a number.
+fn part_of(length: SeccompCmpArgLen, number: u64) -> u64
+    ensures { result ≡ part_of length number }
 {
-    let Comparison {
-        arg_len,
-        operator,
-        value,
-        ..
-    } = comparison;
-    match SeccompCondition::new(0, arg_len, operator, value) {
-        Ok(condition) => condition.always_holds(),
-        Err(_) => false,
+    match length {
+        SeccompCmpArgLen::Dword => number & LOW_HALF,
+        SeccompCmpArgLen::Qword => number,
+    }
+}
+
+// Whether the condition holds for every argument. Which argument it is plays no part.
+//
+// What the length compares counts alone, of the value and of a mask as well.
+fn always_holds(comparison: Comparison) -> bool
+    ensures exactly { IsTrue result ↔ HoldsForAll (condition_in comparison) }
+    ensures all { IsTrue result → HoldsForAll (condition_in comparison) }
+    ensures some { IsFalse result → FailsForSome (condition_in comparison) }
+{
+    let value = part_of(comparison.arg_len, comparison.value);
+    match comparison.operator {
+        SeccompCmpOp::Ge => value == 0,
+        SeccompCmpOp::Le => value == part_of(comparison.arg_len, u64::MAX),
+        SeccompCmpOp::MaskedEq(mask) => part_of(comparison.arg_len, mask) == 0,
+        SeccompCmpOp::Eq | SeccompCmpOp::Ne | SeccompCmpOp::Gt | SeccompCmpOp::Lt => false,
     }
 }
 
 // Whether the condition holds for no argument. Which argument it is plays no part.
+//
+// `MaskedEq` cuts its value by its mask too. So an argument that is the value meets it, whatever bits the value has outside
+// the mask.
 fn never_holds(comparison: Comparison) -> bool
-    ensures { IsTrue result ↔ HoldsForNone (condition_in comparison) }
+    ensures exactly { IsTrue result ↔ HoldsForNone (condition_in comparison) }
+    ensures none { IsTrue result → HoldsForNone (condition_in comparison) }
+    ensures some { IsFalse result → HoldsForSome (condition_in comparison) }
 {
-    let Comparison {
-        arg_len,
-        operator,
-        value,
-        ..
-    } = comparison;
-    match SeccompCondition::new(0, arg_len, operator, value) {
-        Ok(condition) => condition.never_holds(),
-        Err(_) => false,
+    let value = part_of(comparison.arg_len, comparison.value);
+    match comparison.operator {
+        SeccompCmpOp::Lt => value == 0,
+        SeccompCmpOp::Gt => value == part_of(comparison.arg_len, u64::MAX),
+        SeccompCmpOp::Eq
+        | SeccompCmpOp::Ne
+        | SeccompCmpOp::Ge
+        | SeccompCmpOp::Le
+        | SeccompCmpOp::MaskedEq(_) => false,
     }
 }
 

@@ -3,12 +3,16 @@
 ghost use Rattle.std.specs.Prelude.{ℕ, List, IfOk, IfErr, IfSome};
 ghost use Rattle.std.specs.BTreeMap.{get_by_text};
 ghost use Rattle.seccompiler.specs.Machine.{IsChecked};
-ghost use Rattle.seccompiler.specs.JsonPrograms.{AreProgramsOf};
+ghost use Rattle.seccompiler.specs.Errors.{IsNoMemoryInside};
+ghost use Rattle.seccompiler.specs.JsonAnswers.{OfValue};
+ghost use Rattle.seccompiler.specs.JsonPrograms.{AreProgramsOf, TellsFirstFault};
+ghost use Rattle.seccompiler.specs.Reads.{Reads};
 ghost use Rattle.seccomp_command_line.specs.Policies.{OfPolicy, IsRefusedPolicy};
 
 use seccomp_command_line::architecture::architecture_of;
 use seccomp_command_line::error::ToolError;
-use seccompiler::{BpfProgram, compile_from_json_in_order};
+use seccompiler::json::text_of;
+use seccompiler::{BpfProgram, TargetArch, programs_of};
 use std::alloc::Global;
 use std::collections::BTreeMap;
 use std::io::Read;
@@ -25,5 +29,20 @@ pub(crate) fn compiled<P: Read + Drop>(
     ensures refused { IfErr result (IsRefusedPolicy arch.now (P.remaining policy)) }
 {
     let target = architecture_of(alloc, arch)?;
-    Ok(compile_from_json_in_order(alloc, policy, target)?)
+    Ok(programs_in(alloc, policy, target)?)
+}
+
+// The programs of a policy on an architecture, in byte order of the filters' names.
+fn programs_in<P: Read + Drop>(
+    alloc: Global,
+    policy: P,
+    target: TargetArch,
+) -> seccompiler::Result<BTreeMap<String, BpfProgram>>
+    ensures programs { IfOk result (λ programs. Reads (P.remaining policy) (λ text. OfValue text (AreProgramsOf target (get_by_text programs)))) }
+    ensures checked { IfOk result (λ programs. (name : List ℕ) → IfSome (get_by_text programs name) (λ program. IsChecked program.items)) }
+    ensures fault { IfErr result (λ e. Reads (P.remaining policy) (λ text. TellsFirstFault target text e)) }
+    ensures memory { IfErr result IsNoMemoryInside }
+{
+    let text = text_of(alloc, policy)?;
+    programs_of(alloc, text.as_slice(), target)
 }

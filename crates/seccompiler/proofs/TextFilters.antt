@@ -1,13 +1,14 @@
 -- From what a text is read as to what is told of it, and what a value has under its names.
-use Rattle.std.proofs.Common.{◌≡◌, ℕ, ◌++◌, List, ◌∷◌, Option, String, Global, [], Some, None, string_bytes, refl, sym, ap, ◌∙◌, subst}
+use Rattle.std.proofs.Common.{◌≡◌, ℕ, ◌++◌, List, ◌∷◌, Option, String, Global, [], Some, None, IfSome, string_bytes}
+use Rattle.std.proofs.Common.{refl, sym, ap, ◌∙◌, subst}
+use Rattle.std.specs.BTreeMap.{BTreeMap, get_by_text}
 use Rattle.serde_json.specs.Data.{Data}
 use Rattle.serde_json.specs.Find.{get}
 use Rattle.seccompiler.specs.ByName.{ByName, under, AreInOrder}
 use Rattle.seccompiler.specs.JsonFilters.{AreFound, IsLeast}
 use Rattle.seccompiler.specs.JsonShape.{Under}
 use Rattle.seccompiler.specs.Reads.{Reads}
-use Rattle.seccompiler.specs.UnderNames.{AreMadeUnder, IsLeastGiven}
-use Rattle.seccompiler.proofs.ByName.{AreMade, found_there, found_in_front, made_under}
+use Rattle.seccompiler.proofs.ByName.{AreMade, by_text, found_there, found_in_front, made_under}
 
 -- What holds of every text holds of the one that is read.
 pub reads_some : (known : Option (List ℕ)) (P : List ℕ → Type 0) → ((text : List ℕ) → P text) → Reads known P
@@ -26,65 +27,46 @@ value_under {X} P find d are name x there = by (get name d) refl
         let same : own.found ≡ x = let both : Some own.found ≡ Some x = sym own.there ∙ there in cc in
         (value, has, subst (P value) same own.own)
 
--- ---- what is made of values in a list
+-- A text that is what is known of it is the one that is read.
+pub reads_this : (known : Option (List ℕ)) (P : List ℕ → Type 0) (text : List ℕ) → IfSome known (λ k. text ≡ k) → P text → Reads known P
+reads_this known P text is own = (text, is, own)
 
-module _ {X Y : Type 0} (R : X → Y → Type 0) (given : List ℕ → Option X) (xs : ByName X)
-    (listed : (name : List ℕ) → given name ≡ under xs name) where
-  -- What is made value by value is made under each name.
-  pub made_of_all : (ys : ByName Y) → AreMade R xs ys → (found : List ℕ → Option Y) → ((name : List ℕ) → found name ≡ under ys name)
-      → AreMadeUnder R given found
-  made_of_all ys h found same = record {
-    each = λ name x there.
-        let made = made_under R xs ys h name in
-        let made = rw (sym (listed name) ∙ there) at made in
-        (made.0, same name ∙ made.1, made.2);
-    no_other = λ name none. let made = made_under R xs ys h name in same name ∙ rw (sym (listed name) ∙ none) at made;
-  }
-
-  -- Behind values of which something is made, one that is at fault is that of the least name.
-  pub least_given : (Fault Q : X → Type 0) → ((x : X) (y : Y) → R x y → Q x)
-      → (front : ByName X) (entry : String Global × X) (back : ByName X) → xs ≡ front ++ entry ∷ back
-      → AreInOrder (front ++ entry ∷ back) → (ys : ByName Y) → AreMade R front ys → Fault entry.1
-      → IsLeastGiven Fault Q given (string_bytes entry.0)
-  least_given Fault Q one front entry back whole order ys h wrong =
-      let found : (name : List ℕ) → given name ≡ under (front ++ entry ∷ back) name =
-      λ name. listed name ∙ ap (λ (es : ByName X). under es name) whole in
-      record {
-        value = entry.1;
-        there = found (string_bytes entry.0) ∙ found_there front entry back order;
-        own = wrong;
-        below = λ other x there less.
-            let made = made_under R front ys h other in
-            let made = rw (found_in_front front entry back order other x (sym (found other) ∙ there) less) at made in
-            one x made.0 made.2;
-      }
-
--- ---- what that is of a value
-
-module _ {X : Type 0} (P : Data → X → Type 0) (given : List ℕ → Option X) (d : Data) (are : AreFound P given d) where
-  -- What is made of all that is found is the value's, where it is so of one.
-  pub all_found : {Y : Type 0} (R : X → Y → Type 0) (Q : Data → Y → Type 0)
-      → ((value : Data) (x : X) (y : Y) → P value x → R x y → Q value y) → (found : List ℕ → Option Y) → AreMadeUnder R given found
-      → AreFound Q found d
-  all_found R Q one found made = record {
+-- What is made, value by value, of what a map has of a value's parts.
+module _ {X Y : Type 0} (P : Data → X → Type 0) (R : X → Y → Type 0) (given : BTreeMap (String Global) X) (d : Data)
+    (are : AreFound P (get_by_text given) d) where
+  -- What is made of all of it is the value's, where it is so of one.
+  pub all_made : (ys : ByName Y) → AreMade R given.entries ys → (found : List ℕ → Option Y)
+      → ((name : List ℕ) → found name ≡ under ys name)
+      → (Q : Data → Y → Type 0) → ((value : Data) (x : X) (y : Y) → P value x → R x y → Q value y) → AreFound Q found d
+  all_made ys h found same Q one = record {
     is_object = are.is_object;
     each = λ name value there.
         let known = are.each name value there in
-        let own = made.each name known.found known.there in
-        record { found = own.0; there = own.1; own = one value known.found own.0 known.own own.2 };
-    no_other = λ name none. made.no_other name (are.no_other name none);
+        let made = made_under R given.entries ys h name in
+        let made = rw (sym (by_text name given.entries) ∙ known.there) at made in
+        record { found = made.0; there = same name ∙ made.1; own = one value known.found made.0 known.own made.2 };
+    no_other = λ name none.
+        let made = made_under R given.entries ys h name in
+        same name ∙ rw (sym (by_text name given.entries) ∙ are.no_other name none) at made;
   }
 
-  -- The least name of what is found is that of the value.
-  pub least_found : (Fault G : X → Type 0) (Q : Data → Type 0) → ((value : Data) (x : X) → P value x → G x → Q value) → (name : List ℕ)
-      → IsLeastGiven Fault G given name
-      → IsLeast (λ value. (x : X) × P value x × Fault x) Q d name
-  least_found Fault G Q one name least =
-      let own = value_under P given d are name least.value least.there in
+  -- Behind parts of which something is made, one that is at fault is that of the least name.
+  pub least_wrong : (front : ByName X) (entry : String Global × X) (back : ByName X) → given.entries ≡ front ++ entry ∷ back
+      → AreInOrder (front ++ entry ∷ back) → (ys : ByName Y) → AreMade R front ys → (Wrong : X → Type 0) → Wrong entry.1
+      → (Q : Data → Type 0) → ((value : Data) (x : X) (y : Y) → P value x → R x y → Q value)
+      → IsLeast (λ value. (x : X) × P value x × Wrong x) Q d (string_bytes entry.0)
+  least_wrong front entry back whole order ys h Wrong wrong Q one =
+      let listed : (name : List ℕ) → get_by_text given name ≡ under (front ++ entry ∷ back) name =
+      λ name. by_text name given.entries ∙ ap (λ (es : ByName X). under es name) whole in
+      let own = value_under P (get_by_text given) d are (string_bytes entry.0) entry.1
+      (listed (string_bytes entry.0) ∙ found_there front entry back order) in
       record {
         value = own.0;
         there = own.1;
-        own = (least.value, own.2, least.own);
-        below = λ other value there less. let known = are.each other value there in
-            one value known.found known.own (least.below other known.found known.there less);
+        own = (entry.1, own.2, wrong);
+        below = λ other value there less.
+            let known = are.each other value there in
+            let made = made_under R front ys h other in
+            let made = rw (found_in_front front entry back order other known.found (sym (listed other) ∙ known.there) less) at made in
+            one value known.found made.0 known.own made.2;
       }

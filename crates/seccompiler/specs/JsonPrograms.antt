@@ -2,32 +2,16 @@
 use Rattle.std.specs.Prelude.{ℕ, List, Option, Vec, ⊤}
 use Rattle.std.specs.declared.alloc.Global.{Global}
 use Rattle.serde_json.specs.Data.{Data}
-use Rattle.seccompiler.specs.Compiled.{IsCompiled, IsCompilable, IsRefusal, IsTooLarge}
+use Rattle.seccompiler.specs.Compiled.{IsCompiled, IsCompilable, IsTooLarge}
 use Rattle.seccompiler.specs.JsonAnswers.{HasPolicy, HasSomePolicy, OfValue, TellsFrontendFault}
 use Rattle.seccompiler.specs.JsonFilters.{AreFound, AreAll, IsLeast}
 use Rattle.seccompiler.specs.Policy.{Filter}
-use Rattle.seccompiler.specs.UnderNames.{AreMadeUnder, IsLeastGiven}
 use Rattle.seccompiler.specs.declared.backend.BackendError.{BackendError}
 use Rattle.seccompiler.specs.declared.backend.BackendError.TheVariants.{FilterTooLarge, OutOfMemory as NoMemory}
 use Rattle.seccompiler.specs.declared.backend.TargetArch.{TargetArch}
 use Rattle.seccompiler.specs.declared.bpf.sock_filter.{sock_filter}
 use Rattle.seccompiler.specs.declared.error.Error.{Error}
 use Rattle.seccompiler.specs.declared.error.Error.TheVariants as whole
-
--- The policy may be compiled, and the program stands for it.
-pub record Compiles (policy : Filter) (program : Vec sock_filter Global) : Type 0 where
-  pub compilable : IsCompilable policy
-  pub compiled : IsCompiled policy program.items
-
--- What is found under each name of the policies, and under no other, is a program for its policy.
-abbrev pub AreProgramsFor : (List ℕ → Option Filter) → (List ℕ → Option (Vec sock_filter Global)) → Type 0
-AreProgramsFor = AreMadeUnder Compiles
-
--- Why not all of the policies have programs: the refusal of the least name's that has none. Want of memory may come in
--- place of it.
-abbrev pub IsLeastUncompiled : (List ℕ → Option Filter) → BackendError → Type 0
-IsLeastUncompiled policies NoMemory = ⊤
-IsLeastUncompiled policies e = (name : List ℕ) × IsLeastGiven (λ policy. IsRefusal policy e) IsCompilable policies name
 
 -- The value has a policy on this architecture, for which the program stands.
 pub record IsProgramOf (arch : TargetArch) (value : Data) (program : List sock_filter) : Type 0 where
@@ -45,6 +29,12 @@ abbrev pub IsLeastTooLarge : TargetArch → ℕ → Data → Type 0
 IsLeastTooLarge arch n d = AreAll (HasSomePolicy arch) d × (name : List ℕ)
     × IsLeast (λ value. (policy : Filter) × HasPolicy arch value policy × IsTooLarge policy n)
     (λ value. (policy : Filter) × HasPolicy arch value policy × IsCompilable policy) d name
+
+-- The backend's error tells that. Want of memory may come in its place, and no other error comes.
+abbrev pub TellsTooLarge : TargetArch → Data → BackendError → Type 0
+TellsTooLarge arch d (FilterTooLarge n) = IsLeastTooLarge arch n d
+TellsTooLarge arch d NoMemory = ⊤
+TellsTooLarge arch d e = ⊥
 
 -- The error tells what is at fault in the text, and nothing that comes earlier in the order of faults is: all faults of
 -- the front end, and then the least name's policy that is too large. Want of memory may come in place of all.

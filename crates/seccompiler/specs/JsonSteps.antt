@@ -15,7 +15,6 @@ use Rattle.seccompiler.specs.Policy.{Condition, Filter}
 use Rattle.seccompiler.specs.JsonPolicyOf.{Fault, unknown_call, refused, condition_of, IsFirstFault, IsPolicyOf}
 use Rattle.seccompiler.specs.Compiled.{numbers_of}
 use Rattle.seccompiler.specs.SyscallTable.{IsTableNumber}
-use Rattle.seccompiler.specs.UnderNames.{AreMadeUnder, IsLeastGiven}
 use Rattle.seccompiler.specs.declared.backend.BackendError.TheVariants as of_backend
 
 -- The value is an object, and the map has exactly its names, each with the filter that its value is.
@@ -61,15 +60,6 @@ IsPolicyRefusal arch j = Tells (IsFirstFault arch j)
 -- The JSON filter has a policy on this architecture.
 abbrev pub IsFaultless : TargetArch → JsonFilter → Type 0
 IsFaultless arch j = (policy : Filter) × IsPolicyOf arch j policy
-
--- What is found under each name of the filters, and under no other, is the policy of its filter.
-abbrev pub ArePoliciesFor : TargetArch → JsonFilterMap → (List ℕ → Option Filter) → Type 0
-ArePoliciesFor arch filters = AreMadeUnder (IsPolicyOf arch) (get_by_text filters.0)
-
--- Why not all of the filters have policies, as an error tells it: the first fault of the least name's that has none.
-abbrev pub IsLeastPolicyRefusal : TargetArch → JsonFilterMap → JsonFrontendError → Type 0
-IsLeastPolicyRefusal arch filters =
-    Tells (λ fault. (name : List ℕ) × IsLeastGiven (λ f. IsFirstFault arch f fault) (IsFaultless arch) (get_by_text filters.0) name)
 
 -- The call numbers of each policy that is found are those of a table.
 abbrev pub HaveTableNumbers : (List ℕ → Option Filter) → Type 0

@@ -17,13 +17,11 @@ pub mod JsonFilters
 pub mod SyscallTable
 pub mod JsonPolicyOf
 pub mod JsonAnswers
-pub mod UnderNames
 pub mod JsonPrograms
 pub mod Reads
 -- What other calls promise: the code of conditions and rules; the tree layout, and either layout;
 -- the first place of a program that isn't taken; each step from JSON to filters; which records meet an entry; entries
--- without conditions; errors and their texts; installing; the order of rules; the low half of an argument; conditions
--- that hold for every argument, or for none; equality.
+-- without conditions; errors and their texts; installing; the order of rules; the low half of an argument; equality.
 pub mod Code
 pub mod ConditionCode
 pub mod Pieces
@@ -39,7 +37,6 @@ pub mod Errors
 pub mod Install
 pub mod Reorder
 pub mod LowHalf
-pub mod AnyArgument
 pub mod Equality
 pub mod JsonEquality
 -- Between layers: what private functions promise each other, and laws that the tests of equality need. No promise rests

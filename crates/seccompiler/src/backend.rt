@@ -255,7 +255,7 @@ impl From<SeccompAction> for u32 {
 }
 
 /// Why the backend fails.
-#[derive(Debug, PartialEq, Eq, Drop)]
+#[derive(PartialEq, Eq, Drop)]
 pub enum BackendError {
     /// A rule of no conditions was asked for.
     EmptyRule,
@@ -310,6 +310,13 @@ impl fmt::Display for BackendError {
             }
             BackendError::OutOfMemory => f.write_str("Out of memory."),
         }
+    }
+}
+
+/// The error's text too.
+impl fmt::Debug for BackendError {
+    fn fmt<W: fmt::Write>(&self, f: &mut fmt::Formatter<W>) -> fmt::Result {
+        fmt::Display::fmt(self, f)
     }
 }
 

@@ -5,10 +5,9 @@ ghost use Rattle.std.specs.BTreeMap as tree;
 ghost use Rattle.std.specs.HashMap as hash;
 ghost use Rattle.serde_json.specs.Data.{Data};
 ghost use Rattle.seccompiler.specs.Machine.{IsChecked};
-ghost use Rattle.seccompiler.specs.Errors.{from_backend, IsNoMemoryInside};
-ghost use Rattle.seccompiler.specs.JsonAnswers.{IsValueOf, ArePoliciesOf, OfValue};
-ghost use Rattle.seccompiler.specs.JsonPrograms.{AreProgramsFor, AreProgramsOf, IsLeastUncompiled, TellsFirstFault};
-ghost use Rattle.seccompiler.specs.JsonSteps.{HaveTableNumbers};
+ghost use Rattle.seccompiler.specs.Errors.{IsNoMemoryInside};
+ghost use Rattle.seccompiler.specs.JsonAnswers.{ArePoliciesOf, OfValue};
+ghost use Rattle.seccompiler.specs.JsonPrograms.{AreProgramsOf, TellsFirstFault, TellsTooLarge};
 ghost use Rattle.seccompiler.specs.Reads.{Reads};
 ghost use Rattle.seccompiler.specs.declared.backend.TargetArch.{TargetArch};
 
@@ -16,7 +15,7 @@ use crate::backend::{BackendError, TargetArch};
 use crate::bpf::BpfProgram;
 use crate::error::Result;
 use crate::filter::SeccompFilter;
-use crate::json::JsonCompiler;
+use crate::json::{JsonCompiler, text_of};
 use std::alloc::Global;
 use std::collections::{BTreeMap, HashMap};
 use std::io::Read;
@@ -59,61 +58,47 @@ pub fn compile_from_json<R: Read + Drop>(
     ensures fault { IfErr result (λ e. Reads (R.remaining reader) (λ text. TellsFirstFault arch text e)) }
     ensures memory { IfErr result IsNoMemoryInside }
 {
-    let programs = compile_from_json_in_order(alloc, reader, arch)?;
+    let text = text_of(alloc, reader)?;
+    let programs = programs_of(alloc, text.as_slice(), arch)?;
     Ok(programs.into_iter().collect(alloc)?)
 }
 
-/// Compiles a text as [`compile_from_json`] does, with the same promises and errors, and the names in
-/// byte order.
-pub fn compile_from_json_in_order<R: Read + Drop>(
-    alloc: Global,
-    reader: R,
-    arch: TargetArch,
-) -> Result<BTreeMap<String, BpfProgram>>
-    ensures programs { IfOk result (λ m. Reads (R.remaining reader) (λ text. OfValue text (AreProgramsOf arch (tree.get_by_text m)))) }
-    ensures checked { IfOk result (λ m. (name : List ℕ) → IfSome (tree.get_by_text m name) (λ program. IsChecked program.items)) }
-    ensures fault { IfErr result (λ e. Reads (R.remaining reader) (λ text. TellsFirstFault arch text e)) }
-    ensures memory { IfErr result IsNoMemoryInside }
-{
-    let policies = JsonCompiler::new(arch).compile_in_order(alloc, reader)?;
-    Ok(compile_policies(alloc, policies)?)
-}
-
-/// Compiles each of some policies, as `SeccompFilter::to_bpf` does.
-///
-/// The map has the names of `policies`, each with its policy's program. Where the policies are those of
-/// a text, as [`JsonCompiler::policies`] gives them, the programs are the text's, as
-/// [`compile_from_json`] gives them, and an error names its first fault.
+/// Compiles each filter of a text for an architecture, as [`compile_from_json`] does with what a reader
+/// gives, with the names in byte order.
 ///
 /// # Errors
 ///
-/// What `SeccompFilter::to_bpf` rejects, of the least name, in byte order, with such a policy:
-///
-/// - `InvalidSyscallNumber(n)` with its least number that is no call's;
-/// - `FilterTooLarge(n)` where its program would have more than 4096 instructions. `n` is how many, or
-///   `usize::MAX` if that is less.
-///
-/// `OutOfMemory`, where memory runs out, may come in place of both, and no other error.
+/// Those of [`compile_from_json`], in the same order, but for `Read`, as there is no reader.
 ///
 /// # Examples
 ///
 /// ```
 /// let text = br#"{"main": {"mismatch_action": "trap", "match_action": "allow", "filter": []}}"#;
-/// let policies = JsonCompiler::new(TargetArch::x86_64).policies(alloc, filters_of(alloc, text)?)?;
-/// let programs = compile_policies(alloc, policies)?;
+/// let programs = programs_of(alloc, text, TargetArch::x86_64)?;
 /// let program = programs.get("main").ok_or("no filter has this name")?;
 /// assert!(rt; program.len() == 4);
 /// ```
-pub fn compile_policies(
+pub fn programs_of(
+    alloc: Global,
+    text: &[u8],
+    arch: TargetArch,
+) -> Result<BTreeMap<String, BpfProgram>>
+    ensures programs { IfOk result (λ m. OfValue text.now (AreProgramsOf arch (tree.get_by_text m))) }
+    ensures checked { IfOk result (λ m. (name : List ℕ) → IfSome (tree.get_by_text m name) (λ program. IsChecked program.items)) }
+    ensures fault { IfErr result (TellsFirstFault arch text.now) }
+    ensures memory { IfErr result IsNoMemoryInside }
+{
+    let policies = JsonCompiler::new(arch).policies_of(alloc, text)?;
+    Ok(programs_under(alloc, policies)?)
+}
+
+// The programs of policies, under their names.
+fn programs_under(
     alloc: Global,
     policies: BTreeMap<String, SeccompFilter>,
 ) -> std::result::Result<BTreeMap<String, BpfProgram>, BackendError>
-    ensures programs { IfOk result (λ m. AreProgramsFor (tree.get_by_text policies) (tree.get_by_text m)) }
-    ensures refusal { IfErr result (IsLeastUncompiled (tree.get_by_text policies)) }
-
-    // Of whichever text and value the policies are, each with numbers of a table.
-    ensures of_value { IfOk result (λ m. (arch : TargetArch) (d : Data) → ArePoliciesOf arch (tree.get_by_text policies) d → AreProgramsOf arch (tree.get_by_text m) d) }
-    ensures fault { IfErr result (λ e. (arch : TargetArch) (text : List ℕ) (d : Data) → IsValueOf text d → ArePoliciesOf arch (tree.get_by_text policies) d → HaveTableNumbers (tree.get_by_text policies) → TellsFirstFault arch text (from_backend e)) }
+    ensures programs { IfOk result (λ m. (arch : TargetArch) (d : Data) → ArePoliciesOf arch (tree.get_by_text policies) d → AreProgramsOf arch (tree.get_by_text m) d) }
+    ensures refused { IfErr result (λ e. (arch : TargetArch) (d : Data) → ArePoliciesOf arch (tree.get_by_text policies) d → TellsTooLarge arch d e) }
 {
     let mut found = Vec::new(alloc);
     for (name, policy) in policies {

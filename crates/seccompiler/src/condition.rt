@@ -47,15 +47,14 @@ impl EqualByParts for SeccompCondition {
 }
 
 impl SeccompCondition {
-    ghost use Rattle.std.specs.Prelude.{◌≡◌, ℕ, List, ◌+◌, ◌*◌, ◌/◌, ◌%◌, ◌^◌, ◌≤◌, ◌<◌, ◌↔◌, length, IfOk, IfErr, IsOk, IsOkUnless, IsTrue, IsFalse};
+    ghost use Rattle.std.specs.Prelude.{◌≡◌, ℕ, List, ◌+◌, ◌*◌, ◌/◌, ◌%◌, ◌^◌, ◌≤◌, ◌<◌, ◌↔◌, length, IfOk, IfErr, IsOk, IsOkUnless, IsTrue};
     ghost use Rattle.seccompiler.specs.declared.backend.BackendError.TheVariants.{InvalidArgumentNumber, OutOfMemory};
     ghost use Rattle.seccompiler.specs.declared.backend.SeccompCmpArgLen.TheVariants.{Dword, Qword};
     ghost use Rattle.seccompiler.specs.Layout.{greatest_offset};
     ghost use Rattle.seccompiler.specs.Policy.{Condition, Holds, size_of};
     ghost use Rattle.seccompiler.specs.ConditionCode.{condition_code};
-    ghost use Rattle.seccompiler.specs.AnyArgument.{HoldsForAll, HoldsForNone, HoldsForSome, FailsForSome};
     ghost use Rattle.seccompiler.specs.LowHalf.{IsSameLowHalf, HasSameLowArgument};
-    ghost use Rattle.seccompiler.specs.Machine.{IsRecord, AreInRange};
+    ghost use Rattle.seccompiler.specs.Machine.{AreInRange};
     ghost use Rattle.seccompiler.specs.Pieces.{IsConditionCode};
 
     /// Makes a condition on argument `arg_index`, numbered from 0.
@@ -123,66 +122,6 @@ impl SeccompCondition {
             argument,
             part_of(self.arg_len, self.value),
         )
-    }
-
-    /// Whether the condition holds for every call, whatever its arguments.
-    ///
-    /// What the length compares counts alone, of the value and of a mask as well. So it does with `Ge` and
-    /// 0, with `Le` and the greatest number of the length, with `MaskedEq` and a mask of 0, and with no
-    /// others.
-    ///
-    /// # Examples
-    ///
-    /// ```
-    /// let (dword, at_least) = (SeccompCmpArgLen::Dword, SeccompCmpOp::Ge);
-    /// // A value's high half plays no part.
-    /// assert!(rt; SeccompCondition::new(0, dword, at_least, 1 << 32)?.always_holds());
-    /// assert!(rt; !SeccompCondition::new(0, dword, at_least, 1)?.always_holds());
-    /// ```
-    pub fn always_holds(&self) -> bool
-        ensures calls { IsTrue result ↔ ((r : List ℕ) → IsRecord r → Holds self.now r) }
-        ensures all { IsTrue result → HoldsForAll self.now }
-        ensures some { IsFalse result → FailsForSome self.now }
-    {
-        let value = part_of(self.arg_len, self.value);
-        match self.operator {
-            SeccompCmpOp::Ge => value == 0,
-            SeccompCmpOp::Le => value == part_of(self.arg_len, u64::MAX),
-            SeccompCmpOp::MaskedEq(mask) => part_of(self.arg_len, mask) == 0,
-            SeccompCmpOp::Eq | SeccompCmpOp::Ne | SeccompCmpOp::Gt | SeccompCmpOp::Lt => false,
-        }
-    }
-
-    /// Whether the condition holds for no call, whatever its arguments.
-    ///
-    /// What the length compares counts alone, of the value as well. So it is with `Lt` and 0, with `Gt` and
-    /// the greatest number of the length, and with no others.
-    ///
-    /// `MaskedEq` cuts its value by its mask too. So an argument that is the value meets it, whatever bits the
-    /// value has outside the mask.
-    ///
-    /// # Examples
-    ///
-    /// ```
-    /// let (dword, above) = (SeccompCmpArgLen::Dword, SeccompCmpOp::Gt);
-    /// assert!(rt; SeccompCondition::new(0, dword, above, 0xffff_ffff)?.never_holds());
-    /// assert!(rt; !SeccompCondition::new(0, dword, above, 0xffff_fffe)?.never_holds());
-    /// ```
-    pub fn never_holds(&self) -> bool
-        ensures calls { IsTrue result ↔ ((r : List ℕ) → IsRecord r → Holds self.now r → ⊥) }
-        ensures none { IsTrue result → HoldsForNone self.now }
-        ensures some { IsFalse result → HoldsForSome self.now }
-    {
-        let value = part_of(self.arg_len, self.value);
-        match self.operator {
-            SeccompCmpOp::Lt => value == 0,
-            SeccompCmpOp::Gt => value == part_of(self.arg_len, u64::MAX),
-            SeccompCmpOp::Eq
-            | SeccompCmpOp::Ne
-            | SeccompCmpOp::Ge
-            | SeccompCmpOp::Le
-            | SeccompCmpOp::MaskedEq(_) => false,
-        }
     }
 
     /// The code of the condition: run from its first instruction it leaves at its end where the

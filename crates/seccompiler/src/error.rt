@@ -8,7 +8,7 @@ use std::fmt;
 /// Why a call of this crate fails.
 ///
 /// Running out of memory is `OutOfMemory` alone, and never inside another variant.
-#[derive(Debug, Drop)]
+#[derive(Drop)]
 pub enum Error {
     /// The backend's error.
     Backend(BackendError),
@@ -52,10 +52,17 @@ impl fmt::Display for Error {
             ),
             Error::JsonFrontend(error) => {
                 f.write_str("Json Frontend error: ")?;
-                error.fmt(f)
+                fmt::Display::fmt(error, f)
             }
             Error::OutOfMemory => f.write_str("Out of memory."),
         }
+    }
+}
+
+/// The error's text too.
+impl fmt::Debug for Error {
+    fn fmt<W: fmt::Write>(&self, f: &mut fmt::Formatter<W>) -> fmt::Result {
+        fmt::Display::fmt(self, f)
     }
 }
 

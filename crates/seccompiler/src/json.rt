@@ -1,8 +1,8 @@
 //! The JSON front end: filters written as JSON text.
 //!
 //! A text is an object that gives each filter a name, with its two actions and its entries;
-//! docs/JSON.md has the format. [`filters_of`] reads a text in memory as JSON filters, [`filters_from`]
-//! that of a reader, and [`JsonCompiler`] makes them the filters of an architecture. [`repeats_key`] says
+//! docs/JSON.md has the format. [`filters_of`] reads a text as JSON filters, and [`JsonCompiler`] makes
+//! them the filters of an architecture; [`text_of`] gets the text of a reader. [`repeats_key`] says
 //! whether a text repeats a name, and [`read_filters`] turns the value of a text into JSON filters. Whoever
 //! looks at the values inside a policy has [`read_action`], [`read_arg_len`] and [`read_operator`].
 
@@ -21,5 +21,5 @@ pub use error::JsonFrontendError;
 pub use filter_map::read_filters;
 pub use parts::{read_action, read_arg_len, read_operator};
 pub use repeats::repeats_key;
-pub use texts::{filters_from, filters_of};
+pub use texts::{filters_of, text_of};
 pub use types::{JsonCondition, JsonFilter, JsonFilterMap, JsonRule};

@@ -62,7 +62,7 @@ pub mod syscall_table;
 
 pub use backend::{BackendError, SeccompAction, SeccompCmpArgLen, SeccompCmpOp, TargetArch};
 pub use bpf::{BpfProgram, BpfProgramRef, sock_filter};
-pub use compile::{BpfMap, compile_from_json, compile_from_json_in_order, compile_policies};
+pub use compile::{BpfMap, compile_from_json, programs_of};
 pub use condition::SeccompCondition;
 pub use equality::EqualByParts;
 pub use error::{Error, Result};

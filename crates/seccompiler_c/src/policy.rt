@@ -6,7 +6,6 @@ ghost use Rattle.seccompiler.specs.SyscallTable.{IsTableNumber};
 ghost use Rattle.seccompiler_c.specs.Policies.{NamesPolicy, IsPolicyFault};
 
 use crate::fault::Fault;
-use seccompiler::json::filters_of;
 use seccompiler::{JsonCompiler, SeccompFilter, TargetArch};
 use std::alloc::Global;
 
@@ -21,8 +20,7 @@ pub(crate) fn policy_of(
     ensures numbers { IfOk result (λ found. All IsTableNumber (numbers_of found.chains)) }
     ensures fault { IfErr result (IsPolicyFault target text.now name.now) }
 {
-    let filters = filters_of(alloc, text)?;
-    let mut policies = JsonCompiler::new(target).policies(alloc, filters)?;
+    let mut policies = JsonCompiler::new(target).policies_of(alloc, text)?;
     // A name of a JSON text is UTF-8.
     let Ok(name) = std::str::from_utf8(name) else {
         return Err(Fault::NoFilter);

@@ -8,9 +8,9 @@ ghost use Rattle.seccomptool.specs.Compat.{AnswersCompat};
 
 use crate::compat::lines::calls_lines;
 use crate::error::ToolError;
+use crate::policy::filters_from;
 use crate::send::send;
 use seccompiler::TargetArch;
-use seccompiler::json::filters_from;
 use std::alloc::Global;
 use std::io::{Read, Write};
 

@@ -13,10 +13,11 @@ ghost use Rattle.seccomptool.specs.Errors.{KeepsOutput};
 use crate::diff::report::report_of;
 use crate::error::ToolError;
 use crate::findings::{Terms, Verdict};
+use crate::policy::policies_from;
 use crate::progress::Progress;
 use crate::send::send;
 use seccomp_compare::Relation;
-use seccompiler::{JsonCompiler, TargetArch};
+use seccompiler::TargetArch;
 use std::alloc::Global;
 use std::io::{Read, Write};
 
@@ -67,9 +68,8 @@ pub fn diff<O: Read + Drop, N: Read + Drop, W: Write, G: Progress>(
     ensures unwritten { IfErr result (λ e. KeepsOutput e out.old out.new) }
 {
     let target = TargetArch::from_text(alloc, arch)?;
-    let compiler = JsonCompiler::new(target);
-    let old = compiler.compile_in_order(alloc, old)?;
-    let new = match compiler.compile_in_order(alloc, new) {
+    let old = policies_from(alloc, target, old)?;
+    let new = match policies_from(alloc, target, new) {
         Ok(new) => new,
         Err(refusal) => return Err(of_new_policy(refusal.into())),
     };

@@ -11,10 +11,11 @@ ghost use Rattle.seccomptool.specs.Errors.{KeepsOutput};
 ghost use Rattle.seccomptool.specs.Stats.{AnswersStats};
 
 use crate::error::ToolError;
+use crate::policy::policies_from;
 use crate::send::send;
 use crate::stats::chains::measured_chains;
 use crate::stats::lines::stats_lines;
-use seccompiler::{JsonCompiler, SyscallTable, TargetArch};
+use seccompiler::{SyscallTable, TargetArch};
 use std::alloc::Global;
 use std::io::{Read, Write};
 
@@ -62,7 +63,7 @@ pub fn stats<R: Read + Drop, W: Write>(
     let target = TargetArch::from_text(alloc, arch)?;
     // Its table has no number as great as that of the passing record.
     let _table = SyscallTable::new(target);
-    let filters = JsonCompiler::new(target).compile_in_order(alloc, policy)?;
+    let filters = policies_from(alloc, target, policy)?;
     let all = measured_chains(alloc, target, filters)?;
     send(out, &stats_lines(alloc, target, &all)?)
 }

@@ -11,6 +11,7 @@ ghost use Rattle.seccomptool.specs.Verify.{AnswersVerify};
 
 use crate::error::ToolError;
 use crate::findings::{Terms, Verdict};
+use crate::policy::policies_from;
 use crate::progress::Progress;
 use crate::run::program::program_of;
 use crate::send::send;
@@ -18,7 +19,7 @@ use crate::verify::choice::choose;
 use crate::verify::report::report_of;
 use crate::verify::scope::Scope;
 use seccomp_compare::Relation;
-use seccompiler::{JsonCompiler, TargetArch};
+use seccompiler::TargetArch;
 use std::alloc::Global;
 use std::io::{Read, Write};
 
@@ -75,7 +76,7 @@ pub fn verify<P: Read + Drop, R: Read + Drop, W: Write, G: Progress>(
     ensures unwritten { IfErr result (λ e. KeepsOutput e out.old out.new) }
 {
     let target = TargetArch::from_text(alloc, arch)?;
-    let filters = JsonCompiler::new(target).compile_in_order(alloc, policy)?;
+    let filters = policies_from(alloc, target, policy)?;
     let name = choose(alloc, filter, &filters)?;
     let Some(filter) = filters.get(name.as_str()) else {
         return Err(ToolError::NoFilter(name));

@@ -21,23 +21,6 @@ fn a_condition(rt: HostRuntime) -> Result<(), Fail> {
 }
 
 #[test]
-fn conditions_that_always_hold(rt: HostRuntime) -> Result<(), Fail> {
-    let (dword, at_least) = (SeccompCmpArgLen::Dword, SeccompCmpOp::Ge);
-    // A value's high half plays no part.
-    assert!(rt; SeccompCondition::new(0, dword, at_least, 1 << 32)?.always_holds());
-    assert!(rt; !SeccompCondition::new(0, dword, at_least, 1)?.always_holds());
-    Ok(())
-}
-
-#[test]
-fn conditions_that_never_hold(rt: HostRuntime) -> Result<(), Fail> {
-    let (dword, above) = (SeccompCmpArgLen::Dword, SeccompCmpOp::Gt);
-    assert!(rt; SeccompCondition::new(0, dword, above, 0xffff_ffff)?.never_holds());
-    assert!(rt; !SeccompCondition::new(0, dword, above, 0xffff_fffe)?.never_holds());
-    Ok(())
-}
-
-#[test]
 fn a_rule(rt: HostRuntime) -> Result<(), Fail> {
     let alloc = rt.alloc();
     // The first argument is from 16 to 31.

@@ -1,8 +1,8 @@
 // The examples of policies as JSON text, and of values in them.
 
-use seccompiler::json::{filters_from, filters_of, read_action, read_operator};
+use seccompiler::json::{filters_of, read_action, read_operator};
 use seccompiler::{
-    JsonCompiler, SeccompAction, SeccompCmpOp, TargetArch, compile_from_json, compile_policies,
+    JsonCompiler, SeccompAction, SeccompCmpOp, TargetArch, compile_from_json, programs_of,
 };
 use serde_json::Value;
 use std::test::Fail;
@@ -30,16 +30,6 @@ fn filters_of_a_text(rt: HostRuntime) -> Result<(), Fail> {
 #[test]
 fn json_filters_of_a_text(rt: HostRuntime) -> Result<(), Fail> {
     let alloc = rt.alloc();
-    let text = r#"{"main": {"mismatch_action": "trap", "match_action": "allow", "filter": []}}"#;
-    let filters = filters_from(alloc, text.as_bytes())?;
-    let main = filters.0.get("main").ok_or("no filter has this name")?;
-    assert!(rt; main.match_action == SeccompAction::Allow);
-    Ok(())
-}
-
-#[test]
-fn json_filters_of_a_text_in_memory(rt: HostRuntime) -> Result<(), Fail> {
-    let alloc = rt.alloc();
     let text = br#"{"main": {"mismatch_action": "trap", "match_action": "allow", "filter": []}}"#;
     let filters = filters_of(alloc, text)?;
     assert!(rt; filters.0.contains_key("main"));
@@ -47,21 +37,19 @@ fn json_filters_of_a_text_in_memory(rt: HostRuntime) -> Result<(), Fail> {
 }
 
 #[test]
-fn policies_of_filters(rt: HostRuntime) -> Result<(), Fail> {
+fn policies_of_a_text_in_memory(rt: HostRuntime) -> Result<(), Fail> {
     let alloc = rt.alloc();
     let text = br#"{"main": {"mismatch_action": "trap", "match_action": "allow", "filter": []}}"#;
-    let compiler = JsonCompiler::new(TargetArch::x86_64);
-    let filters = compiler.policies(alloc, filters_of(alloc, text)?)?;
-    assert!(rt; filters.contains_key("main"));
+    let policies = JsonCompiler::new(TargetArch::x86_64).policies_of(alloc, text)?;
+    assert!(rt; policies.contains_key("main"));
     Ok(())
 }
 
 #[test]
-fn programs_of_policies(rt: HostRuntime) -> Result<(), Fail> {
+fn programs_of_a_text_in_memory(rt: HostRuntime) -> Result<(), Fail> {
     let alloc = rt.alloc();
     let text = br#"{"main": {"mismatch_action": "trap", "match_action": "allow", "filter": []}}"#;
-    let policies = JsonCompiler::new(TargetArch::x86_64).policies(alloc, filters_of(alloc, text)?)?;
-    let programs = compile_policies(alloc, policies)?;
+    let programs = programs_of(alloc, text, TargetArch::x86_64)?;
     let program = programs.get("main").ok_or("no filter has this name")?;
     assert!(rt; program.len() == 4);
     Ok(())

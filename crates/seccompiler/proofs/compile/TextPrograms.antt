@@ -1,75 +1,83 @@
--- For `compile_policies`, `compile_from_json` and `compile_from_json_in_order`: the programs of a value's policies, and
--- the refusal of the least name's.
+-- For `programs_under` and `programs_of`: the programs of a value's policies, and the refusal of the least name's.
 use Rattle.std.proofs.Common.{◌≡◌, ℕ, ℤ, pos, negsuc, ◌++◌, List, ◌∷◌, Option, Some, None, String, Global, Vec, string_bytes, refl, IfSome}
-use Rattle.std.proofs.Common.{arith}
+use Rattle.std.proofs.Common.{arith, ap, ◌∙◌}
 use Rattle.std.specs.Prelude.{All}
 use Rattle.std.specs.BTreeMap.{BTreeMap, get_by_text}
 use Rattle.std.proofs.lemmas.Int.{ints}
 use Rattle.std.proofs.lemmas.List.Elements.{All-contains}
 use Rattle.serde_json.specs.Data.{Data}
-use Rattle.seccompiler.specs.ByName.{ByName, AreInOrder}
+use Rattle.seccompiler.specs.ByName.{ByName, AreInOrder, under}
 use Rattle.seccompiler.specs.Machine.{IsChecked}
-use Rattle.seccompiler.specs.Errors.{from_backend}
-use Rattle.seccompiler.specs.JsonAnswers.{IsValueOf, HasPolicy, ArePoliciesOf}
-use Rattle.seccompiler.specs.JsonPrograms.{Compiles, AreProgramsFor, AreProgramsOf, IsLeastTooLarge, IsLeastUncompiled, TellsFirstFault}
-use Rattle.seccompiler.specs.JsonSteps.{HaveTableNumbers}
+use Rattle.seccompiler.specs.Errors.{from_backend, from_frontend}
+use Rattle.seccompiler.specs.JsonAnswers.{IsValueOf, HasPolicy, ArePoliciesOf, TellsFrontendFault}
+use Rattle.seccompiler.specs.JsonPrograms.{AreProgramsOf, IsLeastTooLarge, TellsFirstFault, TellsTooLarge}
 use Rattle.seccompiler.specs.Policy.{Filter, IsCallNumber}
-use Rattle.seccompiler.specs.UnderNames.{IsLeastGiven}
-use Rattle.seccompiler.specs.Compiled.{numbers_of, IsCompilable, IsRefusal, IsTooLarge}
+use Rattle.seccompiler.specs.Compiled.{numbers_of, IsCompiled, IsCompilable, IsRefusal, IsTooLarge}
 use Rattle.seccompiler.specs.SyscallTable.{IsTableNumber}
 use Rattle.seccompiler.specs.declared.backend.BackendError.{BackendError}
 use Rattle.seccompiler.specs.declared.backend.BackendError.TheVariants as b
 use Rattle.seccompiler.specs.declared.backend.TargetArch.{TargetArch}
 use Rattle.seccompiler.specs.declared.bpf.sock_filter.{sock_filter}
-use Rattle.seccompiler.proofs.ByName.{AreMade, by_text}
-use Rattle.seccompiler.proofs.TextFilters.{value_under, all_found, least_given, least_found}
+use Rattle.seccompiler.specs.declared.json.error.JsonFrontendError.{JsonFrontendError}
+use Rattle.seccompiler.specs.declared.json.error.JsonFrontendError.TheVariants as f
+use Rattle.seccompiler.proofs.ByName.{AreMade, by_text, found_there}
+use Rattle.seccompiler.proofs.TextFilters.{value_under, all_made, least_wrong}
+use Rattle.seccompiler.proofs.json.compiler.TextPolicies.{have_table_numbers}
 
 -- A number of a table is a call number.
 table_number_fits : (z : ℤ) → IsTableNumber z → IsCallNumber z
 table_number_fits (pos n) h = (n, refl, grind (arith, ints, h.1))
 table_number_fits (negsuc n) h = absurd (grind (arith, ints, h.0))
 
-module _ (policies : BTreeMap (String Global) Filter) (front : ByName Filter) (entry : String Global × Filter) (back : ByName Filter)
-    (whole : policies.entries ≡ front ++ entry ∷ back)
-    (order : AreInOrder (front ++ entry ∷ back)) (made : ByName (Vec sock_filter Global)) (h : AreMade Compiles front made) where
-  -- Behind policies that are compiled, one that is refused is that of the least name.
-  least_refused : (e : BackendError) → IsRefusal entry.1 e
-      → (name : List ℕ) × IsLeastGiven (λ policy. IsRefusal policy e) IsCompilable (get_by_text policies) name
-  least_refused e wrong = (
-    string_bytes entry.0,
-    least_given Compiles (get_by_text policies) policies.entries (λ name. by_text name policies.entries) (λ policy. IsRefusal policy e)
-        IsCompilable (λ policy program own. own.compilable) front entry back whole order made h wrong,
-  )
+-- The policy may be compiled, and the program stands for it.
+pub record Compiles (policy : Filter) (program : Vec sock_filter Global) : Type 0 where
+  pub compilable : IsCompilable policy
+  pub compiled : IsCompiled policy program.items
 
-  pub refusal_of : (e : BackendError) → IsRefusal entry.1 e → IsLeastUncompiled (get_by_text policies) e
-  refusal_of b.OutOfMemory wrong = tt
-  refusal_of e wrong = least_refused e wrong
-
-module _ (arch : TargetArch) (d : Data) (find : List ℕ → Option Filter) (are : ArePoliciesOf arch find d) where
+module _ (arch : TargetArch) (d : Data) (policies : BTreeMap (String Global) Filter)
+    (are : ArePoliciesOf arch (get_by_text policies) d) where
   -- The programs for the value's policies are the value's.
-  pub are_programs : (found : List ℕ → Option (Vec sock_filter Global)) → AreProgramsFor find found → AreProgramsOf arch found d
-  are_programs = all_found (HasPolicy arch) find d are Compiles _
+  pub are_programs : (made : ByName (Vec sock_filter Global)) → AreMade Compiles policies.entries made
+      → (find : List ℕ → Option (Vec sock_filter Global)) → ((name : List ℕ) → find name ≡ under made name) → AreProgramsOf arch find d
+  are_programs made h find same = all_made (HasPolicy arch) Compiles policies d are made h find same _
       (λ value policy program has made. record { policy = policy; is_policy = has; compiled = made.compiled })
 
-  -- The least name's policy that is too large is that of the value.
-  least_too_large : (n : ℕ) → (name : List ℕ) × IsLeastGiven (λ policy. IsTooLarge policy n) IsCompilable find name
-      → IsLeastTooLarge arch n d
-  least_too_large n (name, least) = (
-    record { is_object = are.is_object; each = λ name value there. let policy = are.each name value there in (policy.found, policy.own) },
-    name,
-    least_found (HasPolicy arch) find d are (λ policy. IsTooLarge policy n) IsCompilable _ (λ value policy has may. (policy, has, may))
-        name least,
-  )
+  module _ (front : ByName Filter) (entry : String Global × Filter) (back : ByName Filter)
+      (whole : policies.entries ≡ front ++ entry ∷ back) (order : AreInOrder (front ++ entry ∷ back)) (made : ByName (Vec sock_filter Global)) (h : AreMade Compiles front made) where
+    -- Behind policies that are compiled, one that is too large is that of the least name.
+    least_too_large : (n : ℕ) → IsTooLarge entry.1 n → IsLeastTooLarge arch n d
+    least_too_large n wrong = (
+      record { is_object = are.is_object; each = λ name value there. let policy = are.each name value there in (policy.found, policy.own) },
+      string_bytes entry.0,
+      least_wrong (HasPolicy arch) Compiles policies d are front entry back whole order made h (λ policy. IsTooLarge policy n) wrong _
+          (λ value policy program has own. (policy, has, own.compilable)),
+    )
 
-  -- Its refusal is the text's first fault, where the policies' numbers are those of a table.
-  pub refused_told : (text : List ℕ) → IsValueOf text d → HaveTableNumbers find → (e : BackendError) → IsLeastUncompiled find e
-      → TellsFirstFault arch text (from_backend e)
-  refused_told text is numbers (b.FilterTooLarge n) h = (d, is, least_too_large n h)
-  refused_told text is numbers (b.InvalidSyscallNumber n) (name, least) =
-      let own : All IsTableNumber (numbers_of least.value.chains) = rw least.there at (numbers name) in
-      absurd (least.own.unfit (table_number_fits n (All-contains IsTableNumber (numbers_of least.value.chains) n own least.own.among)))
-  refused_told text is numbers b.OutOfMemory h = tt
-  refused_told text is numbers e (name, least) = absurd least.own
+    -- Its refusal is that of the value, whose policies have numbers of a table.
+    pub refusal_of : (e : BackendError) → IsRefusal entry.1 e → TellsTooLarge arch d e
+    refusal_of (b.FilterTooLarge n) wrong = least_too_large n wrong
+    refusal_of (b.InvalidSyscallNumber n) wrong =
+        let there : get_by_text policies (string_bytes entry.0) ≡ Some entry.1 =
+        by_text (string_bytes entry.0) policies.entries ∙ ap (λ (es : ByName Filter). under es (string_bytes entry.0)) whole
+        ∙ found_there front entry back order in
+        let own : All IsTableNumber (numbers_of entry.1.chains) =
+        rw there at (have_table_numbers arch d (get_by_text policies) are (string_bytes entry.0)) in
+        absurd (wrong.unfit (table_number_fits n (All-contains IsTableNumber (numbers_of entry.1.chains) n own wrong.among)))
+    refusal_of b.OutOfMemory wrong = tt
+    refusal_of e wrong = absurd wrong
+
+-- Its refusal is the text's first fault.
+pub refused_told : (arch : TargetArch) (d : Data) (text : List ℕ) → IsValueOf text d → (e : BackendError) → TellsTooLarge arch d e
+    → TellsFirstFault arch text (from_backend e)
+refused_told arch d text is (b.FilterTooLarge n) h = (d, is, h)
+refused_told arch d text is b.OutOfMemory h = tt
+refused_told arch d text is e h = absurd h
+
+-- A fault of the front end is the first.
+pub told_by_frontend : (arch : TargetArch) (text : List ℕ) (e : JsonFrontendError) → TellsFrontendFault arch text e
+    → TellsFirstFault arch text (from_frontend e)
+told_by_frontend arch text f.OutOfMemory h = tt
+told_by_frontend arch text e h = h
 
 -- Each of a value's programs may be run.
 pub all_checked : (arch : TargetArch) (find : List ℕ → Option (Vec sock_filter Global)) (d : Data)

@@ -7,9 +7,9 @@ ghost use Rattle.std.specs.List.Sorted.{IsStrictlySortedBy};
 ghost use Rattle.std.specs.Ordering.{int_cmp};
 ghost use Rattle.serde_json.specs.Data.{Data};
 ghost use Rattle.seccompiler.specs.Errors.{IsNoMemoryInFrontend};
-ghost use Rattle.seccompiler.specs.JsonAnswers.{IsValueOf, OfValue, ArePoliciesOf, TellsFrontendFault};
+ghost use Rattle.seccompiler.specs.JsonAnswers.{IsLeastRefused, OfValue, ArePoliciesOf, TellsFrontendFault};
 ghost use Rattle.seccompiler.specs.JsonEntries.{PoliciesMatchEntries};
-ghost use Rattle.seccompiler.specs.JsonSteps.{AreFilters, ArePoliciesFor, HaveTableNumbers, IsLeastPolicyRefusal, IsNoFailedRead, IsPolicyRefusal};
+ghost use Rattle.seccompiler.specs.JsonSteps.{AreFilters, HaveTableNumbers, IsNoFailedRead, IsPolicyRefusal, Tells};
 ghost use Rattle.seccompiler.specs.Reads.{Reads};
 ghost use Rattle.seccompiler.specs.Policy.{Filter};
 ghost use Rattle.seccompiler.specs.Compiled.{numbers_of};
@@ -21,7 +21,7 @@ use crate::backend::TargetArch;
 use crate::filter::SeccompFilter;
 use crate::json::error::JsonFrontendError;
 use crate::json::policy::{seccomp_filter, widened_numbers};
-use crate::json::texts::filters_from;
+use crate::json::texts::{filters_of, text_of};
 use crate::json::types::{JsonFilter, JsonFilterMap};
 use std::alloc::Global;
 use std::collections::{BTreeMap, HashMap};
@@ -120,47 +120,43 @@ impl JsonCompiler {
         widened_numbers(alloc, self.arch, filter)
     }
 
-    /// Makes the filters that JSON filters stand for, each as `make_seccomp_filter` does.
+    /// Reads a text of JSON filters, and makes each filter, as `make_seccomp_filter` does.
     ///
-    /// The map has the names of `filters`, each with its filter; the filters' call numbers are within
-    /// 0 to 462. It doesn't matter where `filters` come from. Where they are those of a text, as
-    /// [`filters_of`](crate::json::filters_of) and [`filters_from`](crate::json::filters_from) give
-    /// them, the filters are the text's, as `compile` gives them, and an error names its first fault.
+    /// The map has the text's names, each with its filter; the filters' call numbers are within 0 to
+    /// 462.
     ///
     /// # Errors
     ///
-    /// What `make_seccomp_filter` rejects, of the least name, in byte order, with such a filter.
-    /// `OutOfMemory`, where memory runs out, may come in place of it, and no other error.
+    /// The first of these that is there:
+    ///
+    /// - `SerdeJson` where the bytes are no JSON text;
+    /// - `RepeatedKey` where `repeats_key` finds that a name is repeated;
+    /// - `NotAnObject` where the text is no object;
+    /// - `Shape` with the least name, in byte order, whose value is no filter;
+    /// - what `make_seccomp_filter` rejects, of the least name with such a filter.
+    ///
+    /// `OutOfMemory` may come in place of each, where memory runs out. As there is no reader, none is `Read`.
     ///
     /// # Examples
     ///
     /// ```
     /// let text = br#"{"main": {"mismatch_action": "trap", "match_action": "allow", "filter": []}}"#;
-    /// let compiler = JsonCompiler::new(TargetArch::x86_64);
-    /// let filters = compiler.policies(alloc, filters_of(alloc, text)?)?;
-    /// assert!(rt; filters.contains_key("main"));
+    /// let policies = JsonCompiler::new(TargetArch::x86_64).policies_of(alloc, text)?;
+    /// assert!(rt; policies.contains_key("main"));
     /// ```
-    pub fn policies(
+    pub fn policies_of(
         &self,
         alloc: Global,
-        filters: JsonFilterMap,
+        text: &[u8],
     ) -> Result<BTreeMap<String, SeccompFilter>, JsonFrontendError>
-        ensures policies { IfOk result (λ m. ArePoliciesFor self.now filters (tree.get_by_text m)) }
+        ensures policies { IfOk result (λ m. OfValue text.now (ArePoliciesOf self.now (tree.get_by_text m))) }
         ensures numbers { IfOk result (λ m. HaveTableNumbers (tree.get_by_text m)) }
-        ensures refusal { IfErr result (IsLeastPolicyRefusal self.now filters) }
+        ensures fault { IfErr result (TellsFrontendFault self.now text.now) }
         ensures no_reader { IfErr result IsNoFailedRead }
         ensures memory { IfErr result IsNoMemoryInFrontend }
-
-        // Of whichever text and value the JSON filters are.
-        ensures of_value { IfOk result (λ m. (d : Data) → AreFilters d filters → ArePoliciesOf self.now (tree.get_by_text m) d) }
-        ensures fault { IfErr result (λ e. (text : List ℕ) (d : Data) → IsValueOf text d → AreFilters d filters → TellsFrontendFault self.now text e) }
     {
-        let mut found = Vec::new(alloc);
-        for (name, filter) in filters.0 {
-            let policy = self.make_seccomp_filter(alloc, &filter)?;
-            found.push((name, policy))?;
-        }
-        Ok(found.into_iter().collect(alloc)?)
+        let filters = filters_of(alloc, text)?;
+        policies_under(alloc, self.arch, filters)
     }
 
     /// Reads a text of JSON filters to its end, and makes each filter, as `make_seccomp_filter` does.
@@ -201,23 +197,25 @@ impl JsonCompiler {
         ensures fault { IfErr result (λ e. Reads (R.remaining reader) (λ text. TellsFrontendFault self.now text e)) }
         ensures memory { IfErr result IsNoMemoryInFrontend }
     {
-        let policies = self.compile_in_order(alloc, reader)?;
+        let text = text_of(alloc, reader)?;
+        let policies = self.policies_of(alloc, text.as_slice())?;
         Ok(policies.into_iter().collect(alloc)?)
     }
+}
 
-    /// The same filters as [`compile`](JsonCompiler::compile) gives, and the same errors, with the
-    /// names in byte order.
-    pub fn compile_in_order<R: Read + Drop>(
-        &self,
-        alloc: Global,
-        reader: R,
-    ) -> Result<BTreeMap<String, SeccompFilter>, JsonFrontendError>
-        ensures policies { IfOk result (λ m. Reads (R.remaining reader) (λ text. OfValue text (ArePoliciesOf self.now (tree.get_by_text m)))) }
-        ensures numbers { IfOk result (λ m. (name : List ℕ) → IfSome (tree.get_by_text m name) (λ f. All IsTableNumber (numbers_of f.chains))) }
-        ensures fault { IfErr result (λ e. Reads (R.remaining reader) (λ text. TellsFrontendFault self.now text e)) }
-        ensures memory { IfErr result IsNoMemoryInFrontend }
-    {
-        let filters = filters_from(alloc, reader)?;
-        self.policies(alloc, filters)
+// The policies of JSON filters, under their names.
+fn policies_under(
+    alloc: Global,
+    arch: TargetArch,
+    filters: JsonFilterMap,
+) -> Result<BTreeMap<String, SeccompFilter>, JsonFrontendError>
+    ensures policies { IfOk result (λ m. (d : Data) → AreFilters d filters → ArePoliciesOf arch (tree.get_by_text m) d) }
+    ensures refused { IfErr result (λ e. (d : Data) → AreFilters d filters → Tells (λ fault. IsLeastRefused arch fault d) e) }
+{
+    let mut found = Vec::new(alloc);
+    for (name, filter) in filters.0 {
+        let policy = seccomp_filter(alloc, arch, &filter)?;
+        found.push((name, policy))?;
     }
+    Ok(found.into_iter().collect(alloc)?)
 }

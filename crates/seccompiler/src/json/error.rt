@@ -13,7 +13,7 @@ const WORDS_CAPACITY: usize = 128;
 /// Where a text has several faults, the first of these is reported: the reader fails, the bytes are no JSON,
 /// a name is repeated, the top is no object, a filter has a wrong shape, and then what building the filters
 /// rejects.
-#[derive(Debug, Drop)]
+#[derive(Drop)]
 pub enum JsonFrontendError {
     /// The backend rejects a filter. No call gives it with `BackendError::OutOfMemory` inside.
     Backend(BackendError),
@@ -61,6 +61,13 @@ impl fmt::Display for JsonFrontendError {
             JsonFrontendError::Shape(name) => write!(f, "Json filter has a wrong shape: {name}."),
             JsonFrontendError::OutOfMemory => f.write_str("Out of memory."),
         }
+    }
+}
+
+/// The error's text too.
+impl fmt::Debug for JsonFrontendError {
+    fn fmt<W: fmt::Write>(&self, f: &mut fmt::Formatter<W>) -> fmt::Result {
+        fmt::Display::fmt(self, f)
     }
 }
 

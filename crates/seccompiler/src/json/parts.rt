@@ -3,10 +3,11 @@
 // Each reader has two clauses: what it gives is what the value is (`found`), and where it gives
 // nothing, the value is no such part (`none`).
 
-ghost use Rattle.std.specs.Prelude.{◌≡◌, List, Option, option_map, IfOk, IfSome, IfNone};
+ghost use Rattle.std.specs.Prelude.{◌≡◌, List, [], ◌∷◌, Option, option_map, codes, IfOk, IfSome, IfNone, IsSome};
+ghost use Rattle.serde_json.specs.Find.{get};
 ghost use Rattle.serde_json.specs.Data.{string, array};
 ghost use Rattle.serde_json.specs.View.{view, items_view};
-ghost use Rattle.seccompiler.specs.JsonShape.{IsAction, IsOperator, IsArgLen, IsCondition, OneByOne, IsListOf, IsArgs, IsEntry, IsOneAction, IsFilter};
+ghost use Rattle.seccompiler.specs.JsonShape.{HasOnly, IsAction, IsOperator, IsArgLen, IsCondition, OneByOne, IsListOf, IsArgs, IsEntry, IsOneAction, IsFilter};
 ghost use Rattle.seccompiler.specs.declared.backend.SeccompAction.{SeccompAction};
 ghost use Rattle.seccompiler.specs.declared.backend.SeccompCmpOp.{SeccompCmpOp};
 ghost use Rattle.seccompiler.specs.declared.backend.SeccompCmpArgLen.{SeccompCmpArgLen};
@@ -236,11 +237,12 @@ fn read_one_action(first: Option<&Value>, second: Option<&Value>) -> Option<Secc
     }
 }
 
-/// The filter that the value is, or `None` where it is none; an error only where memory runs out.
-pub fn read_filter(alloc: Global, value: &Value) -> Result<Option<JsonFilter>, AllocError>
-    ensures found { IfOk result (λ o. IfSome o (IsFilter (view value.now))) }
-    ensures none { IfOk result
-        (λ o. IfNone o ((f : JsonFilter) → IsFilter (view value.now) f → ⊥)) }
+// The actions of an object that has no other names than a filter.
+fn read_actions(value: &Value) -> Option<(SeccompAction, SeccompAction)>
+    ensures names { IsSome result → HasOnly (view value.now) (codes "mismatch_action" ∷ codes "default_action" ∷ codes "match_action" ∷ codes "filter_action" ∷ codes "filter" ∷ []) }
+    ensures mismatch { IfSome result (λ a. IsOneAction (get (codes "mismatch_action") (view value.now)) (get (codes "default_action") (view value.now)) a.0) }
+    ensures matching { IfSome result (λ a. IsOneAction (get (codes "match_action") (view value.now)) (get (codes "filter_action") (view value.now)) a.1) }
+    ensures none { IfNone result ((f : JsonFilter) → IsFilter (view value.now) f → ⊥) }
 {
     let names = [
         "mismatch_action",
@@ -250,16 +252,23 @@ pub fn read_filter(alloc: Global, value: &Value) -> Result<Option<JsonFilter>, A
         "filter",
     ];
     if !is_object_of(value, &names) {
-        return Ok(None);
+        return None;
     }
-    let Some(mismatch_action) = read_one_action(
+    let mismatch_action = read_one_action(
         value.get("mismatch_action"),
         value.get("default_action"),
-    ) else {
-        return Ok(None);
-    };
-    let Some(match_action) = read_one_action(value.get("match_action"), value.get("filter_action"))
-    else {
+    )?;
+    let match_action = read_one_action(value.get("match_action"), value.get("filter_action"))?;
+    Some((mismatch_action, match_action))
+}
+
+/// The filter that the value is, or `None` where it is none; an error only where memory runs out.
+pub fn read_filter(alloc: Global, value: &Value) -> Result<Option<JsonFilter>, AllocError>
+    ensures found { IfOk result (λ o. IfSome o (IsFilter (view value.now))) }
+    ensures none { IfOk result
+        (λ o. IfNone o ((f : JsonFilter) → IsFilter (view value.now) f → ⊥)) }
+{
+    let Some((mismatch_action, match_action)) = read_actions(value) else {
         return Ok(None);
     };
     let Some(filter) = value.get("filter") else {

@@ -119,12 +119,13 @@ fn add_entry(
         Some(conditions) => {
             let rule = rule_of(alloc, conditions.as_slice())?;
             add_rule(alloc, &mut gathered.rules, number, rule)?;
+            Ok(())
         }
         None => {
             gathered.always.insert(number)?;
+            Ok(())
         }
     }
-    Ok(())
 }
 
 // What the entries stand for.

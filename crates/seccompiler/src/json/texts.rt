@@ -1,6 +1,6 @@
-// From a text, in memory or a reader's, to its filters.
+// From what a reader gives to a text, and from a text to its filters.
 
-ghost use Rattle.std.specs.Prelude.{◌≡◌, IfOk, IfErr};
+ghost use Rattle.std.specs.Prelude.{◌≡◌, ℕ, List, IfOk, IfErr, IfSome};
 ghost use Rattle.serde_json.specs.Data.{Data};
 ghost use Rattle.serde_json.specs.View.{view};
 ghost use Rattle.seccompiler.specs.Errors.{IsNoMemoryInFrontend};
@@ -8,7 +8,6 @@ ghost use Rattle.seccompiler.specs.JsonAnswers.{IsValueOf, OfValue, TellsFronten
 ghost use Rattle.seccompiler.specs.JsonShape.{IsFilter};
 ghost use Rattle.seccompiler.specs.JsonSteps.{AreFilters, IsBeforePolicies, IsNoFailedRead};
 ghost use Rattle.seccompiler.specs.JsonTypes.{JsonFilter};
-ghost use Rattle.seccompiler.specs.Reads.{Reads};
 ghost use Rattle.seccompiler.specs.declared.backend.TargetArch.{TargetArch};
 
 use crate::json::error::JsonFrontendError;
@@ -19,66 +18,36 @@ use serde_json::Value;
 use std::alloc::Global;
 use std::io::{ErrorKind, Read};
 
-/// Reads a text of JSON filters to its end.
+/// Reads all that a reader gives, to its end.
 ///
-/// On `Ok` the map has exactly the text's names, each with its filter as the text has it. No call's
-/// name is looked up, and no filter made: `JsonCompiler::make_seccomp_filter` does that with one of
-/// them, for an architecture, and `JsonCompiler::compile` with all of a text at once.
-///
-/// The text is what the reader gives, which the contract names where the reader's type says what it reads, as
-/// a slice does. For a reader whose type doesn't, as a file, it says that there is a
-/// text of which all this holds. The reader is dropped, and behind an error any part of it may have
-/// been read. Neither the text nor its value outlives the call.
+/// The reader is dropped, and behind an error any part of it may have been read.
 ///
 /// # Errors
 ///
-/// The first of these that is there:
-///
-/// - `Read` where the reader fails;
-/// - `SerdeJson` where the bytes are no JSON text;
-/// - `RepeatedKey` where `repeats_key` finds that a name is repeated;
-/// - `NotAnObject` where the text is no object;
-/// - `Shape` with the least name, in byte order, whose value is no filter.
-///
-/// `OutOfMemory` may come in place of any answer, where memory runs out, in the reader too. No other error
+/// `Read` where the reader fails; `OutOfMemory` where memory runs out, in the reader too. No other error
 /// comes.
-///
-/// # Examples
-///
-/// ```
-/// let text = r#"{"main": {"mismatch_action": "trap", "match_action": "allow", "filter": []}}"#;
-/// let filters = filters_from(alloc, text.as_bytes())?;
-/// let main = filters.0.get("main").ok_or("no filter has this name")?;
-/// assert!(rt; main.match_action == SeccompAction::Allow);
-/// ```
-pub fn filters_from<R: Read + Drop>(
-    alloc: Global,
-    mut reader: R,
-) -> Result<JsonFilterMap, JsonFrontendError>
-    ensures filters { IfOk result (λ filters. Reads (R.remaining reader) (λ text. OfValue text (λ d. AreFilters d filters))) }
-    // On whichever architecture.
-    ensures fault { IfErr result (λ e. Reads (R.remaining reader) (λ text. (arch : TargetArch) → TellsFrontendFault arch text e)) }
-    ensures cause { IfErr result IsBeforePolicies }
+pub fn text_of<R: Read + Drop>(alloc: Global, mut reader: R) -> Result<Vec<u8>, JsonFrontendError>
+    ensures text { IfOk result (λ text. IfSome (R.remaining reader) (λ known. text.items ≡ known)) }
+    // Of whichever text, on whichever architecture.
+    ensures fault { IfErr result (λ e. (arch : TargetArch) (text : List ℕ) → TellsFrontendFault arch text e) }
     ensures memory { IfErr result IsNoMemoryInFrontend }
-
-    // A value is at most one filter.
-    ensures one_filter { (d : Data) (f g : JsonFilter) → IsFilter d f → IsFilter d g → f ≡ g }
 {
     let mut text = Vec::new(alloc);
     match reader.read_to_end(&mut text) {
-        Ok(_) => filters_of(alloc, text.as_slice()),
+        Ok(_) => Ok(text),
         Err(error) if error.kind() == ErrorKind::OutOfMemory => Err(JsonFrontendError::OutOfMemory),
         Err(error) => Err(JsonFrontendError::Read(error)),
     }
 }
 
-/// Reads a text of JSON filters in memory.
+/// Reads a text of JSON filters.
 ///
-/// On `Ok` the map has exactly the text's names, each with its filter as the text has it, as
-/// [`filters_from`] gives it for a reader of this text. [`JsonCompiler::policies`] makes their filters
-/// for an architecture.
+/// On `Ok` the map has exactly the text's names, each with its filter as the text has it. No call's name
+/// is looked up, and no filter made: [`JsonCompiler::make_seccomp_filter`] does that with one of them, for
+/// an architecture, and [`JsonCompiler::policies_of`] with all of a text.
 ///
-/// [`JsonCompiler::policies`]: crate::json::JsonCompiler::policies
+/// [`JsonCompiler::make_seccomp_filter`]: crate::json::JsonCompiler::make_seccomp_filter
+/// [`JsonCompiler::policies_of`]: crate::json::JsonCompiler::policies_of
 ///
 /// # Errors
 ///

@@ -12,7 +12,7 @@ ghost use Rattle.seccomptool.specs.Policies.{IsNameOf, IsRefusedPolicy};
 ghost use Rattle.seccomptool.specs.CompatParts.{IsFirstJsonRefusal};
 
 use crate::error::ToolError;
-use seccompiler::json::filters_from;
+use crate::policy::filters_from;
 use seccompiler::{
     BackendError, JsonCompiler, JsonFilterMap, JsonFrontendError, SeccompFilter, TargetArch,
 };

@@ -8,12 +8,12 @@ returns-in_err-target-clause-refused g c =
     rw (error.1, error.2) (name_is_policy c.args.arch.now (g.P.Read.remaining c.args.policy) c.in_err-target.field-0.0
     c.in_err-target.ensures.refused)
 
-pub returns-in_err-compile_from_json_in_order-clause-refused : goal.returns-in_err-compile_from_json_in_order-clause-refused
-returns-in_err-compile_from_json_in_order-clause-refused g c =
-    let error = err_from_is_err_and c.from_residual-in_err-compile_from_json_in_order.result
-    c.from_residual-in_err-compile_from_json_in_order.ensures.1 in
-    let fault = c.in_err-compile_from_json_in_order.ensures in
+pub returns-in_err-programs_in-clause-refused : goal.returns-in_err-programs_in-clause-refused
+returns-in_err-programs_in-clause-refused g c =
+    let error = err_from_is_err_and c.from_residual-in_err-programs_in.result
+    c.from_residual-in_err-programs_in.ensures.1 in
+    let fault = c.in_err-programs_in.ensures in
     let refused = policy_refused c.args.arch.now (g.P.Read.remaining c.args.policy) c.in_ok-target.target
-    c.in_err-compile_from_json_in_order.field-0.0
+    c.in_err-programs_in.field-0.0
     c.in_ok-target.ensures.named fault.memory fault.fault in
     rw (error.1, error.2) refused

@@ -11,31 +11,21 @@ use Rattle.seccompiler_c.specs.Policies.{IsPolicyFault, from_frontend, NamesPoli
 use Rattle.seccompiler_c.proofs.Policies.{text_refused, names_policy, names_none, utf8_where_found}
 use Rattle.seccompiler_c.proofs.policy.policy_of.Goals as goal
 
-pub returns-in_err-filters-clause-fault : goal.returns-in_err-filters-clause-fault
-returns-in_err-filters-clause-fault c =
-    let error = err_from_is_err_and c.from_residual.result c.from_residual.ensures.1 in
-    let e = c.in_err-filters.field-0.0 in
-    rw (error.1, error.2) (text_refused c.args.target c.args.text.now c.args.name.now e (c.in_err-filters.ensures.fault c.args.target)
-    c.in_err-filters.ensures.no_reader)
-
 pub returns-in_err-policies-clause-fault : goal.returns-in_err-policies-clause-fault
 returns-in_err-policies-clause-fault c =
-    let error = err_from_is_err_and c.from_residual-in_err-policies.result c.from_residual-in_err-policies.ensures.1 in
+    let error = err_from_is_err_and c.from_residual.result c.from_residual.ensures.1 in
     let e = c.in_err-policies.field-0.0 in
     let text = c.args.text.now in
     let name = c.args.name.now in
-    let read = c.in_ok-filters.ensures.filters in
-    let told = c.in_err-policies.ensures.fault text read.0 read.1 read.2 in
     rw (error.1, error.2) (subst (λ (target : TargetArch). IsPolicyFault target text name (from_frontend e)) c.new.ensures
-    (text_refused c.new.result text name e told c.in_err-policies.ensures.no_reader))
+    (text_refused c.new.result text name e c.in_err-policies.ensures.fault c.in_err-policies.ensures.no_reader))
 
 pub returns-in_default-clause-fault : goal.returns-in_default-clause-fault
 returns-in_default-clause-fault c =
     let find = get_by_text c.in_ok-policies.policies in
     let text = c.args.text.now in
     let name = c.args.name.now in
-    let read = c.in_ok-filters.ensures.filters in
-    let policies : OfValue text (ArePoliciesOf c.new.result find) = (read.0, read.1, c.in_ok-policies.ensures.of_value read.0 read.2) in
+    let policies : OfValue text (ArePoliciesOf c.new.result find) = c.in_ok-policies.ensures.policies in
     let none = λ (policy : Filter) (found : find name ≡ Some policy). c.in_default.ensures.cases.0
     (utf8_where_found name c.in_ok-policies.policies.entries policy found) in
     subst (λ (target : TargetArch). NamesNone target text name) c.new.ensures (names_none c.new.result text name find policies none)
@@ -46,8 +36,7 @@ returns-in-Some-clause-policy c =
     let text = c.args.text.now in
     let name = c.args.name.now in
     let policy = c.in-Some.policy in
-    let read = c.in_ok-filters.ensures.filters in
-    let policies : OfValue text (ArePoliciesOf c.new.result find) = (read.0, read.1, c.in_ok-policies.ensures.of_value read.0 read.2) in
+    let policies : OfValue text (ArePoliciesOf c.new.result find) = c.in_ok-policies.ensures.policies in
     let there : find name ≡ Some policy =
     subst (λ (called : List ℕ). find called ≡ Some policy) c.in-Ok.ensures.cases.0 (sym c.in-Some.ensures.value) in
     subst (λ (target : TargetArch). NamesPolicy target text name (λ p. p ≡ policy)) c.new.ensures
@@ -68,8 +57,7 @@ returns-clause-fault c =
     let find = get_by_text c.in_ok-policies.policies in
     let text = c.args.text.now in
     let name = c.args.name.now in
-    let read = c.in_ok-filters.ensures.filters in
-    let policies : OfValue text (ArePoliciesOf c.new.result find) = (read.0, read.1, c.in_ok-policies.ensures.of_value read.0 read.2) in
+    let policies : OfValue text (ArePoliciesOf c.new.result find) = c.in_ok-policies.ensures.policies in
     let nowhere : find name ≡ None =
     subst (λ (called : List ℕ). find called ≡ None) c.in-Ok.ensures.cases.0 (sym c.in-None.ensures.value) in
     let none : (policy : Filter) → find name ≡ Some policy → ⊥ =

@@ -25,8 +25,7 @@ returns-in_err-old-clause-answers g c =
     let out = g.W.Write.contents c.args.out.now in
     let asked = option_map (λ (name : Bor (List ℕ)). name.now) c.args.filter in
     let refusal = c.in_err-old.field-0.0 in
-    let told = subst (λ target. Reads known (λ text. TellsFrontendFault target text refusal)) c.new-compiler.ensures
-    c.in_err-old.ensures.fault in
+    let told = c.in_err-old.ensures.fault in
     rw (error.1, error.2) (old_told arch asked c.args.relation known (g.N.Read.remaining c.args.new) out out _
     (text_refused arch known c.in_ok-target.target refusal c.in_ok-target.ensures.read c.in_err-old.ensures.memory told))
 
@@ -40,9 +39,8 @@ returns-in-Err-clause-answers g c =
     let target = c.in_ok-target.target in
     let refusal = c.in-Err.refusal in
     let old = get_by_text c.in_ok-old.old in
-    let is_old = subst (λ t. Reads known_old (λ text. OfValue text (ArePoliciesOf t old))) c.new-compiler.ensures
-    c.in_ok-old.ensures.policies in
-    let told = subst (λ t. Reads known (λ text. TellsFrontendFault t text refusal)) c.new-compiler.ensures c.in-Err.ensures.fault in
+    let is_old = c.in_ok-old.ensures.policies in
+    let told = c.in-Err.ensures.fault in
     rw (c.of_new_policy.ensures, c.into.ensures)
     (new_told arch asked c.args.relation known_old known out out target c.in_ok-target.ensures.read old is_old _
     (text_refused arch known target refusal c.in_ok-target.ensures.read c.in-Err.ensures.memory told))
@@ -56,10 +54,8 @@ returns-in_err-report-clause-answers g c =
     let asked = option_map (λ (name : Bor (List ℕ)). name.now) c.args.filter in
     let old = get_by_text c.in_ok-old.old in
     let new = get_by_text c.in-Ok.new in
-    let is_old = subst (λ t. Reads known_old (λ text. OfValue text (ArePoliciesOf t old))) c.new-compiler.ensures
-    c.in_ok-old.ensures.policies in
-    let is_new = subst (λ t. Reads known_new (λ text. OfValue text (ArePoliciesOf t new))) c.new-compiler.ensures
-    c.in-Ok.ensures.policies in
+    let is_old = c.in_ok-old.ensures.policies in
+    let is_new = c.in-Ok.ensures.policies in
     rw (error.1, error.2) (refusal_told c.args.arch.now asked c.args.relation known_old known_new out out c.in_ok-target.target
     c.in_ok-target.ensures.read old is_old new is_new
     c.in_err-report.field-0.0 c.in_err-report.ensures.refused)
@@ -72,10 +68,8 @@ returns-in_err-send-clause-answers g c =
     let asked = option_map (λ (name : Bor (List ℕ)). name.now) c.args.filter in
     let old = get_by_text c.in_ok-old.old in
     let new = get_by_text c.in-Ok.new in
-    let is_old = subst (λ t. Reads known_old (λ text. OfValue text (ArePoliciesOf t old))) c.new-compiler.ensures
-    c.in_ok-old.ensures.policies in
-    let is_new = subst (λ t. Reads known_new (λ text. OfValue text (ArePoliciesOf t new))) c.new-compiler.ensures
-    c.in-Ok.ensures.policies in
+    let is_old = c.in_ok-old.ensures.policies in
+    let is_new = c.in-Ok.ensures.policies in
     rw (error.1, error.2) (reports_unwritten c.args.arch.now asked c.args.relation known_old known_new (g.W.Write.contents c.args.out.now)
     (g.W.Write.contents c.send.new.out)
     c.in_ok-target.target c.in_ok-target.ensures.read old is_old new is_new c.in_ok-report.report c.in_err-send.field-0.0
@@ -88,10 +82,8 @@ returns-clause-answers g c =
     let asked = option_map (λ (name : Bor (List ℕ)). name.now) c.args.filter in
     let old = get_by_text c.in_ok-old.old in
     let new = get_by_text c.in-Ok.new in
-    let is_old = subst (λ t. Reads known_old (λ text. OfValue text (ArePoliciesOf t old))) c.new-compiler.ensures
-    c.in_ok-old.ensures.policies in
-    let is_new = subst (λ t. Reads known_new (λ text. OfValue text (ArePoliciesOf t new))) c.new-compiler.ensures
-    c.in-Ok.ensures.policies in
+    let is_old = c.in_ok-old.ensures.policies in
+    let is_new = c.in-Ok.ensures.policies in
     reports_written c.args.arch.now asked c.args.relation known_old known_new (g.W.Write.contents c.args.out.now) (g.W.Write.contents
     c.send.new.out)
     c.in_ok-target.target c.in_ok-target.ensures.read old is_old new is_new c.in_ok-report.report c.deref.result.now

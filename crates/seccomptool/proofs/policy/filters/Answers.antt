@@ -12,11 +12,11 @@ returns-in_err-target-clause-refused g c =
     (name_is_text c.args.arch.now (g.P.Read.remaining c.args.policy) _
     (name_refused c.args.arch.now c.in_err-target.field-0.0 c.in_err-target.ensures.named c.in_err-target.ensures.refused))
 
-pub returns-in_err-compile_in_order-clause-refused : goal.returns-in_err-compile_in_order-clause-refused
-returns-in_err-compile_in_order-clause-refused g c =
-    let error = err_from_is_err_and c.from_residual-in_err-compile_in_order.result c.from_residual-in_err-compile_in_order.ensures.1 in
+pub returns-in_err-policies_from-clause-refused : goal.returns-in_err-policies_from-clause-refused
+returns-in_err-policies_from-clause-refused g c =
+    let error = err_from_is_err_and c.from_residual-in_err-policies_from.result c.from_residual-in_err-policies_from.ensures.1 in
     let known = g.P.Read.remaining c.args.policy in
-    let refusal = c.in_err-compile_in_order.field-0.0 in
-    let fault = c.in_err-compile_in_order.ensures in
-    let told = subst (λ target. Reads known (λ text. TellsFrontendFault target text refusal)) c.new.ensures fault.fault in
+    let refusal = c.in_err-policies_from.field-0.0 in
+    let fault = c.in_err-policies_from.ensures in
+    let told = fault.fault in
     rw (error.1, error.2) (text_refused c.args.arch.now known c.in_ok-target.target refusal c.in_ok-target.ensures.read fault.memory told)

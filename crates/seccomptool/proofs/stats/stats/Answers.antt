@@ -29,7 +29,7 @@ returns-in_err-filters-clause-answers g c =
     let out = g.W.Write.contents c.args.out.now in
     let refusal = c.in_err-filters.field-0.0 in
     let fault = c.in_err-filters.ensures in
-    let told = subst (λ target. Reads known (λ text. TellsFrontendFault target text refusal)) c.new.ensures fault.fault in
+    let told = fault.fault in
     rw (error.1, error.2)
     (policy_told arch known _ out out
     (text_is_policy arch known _
@@ -43,8 +43,7 @@ returns-in_err-all-clause-answers g c =
     let target = c.in_ok-target.target in
     let filters = c.in_ok-filters.filters in
     let table = subst (λ t. IsCallTable (table_of t)) c.new-table.ensures.arch c.new-table.ensures.table in
-    let policies = subst (λ t. Reads known (λ text. OfValue text (ArePoliciesOf t (get_by_text filters))))
-    c.new.ensures c.in_ok-filters.ensures.policies in
+    let policies = c.in_ok-filters.ensures.policies in
     rw (error.1, error.2)
     (chains_refused c.args.arch.now known target c.in_ok-target.ensures.read table
     (get_by_text filters) policies filters.entries c.in_err-all.ensures.ordered
@@ -59,8 +58,7 @@ returns-in_err-stats_lines-clause-answers g c =
     let filters = c.in_ok-filters.filters in
     let all = c.in_ok-all in
     let table = subst (λ t. IsCallTable (table_of t)) c.new-table.ensures.arch c.new-table.ensures.table in
-    let policies = subst (λ t. Reads known (λ text. OfValue text (ArePoliciesOf t (get_by_text filters))))
-    c.new.ensures c.in_ok-filters.ensures.policies in
+    let policies = c.in_ok-filters.ensures.policies in
     let refused = rw c.deref.ensures.value at c.in_err-stats_lines.ensures.refused in
     rw (error.1, error.2)
     (trees_refused c.args.arch.now known target c.in_ok-target.ensures.read table
@@ -76,8 +74,7 @@ returns-clause-answers g c =
     let all = c.in_ok-all in
     let text = c.in_ok-stats_lines.field-0.items in
     let table = subst (λ t. IsCallTable (table_of t)) c.new-table.ensures.arch c.new-table.ensures.table in
-    let policies = subst (λ t. Reads known (λ text. OfValue text (ArePoliciesOf t (get_by_text filters))))
-    c.new.ensures c.in_ok-filters.ensures.policies in
+    let policies = c.in_ok-filters.ensures.policies in
     let lines = rw c.deref.ensures.value at c.in_ok-stats_lines.ensures.lines in
     lines_sent c.args.arch.now known target c.in_ok-target.ensures.read table
     (get_by_text filters) policies filters.entries all.ensures.ordered (λ name. by_text name filters.entries)

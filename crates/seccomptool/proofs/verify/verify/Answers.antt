@@ -27,8 +27,7 @@ returns-in_err-filters-clause-answers g c =
     let out = g.W.Write.contents c.args.out.now in
     let asked = option_map (λ (name : Bor (List ℕ)). name.now) c.args.filter in
     let refusal = c.in_err-filters.field-0.0 in
-    let told = subst (λ target. Reads known (λ text. TellsFrontendFault target text refusal)) c.new.ensures
-    c.in_err-filters.ensures.fault in
+    let told = c.in_err-filters.ensures.fault in
     rw (error.1, error.2) (policy_told arch asked c.args.relation c.args.scope known (g.R.Read.remaining c.args.program) out out _
     (text_refused arch known c.in_ok-target.target refusal c.in_ok-target.ensures.read c.in_err-filters.ensures.memory told))
 
@@ -39,8 +38,7 @@ returns-in_err-name-clause-answers g c =
     let out = g.W.Write.contents c.args.out.now in
     let asked = option_map (λ (name : Bor (List ℕ)). name.now) c.args.filter in
     let filters = get_by_text c.in_ok-filters.filters in
-    let of_text = subst (λ t. Reads known (λ text. OfValue text (ArePoliciesOf t filters))) c.new.ensures
-    c.in_ok-filters.ensures.policies in
+    let of_text = c.in_ok-filters.ensures.policies in
     rw (error.1, error.2) (choice_told c.args.arch.now c.args.relation c.args.scope known (g.R.Read.remaining c.args.program) out out
     c.in_ok-target.target c.in_ok-target.ensures.read filters of_text asked c.in_err-name.field-0.0 c.in_err-name.ensures.refused)
 
@@ -51,8 +49,7 @@ returns-in_default-clause-answers g c =
     let asked = option_map (λ (name : Bor (List ℕ)). name.now) c.args.filter in
     let name = c.in_ok-name.name in
     let filters = get_by_text c.in_ok-filters.filters in
-    let of_text = subst (λ t. Reads known (λ text. OfValue text (ArePoliciesOf t filters))) c.new.ensures
-    c.in_ok-filters.ensures.policies in
+    let of_text = c.in_ok-filters.ensures.policies in
     let lacks = rw c.as_str.ensures.value at c.in_default.ensures.value in
     lack_told c.args.arch.now c.args.relation c.args.scope known (g.R.Read.remaining c.args.program) out out
     c.in_ok-target.target c.in_ok-target.ensures.read filters of_text asked name c.in_ok-name.ensures.asked (sym lacks)
@@ -65,8 +62,7 @@ returns-in_err-program-clause-answers g c =
     let asked = option_map (λ (name : Bor (List ℕ)). name.now) c.args.filter in
     let name = string_bytes c.in_ok-name.name in
     let filters = get_by_text c.in_ok-filters.filters in
-    let of_text = subst (λ t. Reads known (λ text. OfValue text (ArePoliciesOf t filters))) c.new.ensures
-    c.in_ok-filters.ensures.policies in
+    let of_text = c.in_ok-filters.ensures.policies in
     let there = rw c.as_str.ensures.value at c.in-Some.ensures.value in
     let chosen = is_chosen asked filters name c.in-Some.filter.now c.in_ok-name.ensures.asked (sym there) in
     rw (error.1, error.2) (program_told c.args.arch.now asked c.args.relation c.args.scope known (g.R.Read.remaining c.args.program) out out
@@ -81,8 +77,7 @@ returns-in_err-report-clause-answers g c =
     let asked = option_map (λ (name : Bor (List ℕ)). name.now) c.args.filter in
     let name = string_bytes c.in_ok-name.name in
     let filters = get_by_text c.in_ok-filters.filters in
-    let of_text = subst (λ t. Reads known (λ text. OfValue text (ArePoliciesOf t filters))) c.new.ensures
-    c.in_ok-filters.ensures.policies in
+    let of_text = c.in_ok-filters.ensures.policies in
     let there = rw c.as_str.ensures.value at c.in-Some.ensures.value in
     let chosen = is_chosen asked filters name c.in-Some.filter.now c.in_ok-name.ensures.asked (sym there) in
     rw (error.1, error.2) (filter_told c.args.arch.now asked c.args.relation c.args.scope known (g.R.Read.remaining c.args.program) out out
@@ -98,8 +93,7 @@ returns-in_err-send-clause-answers g c =
     let name = string_bytes c.in_ok-name.name in
     let filter = c.in-Some.filter.now in
     let filters = get_by_text c.in_ok-filters.filters in
-    let of_text = subst (λ t. Reads known (λ text. OfValue text (ArePoliciesOf t filters))) c.new.ensures
-    c.in_ok-filters.ensures.policies in
+    let of_text = c.in_ok-filters.ensures.policies in
     let there = rw c.as_str.ensures.value at c.in-Some.ensures.value in
     let chosen = is_chosen asked filters name filter c.in_ok-name.ensures.asked (sym there) in
     let report = c.in_ok-report.report in
@@ -121,8 +115,7 @@ returns-clause-answers g c =
     let name = string_bytes c.in_ok-name.name in
     let filter = c.in-Some.filter.now in
     let filters = get_by_text c.in_ok-filters.filters in
-    let of_text = subst (λ t. Reads known (λ text. OfValue text (ArePoliciesOf t filters))) c.new.ensures
-    c.in_ok-filters.ensures.policies in
+    let of_text = c.in_ok-filters.ensures.policies in
     let there = rw c.as_str.ensures.value at c.in-Some.ensures.value in
     let chosen = is_chosen asked filters name filter c.in_ok-name.ensures.asked (sym there) in
     let report = c.in_ok-report.report in

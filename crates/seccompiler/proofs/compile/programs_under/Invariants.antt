@@ -1,7 +1,7 @@
 use Rattle.std.proofs.Common.{◌≡◌, ◌++◌}
-use Rattle.seccompiler.specs.JsonPrograms.{Compiles}
 use Rattle.seccompiler.proofs.ByName.{AreMade}
-use Rattle.seccompiler.proofs.compile.compile_policies.Given as goal
+use Rattle.seccompiler.proofs.compile.TextPrograms.{Compiles}
+use Rattle.seccompiler.proofs.compile.programs_under.Given as goal
 
 abbrev pub invariant-loop-name : goal.invariant-loop-name
 invariant-loop-name l = record {

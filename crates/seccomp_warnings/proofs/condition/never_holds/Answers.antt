@@ -1,8 +1,8 @@
 use Rattle.std.proofs.Common.{rules, ◌<◌, ◌^◌, ⊎_elim}
-use Rattle.seccompiler.specs.AnyArgument.{HoldsForSome}
-use Rattle.seccompiler.proofs.condition.AnyArgument.{of_no_call}
-use Rattle.seccompiler.proofs.condition.ConstantConditions.{eq_holds, ne_holds, ge_holds, le_holds, masked_eq_holds}
-use Rattle.seccompiler.proofs.condition.SeccompCondition.never_holds.Goals as goal
+use Rattle.seccomp_warnings.specs.AnyArgument.{HoldsForSome}
+use Rattle.seccomp_warnings.specs.Warnings.{condition_in}
+use Rattle.seccomp_warnings.proofs.ConstantConditions.{exactly_none, eq_holds, ne_holds, ge_holds, le_holds, masked_eq_holds}
+use Rattle.seccomp_warnings.proofs.condition.never_holds.Goals as goal
 
 pub returns-in-Lt-clause-none : goal.returns-in-Lt-clause-none
 returns-in-Lt-clause-none c = search rules
@@ -10,9 +10,9 @@ returns-in-Lt-clause-none c = search rules
 pub returns-in-Lt-clause-some : goal.returns-in-Lt-clause-some
 returns-in-Lt-clause-some c = search rules
 
-pub returns-in-Lt-clause-calls : goal.returns-in-Lt-clause-calls
-returns-in-Lt-clause-calls c =
-    of_no_call _ c.args.self.now (search rules) (returns-in-Lt-clause-none c) (returns-in-Lt-clause-some c)
+pub returns-in-Lt-clause-exactly : goal.returns-in-Lt-clause-exactly
+returns-in-Lt-clause-exactly c =
+    exactly_none _ (condition_in c.args.comparison) (returns-in-Lt-clause-none c) (returns-in-Lt-clause-some c)
 
 pub returns-in-Gt-clause-none : goal.returns-in-Gt-clause-none
 returns-in-Gt-clause-none c = search rules
@@ -20,13 +20,13 @@ returns-in-Gt-clause-none c = search rules
 pub returns-in-Gt-clause-some : goal.returns-in-Gt-clause-some
 returns-in-Gt-clause-some c = search rules
 
-pub returns-in-Gt-clause-calls : goal.returns-in-Gt-clause-calls
-returns-in-Gt-clause-calls c =
-    of_no_call _ c.args.self.now (search rules) (returns-in-Gt-clause-none c) (returns-in-Gt-clause-some c)
+pub returns-in-Gt-clause-exactly : goal.returns-in-Gt-clause-exactly
+returns-in-Gt-clause-exactly c =
+    exactly_none _ (condition_in c.args.comparison) (returns-in-Gt-clause-none c) (returns-in-Gt-clause-some c)
 
 pub returns-in-Eq : goal.returns-in-Eq
 returns-in-Eq c =
-    let now = c.args.self.now in
+    let now = condition_in c.args.comparison in
     let small : now.value < 2 ^ 64 = search rules in
     let some : HoldsForSome now =
     ⊎_elim (λ e. eq_holds now small (search rules))
@@ -35,4 +35,4 @@ returns-in-Eq c =
     (⊎_elim (λ e. le_holds now small (search rules))
     (λ m. masked_eq_holds now m.0 small (search rules)))))
     c.in-Eq.is in
-    record { calls = of_no_call _ now (search rules) (search rules) (λ _. some); none = search rules; some = λ _. some }
+    record { exactly = exactly_none _ now (search rules) (λ _. some); none = search rules; some = λ _. some }

@@ -1,5 +1,6 @@
--- For `SeccompCondition::always_holds` and `never_holds`: values of an argument for which a condition holds, and for which it doesn't.
-use Rattle.std.proofs.Common.{◌≡◌, ◌≢◌, ℕ, ◌<◌, ◌^◌, refl, sym, subst, ap, ◌∙◌, arith, ⊎_elim}
+-- For `always_holds` and `never_holds`: values of an argument for which a condition holds, and for which it doesn't.
+use Rattle.std.proofs.Common.{◌≡◌, ◌≢◌, ◌↔◌, ℕ, ◌<◌, ◌^◌, refl, sym, subst, ap, ◌∙◌, arith}
+use Rattle.std.proofs.Common.{⊎_elim, Bool, true, false, true≢false, IsTrue, IsFalse}
 use Rattle.std.specs.Prelude.{bit_and}
 use Rattle.std.specs.Int.Bits.{and_zero_l, xor_self, xor_add_and}
 use Rattle.std.proofs.lemmas.Bool.{cases_lt}
@@ -8,7 +9,7 @@ use Rattle.seccompiler.specs.declared.backend.SeccompCmpOp.TheVariants.{Eq, Ge, 
 use Rattle.seccompiler.specs.declared.backend.SeccompCmpArgLen.{SeccompCmpArgLen}
 use Rattle.seccompiler.specs.declared.backend.SeccompCmpArgLen.TheVariants.{Dword, Qword}
 use Rattle.seccompiler.specs.Policy.{Condition, Compares, operator_part, part_of}
-use Rattle.seccompiler.specs.AnyArgument.{HoldsForSome, FailsForSome}
+use Rattle.seccomp_warnings.specs.AnyArgument.{HoldsForAll, HoldsForNone, HoldsForSome, FailsForSome}
 
 -- what a condition with this operator says of a value of its argument
 abbrev Says : Condition → SeccompCmpOp → ℕ → Type 0
@@ -94,3 +95,18 @@ le_holds c small e = holds_at c Le e c.value small (omega arith)
 
 pub masked_eq_holds : (c : Condition) (m : ℕ) → c.value < 2 ^ 64 → c.operator ≡ MaskedEq m → HoldsForSome c
 masked_eq_holds c m small e = holds_at c (MaskedEq m) e c.value small refl
+
+-- A test that tells where a condition holds for all arguments, and else that it fails for some, tells exactly that.
+pub exactly_all : (b : Bool) (c : Condition) → (IsTrue b → HoldsForAll c) → (IsFalse b → FailsForSome c) → IsTrue b ↔ HoldsForAll c
+exactly_all true c all some = (all, λ every. refl)
+exactly_all false c all some = (
+  λ t. absurd (true≢false (sym t)),
+  λ every. let x = some refl in absurd (x.fails (every x.argument x.fits)),
+)
+
+pub exactly_none : (b : Bool) (c : Condition) → (IsTrue b → HoldsForNone c) → (IsFalse b → HoldsForSome c) → IsTrue b ↔ HoldsForNone c
+exactly_none true c none some = (none, λ every. refl)
+exactly_none false c none some = (
+  λ t. absurd (true≢false (sym t)),
+  λ every. let x = some refl in absurd (every x.argument x.fits x.holds),
+)

@@ -3,13 +3,11 @@ use Rattle.std.proofs.Common.{rules}
 use Rattle.std.specs.BTreeMap.{get_by_text, IsFromIterResult}
 use Rattle.std.proofs.lemmas.Result.{err_from_is_err_and}
 use Rattle.seccompiler.specs.ByName.{ByName, AreInOrder}
-use Rattle.seccompiler.specs.JsonPrograms.{Compiles}
 use Rattle.seccompiler.specs.Policy.{Filter}
 use Rattle.seccompiler.specs.declared.bpf.sock_filter.{sock_filter}
-use Rattle.seccompiler.proofs.ByName.{AreMade, by_text, made_more, made_in_order, ordered}
-use Rattle.seccompiler.proofs.TextFilters.{made_of_all}
-use Rattle.seccompiler.proofs.compile.TextPrograms.{are_programs, refusal_of, refused_told}
-use Rattle.seccompiler.proofs.compile.compile_policies.Goals as goal
+use Rattle.seccompiler.proofs.ByName.{AreMade, made_more, made_in_order, ordered}
+use Rattle.seccompiler.proofs.compile.TextPrograms.{Compiles, are_programs, refusal_of}
+use Rattle.seccompiler.proofs.compile.programs_under.Goals as goal
 
 pub loop-name-init : goal.loop-name-init
 loop-name-init c = record {
@@ -31,22 +29,16 @@ loop-name-preserved c =
       made = subst (AreMade Compiles (l.yielded ++ e ∷ [])) (sym added) made;
     }
 
-pub returns-in_err-to_bpf-clause-refusal : goal.returns-in_err-to_bpf-clause-refusal
-returns-in_err-to_bpf-clause-refusal c =
+pub returns-in_err-to_bpf-clause-refused : goal.returns-in_err-to_bpf-clause-refused
+returns-in_err-to_bpf-clause-refused c =
     let p = err_from_is_err_and c.from_residual.result c.from_residual.ensures.1 in
     let l = c.loop-name in
     let e : String Global × Filter = (c.in-Some.name, c.in-Some.policy) in
     let left : ByName Filter = c.next.new.self in
     let all : c.args.policies.entries ≡ l.yielded ++ e ∷ left = l.invariant.all ∙ ap (λ es. l.yielded ++ es) c.in-Some.ensures.steps in
     let order : AreInOrder (l.yielded ++ e ∷ left) = subst (λ es. AreInOrder es) all c.into_iter-name-iterator.ensures.into_iter_gives.5 in
-    rw (p.1, p.2) (refusal_of c.args.policies l.yielded e left all order l.found.items l.invariant.made c.in_err-to_bpf.field-0.0
-    c.in_err-to_bpf.ensures.refused)
-
-pub returns-in_err-to_bpf-clause-fault : goal.returns-in_err-to_bpf-clause-fault
-returns-in_err-to_bpf-clause-fault c =
-    let p = err_from_is_err_and c.from_residual.result c.from_residual.ensures.1 in
-    let told = rw (p.1, p.2) at (returns-in_err-to_bpf-clause-refusal c) in
-    rw (p.1, p.2) (λ arch text d is are numbers. refused_told arch d (get_by_text c.args.policies) are text is numbers _ told)
+    rw (p.1, p.2) (λ arch d are. refusal_of arch d c.args.policies are l.yielded e left all order l.found.items l.invariant.made
+    c.in_err-to_bpf.field-0.0 c.in_err-to_bpf.ensures.refused)
 
 pub returns-clause-programs : goal.returns-clause-programs
 returns-clause-programs c =
@@ -58,8 +50,4 @@ returns-clause-programs c =
     subst (λ es. AreMade Compiles es l.found.items) (sym all) l.invariant.made in
     let order : AreInOrder l.found.items = made_in_order Compiles _ _ made c.into_iter-name-iterator.ensures.into_iter_gives.5 in
     let collected : IsFromIterResult string_cmp l.found.items m = search rules in
-    made_of_all Compiles (get_by_text c.args.policies) _ (λ name. by_text name c.args.policies.entries) l.found.items made (get_by_text m)
-    (ordered l.found.items m order collected)
-
-pub returns-clause-of_value : goal.returns-clause-of_value
-returns-clause-of_value c = λ arch d are. are_programs arch d (get_by_text c.args.policies) are _ (returns-clause-programs c)
+    λ arch d are. are_programs arch d c.args.policies are l.found.items made (get_by_text m) (ordered l.found.items m order collected)

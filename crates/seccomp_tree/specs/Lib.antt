@@ -1,0 +1,5 @@
+-- The definitions that the contracts cite.
+
+-- Between layers: what private functions promise each other. No promise rests on how these are worded.
+pub mod Steps
+pub mod Code

@@ -1,0 +1,24 @@
+// Why there is no program.
+
+use std::alloc::{AllocError, AllocFailed};
+
+/// Why decisions have no program.
+#[derive(Clone, Copy, Debug, PartialEq, Eq)]
+pub enum TreeError {
+    /// The program would have more than 4096 instructions, which is what a kernel takes.
+    TooLarge,
+    /// Memory ran out.
+    OutOfMemory,
+}
+
+impl From<AllocError> for TreeError {
+    fn from(_: AllocError) -> Self {
+        TreeError::OutOfMemory
+    }
+}
+
+impl<T: Drop> From<AllocFailed<T>> for TreeError {
+    fn from(_: AllocFailed<T>) -> Self {
+        TreeError::OutOfMemory
+    }
+}

@@ -12,6 +12,7 @@ use Rattle.seccomp_tree.specs.declared.steps.Step.{Step}
 use Rattle.seccomp_tree.specs.declared.code.Test.{Test}
 use Rattle.seccomp_tree.specs.declared.code.Test.TheVariants.{Equal, AtLeast}
 use Rattle.seccomp_tree.specs.Steps.{found_in}
+use Rattle.seccomp_tree.specs.Rows.{row}
 
 -- Each instruction is one of the seven, within its fields' ranges, and its jumps lead to instructions behind it.
 abbrev pub AreFine : List sock_filter → Type 0
@@ -71,14 +72,18 @@ pub record Grows (old : List sock_filter) (most : ℕ) (new : List sock_filter) 
 abbrev pub IsFullBy : List sock_filter → ℕ → TreeError → Type 0
 IsFullBy code most e = e ≡ TooLarge → greatest_length < length code + most
 
+-- The place does what the target says, whatever is in the accumulator.
+pub record DoesAs (code : List sock_filter) (t : Target) (place : ℕ) (new : List sock_filter) : Type 0 where
+  pub inside : place < length new
+  pub leads : (r : List ℕ) (a w n : ℕ) → a < 2 ^ 32 → Leads code r t a w n → Returns r (tail_at new place) a w n
+
 -- The place does what the target says, and is so near that a jump to it fits 8 bits though one more instruction may come
--- between. The last instruction that was written is taken as it is.
+-- between. A place that is near is taken as it is.
 pub record IsReached (old : List sock_filter) (t : Target) (place : ℕ) (new : List sock_filter) : Type 0 where
   pub grows : Grows old 1 new
-  pub inside : place < length new
+  pub does : DoesAs old t place new
   pub near : length new ≤ place + 255
-  pub fresh : (t ≡ At (length old - 1)) → 1 ≤ length old → place ≡ length old - 1
-  pub leads : (r : List ℕ) (a w n : ℕ) → a < 2 ^ 32 → Leads old r t a w n → Returns r (tail_at new place) a w n
+  pub itself : (m : ℕ) → t ≡ At m → m < length old → length old ≤ m + 255 → place ≡ m
 
 -- The target that a test chooses for the accumulator.
 abbrev pub chosen : Test → ℕ → Target → Target → ℕ → Target
@@ -94,13 +99,16 @@ pub record IsTested (old : List sock_filter) (test : Test) (k : ℕ) (yes no t :
   pub fresh : (r : List ℕ) (a w n : ℕ) → a < 2 ^ 32 → chosen test k yes no a ≡ At (length old - 1)
       → Starts old r (chosen test k yes no a) a w n → Starts new r t a w (n + 1)
 
--- The target goes on as the steps say for the accumulator, in two steps for each halving more than what they say takes.
+-- The target goes on as the steps say for the accumulator, in two steps for each halving more than what they say takes; in
+-- as many as it has tests where it is a row of few.
 pub record IsTree (old : List sock_filter) (steps : List Step) (t : Target) (new : List sock_filter) : Type 0 where
   pub grows : Grows old (3 * (length steps - 1)) new
   pub inside : IsIn new t
   pub last : 2 ≤ length steps → t ≡ At (length new - 1)
   pub leads : (r : List ℕ) (a w n k : ℕ) → a < 2 ^ 32 → length steps ≤ 2 ^ k → Leads old r (found_in steps a) a w n
       → Starts new r t a w (n + 2 * k)
+  pub soon : (r : List ℕ) (a w n : ℕ) → a < 2 ^ 32 → row steps ≤ 6 → Leads old r (found_in steps a) a w n
+      → Starts new r t a w (n + row steps)
 
 -- The target goes on as the steps say for the record's word at this byte, whatever the accumulator holds.
 pub record IsWord (old : List sock_filter) (byte : ℕ) (steps : List Step) (t : Target) (new : List sock_filter) : Type 0 where

@@ -2,4 +2,5 @@
 
 -- Between layers: what private functions promise each other. No promise rests on how these are worded.
 pub mod Steps
+pub mod Rows
 pub mod Code

@@ -8,7 +8,7 @@ use crate::error::TreeError;
 use std::alloc::Global;
 
 /// What a program does next.
-#[derive(Clone, Copy, Debug)]
+#[derive(Clone, Copy, Debug, PartialEq, Eq)]
 pub(crate) enum Target {
     /// It returns this word.
     Give(u32),

@@ -77,6 +77,10 @@ pub record DoesAs (code : List sock_filter) (t : Target) (place : ℕ) (new : Li
   pub inside : place < length new
   pub leads : (r : List ℕ) (a w n : ℕ) → a < 2 ^ 32 → Leads code r t a w n → Returns r (tail_at new place) a w n
 
+-- The target is no place that a jump reaches.
+abbrev pub IsFar : List sock_filter → Target → Type 0
+IsFar code t = (m : ℕ) → t ≡ At m → m + 255 < length code
+
 -- The place does what the target says, and is so near that a jump to it fits 8 bits though one more instruction may come
 -- between. A place that is near is taken as it is.
 pub record IsReached (old : List sock_filter) (t : Target) (place : ℕ) (new : List sock_filter) : Type 0 where
@@ -87,8 +91,8 @@ pub record IsReached (old : List sock_filter) (t : Target) (place : ℕ) (new : 
 
 -- The target that a test chooses for the accumulator.
 abbrev pub chosen : Test → ℕ → Target → Target → ℕ → Target
-chosen Equal k yes no a = if nat_eq a k then yes else no
-chosen AtLeast k yes no a = if nat_le k a then yes else no
+chosen Equal k met other a = if nat_eq a k then met else other
+chosen AtLeast k met other a = if nat_le k a then met else other
 
 -- The target tests the accumulator, and goes on as the test chooses: a step more than what is chosen takes.
 pub record IsTested (old : List sock_filter) (test : Test) (k : ℕ) (yes no t : Target) (new : List sock_filter) : Type 0 where
@@ -105,6 +109,7 @@ pub record IsTree (old : List sock_filter) (steps : List Step) (t : Target) (new
   pub grows : Grows old (3 * (length steps - 1)) new
   pub inside : IsIn new t
   pub last : 2 ≤ length steps → t ≡ At (length new - 1)
+  pub alone : (x : Step) → steps ≡ x ∷ [] → t ≡ x.target
   pub leads : (r : List ℕ) (a w n k : ℕ) → a < 2 ^ 32 → length steps ≤ 2 ^ k → Leads old r (found_in steps a) a w n
       → Starts new r t a w (n + 2 * k)
   pub soon : (r : List ℕ) (a w n : ℕ) → a < 2 ^ 32 → row steps ≤ 6 → Leads old r (found_in steps a) a w n

@@ -4,7 +4,7 @@ ghost use Rattle.std.specs.Prelude.{◌≡◌, ◌≤◌, ◌<◌, ◌+◌, ◌^
 ghost use Rattle.seccompiler.specs.Code.{give};
 ghost use Rattle.seccompiler.specs.Machine.{IsFine, IsInRange, greatest_length};
 ghost use Rattle.seccomp_tree.specs.declared.error.TreeError.TheVariants.{OutOfMemory};
-ghost use Rattle.seccomp_tree.specs.Code.{IsSound, IsFullBy, IsIn, DoesAs, IsReached, IsTested};
+ghost use Rattle.seccomp_tree.specs.Code.{IsSound, IsFullBy, IsIn, IsFar, DoesAs, IsReached, IsTested};
 
 use crate::error::TreeError;
 use crate::steps::Target;
@@ -120,6 +120,23 @@ impl Code {
         None
     }
 
+    // The last near place of an instruction that does what the target says; or where this one is written, which does.
+    fn stand_in(&mut self, target: Target, instruction: sock_filter) -> Result<usize, TreeError>
+        requires target { IsIn self.old target }
+        requires far { IsFar self.old target }
+        requires fine { IsFine instruction 0 (length self.old + 1) }
+        requires range { IsInRange instruction }
+        requires does { DoesAs (instruction ∷ self.old) target (length self.old) (instruction ∷ self.old) }
+        ensures ok { IfOk result (λ place. IsReached self.old target place self.new) }
+        ensures err { IfErr result (IsFullBy self.old 1) }
+    {
+        if let Some(place) = self.twin(target) {
+            return Ok(place);
+        }
+        self.push(instruction)?;
+        Ok(self.len() - 1)
+    }
+
     /// A near place that does what the target says: its own, or that of a return or a jump, which is written where none
     /// is near.
     pub(crate) fn reach(&mut self, target: Target) -> Result<usize, TreeError>
@@ -127,20 +144,16 @@ impl Code {
         ensures ok { IfOk result (λ place. IsReached self.old target place self.new) }
         ensures err { IfErr result (IsFullBy self.old 1) }
     {
-        if let Target::At(place) = target {
-            if self.over(place) <= REACH {
-                return Ok(place);
+        match target {
+            Target::Give(word) => self.stand_in(target, bpf_stmt(RETURN, word)),
+            Target::At(place) => {
+                let over = self.over(place);
+                if over <= REACH {
+                    return Ok(place);
+                }
+                self.stand_in(target, bpf_stmt(JUMP, over as u32))
             }
         }
-        if let Some(place) = self.twin(target) {
-            return Ok(place);
-        }
-        let instruction = match target {
-            Target::Give(word) => bpf_stmt(RETURN, word),
-            Target::At(place) => bpf_stmt(JUMP, self.over(place) as u32),
-        };
-        self.push(instruction)?;
-        Ok(self.len() - 1)
     }
 
     /// Where the accumulator compares with `k`, goes on as the one target says, and else as the other.

@@ -1,6 +1,6 @@
 // What is looked up by a number: steps, each from its start up to the next one's.
 
-ghost use Rattle.std.specs.Prelude.{◌≡◌, ◌≤◌, ◌<◌, ◌+◌, ◌^◌, ◌↔◌, ◌×◌, IsTrue, IfOk, IfErr, length};
+ghost use Rattle.std.specs.Prelude.{◌≡◌, ◌≤◌, ◌<◌, ◌+◌, ◌^◌, ◌↔◌, IsTrue, IfOk, IfErr, length};
 ghost use Rattle.seccomp_tree.specs.Steps.{AreSteps, AreOverlaid, found_in};
 ghost use Rattle.seccomp_tree.specs.declared.error.TreeError.TheVariants.{TooLarge};
 

@@ -2,7 +2,7 @@
 
 ghost use Rattle.std.specs.Prelude.{◌≡◌, ◌≤◌, ◌+◌, ◌-◌, ◌*◌, ◌%◌, ◌^◌, IfOk, IfErr, length};
 ghost use Rattle.seccomp_tree.specs.Steps.{Ascend};
-ghost use Rattle.seccomp_tree.specs.Rows.{row, second_stands_out};
+ghost use Rattle.seccomp_tree.specs.Rows.{row, second_stands_out, settled};
 ghost use Rattle.seccomp_tree.specs.Code.{AreIn, IsFullBy, IsTree, IsWord};
 
 use crate::code::{Code, Test};
@@ -19,7 +19,14 @@ fn stands_out(steps: &[Step]) -> bool
 {
     steps.len() > 2
         && steps[0].target == steps[2].target
-        && steps[2].start - steps[1].start == 1
+        && steps[2].start.saturating_sub(steps[1].start) == 1
+}
+
+// How many of the steps the first test of a row leaves to no other test.
+fn settled(steps: &[Step]) -> usize
+    ensures { result ≡ settled steps.now }
+{
+    if stands_out(steps) { 2 } else { 1 }
 }
 
 // How many tests tell the steps apart, one after the other.
@@ -30,7 +37,7 @@ fn row(steps: &[Step]) -> usize
     let mut done = 0;
     while steps.len() - done > 1 {
         tests += 1;
-        done += if stands_out(&steps[done..]) { 2 } else { 1 };
+        done += settled(&steps[done..]);
     }
     tests
 }

@@ -1,0 +1,11 @@
+-- Laws of the definitions, which the proofs of several functions cite.
+pub mod Tails
+pub mod Growing
+pub mod Runs
+pub mod Soundness
+pub mod Reaching
+pub mod Testing
+pub mod Cuts
+pub mod RowTests
+pub mod Trees
+pub mod Program

@@ -1,5 +1,6 @@
 -- For `tree`: the targets that steps have for numbers, where the steps are cut in two.
-use Rattle.std.proofs.Common.{◌≡◌, ℕ, zero, suc, ◌+◌, ◌-◌, ◌*◌, ◌/◌, ◌^◌, ◌<◌, ◌≤◌, List, [], ◌∷◌, ◌++◌, length, take, drop, get_or, true, false, refl}
+use Rattle.std.proofs.Common.{◌≡◌, ℕ, zero, suc, ◌+◌, ◌-◌, ◌*◌, ◌/◌, ◌^◌, ◌<◌, ◌≤◌, List, [], ◌∷◌, ◌++◌, length, take, drop, get_or}
+use Rattle.std.proofs.Common.{true, false, refl}
 use Rattle.std.proofs.Common.{sym, ap, ◌∙◌, subst, take-append-drop, length-append, nat_le, if◌then◌else◌, ◌⊎◌, inl, inr, ⊎_elim, arith}
 use Rattle.std.proofs.lemmas.Bool.{cases_lt}
 use Rattle.std.proofs.lemmas.Bool.Decides.{nat_tests}
@@ -15,21 +16,6 @@ use Rattle.seccomp_tree.specs.Code.{IsIn, AreIn}
 pub record IsCut (steps low : List Step) (y : Step) (high : List Step) : Type 0 where
   pub whole : steps ≡ low ++ y ∷ high
   pub some : 1 ≤ length low
-
--- where they are cut
-pub cut_at : (steps : List Step) (n : ℕ) (y : Step) → 1 ≤ n → n < length steps → y ≡ get_or steps n y
-    → IsCut steps (take n steps) y (drop (n + 1) steps) × (drop n steps ≡ y ∷ drop (n + 1) steps)
-cut_at steps n y some more here =
-    let at : drop n steps ≡ y ∷ drop (n + 1) steps = drop_more steps n y more ∙ ap (λ x. x ∷ drop (n + 1) steps) (sym here) in
-    let all = sym (take-append-drop n steps) ∙ ap (λ l. take n steps ++ l) at in
-    let long : length steps ≡ length (take n steps) + suc (length (drop (n + 1) steps)) =
-    ap length all ∙ length-append (take n steps) (y ∷ drop (n + 1) steps) in
-    (record { whole = all; some = taken steps n some more }, at)
-  where
-    taken : (steps : List Step) (n : ℕ) → 1 ≤ n → n < length steps → 1 ≤ length (take n steps)
-    taken steps zero some more = absurd (omega arith)
-    taken [] (suc n) some more = absurd (omega arith)
-    taken (x ∷ steps) (suc n) some more = omega arith
 
 -- a number below the border has the target that it has in the lower steps
 from_low : (found : Target) (low high : List Step) (y : Step) (a : ℕ) → a < y.start

@@ -6,6 +6,8 @@ pub mod Soundness
 pub mod Reaching
 pub mod Testing
 pub mod Cuts
+pub mod Parts
 pub mod RowTests
 pub mod Trees
+pub mod Words
 pub mod Program

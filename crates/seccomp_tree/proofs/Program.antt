@@ -1,5 +1,6 @@
 -- The two ends of the theorem: sound code is a checked program, and a run that returns a word ends with it there.
-use Rattle.std.proofs.Common.{◌≡◌, ℕ, zero, suc, ◌+◌, ◌-◌, ◌<◌, ◌≤◌, ◌^◌, List, [], ◌∷◌, ◌++◌, length, drop, Some, None, length-append, length-drop, refl, sym, ap, ◌∙◌, subst, arith}
+use Rattle.std.proofs.Common.{◌≡◌, ℕ, zero, suc, ◌+◌, ◌-◌, ◌<◌, ◌≤◌, ◌^◌, List, [], ◌∷◌, ◌++◌, length, drop, Some, None}
+use Rattle.std.proofs.Common.{length-append, length-drop, refl, sym, ap, ◌∙◌, subst, arith}
 use Rattle.std.specs.Prelude.{slice_get}
 use Rattle.std.proofs.lemmas.List.{drop-drop}
 use Rattle.seccompiler.specs.declared.bpf.sock_filter.{sock_filter}
@@ -21,7 +22,8 @@ does_there i r place a d a' (is_not_greater c t e f) = is_not_greater c t (omega
 does_there i r place a d a' (is_at_least c t e f) = is_at_least c t (omega arith) f
 does_there i r place a d a' (is_less c t e f) = is_less c t (omega arith) f
 
-get_at : (p : List sock_filter) (place : ℕ) (i : sock_filter) (rest : List sock_filter) → drop place p ≡ i ∷ rest → slice_get p place ≡ Some i
+get_at : (p : List sock_filter) (place : ℕ) (i : sock_filter) (rest : List sock_filter) → drop place p ≡ i ∷ rest
+    → slice_get p place ≡ Some i
 get_at [] zero i rest e = cc
 get_at [] (suc place) i rest e = cc
 get_at (x ∷ p) zero i rest e = cc
@@ -35,9 +37,9 @@ pub record EndsWithin (p : List sock_filter) (r : List ℕ) (w n long : ℕ) : T
   pub ends : Ends p r steps w
 
 -- a run that has come to a place ends as it does from there
-ends_from : (p tail : List sock_filter) (r : List ℕ) (place m a w n : ℕ) → drop place p ≡ tail → Goes p r 0 0 m place a → a < 2 ^ 32
+ends_from : (p : List sock_filter) (r : List ℕ) (tail : List sock_filter) (place m a w n : ℕ) → drop place p ≡ tail → Goes p r 0 0 m place a → a < 2 ^ 32
     → Returns r tail a w n → EndsWithin p r w (m + n) (m + length tail)
-ends_from p tail r place m a w n at goes small (gives i rest a w n' is word) = record {
+ends_from p r tail place m a w n at goes small (gives i rest b v k is word) = record {
   steps = m + 1;
   few = omega arith;
   short = omega arith;
@@ -52,7 +54,7 @@ ends_from p tail r place m a w n at goes small (gives i rest a w n' is word) = r
     value = word;
   };
 }
-ends_from p tail r place m a w n at goes small (goes_on i rest a a' w n' d does small' h) =
+ends_from p r tail place m a w n at goes small (goes_on i rest b a' v n' d does small' h) =
     let step = then_step goes record {
       instruction = i;
       here = get_at p place i rest at;
@@ -63,7 +65,7 @@ ends_from p tail r place m a w n at goes small (goes_on i rest a a' w n' d does 
     let over : 1 + d ≡ suc d = omega arith in
     let at' : drop (place + (1 + d)) p ≡ drop d rest =
     sym (drop-drop (1 + d) place p) ∙ ap (λ l. drop (1 + d) l) at ∙ ap (λ k. drop k (i ∷ rest)) over in
-    let end = ends_from p (drop d rest) r (place + (1 + d)) (suc m) a' w n' at' step small' h in
+    let end = ends_from p r (drop d rest) (place + (1 + d)) (suc m) a' w n' at' step small' h in
     record {
       steps = end.steps;
       few = omega (arith, end.few);
@@ -74,7 +76,7 @@ ends_from p tail r place m a w n at goes small (goes_on i rest a a' w n' d does 
 -- A program whose run returns a word ends with it, in no more steps than it has instructions.
 pub program_ends : (p : List sock_filter) (r : List ℕ) (w n : ℕ) → Returns r p 0 w n → EndsWithin p r w n (length p)
 program_ends p r w n h =
-    let end = ends_from p p r 0 0 0 w n refl stays (omega arith) h in
+    let end = ends_from p r p 0 0 0 w n refl stays (omega arith) h in
     record { steps = end.steps; few = omega (arith, end.few); short = omega (arith, end.short); ends = end.ends }
 
 -- an instruction is as fine where one more stands in front

@@ -1,13 +1,15 @@
 -- For `does` and `reach`: the places that do what a target says.
-use Rattle.std.proofs.Common.{◌≡◌, ℕ, zero, suc, ◌+◌, ◌-◌, ◌<◌, ◌≤◌, ◌^◌, List, [], ◌∷◌, length, drop, get_or, refl, sym, ap, ◌∙◌, subst, arith}
+use Rattle.std.proofs.Common.{◌≡◌, ℕ, zero, suc, ◌+◌, ◌-◌, ◌<◌, ◌≤◌, ◌^◌, List, [], ◌∷◌, length, drop, get_or, refl, sym, ap, ◌∙◌}
+use Rattle.std.proofs.Common.{subst, arith}
 use Rattle.std.specs.Prelude.{reverse}
 use Rattle.std.proofs.lemmas.List.{length-reverse}
 use Rattle.seccompiler.specs.declared.bpf.sock_filter.{sock_filter}
 use Rattle.seccompiler.specs.Machine.{Does, jumps}
 use Rattle.seccomp_tree.specs.declared.steps.Target.{Target}
 use Rattle.seccomp_tree.specs.declared.steps.Target.TheVariants.{Give, At}
-use Rattle.seccomp_tree.specs.Code.{tail_at, Returns, gives, goes_on, Starts, by_return, at_place, Leads, to_return, to_place, DoesAs, IsFar, IsReached}
-use Rattle.seccomp_tree.proofs.Tails.{tail_whole, jump_from, tail_written}
+use Rattle.seccomp_tree.specs.Code.{tail_at, Returns, gives, goes_on, Starts, by_return, at_place, Leads, to_return, to_place, DoesAs}
+use Rattle.seccomp_tree.specs.Code.{IsFar, IsReached}
+use Rattle.seccomp_tree.proofs.Tails.{tail_whole, jump_to, jump_from, tail_written}
 use Rattle.seccomp_tree.proofs.Growing.{grows_not, grows_one}
 use Rattle.seccomp_tree.proofs.Runs.{returns_more, returns_grown, does_of_old}
 
@@ -78,17 +80,17 @@ reached_twin code t place far does near = record {
 }
 
 -- an instruction that is written for it
-pub reached_new : (code : List sock_filter) (t : Target) (i : sock_filter) (new : List sock_filter) (place : ℕ)
-    → IsFar code t → new ≡ i ∷ code → place + 1 ≡ length new → DoesAs (i ∷ code) t place (i ∷ code)
-    → IsReached code t place new
+pub reached_new : (code : List sock_filter) (t : Target) (i : sock_filter) (new : List sock_filter) (place : ℕ) → IsFar code t
+    → new ≡ i ∷ code → place + 1 ≡ length new → DoesAs (i ∷ code) t (length code) (i ∷ code) → IsReached code t place new
 reached_new code t i new place far written last does =
-    let long = ap length written in
-    subst (IsReached code t place) (sym written) record {
+    let at : length code ≡ place = omega (arith, ap length written) in
+    subst (IsReached code t place) (sym written)
+    (subst (λ p. IsReached code t p (i ∷ code)) at record {
       grows = grows_one code i;
-      does = does_of_old code (i ∷ code) (i ∷ code) 1 t place (grows_one code i) does;
-      near = omega (arith, long, last);
+      does = does_of_old code (i ∷ code) (i ∷ code) 1 t (length code) (grows_one code i) does;
+      near = omega arith;
       itself = λ m is _ close. absurd (omega (arith, far m is));
-    }
+    })
 
 pub new_return : (code : List sock_filter) (v : ℕ) (i : sock_filter) → i.code ≡ 0x06 → i.k ≡ v
     → DoesAs (i ∷ code) (Give v) (length code) (i ∷ code)
@@ -100,8 +102,19 @@ pub new_jump : (code : List sock_filter) (to : ℕ) (i : sock_filter) → i.code
 new_jump code to i is over =
     does_jump (i ∷ code) (length code) to i code (omega arith) (tail_whole (i ∷ code) (length code) (omega arith)) is over
 
+-- a run from an instruction in front of the code, which goes on at a place of it
+pub stepped : (i : sock_filter) (code : List sock_filter) (r : List ℕ) (a a' w n d place : ℕ) → a' < 2 ^ 32
+    → d + place + 1 ≡ length code → Does i r 0 a (1 + d) a' → Returns r (tail_at code place) a' w n
+    → Starts (i ∷ code) r (At (length code)) a w (n + 1)
+stepped i code r a a' w n d place small over does h =
+    let run = goes_on i code a a' w n d does small (subst (λ l. Returns r l a' w n) (sym (jump_to code d place over)) h) in
+    let more : suc n ≡ n + 1 = omega arith in
+    let whole = tail_whole (i ∷ code) (length code) (omega arith) in
+    at_place (length code) w a (n + 1) (omega arith)
+    (subst (λ m. Returns r (tail_at (i ∷ code) (length code)) a w m) more (subst (λ l. Returns r l a w (suc n)) (sym whole) run))
+
 -- a run that begins at a place that is near goes on without a jump
-starts_at : (r : List ℕ) (code : List sock_filter) (m a w n : ℕ) → Starts code r (At m) a w n
+pub starts_at : (r : List ℕ) (code : List sock_filter) (m a w n : ℕ) → Starts code r (At m) a w n
     → (m < length code) × Returns r (tail_at code m) a w n
 starts_at r code m a w n (at_place p v b k inside h) = (inside, h)
 

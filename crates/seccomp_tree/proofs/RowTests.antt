@@ -1,5 +1,6 @@
 -- For `row` and `tree`: what the first test of a row leaves to the others.
-use Rattle.std.proofs.Common.{◌≡◌, ◌≢◌, ℕ, zero, suc, ◌+◌, ◌-◌, ◌*◌, ◌^◌, ◌<◌, ◌≤◌, List, [], ◌∷◌, ◌++◌, length, drop, take, get_or, Bool, true, false}
+use Rattle.std.proofs.Common.{◌≡◌, ◌≢◌, ℕ, zero, suc, ◌+◌, ◌-◌, ◌*◌, ◌^◌, ◌<◌, ◌≤◌, List, [], ◌∷◌, ◌++◌, length, drop, take, get_or}
+use Rattle.std.proofs.Common.{Bool, true, false}
 use Rattle.std.proofs.Common.{refl, sym, ap, ◌∙◌, subst, arith, nat_eq, nat_le, if◌then◌else◌, length-drop, ◌⊎◌, inl, inr, ⊎_elim}
 use Rattle.std.proofs.lemmas.List.{take_all}
 use Rattle.std.proofs.lemmas.Bool.{and_parts, cases_lt}
@@ -19,6 +20,12 @@ same_one (Give v) (Give w) e = ap Give (grind (arith, nat_tests))
 same_one (Give v) (At n) e = cc
 same_one (At m) (Give w) e = cc
 same_one (At m) (At n) e = ap At (grind (arith, nat_tests))
+
+pub out_long : (steps : List Step) → second_stands_out steps ≡ true → 3 ≤ length steps
+out_long [] out = absurd (cc)
+out_long (x ∷ []) out = absurd (cc)
+out_long (x ∷ y ∷ []) out = absurd (cc)
+out_long (x ∷ y ∷ z ∷ steps) out = omega arith
 
 -- one test, and those of the steps that it leaves
 pub row_step : (steps : List Step) → 2 ≤ length steps → row steps ≡ 1 + row (drop (settled steps) steps)

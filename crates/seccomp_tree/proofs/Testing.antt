@@ -1,5 +1,6 @@
 -- For `test`: what a test of the accumulator does whose two targets are reached.
-use Rattle.std.proofs.Common.{◌≡◌, ℕ, suc, ◌+◌, ◌-◌, ◌<◌, ◌≤◌, ◌^◌, List, [], ◌∷◌, length, Bool, true, false, refl, sym, ap, ◌∙◌, subst, arith}
+use Rattle.std.proofs.Common.{◌≡◌, ℕ, suc, ◌+◌, ◌-◌, ◌<◌, ◌≤◌, ◌^◌, List, [], ◌∷◌, length, Bool, true, false, refl, sym, ap, ◌∙◌}
+use Rattle.std.proofs.Common.{subst, arith}
 use Rattle.std.proofs.Common.{◌⊎◌, inl, inr, ⊎_elim, nat_eq, nat_le, if◌then◌else◌}
 use Rattle.std.proofs.lemmas.Bool.Decides.{nat_tests}
 use Rattle.seccompiler.specs.declared.bpf.sock_filter.{sock_filter}
@@ -8,11 +9,10 @@ use Rattle.seccomp_tree.specs.declared.steps.Target.{Target}
 use Rattle.seccomp_tree.specs.declared.steps.Target.TheVariants.{At}
 use Rattle.seccomp_tree.specs.declared.code.Test.{Test}
 use Rattle.seccomp_tree.specs.declared.code.Test.TheVariants.{Equal, AtLeast}
-use Rattle.seccomp_tree.specs.Code.{tail_at, Returns, goes_on, Starts, at_place, Leads, chosen, DoesAs, IsReached, IsTested}
-use Rattle.seccomp_tree.proofs.Tails.{tail_whole, jump_to}
+use Rattle.seccomp_tree.specs.Code.{tail_at, Returns, Starts, Leads, chosen, IsReached, IsTested}
 use Rattle.seccomp_tree.proofs.Growing.{grows_one, grows_on, grown_long}
 use Rattle.seccomp_tree.proofs.Runs.{starts_grown, leads_grown, does_grown, returns_grown}
-use Rattle.seccomp_tree.proofs.Reaching.{near_run}
+use Rattle.seccomp_tree.proofs.Reaching.{stepped, near_run}
 
 -- The code of a test.
 abbrev pub code_of : Test → ℕ
@@ -40,17 +40,6 @@ chooses AtLeast i r a met other is = go (nat_le i.k a) refl
     go true e = inl (ap (λ b. if b then met else other) e, is_at_least is (grind (arith, nat_tests)) (omega arith) refl)
     go false e = inr (ap (λ b. if b then met else other) e, is_less is (grind (arith, nat_tests)) (omega arith) refl)
 
--- a run goes over to a place by a jump of the test
-module _ (i : sock_filter) (code : List sock_filter) where
-  stepped : (r : List ℕ) (a w n d place : ℕ) → a < 2 ^ 32 → d + place + 1 ≡ length code → Does i r 0 a (1 + d) a
-      → Returns r (tail_at code place) a w n → Starts (i ∷ code) r (At (length code)) a w (n + 1)
-  stepped r a w n d place small over does h =
-      let run = goes_on i code a a w n d does small (subst (λ l. Returns r l a w n) (sym (jump_to code d place over)) h) in
-      let more : suc n ≡ n + 1 = omega arith in
-      let whole = tail_whole (i ∷ code) (length code) (omega arith) in
-      at_place (length code) w a (n + 1) (omega arith)
-      (subst (λ m. Returns r (tail_at (i ∷ code) (length code)) a w m) more (subst (λ l. Returns r l a w (suc n)) (sym whole) run))
-
 module _ (old mid code : List sock_filter) (test : Test) (i : sock_filter) (met other : Target) (y n : ℕ) where
   run_yes : (r : List ℕ) (a w m : ℕ) → IsReached old met y mid → IsReached mid other n code → Returns r (tail_at mid y) a w m
       → Returns r (tail_at code y) a w m
@@ -63,10 +52,10 @@ module _ (old mid code : List sock_filter) (test : Test) (i : sock_filter) (met 
       ⊎_elim
       (λ c.
       let run = h.does.leads r a w m small (subst (λ t. Leads old r t a w m) c.0 lead) in
-      stepped i code r a w m i.jt y small over_yes c.1 (run_yes r a w m h k run))
+      stepped i code r a a w m i.jt y small over_yes c.1 (run_yes r a w m h k run))
       (λ c.
       let run = k.does.leads r a w m small (leads_grown old mid 1 h.grows (subst (λ t. Leads old r t a w m) c.0 lead)) in
-      stepped i code r a w m i.jf n small over_no c.1 run)
+      stepped i code r a a w m i.jf n small over_no c.1 run)
       (chooses test i r a met other is)
 
   starts_on : (r : List ℕ) (a w m : ℕ) → a < 2 ^ 32 → i.code ≡ code_of test → i.jt + y + 1 ≡ length code → i.jf + n + 1 ≡ length code
@@ -79,20 +68,22 @@ module _ (old mid code : List sock_filter) (test : Test) (i : sock_filter) (met 
       ⊎_elim
       (λ c.
       let h' = subst (λ t. IsReached old t y mid) (sym c.0 ∙ last) h in
-      stepped i code r a w m i.jt y small over_yes c.1 (run_yes r a w m h k (near_run old mid place y h' (omega arith) start_last)))
+      stepped i code r a a w m i.jt y small over_yes c.1 (run_yes r a w m h k (near_run old mid place y h' (omega arith) start_last)))
       (λ c.
       let k' = subst (λ t. IsReached mid t n code) (sym c.0 ∙ last) k in
-      stepped i code r a w m i.jf n small over_no c.1
+      stepped i code r a a w m i.jf n small over_no c.1
       (near_run mid code place n k' (omega (arith, long.1)) (starts_grown old mid 1 h.grows start_last)))
       (chooses test i r a met other is)
 
-  pub tested : (new : List sock_filter) (t : Target) (place : ℕ) → i.code ≡ code_of test → i.jt + y + 1 ≡ length code
+  pub tested : (new : List sock_filter) (t : Target) → i.code ≡ code_of test → i.jt + y + 1 ≡ length code
       → i.jf + n + 1 ≡ length code → IsReached old met y mid → IsReached mid other n code → new ≡ i ∷ code → t ≡ At (length new - 1)
       → IsTested old test i.k met other t new
-  tested new t place is over_yes over_no h k written last =
+  tested new t is over_yes over_no h k written last =
       let at : t ≡ At (length code) = last ∙ ap (λ l. At (length l - 1)) written ∙ ap At (omega arith) in
-      subst (λ u. IsTested old test i.k met other u new) (sym at) (subst (IsTested old test i.k met other (At (length code))) (sym written) record {
-        grows = grows_on old code (i ∷ code) 2 1 3 (grows_on old mid code 1 1 2 h.grows k.grows (omega arith)) (grows_one code i) (omega arith);
+      let both = grows_on old mid code 1 1 2 h.grows k.grows (omega arith) in
+      subst (λ u. IsTested old test i.k met other u new) (sym at)
+      (subst (IsTested old test i.k met other (At (length code))) (sym written) record {
+        grows = grows_on old code (i ∷ code) 2 1 3 both (grows_one code i) (omega arith);
         last = ap At (omega arith);
         some = omega arith;
         leads = λ r a w m small lead. leads_on r a w m small is over_yes over_no h k lead;

@@ -1,5 +1,6 @@
 -- For `tree` and `word`: the code of steps, put together of the code of fewer and a test.
-use Rattle.std.proofs.Common.{◌≡◌, ℕ, zero, suc, ◌+◌, ◌-◌, ◌*◌, ◌/◌, ◌^◌, ◌%◌, ◌<◌, ◌≤◌, List, [], ◌∷◌, length, refl, sym, ap, ◌∙◌, subst, arith}
+use Rattle.std.proofs.Common.{◌≡◌, ℕ, zero, suc, ◌+◌, ◌-◌, ◌*◌, ◌/◌, ◌^◌, ◌%◌, ◌<◌, ◌≤◌, List, [], ◌∷◌, length, drop, get_or, refl}
+use Rattle.std.proofs.Common.{sym, ap, ◌∙◌, subst, arith}
 use Rattle.std.proofs.Common.{◌⊎◌, ⊎_elim, nat_le, true, false, if◌then◌else◌}
 use Rattle.std.proofs.lemmas.Bool.Decides.{nat_tests}
 use Rattle.seccompiler.specs.declared.bpf.sock_filter.{sock_filter}
@@ -7,17 +8,18 @@ use Rattle.seccomp_tree.specs.declared.steps.Target.{Target}
 use Rattle.seccomp_tree.specs.declared.steps.Target.TheVariants.{At}
 use Rattle.seccomp_tree.specs.declared.steps.Step.{Step}
 use Rattle.seccomp_tree.specs.declared.code.Test.{Test}
-use Rattle.seccomp_tree.specs.declared.code.Test.TheVariants.{AtLeast}
+use Rattle.seccomp_tree.specs.declared.code.Test.TheVariants.{Equal, AtLeast}
 use Rattle.seccomp_tree.specs.Steps.{found_in, Ascend}
-use Rattle.seccomp_tree.specs.Rows.{row}
+use Rattle.seccomp_tree.specs.Rows.{row, second_stands_out}
 use Rattle.seccomp_tree.specs.Code.{IsIn, AreIn, Starts, Leads, Grows, chosen, IsTested, IsTree}
 use Rattle.seccomp_tree.proofs.Growing.{grows_not, grows_on, last_in}
 use Rattle.seccomp_tree.proofs.Runs.{starts_more, starts_by, starts_grown, leads_by, leads_grown}
 use Rattle.seccomp_tree.proofs.Cuts.{IsCut, cut_found, cut_long, halvings}
-use Rattle.seccomp_tree.proofs.RowTests.{row_halvings, Divides}
+use Rattle.seccomp_tree.proofs.RowTests.{row_halvings, Divides, first_divides, out_divides}
+use Rattle.seccomp_tree.proofs.Parts.{blank}
 
 -- one step is its target
-pub tree_one : (code : List sock_filter) (steps : List Step) (x : Step) → steps ≡ x ∷ [] → AreIn code steps
+tree_one : (code : List sock_filter) (steps : List Step) (x : Step) → steps ≡ x ∷ [] → AreIn code steps
     → IsTree code steps x.target code
 tree_one code steps x is inside =
     let one : IsTree code (x ∷ []) x.target code = record {
@@ -29,6 +31,12 @@ tree_one code steps x is inside =
       soon = λ r a w n small le h. starts_more (n + 0) (omega arith) (starts_by h);
     } in
     subst (λ l. IsTree code l x.target code) (sym is) one
+
+pub tree_single : (code : List sock_filter) (steps : List Step) → length steps ≡ 1 → AreIn code steps
+    → IsTree code steps (get_or steps 0 blank).target code
+tree_single code [] one inside = absurd (omega arith)
+tree_single code (x ∷ []) one inside = tree_one code (x ∷ []) x refl inside
+tree_single code (x ∷ y ∷ steps) one inside = absurd (omega arith)
 
 -- what a test in front goes on with
 module _ (mid new : List sock_filter) (test : Test) (k : ℕ) (u v t : Target) (h : IsTested mid test k u v t new) where
@@ -57,7 +65,8 @@ tree_row old mid new steps rest x t test k u v tree h some fewer one six divides
   inside = last_in new t h.last h.some;
   last = λ two. h.last;
   alone = λ y same. absurd (omega (arith, ap length same));
-  leads = λ r a w n m small le lead. starts_more (n + 2 * m) (omega (arith, row_halvings steps m (omega arith) six le)) (run r a w n small lead);
+  leads = λ r a w n m small le lead.
+      starts_more (n + 2 * m) (omega (arith, row_halvings steps m (omega arith) six le)) (run r a w n small lead);
   soon = λ r a w n small le lead. run r a w n small lead;
 }
   where
@@ -72,6 +81,33 @@ tree_row old mid new steps rest x t test k u v tree h some fewer one six divides
         starts_more (n + row steps) (omega (arith, one))
         (to_target mid new test k u v t h r a w n (found_in steps a) small c (leads_grown old mid _ tree.grows lead)))
         (divides a)
+
+-- the two tests that begin a row
+pub tree_out : (old mid new : List sock_filter) (steps : List Step) (x t : Target) → Ascend (2 ^ 32) steps → second_stands_out steps ≡ true
+    → row steps ≤ 6 → IsTree old (drop 2 steps) x mid
+    → IsTested mid Equal (get_or steps 1 blank).start (get_or steps 1 blank).target x t new → IsTree old steps t new
+tree_out old mid new [] x t up out six tree h = absurd (cc)
+tree_out old mid new (a ∷ []) x t up out six tree h = absurd (cc)
+tree_out old mid new (a ∷ b ∷ []) x t up out six tree h = absurd (cc)
+tree_out old mid new (a ∷ b ∷ c ∷ steps) x t up out six tree h =
+    let one : row (a ∷ b ∷ c ∷ steps) ≡ 1 + row (c ∷ steps) =
+    ap (λ v. 1 + (if v then row (c ∷ steps) else row (b ∷ c ∷ steps))) out in
+    tree_row old mid new (a ∷ b ∷ c ∷ steps) (c ∷ steps) x t Equal b.start b.target x tree h (omega arith) (omega arith) one six
+    (out_divides (2 ^ 32) a b c steps x up out)
+
+pub tree_first : (old mid new : List sock_filter) (steps : List Step) (x t : Target) → Ascend (2 ^ 32) steps → 2 ≤ length steps
+    → second_stands_out steps ≡ false → row steps ≤ 6 → IsTree old (drop 1 steps) x mid
+    → IsTested mid AtLeast (get_or steps 1 blank).start x (get_or steps 0 blank).target t new → IsTree old steps t new
+tree_first old mid new [] x t up some out six tree h = absurd (omega arith)
+tree_first old mid new (a ∷ []) x t up some out six tree h = absurd (omega arith)
+tree_first old mid new (a ∷ b ∷ []) x t up some out six tree h =
+    tree_row old mid new (a ∷ b ∷ []) (b ∷ []) x t AtLeast b.start x a.target tree h (omega arith) (omega arith) refl six
+    (first_divides (2 ^ 32) a b [] x up)
+tree_first old mid new (a ∷ b ∷ c ∷ steps) x t up some out six tree h =
+    let one : row (a ∷ b ∷ c ∷ steps) ≡ 1 + row (b ∷ c ∷ steps) =
+    ap (λ v. 1 + (if v then row (c ∷ steps) else row (b ∷ c ∷ steps))) out in
+    tree_row old mid new (a ∷ b ∷ c ∷ steps) (b ∷ c ∷ steps) x t AtLeast b.start x a.target tree h (omega arith) (omega arith) one six
+    (first_divides (2 ^ 32) a b (c ∷ steps) x up)
 
 -- a test in front of two halves
 pub tree_halves : (old mid both new : List sock_filter) (steps low : List Step) (y : Step) (high : List Step) (u v t : Target)

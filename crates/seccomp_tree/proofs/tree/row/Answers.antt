@@ -14,19 +14,19 @@ overflow_add-tests c =
 pub overflow_add-done : goal.overflow_add-done
 overflow_add-done c =
     let l = c.loop-done in
-    let step = row_counted c.args.steps.now l.done c.settled.result (omega arith) c.settled.ensures in
+    let step = row_counted c.args.steps.now l.done c.settled-done.result (omega arith) c.settled-done.ensures in
     omega (arith, step.1)
 
 pub loop-done-smaller : goal.loop-done-smaller
 loop-done-smaller c =
     let l = c.loop-done in
-    let step = row_counted c.args.steps.now l.done c.settled.result (omega arith) c.settled.ensures in
+    let step = row_counted c.args.steps.now l.done c.settled-done.result (omega arith) c.settled-done.ensures in
     omega (arith, step.1, step.2)
 
 pub loop-done-preserved : goal.loop-done-preserved
 loop-done-preserved c =
     let l = c.loop-done in
-    let step = row_counted c.args.steps.now l.done c.settled.result (omega arith) c.settled.ensures in
+    let step = row_counted c.args.steps.now l.done c.settled-done.result (omega arith) c.settled-done.ensures in
     record { counted = omega (arith, step.0, l.invariant.counted); within = omega (arith, step.1) }
 
 pub returns : goal.returns

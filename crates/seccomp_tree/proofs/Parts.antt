@@ -1,14 +1,14 @@
 -- For `tree`: what it passes on to itself and to `test`.
-use Rattle.std.proofs.Common.{◌≡◌, ℕ, zero, suc, ◌+◌, ◌-◌, ◌^◌, ◌<◌, ◌≤◌, List, [], ◌∷◌, ◌++◌, length, take, drop, get_or, refl, sym}
+use Rattle.std.proofs.Common.{◌≡◌, ℕ, zero, suc, ◌+◌, ◌-◌, ◌<◌, ◌≤◌, List, [], ◌∷◌, ◌++◌, length, take, drop, get_or, refl, sym}
 use Rattle.std.proofs.Common.{ap, ap₂, ◌∙◌}
 use Rattle.std.proofs.Common.{subst, take-append-drop, length-append, length-drop, arith}
 use Rattle.std.proofs.lemmas.List.{take_all}
 use Rattle.seccompiler.specs.declared.bpf.sock_filter.{sock_filter}
 use Rattle.seccomp_tree.specs.declared.steps.Target.TheVariants.{Give}
 use Rattle.seccomp_tree.specs.declared.steps.Step.{Step}
-use Rattle.seccomp_tree.specs.Steps.{found_in, Ascend}
+use Rattle.seccomp_tree.specs.Steps.{Ascend}
 use Rattle.seccomp_tree.specs.Code.{IsIn, AreIn}
-use Rattle.seccomp_tree.proofs.Cuts.{IsCut, cut_ascends, cut_inside, cut_long, found_first}
+use Rattle.seccomp_tree.proofs.Cuts.{IsCut, cut_ascends, cut_inside, found_first}
 
 -- What stands for a step that there is not.
 abbrev pub blank : Step

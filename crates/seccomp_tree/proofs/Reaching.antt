@@ -1,5 +1,5 @@
 -- For `does` and `reach`: the places that do what a target says.
-use Rattle.std.proofs.Common.{◌≡◌, ℕ, zero, suc, ◌+◌, ◌-◌, ◌<◌, ◌≤◌, ◌^◌, List, [], ◌∷◌, length, drop, get_or, refl, sym, ap, ◌∙◌}
+use Rattle.std.proofs.Common.{◌≡◌, ℕ, zero, suc, ◌+◌, ◌<◌, ◌≤◌, ◌^◌, List, ◌∷◌, length, drop, get_or, refl, sym, ap, ◌∙◌}
 use Rattle.std.proofs.Common.{subst, arith}
 use Rattle.std.specs.Prelude.{reverse}
 use Rattle.std.proofs.lemmas.List.{length-reverse}
@@ -7,7 +7,7 @@ use Rattle.seccompiler.specs.declared.bpf.sock_filter.{sock_filter}
 use Rattle.seccompiler.specs.Machine.{Does, jumps}
 use Rattle.seccomp_tree.specs.declared.steps.Target.{Target}
 use Rattle.seccomp_tree.specs.declared.steps.Target.TheVariants.{Give, At}
-use Rattle.seccomp_tree.specs.Code.{tail_at, Returns, gives, goes_on, Starts, by_return, at_place, Leads, to_return, to_place, DoesAs}
+use Rattle.seccomp_tree.specs.Code.{tail_at, Returns, gives, goes_on, Starts, at_place, Leads, to_return, to_place, DoesAs}
 use Rattle.seccomp_tree.specs.Code.{IsFar, IsReached}
 use Rattle.seccomp_tree.proofs.Tails.{tail_whole, jump_to, jump_from, tail_written}
 use Rattle.seccomp_tree.proofs.Growing.{grows_not, grows_one}

@@ -1,9 +1,8 @@
 -- Runs that begin at a target: of more steps, and where the code has grown.
-use Rattle.std.proofs.Common.{◌≡◌, ℕ, zero, suc, ◌+◌, ◌-◌, ◌<◌, ◌≤◌, ◌^◌, List, [], ◌∷◌, ◌++◌, length, length-append, refl, sym, ap}
+use Rattle.std.proofs.Common.{◌≡◌, ℕ, zero, suc, ◌<◌, ◌≤◌, List, length, sym, ap}
 use Rattle.std.proofs.Common.{◌∙◌, subst, arith}
 use Rattle.seccompiler.specs.declared.bpf.sock_filter.{sock_filter}
 use Rattle.seccomp_tree.specs.declared.steps.Target.{Target}
-use Rattle.seccomp_tree.specs.declared.steps.Target.TheVariants.{Give, At}
 use Rattle.seccomp_tree.specs.Code.{tail_at, Returns, gives, goes_on, Starts, by_return, at_place, Leads, to_return, to_place, Grows}
 use Rattle.seccomp_tree.specs.Code.{DoesAs}
 use Rattle.seccomp_tree.proofs.Tails.{tail_grown}

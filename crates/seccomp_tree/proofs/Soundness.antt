@@ -1,5 +1,5 @@
 -- Code stays sound where an instruction is written in front of it.
-use Rattle.std.proofs.Common.{◌≡◌, ℕ, ◌+◌, ◌<◌, ◌≤◌, List, [], ◌∷◌, ◌++◌, length, refl, ap, arith}
+use Rattle.std.proofs.Common.{◌+◌, ◌<◌, List, [], ◌∷◌, length, refl, ap, arith}
 use Rattle.seccompiler.specs.declared.bpf.sock_filter.{sock_filter}
 use Rattle.seccompiler.specs.Machine.{IsFine, IsInRange, fine_return, greatest_length}
 use Rattle.seccompiler.specs.Code.{give}

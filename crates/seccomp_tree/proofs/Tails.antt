@@ -1,6 +1,6 @@
 -- What code has from a place on: where more is written in front of it, and where its jumps lead.
-use Rattle.std.proofs.Common.{◌≡◌, ℕ, zero, suc, ◌+◌, ◌-◌, ◌<◌, List, [], ◌∷◌, ◌++◌, length, drop, get_or, length-append}
-use Rattle.std.proofs.Common.{zero-add, refl, sym, ap, ◌∙◌, arith}
+use Rattle.std.proofs.Common.{◌≡◌, ℕ, suc, ◌+◌, ◌-◌, ◌<◌, List, [], ◌∷◌, ◌++◌, length, drop, get_or, length-append}
+use Rattle.std.proofs.Common.{zero-add, sym, ap, ◌∙◌, arith}
 use Rattle.std.specs.Prelude.{reverse}
 use Rattle.std.proofs.lemmas.List.{drop_more, drop-drop, get_or-reverse, length-reverse}
 use Rattle.seccompiler.specs.declared.bpf.sock_filter.{sock_filter}

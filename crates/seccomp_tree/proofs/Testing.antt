@@ -1,5 +1,5 @@
 -- For `test`: what a test of the accumulator does whose two targets are reached.
-use Rattle.std.proofs.Common.{◌≡◌, ℕ, suc, ◌+◌, ◌-◌, ◌<◌, ◌≤◌, ◌^◌, List, [], ◌∷◌, length, Bool, true, false, refl, sym, ap, ◌∙◌}
+use Rattle.std.proofs.Common.{◌≡◌, ℕ, ◌+◌, ◌-◌, ◌<◌, ◌^◌, List, ◌∷◌, length, Bool, true, false, refl, sym, ap, ◌∙◌}
 use Rattle.std.proofs.Common.{subst, arith}
 use Rattle.std.proofs.Common.{◌⊎◌, inl, inr, ⊎_elim, nat_eq, nat_le, if◌then◌else◌}
 use Rattle.std.proofs.lemmas.Bool.Decides.{nat_tests}
@@ -11,7 +11,7 @@ use Rattle.seccomp_tree.specs.declared.code.Test.{Test}
 use Rattle.seccomp_tree.specs.declared.code.Test.TheVariants.{Equal, AtLeast}
 use Rattle.seccomp_tree.specs.Code.{tail_at, Returns, Starts, Leads, chosen, IsReached, IsTested}
 use Rattle.seccomp_tree.proofs.Growing.{grows_one, grows_on, grown_long}
-use Rattle.seccomp_tree.proofs.Runs.{starts_grown, leads_grown, does_grown, returns_grown}
+use Rattle.seccomp_tree.proofs.Runs.{starts_grown, leads_grown, returns_grown}
 use Rattle.seccomp_tree.proofs.Reaching.{stepped, near_run}
 
 -- The code of a test.

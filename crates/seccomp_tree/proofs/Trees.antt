@@ -1,7 +1,7 @@
 -- For `tree` and `word`: the code of steps, put together of the code of fewer and a test.
-use Rattle.std.proofs.Common.{◌≡◌, ℕ, zero, suc, ◌+◌, ◌-◌, ◌*◌, ◌/◌, ◌^◌, ◌%◌, ◌<◌, ◌≤◌, List, [], ◌∷◌, length, drop, get_or, refl}
+use Rattle.std.proofs.Common.{◌≡◌, ℕ, suc, ◌+◌, ◌-◌, ◌*◌, ◌/◌, ◌^◌, ◌<◌, ◌≤◌, List, [], ◌∷◌, length, drop, get_or, refl}
 use Rattle.std.proofs.Common.{sym, ap, ◌∙◌, subst, arith}
-use Rattle.std.proofs.Common.{◌⊎◌, ⊎_elim, nat_le, true, false, if◌then◌else◌}
+use Rattle.std.proofs.Common.{⊎_elim, nat_le, true, false, if◌then◌else◌}
 use Rattle.std.proofs.lemmas.Bool.Decides.{nat_tests}
 use Rattle.seccompiler.specs.declared.bpf.sock_filter.{sock_filter}
 use Rattle.seccomp_tree.specs.declared.steps.Target.{Target}
@@ -11,7 +11,7 @@ use Rattle.seccomp_tree.specs.declared.code.Test.{Test}
 use Rattle.seccomp_tree.specs.declared.code.Test.TheVariants.{Equal, AtLeast}
 use Rattle.seccomp_tree.specs.Steps.{found_in, Ascend}
 use Rattle.seccomp_tree.specs.Rows.{row, second_stands_out}
-use Rattle.seccomp_tree.specs.Code.{IsIn, AreIn, Starts, Leads, Grows, chosen, IsTested, IsTree}
+use Rattle.seccomp_tree.specs.Code.{IsIn, AreIn, Starts, Leads, chosen, IsTested, IsTree}
 use Rattle.seccomp_tree.proofs.Growing.{grows_not, grows_on, last_in}
 use Rattle.seccomp_tree.proofs.Runs.{starts_more, starts_by, starts_grown, leads_by, leads_grown}
 use Rattle.seccomp_tree.proofs.Cuts.{IsCut, cut_found, cut_long, halvings}

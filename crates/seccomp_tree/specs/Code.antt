@@ -1,10 +1,9 @@
 -- Code that is written from its end to its front: what a run from a place of it returns, and what stays so.
-use Rattle.std.specs.Prelude.{◌≡◌, ℕ, zero, suc, ◌+◌, ◌-◌, ◌*◌, ◌<◌, ◌≤◌, ◌^◌, List, [], ◌∷◌, ◌++◌, length, drop, ⊤, nat_eq, nat_le}
+use Rattle.std.specs.Prelude.{◌≡◌, ℕ, suc, ◌+◌, ◌-◌, ◌*◌, ◌<◌, ◌≤◌, ◌^◌, List, [], ◌∷◌, ◌++◌, length, drop, ⊤, nat_eq, nat_le}
 use Rattle.std.specs.Prelude.{if◌then◌else◌}
 use Rattle.seccompiler.specs.declared.bpf.sock_filter.{sock_filter}
 use Rattle.seccompiler.specs.Machine.{IsRecord, word_at, argument_at, Does, IsFine, IsInRange, greatest_length}
 use Rattle.seccompiler.specs.Code.{give}
-use Rattle.seccompiler.specs.Policy.{Condition, Holds}
 use Rattle.seccomp_tree.specs.declared.error.TreeError.{TreeError}
 use Rattle.seccomp_tree.specs.declared.error.TreeError.TheVariants.{TooLarge}
 use Rattle.seccomp_tree.specs.declared.steps.Target.{Target}

@@ -1,14 +1,11 @@
-use Rattle.std.proofs.Common.{ℕ, ◌≡◌, ◌+◌, ◌-◌, ◌*◌, ◌/◌, ◌^◌, ◌<◌, ◌≤◌, List, length, take, drop, get_or, true, false, refl, sym, ap}
-use Rattle.std.proofs.Common.{◌∙◌, subst, length-drop, length-take, arith}
+use Rattle.std.proofs.Common.{ℕ, ◌-◌, ◌/◌, ◌^◌, ◌<◌, length, take, drop, get_or, sym}
+use Rattle.std.proofs.Common.{◌∙◌, subst, arith}
 use Rattle.std.proofs.lemmas.Result.{err_from_is_err_and, IfOk-weaker}
-use Rattle.seccomp_tree.specs.declared.steps.Target.{Target}
-use Rattle.seccomp_tree.specs.declared.steps.Step.{Step}
 use Rattle.seccomp_tree.specs.declared.code.Test.TheVariants.{Equal, AtLeast}
-use Rattle.seccomp_tree.specs.Rows.{row, second_stands_out}
 use Rattle.seccomp_tree.specs.Code.{IsTested, IsTree}
 use Rattle.seccomp_tree.proofs.Growing.{is_in_grown, are_in_grown}
 use Rattle.seccomp_tree.proofs.Cuts.{some_steps}
-use Rattle.seccomp_tree.proofs.RowTests.{row_few, out_long}
+use Rattle.seccomp_tree.proofs.RowTests.{out_long}
 use Rattle.seccomp_tree.proofs.Parts.{blank, first_fits, first_in, second_in, AreParts, parts, parts_behind, all_behind}
 use Rattle.seccomp_tree.proofs.Trees.{tree_single, tree_out, tree_first, tree_halves}
 use Rattle.seccomp_tree.proofs.code.Code.+tree.Goals as goal

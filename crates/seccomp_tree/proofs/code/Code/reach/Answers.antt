@@ -1,4 +1,4 @@
-use Rattle.std.proofs.Common.{◌+◌, ◌≡◌, ap, sym, ◌∙◌, subst, length, arith}
+use Rattle.std.proofs.Common.{ap, sym, subst, arith}
 use Rattle.seccompiler.specs.declared.bpf.sock_filter.{sock_filter}
 use Rattle.seccomp_tree.specs.Code.{IsReached}
 use Rattle.seccomp_tree.proofs.Reaching.{reached_itself, new_return, new_jump}

@@ -2,12 +2,9 @@
 pub mod Tails
 pub mod Growing
 pub mod Runs
-pub mod Soundness
 pub mod Reaching
 pub mod Testing
 pub mod Cuts
-pub mod Parts
 pub mod RowTests
 pub mod Trees
-pub mod Words
 pub mod Program

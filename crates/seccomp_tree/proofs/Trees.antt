@@ -56,7 +56,8 @@ pub tree_row : (old mid new : List sock_filter) (steps : List Step) (x t : Targe
     → IsTree old (drop (settled steps) steps) x mid → IsTested mid test k u v t new → 2 ≤ length steps → row steps ≤ 6
     → Divides steps (drop (settled steps) steps) x (chosen test k u v) → IsTree old steps t new
 tree_row old mid new steps x t test k u v tree h some six divides = record {
-  grows = grows_on old mid new (3 * (length (drop (settled steps) steps) - 1)) 3 (3 * (length steps - 1)) tree.grows h.grows (omega (arith, left, few.0, few.1));
+  grows = grows_on old mid new (3 * (length (drop (settled steps) steps) - 1)) 3 (3 * (length steps - 1)) tree.grows h.grows
+      (omega (arith, left, few.0, few.1));
   inside = last_in new t h.last h.some;
   last = λ two. h.last;
   alone = λ y same. absurd (omega (arith, ap length same));
@@ -79,8 +80,8 @@ tree_row old mid new steps x t test k u v tree h some six divides = record {
         ⊎_elim
         (λ c.
         starts_more (n + row steps) (omega (arith, one))
-        (to_rest mid new test k u v t h old (drop (settled steps) steps) x r a w n tree (omega (arith, left, few.1)) (omega (arith, one, six))
-        small (sym c.0) (subst (λ y. Leads old r y a w n) c.1 lead)))
+        (to_rest mid new test k u v t h old (drop (settled steps) steps) x r a w n tree (omega (arith, left, few.1))
+        (omega (arith, one, six)) small (sym c.0) (subst (λ y. Leads old r y a w n) c.1 lead)))
         (λ c.
         starts_more (n + row steps) (omega (arith, one))
         (to_target mid new test k u v t h r a w n (found_in steps a) small c (leads_grown old mid _ tree.grows lead)))

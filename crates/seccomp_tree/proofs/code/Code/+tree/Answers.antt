@@ -60,7 +60,8 @@ returns-then-not-is_row-clause-ok t c =
     (λ u. IsTree old steps u new)
     (λ u h.
     tree_halves old mid both new steps low y (drop 1 high) c.in_ok-upper.upper c.in_ok-lower.lower u p.cut c.requires.ascend
-    c.split_at.ensures.front_len (no_row c.is_row.result (row steps) 6 c.is_row.ensures.1 c.if-not-is_row.true) upper c.in_ok-lower.ensures.ok h) c.test.ensures.ok
+    c.split_at.ensures.front_len (no_row c.is_row.result (row steps) 6 c.is_row.ensures.1 c.if-not-is_row.true)
+    upper c.in_ok-lower.ensures.ok h) c.test.ensures.ok
 
 -- the steps behind the first test of a row
 rest : (t : ℕ) (c : After-settled t) → AreParts c.args.self.now (2 ^ 32) c.args.steps.now (take c.settled.result c.args.steps.now)

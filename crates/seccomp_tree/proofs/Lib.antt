@@ -2,6 +2,8 @@
 pub mod Tails
 pub mod Growing
 pub mod Runs
+pub mod StepLists
+pub mod Overlays
 pub mod Reaching
 pub mod Testing
 pub mod Cuts

@@ -4,6 +4,7 @@ pub mod Growing
 pub mod Runs
 pub mod StepLists
 pub mod Overlays
+pub mod Laying
 pub mod Reaching
 pub mod Testing
 pub mod Cuts

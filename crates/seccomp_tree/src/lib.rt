@@ -3,6 +3,7 @@
 
 mod code;
 mod error;
+mod intervals;
 mod steps;
 mod tree;
 

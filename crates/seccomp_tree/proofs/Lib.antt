@@ -5,6 +5,8 @@ pub mod Runs
 pub mod StepLists
 pub mod Overlays
 pub mod Laying
+pub mod LowHalves
+pub mod HighHalves
 pub mod Reaching
 pub mod Testing
 pub mod Cuts

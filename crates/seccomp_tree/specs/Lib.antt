@@ -5,3 +5,4 @@ pub mod Steps
 pub mod Rows
 pub mod Code
 pub mod Intervals
+pub mod Arguments

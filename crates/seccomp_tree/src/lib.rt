@@ -1,6 +1,7 @@
 //! Decisions on system calls, with any number of return values, and their program as one tree of tests.
 #![tactic(auto)]
 
+mod argument;
 mod code;
 mod error;
 mod intervals;

@@ -7,6 +7,7 @@ pub mod Overlays
 pub mod Laying
 pub mod LowHalves
 pub mod HighHalves
+pub mod Meeting
 pub mod Reaching
 pub mod Testing
 pub mod Cuts

@@ -6,3 +6,4 @@ pub mod Rows
 pub mod Code
 pub mod Intervals
 pub mod Arguments
+pub mod Conditions

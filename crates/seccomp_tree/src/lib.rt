@@ -3,6 +3,7 @@
 
 mod argument;
 mod code;
+mod condition;
 mod error;
 mod intervals;
 mod steps;

@@ -8,6 +8,8 @@ pub mod Laying
 pub mod LowHalves
 pub mod HighHalves
 pub mod Meeting
+pub mod Choosing
+pub mod Ruled
 pub mod Reaching
 pub mod Testing
 pub mod Cuts

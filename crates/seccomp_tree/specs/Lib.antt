@@ -7,3 +7,5 @@ pub mod Code
 pub mod Intervals
 pub mod Arguments
 pub mod Conditions
+pub mod Decisions
+pub mod Rules

@@ -4,9 +4,12 @@
 mod argument;
 mod code;
 mod condition;
+mod decisions;
 mod error;
 mod intervals;
+mod rules;
 mod steps;
 mod tree;
 
+pub use decisions::Decision;
 pub use error::TreeError;

@@ -93,6 +93,35 @@ impl SeccompCondition {
         })
     }
 
+    /// Which argument is compared, from 0 to 5.
+    pub fn arg_index(&self) -> u8
+        ensures index { result ≡ self.now.arg_index }
+        ensures within { result ≤ 5 }
+    {
+        self.arg_index
+    }
+
+    /// How much of the argument is compared: its low 32 bits, or all 64.
+    pub fn arg_len(&self) -> SeccompCmpArgLen
+        ensures { result ≡ self.now.arg_len }
+    {
+        self.arg_len
+    }
+
+    /// How the argument is compared with the value.
+    pub fn operator(&self) -> SeccompCmpOp
+        ensures { result ≡ self.now.operator }
+    {
+        self.operator
+    }
+
+    /// The value that the argument is compared with, as it was given: of 64 bits, whatever the length.
+    pub fn value(&self) -> u64
+        ensures { result ≡ self.now.value }
+    {
+        self.value
+    }
+
     /// Where the high and the low half of the argument stand in a call record, in bytes.
     pub fn get_data_offsets(&self) -> (u8, u8)
         ensures { result ≡ (20 + 8 * self.now.arg_index, 16 + 8 * self.now.arg_index) }

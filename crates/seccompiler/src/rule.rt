@@ -78,6 +78,13 @@ impl SeccompRule {
         Ok(SeccompRule { conditions })
     }
 
+    /// The conditions, in the order in which they were given.
+    pub fn conditions(&self) -> &[SeccompCondition]
+        ensures { result.now ≡ self.now }
+    {
+        self.conditions.as_slice()
+    }
+
     /// Whether all conditions of the rule hold for the call of this record.
     pub fn holds(&self, call: &[u8; 64]) -> bool
         ensures { IsTrue result ↔ RuleHolds self.now call.now }

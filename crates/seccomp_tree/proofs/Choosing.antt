@@ -1,0 +1,313 @@
+-- Rulings as targets: one by its conditions, a run by steps.
+use Rattle.std.proofs.Common.{◌≡◌, ℕ, zero, suc, ◌+◌, ◌*◌, ◌<◌, ◌≤◌, ◌^◌, List, [], ◌∷◌, length, drop, get_or, true, false, refl, sym, ap}
+use Rattle.std.proofs.Common.{◌∙◌, subst, ◌⊎◌, inl, inr, Option, Some, None, arith}
+use Rattle.std.specs.Prelude.{Bool, bit_and, nat_eq, if◌then◌else◌}
+use Rattle.std.proofs.lemmas.Bool.{cases_eq, cases_lt, eqb-true, and_parts, false≢true}
+use Rattle.std.proofs.lemmas.List.Elements.{All-nil, All-cons, All-head, All-tail}
+use Rattle.seccompiler.specs.declared.bpf.sock_filter.{sock_filter}
+use Rattle.seccompiler.specs.declared.backend.SeccompCmpArgLen.{SeccompCmpArgLen}
+use Rattle.seccompiler.specs.declared.backend.SeccompCmpArgLen.TheVariants.{Dword, Qword}
+use Rattle.seccompiler.specs.declared.backend.SeccompCmpOp.{SeccompCmpOp}
+use Rattle.seccompiler.specs.declared.backend.SeccompCmpOp.TheVariants.{Eq, Ge, Gt, Le, Lt, MaskedEq, Ne}
+use Rattle.seccompiler.specs.Machine.{IsRecord, argument_at}
+use Rattle.seccompiler.specs.Policy.{Condition, Compares, Holds, RuleHolds, part_of, operator_part}
+use Rattle.seccomp_tree.specs.declared.steps.Target.{Target}
+use Rattle.seccomp_tree.specs.declared.steps.Target.TheVariants.{Give}
+use Rattle.seccomp_tree.specs.declared.steps.Step.{Step}
+use Rattle.seccomp_tree.specs.Steps.{found_in, AreSteps, IsPushed}
+use Rattle.seccomp_tree.specs.Intervals.{numbers_of, is_plain, IsLaid}
+use Rattle.seccomp_tree.specs.Code.{Leads, LeadsAlways, IsIn, AreIn, Grows}
+use Rattle.seccomp_tree.specs.Conditions.{part_length, part_steps, condition_length, IsPart, IsConditionMet}
+use Rattle.seccomp_tree.specs.Decisions.{Ruling, only, alike, same_length, conditions_length, conditions_steps, run_length, RunTakes}
+use Rattle.seccomp_tree.specs.Decisions.{by_steps, by_conditions}
+use Rattle.seccomp_tree.specs.Rules.{Chooses, chosen_here, chosen_behind, chosen_after, IsRun, head, AreRunSteps, IsRulingMet, IsRunMet}
+use Rattle.seccomp_tree.proofs.Growing.{grows_not, grows_on, grown_long}
+use Rattle.seccomp_tree.proofs.Runs.{leads_by, leads_grown}
+use Rattle.seccomp_tree.proofs.LowHalves.{are_in_below}
+use Rattle.seccomp_tree.proofs.HighHalves.{leads_more}
+use Rattle.seccomp_tree.proofs.Meeting.{compares_or_not, holds_plain, part_fits, shorter_part}
+
+-- ---- one ruling
+
+-- each condition holds or doesn't
+pub holds_or_not : (c : Condition) (r : List ℕ) → Holds c r ⊎ (Holds c r → ⊥)
+holds_or_not c r = either (operator_part c.arg_len c.operator) (part_of c.arg_len (argument_at r c.arg_index)) (part_of c.arg_len c.value)
+  where
+    either : (o : SeccompCmpOp) (a v : ℕ) → Compares o a v ⊎ (Compares o a v → ⊥)
+    either Eq a v = cases_eq a v
+    either Ne a v = elim (cases_eq a v) [ inl e ↦ inr (λ not. not e) | inr not ↦ inl not ]
+    either Ge a v = elim (cases_lt a v) [ inl lt ↦ inr (λ h. absurd (omega arith)) | inr le ↦ inl le ]
+    either Gt a v = elim (cases_lt v a) [ inl lt ↦ inl lt | inr le ↦ inr (λ h. absurd (omega arith)) ]
+    either Le a v = elim (cases_lt v a) [ inl lt ↦ inr (λ h. absurd (omega arith)) | inr le ↦ inl le ]
+    either Lt a v = elim (cases_lt a v) [ inl lt ↦ inl lt | inr le ↦ inr (λ h. absurd (omega arith)) ]
+    either (MaskedEq m) a v = cases_eq (bit_and a m) (bit_and v m)
+
+-- the loop of `ruling`: the conditions from one on
+pub record RulingOn (old : List sock_filter) (d : Ruling) (after : Target) (conditions : List Condition) (t : Target)
+    (new : List sock_filter) : Type 0 where
+  pub grows : Grows old (conditions_length conditions) new
+  pub inside : IsIn new t
+  pub met : (r : List ℕ) → IsRecord r → RuleHolds conditions r → (w n : ℕ) → LeadsAlways old r (Give d.value) w n
+      → LeadsAlways new r t w (n + conditions_steps conditions)
+  pub unmet : (r : List ℕ) → IsRecord r → (RuleHolds conditions r → ⊥) → (w n : ℕ) → LeadsAlways old r after w n
+      → LeadsAlways new r t w (n + conditions_steps conditions)
+
+pub ruling_none : (old : List sock_filter) (d : Ruling) (after : Target) (conditions : List Condition) → conditions ≡ [] → d.value < 2 ^ 32
+    → RulingOn old d after conditions (Give d.value) old
+ruling_none old d after conditions empty fits = rw empty record {
+  grows = grows_not old 0;
+  inside = fits;
+  met = λ r rec holds w n lead a small. leads_more (n + 0) (omega arith) (lead a small);
+  unmet = λ r rec not w n lead. absurd (not (All-nil (λ (c : Condition). Holds c r)));
+}
+
+pub ruling_one : (old mid new : List sock_filter) (d : Ruling) (after t u : Target) (c : Condition) (rest : List Condition)
+    → RulingOn old d after rest t mid → IsConditionMet mid c t after u new → RulingOn old d after (c ∷ rest) u new
+ruling_one old mid new d after t u c rest h one = record {
+  grows = grows_on old mid new (conditions_length rest) (condition_length c.arg_len c.operator) (conditions_length
+      (c ∷ rest)) h.grows one.grows
+      (omega arith);
+  inside = one.inside;
+  met = λ r rec holds w n lead.
+      let first = All-head (λ (x : Condition). Holds x r) c rest holds in
+      let others = All-tail (λ (x : Condition). Holds x r) c rest holds in
+      let start = one.met r rec first w (n + conditions_steps rest) (h.met r rec others w n lead) in
+      λ a small. leads_more (n + conditions_steps (c ∷ rest)) (omega arith) (leads_by (start a small));
+  unmet = λ r rec not w n lead. elim (holds_or_not c r) [
+    | inl first ↦
+        let start = one.met r rec first w (n + conditions_steps rest)
+        (h.unmet r rec (λ others. not (All-cons (λ (x : Condition). Holds x r) c rest first others)) w n lead) in
+        λ a small. leads_more (n + conditions_steps (c ∷ rest)) (omega arith) (leads_by (start a small))
+    | inr other ↦
+        let start = one.unmet r rec other w n (λ a small. leads_grown old mid (conditions_length rest) h.grows (lead a small)) in
+        λ a small. leads_more (n + conditions_steps (c ∷ rest)) (omega arith) (leads_by (start a small))
+  ];
+}
+
+pub ruling_all : (old new : List sock_filter) (d : Ruling) (after t : Target) (conditions : List Condition) → conditions ≡ d.conditions
+    → RulingOn old d after conditions t new → IsRulingMet old d after t new
+ruling_all old new d after t conditions whole h =
+    let k = subst (λ (l : List Condition). RulingOn old d after l t new) whole h in
+    record { grows = k.grows; inside = k.inside; met = k.met; unmet = k.unmet }
+
+conditions_less : (n : ℕ) (q : List Condition) → conditions_length (drop n q) ≤ conditions_length q
+conditions_less zero q = omega arith
+conditions_less (suc n) [] = omega arith
+conditions_less (suc n) (c ∷ q) = let h = conditions_less n q in omega arith
+
+-- how much room a condition takes at most, of what all take
+pub ruling_room : (old mid : List sock_filter) (d : Ruling) (after t : Target) (q : List Condition) (k : ℕ) (c : Condition)
+    (rest : List Condition)
+    → drop k q ≡ c ∷ rest → RulingOn old d after rest t mid → length mid + condition_length c.arg_len c.operator ≤ length old +
+    conditions_length q
+ruling_room old mid d after t q k c rest cons h =
+    let less = conditions_less k q in
+    let same : conditions_length (drop k q) ≡ condition_length c.arg_len c.operator + conditions_length rest = ap conditions_length cons in
+    let grown = grown_long old mid (conditions_length rest) h.grows in
+    omega (arith, grown.1)
+
+-- a ruling that is no part of a run is one by itself
+only_alike : (o : Option Condition) → alike None o ≡ true → ⊥
+only_alike o e = absurd (false≢true e)
+
+chosen_last : (after : Target) (r : List ℕ) (t : Target) → Chooses after r [] t → after ≡ t
+chosen_last after r t (chosen_after) = refl
+
+pub run_of_one : (old new : List sock_filter) (d : Ruling) (rest : List Ruling) (after t : Target) → IsRun (d ∷ rest)
+    → only d.conditions ≡ None
+    → IsRulingMet old d after t new → IsRunMet old (d ∷ rest) after t new
+run_of_one old new d [] after t run is h = record {
+  grows = let same : run_length d.conditions 1 ≡ conditions_length d.conditions = rw is refl in
+      record { front = h.grows.front; whole = h.grows.whole; few = omega (arith, h.grows.few, same) };
+  inside = h.inside;
+  leads = λ r rec u w n m chosen takes lead.
+      let cost : m ≡ conditions_steps d.conditions = by_itself m takes in
+      subst (λ k. LeadsAlways new r t w (n + k)) (sym cost) (go r rec u w n chosen lead);
+}
+  where
+    by_itself : (m : ℕ) → RunTakes d.conditions 1 m → m ≡ conditions_steps d.conditions
+    by_itself m (by_steps c k e le) = absurd (cc)
+    by_itself m (by_conditions e) = refl
+
+    go : (r : List ℕ) → IsRecord r → (u : Target) (w n : ℕ) → Chooses after r (d ∷ []) u → LeadsAlways old r u w n
+        → LeadsAlways new r t w (n + conditions_steps d.conditions)
+    go r rec u w n (chosen_here x rest holds) lead = h.met r rec holds w n lead
+    go r rec u w n (chosen_behind x rest v not others) lead =
+        h.unmet r rec not w n (subst (λ z. LeadsAlways old r z w n) (sym (chosen_last after r v others)) lead)
+run_of_one old new d (e ∷ rest) after t run is h = absurd (only_alike (only e.conditions) (subst (λ o. alike o
+    (only e.conditions) ≡ true) is run.0))
+
+-- ---- a run
+
+-- what a condition alone is
+only_is : (q : List Condition) (c : Condition) → only q ≡ Some c → (q ≡ c ∷ []) × (is_plain c.operator ≡ true)
+only_is [] c e = absurd (cc)
+only_is (x ∷ []) c e = plain (is_plain x.operator) refl
+  where
+    plain : (b : Bool) → is_plain x.operator ≡ b → (x ∷ [] ≡ c ∷ []) × (is_plain c.operator ≡ true)
+    plain true is =
+        let same : Some x ≡ Some c = subst (λ b. (if b then Some x else None) ≡ Some c) is e in
+        let x_is : x ≡ c = cc in
+        (ap (λ (y : Condition). y ∷ []) x_is, subst (λ (y : Condition). is_plain y.operator ≡ true) x_is is)
+    plain false is = let other : None ≡ Some c = subst (λ b. (if b then Some x else None) ≡ Some c) is e in absurd (cc)
+only_is (x ∷ y ∷ q) c e = absurd (cc)
+
+same_length_is : (l m : SeccompCmpArgLen) → same_length l m ≡ true → l ≡ m
+same_length_is Dword Dword e = refl
+same_length_is Qword Qword e = refl
+same_length_is Dword Qword e = absurd (false≢true e)
+same_length_is Qword Dword e = absurd (false≢true e)
+
+-- a condition of a run that begins with another: of the same argument, and as much of it
+pub record InRun (c d : Condition) : Type 0 where
+  pub index : d.arg_index ≡ c.arg_index
+  pub size : d.arg_len ≡ c.arg_len
+  pub plain : is_plain d.operator ≡ true
+
+alike_is : (c : Condition) (o : Option Condition) → alike (Some c) o ≡ true
+    → (d : Condition) × (o ≡ Some d) × (c.arg_index ≡ d.arg_index) × (c.arg_len ≡ d.arg_len)
+alike_is c None e = absurd (false≢true e)
+alike_is c (Some d) e =
+    let both = and_parts (nat_eq c.arg_index d.arg_index) (same_length c.arg_len d.arg_len) e in
+    (d, refl, eqb-true c.arg_index d.arg_index both.0, same_length_is c.arg_len d.arg_len both.1)
+
+pub in_run : (c : Condition) (d : Ruling) (rest : List Ruling) → IsRun (d ∷ rest) → (f : Condition) → only d.conditions ≡ Some f → InRun c f
+    → (k : ℕ) (e : Ruling) → k < length (d ∷ rest)
+    → (x : Condition) × ((get_or (d ∷ rest) k e).conditions ≡ x ∷ []) × InRun c x
+in_run c d rest run f is h zero e lt = (f, (only_is d.conditions f is).0, h)
+in_run c d [] run f is h (suc k) e lt = absurd (omega arith)
+in_run c d (g ∷ rest) run f is h (suc k) e lt =
+    let next = alike_is f (only g.conditions) (subst (λ o. alike o (only g.conditions) ≡ true) is run.0) in
+    in_run c g rest run.1 next.0 next.1 record {
+      index = sym next.2 ∙ h.index;
+      size = sym next.3 ∙ h.size;
+      plain = (only_is g.conditions next.0 next.1).1;
+    } k e (omega arith)
+
+-- each ruling of a run has one condition, of the same argument
+pub record OfRun (c : Condition) (q : List Condition) : Type 0 where
+  pub condition : Condition
+  pub whole : q ≡ condition ∷ []
+  pub run : InRun c condition
+
+pub of_run : (c : Condition) (rulings : List Ruling) → IsRun rulings → only (head rulings) ≡ Some c → (k : ℕ) (d : Ruling)
+    → k < length rulings
+    → OfRun c ((get_or rulings k d).conditions)
+of_run c [] run is k d lt = absurd run
+of_run c (e ∷ rulings) run is k d lt =
+    let first : InRun c c = record { index = refl; size = refl; plain = (only_is e.conditions c is).1 } in
+    let h = in_run c e rulings run c is first k d lt in
+    record { condition = h.0; whole = h.1; run = h.2 }
+
+pub numbers_some : (l : SeccompCmpArgLen) → 1 ≤ numbers_of l
+numbers_some Dword = omega arith
+numbers_some Qword = omega arith
+
+-- the loop of `run_steps`: the rulings from one on
+pub record RunOn (c : Condition) (rulings : List Ruling) (after : Target) (steps : List Step) : Type 0 where
+  pub are : AreSteps (numbers_of c.arg_len) steps
+  pub few : length steps ≤ 2 * length rulings + 1
+  pub each : (r : List ℕ) → IsRecord r → (t : Target) → Chooses after r rulings t
+      → found_in steps (part_of c.arg_len (argument_at r c.arg_index)) ≡ t
+  pub inside : (code : List sock_filter) → IsIn code after → (a : ℕ) → a < numbers_of c.arg_len → IsIn code (found_in steps a)
+
+pub run_none : (c : Condition) (rulings : List Ruling) (after : Target) (steps : List Step) → rulings ≡ []
+    → AreSteps (numbers_of c.arg_len) steps
+    → IsPushed [] 0 after steps → RunOn c rulings after steps
+run_none c rulings after steps empty are pushed = rw empty record {
+  are = are;
+  few = omega (arith, pushed.few);
+  each = λ r rec t chosen. pushed.from (part_of c.arg_len (argument_at r c.arg_index)) (omega arith) ∙ chosen_last after r t chosen;
+  inside = λ code inside a lt. subst (IsIn code) (sym (pushed.from a (omega arith))) inside;
+}
+
+pub run_one : (c x : Condition) (d : Ruling) (rest : List Ruling) (after : Target) (steps new : List Step) → InRun c x
+    → d.conditions ≡ x ∷ []
+    → d.value < 2 ^ 32 → RunOn c rest after steps → IsLaid x steps (Give d.value) new → RunOn c (d ∷ rest) after new
+run_one c x d rest after steps new same is fits h laid = record {
+  are = subst (λ l. AreSteps (numbers_of l) new) same.size laid.laid.are;
+  few = omega (arith, h.few, laid.few);
+  each = λ r rec t chosen. go r rec t chosen;
+  inside = λ code inside a lt. elim (compares_or_not x.operator a (part_of x.arg_len x.value) same.plain) [
+    | inl met ↦ subst (IsIn code) (sym (laid.laid.met a (size a lt) met)) fits
+    | inr not ↦ subst (IsIn code) (sym (laid.laid.unmet a (size a lt) not)) (h.inside code inside a lt)
+  ];
+}
+  where
+    size : (a : ℕ) → a < numbers_of c.arg_len → a < numbers_of x.arg_len
+    size a lt = subst (λ l. a < numbers_of l) (sym same.size) lt
+
+    place : (r : List ℕ) → part_of c.arg_len (argument_at r c.arg_index) ≡ part_of x.arg_len (argument_at r x.arg_index)
+    place r = ap (λ l. part_of l (argument_at r c.arg_index)) (sym same.size)
+        ∙ ap (λ i. part_of x.arg_len (argument_at r i)) (sym same.index)
+
+    one : (r : List ℕ) → RuleHolds d.conditions r → Holds x r
+    one r holds = All-head (λ (y : Condition). Holds y r) x [] (subst (λ (q : List Condition). RuleHolds q r) is holds)
+
+    back : (r : List ℕ) → Holds x r → RuleHolds d.conditions r
+    back r holds = subst (λ (q : List Condition). RuleHolds q r) (sym is)
+        (All-cons (λ (y : Condition). Holds y r) x [] holds (All-nil (λ (y : Condition). Holds y r)))
+
+    go : (r : List ℕ) → IsRecord r → (t : Target) → Chooses after r (d ∷ rest) t
+        → found_in new (part_of c.arg_len (argument_at r c.arg_index)) ≡ t
+    go r rec t (chosen_here y others holds) =
+        let a = part_of x.arg_len (argument_at r x.arg_index) in
+        ap (λ p. found_in new p) (place r)
+        ∙ laid.laid.met a (part_fits x.arg_len r x.arg_index rec) ((holds_plain x r same.plain).0 (one r holds))
+    go r rec t (chosen_behind y others u not chosen) =
+        let a = part_of x.arg_len (argument_at r x.arg_index) in
+        ap (λ p. found_in new p) (place r)
+        ∙ laid.laid.unmet a (part_fits x.arg_len r x.arg_index rec) (λ m. not (back r ((holds_plain x r same.plain).1 m)))
+        ∙ ap (λ p. found_in steps p) (sym (place r)) ∙ h.each r rec u chosen
+
+pub run_all : (c : Condition) (rulings all : List Ruling) (after : Target) (steps : List Step) → rulings ≡ all → RunOn c rulings after steps
+    → AreRunSteps c all after steps
+run_all c rulings all after steps whole h =
+    let k = subst (λ (l : List Ruling). RunOn c l after steps) whole h in
+    record { are = k.are; few = k.few; each = k.each; inside = k.inside }
+
+pub run_in : (code : List sock_filter) (c : Condition) (rulings : List Ruling) (after : Target) (steps : List Step)
+    → AreRunSteps c rulings after steps
+    → IsIn code after → AreIn code steps
+run_in code c rulings after steps h inside =
+    are_in_below code (numbers_of c.arg_len) steps (some c.arg_len) h.are (λ a lt. h.inside code inside a lt)
+  where
+    some : (l : SeccompCmpArgLen) → 1 ≤ numbers_of l
+    some Dword = omega arith
+    some Qword = omega arith
+
+pub run_by_steps : (old new : List sock_filter) (c : Condition) (rulings : List Ruling) (after t : Target) (steps : List Step)
+    → only (head rulings) ≡ Some c → AreRunSteps c rulings after steps → IsPart old c.arg_len c.arg_index steps t new
+    → IsRunMet old rulings after t new
+run_by_steps old new c rulings after t steps is h part = record {
+  grows =
+      let same : run_length (head rulings) (length rulings) ≡ part_length c.arg_len (2 * length rulings + 1) = rw is refl in
+      let less = shorter_part c.arg_len (length steps) (2 * length rulings + 1) h.few in
+      record { front = part.grows.front; whole = part.grows.whole; few = omega (arith, part.grows.few, same, less) };
+  inside = part.inside;
+  leads = λ r rec u w n m chosen takes lead. go r rec u w n m chosen takes lead;
+}
+  where
+    go : (r : List ℕ) → IsRecord r → (u : Target) (w n m : ℕ) → Chooses after r rulings u → RunTakes (head rulings) (length rulings) m
+        → LeadsAlways old r u w n → LeadsAlways new r t w (n + m)
+    go r rec u w n m chosen (by_conditions e) lead = absurd (cc)
+    go r rec u w n m chosen (by_steps x k e le) lead =
+        let same : x ≡ c = cc in
+        let found = h.each r rec u chosen in
+        let start = part.leads r rec w n k (omega (arith, h.few)) (subst (λ v. LeadsAlways old r v w n) (sym found) lead) in
+        let count : suc (n + part_steps c.arg_len k) ≡ n + (part_steps c.arg_len k + 1) = omega arith in
+        let whole : LeadsAlways new r t w (n + (part_steps c.arg_len k + 1))
+        = λ a small. subst (λ s. Leads new r t a w s) count (leads_by (start a small)) in
+        subst (λ (y : Condition). LeadsAlways new r t w (n + (part_steps y.arg_len k + 1))) (sym same) whole
+
+-- the first of a run
+pub run_head : (rulings : List Ruling) (x : Ruling) → IsRun rulings → x ≡ get_or rulings 0 x → head rulings ≡ x.conditions
+run_head [] x run is = absurd run
+run_head (d ∷ rest) x run is = ap (λ (y : Ruling). y.conditions) (sym is)
+
+pub run_single : (old new : List sock_filter) (rulings : List Ruling) (x : Ruling) (after t : Target) → IsRun rulings
+    → x ≡ get_or rulings 0 x
+    → only (head rulings) ≡ None → IsRulingMet old x after t new → IsRunMet old rulings after t new
+run_single old new [] x after t run is none h = absurd run
+run_single old new (d ∷ rest) x after t run is none h =
+    run_of_one old new d rest after t run none (subst (λ (y : Ruling). IsRulingMet old y after t new) is h)

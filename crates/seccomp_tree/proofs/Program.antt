@@ -1,0 +1,123 @@
+-- The two ends of the theorem: sound code is a checked program, and a run that returns a word ends with it there.
+use Rattle.std.proofs.Common.{◌≡◌, ℕ, zero, suc, ◌+◌, ◌-◌, ◌<◌, ◌≤◌, ◌^◌, List, [], ◌∷◌, ◌++◌, length, drop, Some}
+use Rattle.std.proofs.Common.{length-append, length-drop, refl, sym, ap, ◌∙◌, subst, arith}
+use Rattle.std.specs.Prelude.{slice_get}
+use Rattle.std.proofs.lemmas.List.{drop-drop}
+use Rattle.seccompiler.specs.declared.bpf.sock_filter.{sock_filter}
+use Rattle.seccompiler.specs.Code.{give}
+use Rattle.seccompiler.specs.Machine.{Does, loads, masks, jumps, is_equal, is_not_equal, is_greater, is_not_greater, is_at_least, is_less}
+use Rattle.seccompiler.specs.Machine.{Goes, stays, then_step, Ends, IsFine, IsInRange, IsChecked}
+use Rattle.seccompiler.specs.Machine.{fine_load, fine_mask, fine_jump, fine_equal, fine_greater, fine_at_least, fine_return}
+use Rattle.seccomp_tree.specs.Code.{AreFine, IsSound, Returns, gives, goes_on}
+
+-- an instruction does the same further on
+does_there : (i : sock_filter) (r : List ℕ) (place a d a' : ℕ) → Does i r 0 a (1 + d) a' → Does i r place a (place + (1 + d)) a'
+does_there i r place a d a' (loads c h e f) = loads c h (omega arith) f
+does_there i r place a d a' (masks c e f) = masks c (omega arith) f
+does_there i r place a d a' (jumps c e f) = jumps c (omega arith) f
+does_there i r place a d a' (is_equal c t e f) = is_equal c t (omega arith) f
+does_there i r place a d a' (is_not_equal c t e f) = is_not_equal c t (omega arith) f
+does_there i r place a d a' (is_greater c t e f) = is_greater c t (omega arith) f
+does_there i r place a d a' (is_not_greater c t e f) = is_not_greater c t (omega arith) f
+does_there i r place a d a' (is_at_least c t e f) = is_at_least c t (omega arith) f
+does_there i r place a d a' (is_less c t e f) = is_less c t (omega arith) f
+
+get_at : (p : List sock_filter) (place : ℕ) (i : sock_filter) (rest : List sock_filter) → drop place p ≡ i ∷ rest
+    → slice_get p place ≡ Some i
+get_at [] zero i rest e = cc
+get_at [] (suc place) i rest e = cc
+get_at (x ∷ p) zero i rest e = cc
+get_at (x ∷ p) (suc place) i rest e = get_at p place i rest e
+
+-- The program ends with the word within n steps; and within as many as some number.
+pub record EndsWithin (p : List sock_filter) (r : List ℕ) (w n long : ℕ) : Type 0 where
+  pub steps : ℕ
+  pub few : steps ≤ n
+  pub short : steps ≤ long
+  pub ends : Ends p r steps w
+
+-- a run that has come to a place ends as it does from there
+ends_from : (p : List sock_filter) (r : List ℕ) (tail : List sock_filter) (place m a w n : ℕ)
+    → drop place p ≡ tail → Goes p r 0 0 m place a → a < 2 ^ 32
+    → Returns r tail a w n → EndsWithin p r w (m + n) (m + length tail)
+ends_from p r tail place m a w n at goes small (gives i rest b v k is word) = record {
+  steps = m + 1;
+  few = omega arith;
+  short = omega arith;
+  ends = record {
+    place = place;
+    accumulator = a;
+    instruction = i;
+    some = omega arith;
+    goes = let same : m + 1 - 1 ≡ m = omega arith in rw same goes;
+    here = get_at p place i rest at;
+    returns = is;
+    value = word;
+  };
+}
+ends_from p r tail place m a w n at goes small (goes_on i rest b a' v n' d does small' h) =
+    let step = then_step goes record {
+      instruction = i;
+      here = get_at p place i rest at;
+      before = small;
+      after = small';
+      does = does_there i r place a d a' does;
+    } in
+    let over : 1 + d ≡ suc d = omega arith in
+    let at' : drop (place + (1 + d)) p ≡ drop d rest =
+    sym (drop-drop (1 + d) place p) ∙ ap (λ l. drop (1 + d) l) at ∙ ap (λ k. drop k (i ∷ rest)) over in
+    let end = ends_from p r (drop d rest) (place + (1 + d)) (suc m) a' w n' at' step small' h in
+    record {
+      steps = end.steps;
+      few = omega (arith, end.few);
+      short = omega (arith, end.short, length-drop d rest);
+      ends = end.ends;
+    }
+
+-- A program whose run returns a word ends with it, in no more steps than it has instructions.
+pub program_ends : (p : List sock_filter) (r : List ℕ) (w n : ℕ) → Returns r p 0 w n → EndsWithin p r w n (length p)
+program_ends p r w n h =
+    let end = ends_from p r p 0 0 0 w n refl stays (omega arith) h in
+    record { steps = end.steps; few = omega (arith, end.few); short = omega (arith, end.short); ends = end.ends }
+
+-- an instruction is as fine where one more stands in front
+fine_behind : (i : sock_filter) (place n : ℕ) → IsFine i place n → IsFine i (suc place) (suc n)
+fine_behind i place n (fine_load c m k) = fine_load c m k
+fine_behind i place n (fine_mask c) = fine_mask c
+fine_behind i place n (fine_jump c k) = fine_jump c (omega arith)
+fine_behind i place n (fine_equal c t f) = fine_equal c (omega arith) (omega arith)
+fine_behind i place n (fine_greater c t f) = fine_greater c (omega arith) (omega arith)
+fine_behind i place n (fine_at_least c t f) = fine_at_least c (omega arith) (omega arith)
+fine_behind i place n (fine_return c) = fine_return c
+
+each_fine : (p : List sock_filter) (place : ℕ) (i : sock_filter) → AreFine p → slice_get p place ≡ Some i
+    → IsFine i place (length p) × IsInRange i
+each_fine [] place i h here = absurd (cc)
+each_fine (x ∷ p) zero i h here =
+    let same : x ≡ i = cc in
+    let long : length p + 1 ≡ suc (length p) = omega arith in
+    (subst (λ j. IsFine j 0 (suc (length p))) same (subst (λ n. IsFine x 0 n) long h.0), subst IsInRange same h.1.0)
+each_fine (x ∷ p) (suc place) i h here =
+    let both = each_fine p place i h.1.1 here in
+    (fine_behind i place (length p) both.0, both.1)
+
+last_get : (front : List sock_filter) (x : sock_filter) → slice_get (front ++ x ∷ []) (length front) ≡ Some x
+last_get [] x = refl
+last_get (y ∷ front) x = last_get front x
+
+-- Sound code is a checked program.
+pub sound_checked : (p : List sock_filter) → IsSound p → IsChecked p
+sound_checked p h =
+    let kill = give 0x80000000 in
+    let long : length p ≡ length h.front + 1 = ap length h.ends ∙ length-append h.front (kill ∷ []) in
+    record {
+      some = omega (arith, long);
+      few = h.few;
+      ranges = record { each = λ place i here. (each_fine p place i h.fine here).1 };
+      each = λ place i here. (each_fine p place i h.fine here).0;
+      last = λ i here.
+          let at : length p - 1 ≡ length h.front = omega (arith, long) in
+          let end : slice_get p (length p - 1) ≡ Some kill =
+          ap (λ l. slice_get l (length p - 1)) h.ends ∙ ap (λ n. slice_get (h.front ++ kill ∷ []) n) at ∙ last_get h.front kill in
+          let same : i ≡ kill = cc in ap (λ (j : sock_filter). j.code) same;
+    }

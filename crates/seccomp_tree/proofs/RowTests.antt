@@ -1,0 +1,144 @@
+-- For `row` and `tree`: what the first test of a row leaves to the others.
+use Rattle.std.proofs.Common.{◌≡◌, ◌≢◌, ℕ, zero, suc, ◌+◌, ◌-◌, ◌*◌, ◌^◌, ◌<◌, ◌≤◌, List, [], ◌∷◌, length, drop, get_or, Bool, true, false}
+use Rattle.std.proofs.Common.{refl, sym, ap, ◌∙◌, subst, arith, nat_eq, nat_le, if◌then◌else◌, ◌⊎◌, inl, inr, ⊎_elim}
+use Rattle.std.proofs.lemmas.Bool.{and_parts, cases_lt, false≢true}
+use Rattle.std.proofs.lemmas.Bool.Decides.{nat_tests}
+use Rattle.seccomp_tree.specs.declared.steps.Target.{Target}
+use Rattle.seccomp_tree.specs.declared.steps.Target.TheVariants.{Give, At}
+use Rattle.seccomp_tree.specs.declared.steps.Step.{Step}
+use Rattle.seccomp_tree.specs.declared.code.Test.TheVariants.{Equal, AtLeast}
+use Rattle.seccomp_tree.specs.Steps.{found_in, Ascend}
+use Rattle.seccomp_tree.specs.Rows.{same, second_stands_out, settled, row}
+use Rattle.seccomp_tree.specs.Code.{chosen}
+use Rattle.seccomp_tree.proofs.Cuts.{blank, IsCut, cut_found, cut_ascends, found_first}
+
+pub same_one : (t u : Target) → same t u ≡ true → t ≡ u
+same_one (Give v) (Give w) e = ap Give (grind (arith, nat_tests))
+same_one (Give v) (At n) e = cc
+same_one (At m) (Give w) e = cc
+same_one (At m) (At n) e = ap At (grind (arith, nat_tests))
+
+-- one test, and those of the steps that it leaves
+pub row_step : (steps : List Step) → 2 ≤ length steps → row steps ≡ 1 + row (drop (settled steps) steps)
+row_step [] some = absurd (omega arith)
+row_step (x ∷ []) some = absurd (omega arith)
+row_step (x ∷ y ∷ []) some = refl
+row_step (x ∷ y ∷ z ∷ steps) some = go (second_stands_out (x ∷ y ∷ z ∷ steps)) refl
+  where
+    go : (b : Bool) → second_stands_out (x ∷ y ∷ z ∷ steps) ≡ b
+        → row (x ∷ y ∷ z ∷ steps) ≡ 1 + row (drop (settled (x ∷ y ∷ z ∷ steps)) (x ∷ y ∷ z ∷ steps))
+    go true e = rw e refl
+    go false e = rw e refl
+
+pub settled_few : (steps : List Step) → 2 ≤ length steps → (1 ≤ settled steps) × (settled steps < length steps)
+settled_few [] some = absurd (omega arith)
+settled_few (x ∷ []) some = absurd (omega arith)
+settled_few (x ∷ y ∷ []) some = (omega arith, omega arith)
+settled_few (x ∷ y ∷ z ∷ steps) some = go (second_stands_out (x ∷ y ∷ z ∷ steps))
+  where
+    go : (b : Bool) → (1 ≤ (if b then 2 else 1)) × ((if b then 2 else 1) < length (x ∷ y ∷ z ∷ steps))
+    go true = (omega arith, omega arith)
+    go false = (omega arith, omega arith)
+
+-- a row has fewer tests than steps
+pub row_few : (steps : List Step) → 1 ≤ length steps → row steps + 1 ≤ length steps
+row_few [] some = absurd (omega arith)
+row_few (x ∷ []) some = omega arith
+row_few (x ∷ y ∷ []) some = omega arith
+row_few (x ∷ y ∷ z ∷ steps) some =
+    go (second_stands_out (x ∷ y ∷ z ∷ steps)) (row_few (z ∷ steps) (omega arith)) (row_few (y ∷ z ∷ steps) (omega arith))
+  where
+    go : (b : Bool) → row (z ∷ steps) + 1 ≤ length (z ∷ steps) → row (y ∷ z ∷ steps) + 1 ≤ length (y ∷ z ∷ steps)
+        → 1 + (if b then row (z ∷ steps) else row (y ∷ z ∷ steps)) + 1 ≤ length (x ∷ y ∷ z ∷ steps)
+    go true less other = omega arith
+    go false other less = omega arith
+
+pub row_short : (steps : List Step) → length steps ≤ 1 → row steps ≡ 0
+row_short [] few = refl
+row_short (x ∷ []) few = refl
+row_short (x ∷ y ∷ steps) few = absurd (omega arith)
+
+-- what it tells that there is no row of so many tests
+pub no_row : (b : Bool) (n m : ℕ) → (n ≤ m → b ≡ true) → b ≡ false → m < n
+no_row b n m short none = ⊎_elim (λ more. more) (λ few. absurd (false≢true (sym none ∙ short few))) (cases_lt m n)
+
+-- a row of few tests takes at most two steps for each halving
+pub row_halvings : (steps : List Step) (k : ℕ) → 1 ≤ length steps → row steps ≤ 6 → length steps ≤ 2 ^ k → row steps ≤ 2 * k
+row_halvings steps zero some six le = omega (arith, row_few steps some)
+row_halvings steps (suc zero) some six le = omega (arith, row_few steps some)
+row_halvings steps (suc (suc zero)) some six le = omega (arith, row_few steps some)
+row_halvings steps (suc (suc (suc k))) some six le = omega arith
+
+-- What a test leads to for each number: the target of the steps, or the others, which are answered further on.
+abbrev pub Divides : List Step → List Step → Target → (ℕ → Target) → Type 0
+Divides steps rest v to = (a : ℕ) → ((to a ≡ v) × (found_in steps a ≡ found_in rest a)) ⊎ (found_in steps a ≡ to a)
+
+-- a test whether a number is at least the start of the second step
+first_divides : (size : ℕ) (x y : Step) (high : List Step) (v : Target) → Ascend size (x ∷ y ∷ high)
+    → Divides (x ∷ y ∷ high) (y ∷ high) v (chosen AtLeast y.start v x.target)
+first_divides size x y high v h = λ a.
+    ⊎_elim
+    (λ c.
+    let no : nat_le y.start a ≡ false = grind (arith, nat_tests, c.0) in
+    inr (c.1 ∙ sym (ap (λ b. if b then v else x.target) no)))
+    (λ c.
+    let yes : nat_le y.start a ≡ true = grind (arith, nat_tests, c.0) in
+    inl (ap (λ b. if b then v else x.target) yes, c.1))
+    (cut_found size (x ∷ y ∷ high) (x ∷ []) y high a (record { whole = refl; some = omega arith }) h)
+
+pub divides_first : (size : ℕ) (steps : List Step) (v : Target) → Ascend size steps → 2 ≤ length steps → second_stands_out steps ≡ false
+    → Divides steps (drop (settled steps) steps) v (chosen AtLeast (get_or steps 1 blank).start v (get_or steps 0 blank).target)
+divides_first size [] v h some out = absurd (omega arith)
+divides_first size (x ∷ []) v h some out = absurd (omega arith)
+divides_first size (x ∷ y ∷ []) v h some out = first_divides size x y [] v h
+divides_first size (x ∷ y ∷ z ∷ high) v h some out =
+    let at : drop (settled (x ∷ y ∷ z ∷ high)) (x ∷ y ∷ z ∷ high) ≡ y ∷ z ∷ high =
+    ap (λ b. drop (if b then 2 else 1) (x ∷ y ∷ z ∷ high)) out in
+    subst (λ l. Divides (x ∷ y ∷ z ∷ high) l v (chosen AtLeast y.start v x.target)) (sym at) (first_divides size x y (z ∷ high) v h)
+
+-- a test of the number of a step that stands out
+out_divides : (size : ℕ) (x y z : Step) (high : List Step) (v : Target) → Ascend size (x ∷ y ∷ z ∷ high)
+    → second_stands_out (x ∷ y ∷ z ∷ high) ≡ true → Divides (x ∷ y ∷ z ∷ high) (z ∷ high) v (chosen Equal y.start y.target v)
+out_divides size x y z high v h out = λ a. go a (nat_eq a y.start) refl
+  where
+    both : (same x.target z.target ≡ true) × (nat_eq (z.start - y.start) 1 ≡ true)
+    both = and_parts (same x.target z.target) (nat_eq (z.start - y.start) 1) out
+
+    next : z.start ≡ y.start + 1
+    next = let one : z.start - y.start ≡ 1 = grind (arith, nat_tests, both.1) in omega arith
+
+    behind : IsCut (x ∷ y ∷ z ∷ high) (x ∷ y ∷ []) z high
+    behind = record { whole = refl; some = omega arith }
+
+    rest : Ascend size (z ∷ high)
+    rest = (cut_ascends size (x ∷ y ∷ z ∷ high) (x ∷ y ∷ []) z high behind h).1
+
+    go : (a : ℕ) (b : Bool) → nat_eq a y.start ≡ b
+        → ((chosen Equal y.start y.target v a ≡ v) × (found_in (x ∷ y ∷ z ∷ high) a ≡ found_in (z ∷ high) a))
+        ⊎ (found_in (x ∷ y ∷ z ∷ high) a ≡ chosen Equal y.start y.target v a)
+    go a true e =
+        let is : a ≡ y.start = grind (arith, nat_tests) in
+        let yes : nat_le y.start a ≡ true = grind (arith, nat_tests) in
+        let no : nat_le z.start a ≡ false = grind (arith, nat_tests, next) in
+        let own : found_in (x ∷ y ∷ z ∷ high) a ≡ y.target = rw yes (rw no refl) in
+        inr (own ∙ sym (ap (λ b. if b then y.target else v) e))
+    go a false e =
+        let differs : a ≢ y.start = grind (arith, nat_tests) in
+        let other : chosen Equal y.start y.target v a ≡ v = ap (λ b. if b then y.target else v) e in
+        ⊎_elim
+        (λ c.
+        let below : nat_le y.start a ≡ false = grind (arith, nat_tests, c.0, next, differs) in
+        let low : found_in (x ∷ y ∷ []) a ≡ x.target = rw below refl in
+        inl (other, c.1 ∙ low ∙ same_one x.target z.target both.0 ∙ sym (found_first size z high a rest (omega (arith, c.0)))))
+        (λ c. inl (other, c.1))
+        (cut_found size (x ∷ y ∷ z ∷ high) (x ∷ y ∷ []) z high a behind h)
+
+pub divides_out : (size : ℕ) (steps : List Step) (v : Target) → Ascend size steps → second_stands_out steps ≡ true
+    → Divides steps (drop (settled steps) steps) v (chosen Equal (get_or steps 1 blank).start (get_or steps 1 blank).target v)
+divides_out size [] v h out = absurd (cc)
+divides_out size (x ∷ []) v h out = absurd (cc)
+divides_out size (x ∷ y ∷ []) v h out = absurd (cc)
+divides_out size (x ∷ y ∷ z ∷ high) v h out =
+    let at : drop (settled (x ∷ y ∷ z ∷ high)) (x ∷ y ∷ z ∷ high) ≡ z ∷ high =
+    ap (λ b. drop (if b then 2 else 1) (x ∷ y ∷ z ∷ high)) out in
+    subst (λ l. Divides (x ∷ y ∷ z ∷ high) l v (chosen Equal y.start y.target v)) (sym at) (out_divides size x y z high v h out)

@@ -1,0 +1,5 @@
+use Rattle.std.proofs.Common.{length}
+use Rattle.seccomp_tree.proofs.code.Code.+tree.Given as goal
+
+abbrev pub decreases-tree : goal.decreases-tree
+decreases-tree l = length l.steps.now

@@ -1,0 +1,19 @@
+use Rattle.std.proofs.Common.{◌≡◌, ◌-◌, ◌∷◌, ap, sym, ◌∙◌}
+use Rattle.seccompiler.specs.declared.bpf.sock_filter.{sock_filter}
+use Rattle.seccomp_tree.specs.declared.steps.Target.TheVariants.{At}
+use Rattle.seccomp_tree.proofs.Testing.{code_of, tested}
+use Rattle.seccomp_tree.proofs.code.Code.test.Goals as goal
+use Rattle.seccomp_tree.proofs.code.Code.test.Goals.{in-Equal, in-AtLeast}
+
+pub returns-clause-ok : goal.returns-clause-ok
+returns-clause-ok c =
+    let code = c.reach-2.new.self in
+    let i : sock_filter = record { code = c.match-test.code; jt = c.over.result; jf = c.over-2.result; k = c.args.k } in
+    let is : c.match-test.code ≡ code_of c.args.test =
+    elim c.match-test.branch [
+      | in-Equal w ↦ w.code-is ∙ ap code_of (sym w.in-Equal.is)
+      | in-AtLeast w ↦ w.code-is ∙ ap code_of (sym w.in-AtLeast.is)
+    ] in
+    tested c.args.self.now c.reach.new.self code c.args.test i c.args.yes c.args.no c.in_ok-yes.yes c.in_ok-no.no c.push.new.self _ is
+    c.over.ensures.over c.over-2.ensures.over c.in_ok-yes.ensures.ok c.in_ok-no.ensures.ok
+    (c.in_ok-push.ensures.ok ∙ ap (λ x. x ∷ code) c.bpf_jump.ensures) (ap (λ n. At (n - 1)) c.len.ensures.len)

@@ -1,0 +1,75 @@
+-- Conditions as targets: where one holds, the one target; else the other.
+use Rattle.std.specs.Prelude.{◌≡◌, ℕ, ◌+◌, ◌-◌, ◌*◌, ◌<◌, ◌≤◌, ◌^◌, List, length, bit_and, true}
+use Rattle.seccompiler.specs.declared.bpf.sock_filter.{sock_filter}
+use Rattle.seccompiler.specs.declared.backend.SeccompCmpArgLen.{SeccompCmpArgLen}
+use Rattle.seccompiler.specs.declared.backend.SeccompCmpArgLen.TheVariants.{Dword, Qword}
+use Rattle.seccompiler.specs.declared.backend.SeccompCmpOp.{SeccompCmpOp}
+use Rattle.seccompiler.specs.declared.backend.SeccompCmpOp.TheVariants.{MaskedEq}
+use Rattle.seccompiler.specs.Machine.{IsRecord, word_at, argument_at}
+use Rattle.seccompiler.specs.Policy.{Condition, Compares, Holds, part_of}
+use Rattle.seccomp_tree.specs.declared.steps.Target.{Target}
+use Rattle.seccomp_tree.specs.declared.steps.Step.{Step}
+use Rattle.seccomp_tree.specs.Steps.{found_in, AreSteps}
+use Rattle.seccomp_tree.specs.Intervals.{numbers_of, is_plain}
+use Rattle.seccomp_tree.specs.Code.{IsIn, Grows, LeadsAlways, StartsAlways}
+
+-- ---- what a promise counts
+
+-- How many instructions n steps over numbers of a length take at most.
+abbrev pub part_length : SeccompCmpArgLen → ℕ → ℕ
+part_length Dword n = 3 * n - 2
+part_length Qword n = 13 * n - 2
+
+-- How many steps of the machine it takes to tell at most 2 ^ k steps apart: two for each halving, and the loads.
+abbrev pub part_steps : SeccompCmpArgLen → ℕ → ℕ
+part_steps Dword k = 1 + 2 * k
+part_steps Qword k = 5 + 4 * k
+
+-- How many instructions a condition takes at most. It has three steps, or it has masks.
+abbrev pub condition_length : SeccompCmpArgLen → SeccompCmpOp → ℕ
+condition_length Dword (MaskedEq m) = 5
+condition_length Qword (MaskedEq m) = 10
+condition_length l _ = part_length l 3
+
+-- How many steps of the machine a condition takes at most.
+abbrev pub condition_steps : SeccompCmpArgLen → SeccompCmpOp → ℕ
+condition_steps Dword (MaskedEq m) = 3
+condition_steps Qword (MaskedEq m) = 7
+condition_steps l _ = part_steps l 2
+
+-- ---- between private functions
+
+-- The target goes on as the steps say for what is compared of the argument, whatever the accumulator holds.
+pub record IsPart (old : List sock_filter) (l : SeccompCmpArgLen) (index : ℕ) (steps : List Step) (t : Target)
+    (new : List sock_filter) : Type 0 where
+  pub grows : Grows old (part_length l (length steps)) new
+  pub inside : IsIn new t
+  pub leads : (r : List ℕ) → IsRecord r → (w n k : ℕ) → length steps ≤ 2 ^ k
+      → LeadsAlways old r (found_in steps (part_of l (argument_at r index))) w n → StartsAlways new r t w (n + part_steps l k)
+
+-- The target goes on as the first where the record's word at this byte has the bits of the value under the mask, and else
+-- as the second.
+pub record IsMasked (old : List sock_filter) (byte mask value : ℕ) (yes no t : Target) (new : List sock_filter) : Type 0 where
+  pub grows : Grows old 5 new
+  pub inside : IsIn new t
+  pub met : (r : List ℕ) → IsRecord r → bit_and (word_at r byte) mask ≡ bit_and value mask → (w n : ℕ) → LeadsAlways old r yes w n
+      → StartsAlways new r t w (n + 3)
+  pub unmet : (r : List ℕ) → IsRecord r → (bit_and (word_at r byte) mask ≡ bit_and value mask → ⊥) → (w n : ℕ)
+      → LeadsAlways old r no w n → StartsAlways new r t w (n + 3)
+
+-- The steps have the first target where the condition's comparison holds, and else the second.
+pub record AreChoices (c : Condition) (yes no : Target) (steps : List Step) : Type 0 where
+  pub are : AreSteps (numbers_of c.arg_len) steps
+  pub met : (a : ℕ) → a < numbers_of c.arg_len → Compares c.operator a (part_of c.arg_len c.value) → found_in steps a ≡ yes
+  pub unmet : (a : ℕ) → a < numbers_of c.arg_len → (Compares c.operator a (part_of c.arg_len c.value) → ⊥) → found_in steps a ≡ no
+  pub few : length steps ≤ 3
+  pub plain : is_plain c.operator ≡ true
+
+-- The target goes on as the first where the condition holds, and else as the second, whatever the accumulator holds.
+pub record IsConditionMet (old : List sock_filter) (c : Condition) (yes no t : Target) (new : List sock_filter) : Type 0 where
+  pub grows : Grows old (condition_length c.arg_len c.operator) new
+  pub inside : IsIn new t
+  pub met : (r : List ℕ) → IsRecord r → Holds c r → (w n : ℕ) → LeadsAlways old r yes w n
+      → StartsAlways new r t w (n + condition_steps c.arg_len c.operator)
+  pub unmet : (r : List ℕ) → IsRecord r → (Holds c r → ⊥) → (w n : ℕ) → LeadsAlways old r no w n
+      → StartsAlways new r t w (n + condition_steps c.arg_len c.operator)

@@ -1,0 +1,99 @@
+-- Decisions on one call: rulings in order, of which the first that holds names the word.
+use Rattle.std.specs.Prelude.{◌≡◌, ℕ, suc, ◌+◌, ◌*◌, ◌≤◌, ◌^◌, List, [], ◌∷◌, Bool, true, false, ◌&&◌, nat_eq, if◌then◌else◌, Option}
+use Rattle.std.specs.Prelude.{Some, None}
+use Rattle.seccompiler.specs.declared.backend.SeccompCmpArgLen.{SeccompCmpArgLen}
+use Rattle.seccompiler.specs.declared.backend.SeccompCmpArgLen.TheVariants.{Dword, Qword}
+use Rattle.seccompiler.specs.Policy.{Condition, RuleHolds}
+use Rattle.seccomp_tree.specs.Intervals.{is_plain}
+use Rattle.seccomp_tree.specs.Conditions.{part_length, part_steps, condition_length, condition_steps}
+
+-- Conditions, and the word that is returned where they all hold.
+pub record Ruling : Type 0 where
+  pub conditions : List Condition
+  pub value : ℕ
+
+-- The first of the rulings that holds for the record names this word, or none holds and it is the default.
+pub data First (default : ℕ) (r : List ℕ) : List Ruling → ℕ → Type 0 where
+  here : (d : Ruling) (rest : List Ruling) → RuleHolds d.conditions r → First default r (d ∷ rest) d.value
+  behind : (d : Ruling) (rest : List Ruling) (w : ℕ) → (RuleHolds d.conditions r → ⊥) → First default r rest w
+      → First default r (d ∷ rest) w
+  nothing : First default r [] default
+
+-- ---- runs: rulings that compare one argument, one behind the other
+
+-- The condition of a ruling that has one, without a mask.
+abbrev pub only : List Condition → Option Condition
+only [] = None
+only (c ∷ []) = if is_plain c.operator then Some c else None
+only (c ∷ d ∷ conditions) = None
+
+-- Whether two lengths are one.
+abbrev pub same_length : SeccompCmpArgLen → SeccompCmpArgLen → Bool
+same_length Dword Dword = true
+same_length Qword Qword = true
+same_length Dword Qword = false
+same_length Qword Dword = false
+
+-- Whether two conditions compare one argument, and as much of it.
+abbrev pub alike : Option Condition → Option Condition → Bool
+alike None d = false
+alike (Some c) None = false
+alike (Some c) (Some d) = nat_eq c.arg_index d.arg_index && same_length c.arg_len d.arg_len
+
+-- Whether a ruling with the second conditions is of one run with a ruling in front of it that has the first.
+abbrev pub joins : List Condition → List Condition → Bool
+joins first second = alike (only first) (only second)
+
+-- How many rulings are of one run with a ruling in front of them.
+abbrev pub joined : List Condition → List Ruling → ℕ
+joined first [] = 0
+joined first (d ∷ rest) = if joins first d.conditions then suc (joined d.conditions rest) else 0
+
+-- ---- what a promise counts
+
+-- The lengths of conditions by themselves.
+abbrev pub conditions_length : List Condition → ℕ
+conditions_length [] = 0
+conditions_length (c ∷ conditions) = condition_length c.arg_len c.operator + conditions_length conditions
+
+-- The steps of conditions by themselves, a jump behind each.
+abbrev pub conditions_steps : List Condition → ℕ
+conditions_steps [] = 0
+conditions_steps (c ∷ conditions) = condition_steps c.arg_len c.operator + 1 + conditions_steps conditions
+
+-- How many instructions a run takes at most that begins with these conditions, by how many rulings it has.
+abbrev pub run_length_by : Option Condition → List Condition → ℕ → ℕ
+run_length_by None conditions n = conditions_length conditions
+run_length_by (Some c) conditions n = part_length c.arg_len (2 * n + 1)
+
+abbrev pub run_length : List Condition → ℕ → ℕ
+run_length conditions n = run_length_by (only conditions) conditions n
+
+-- How many instructions rulings take at most that stand behind one with these conditions: the length of each run, counted
+-- where it begins.
+abbrev pub length_behind : List Condition → List Ruling → ℕ
+length_behind first [] = 0
+length_behind first (d ∷ rest) = (if joins first d.conditions then 0 else run_length d.conditions (1 + joined d.conditions rest))
+    + length_behind d.conditions rest
+
+-- How many instructions rulings take at most.
+abbrev pub rules_length : List Ruling → ℕ
+rules_length rulings = length_behind [] rulings
+
+-- How many steps a run takes at most, a jump behind it: with n rulings it has at most 2 * n + 1 steps over numbers.
+pub data RunTakes (conditions : List Condition) (n : ℕ) : ℕ → Type 0 where
+  by_steps : (c : Condition) (k : ℕ) → only conditions ≡ Some c → 2 * n + 1 ≤ 2 ^ k → RunTakes conditions n (part_steps c.arg_len k + 1)
+  by_conditions : only conditions ≡ None → RunTakes conditions n (conditions_steps conditions)
+
+-- How many steps it takes to enter a ruling: those of its run, where it begins one.
+pub data Enters (first : List Condition) (d : Ruling) (rest : List Ruling) : ℕ → Type 0 where
+  goes_on : joins first d.conditions ≡ true → Enters first d rest 0
+  begins : (n : ℕ) → joins first d.conditions ≡ false → RunTakes d.conditions (1 + joined d.conditions rest) n → Enters first d rest n
+
+-- How many steps rulings take at most that stand behind one with these conditions, up to the first that holds.
+pub data Takes (r : List ℕ) : List Condition → List Ruling → ℕ → Type 0 where
+  stops : (first : List Condition) (d : Ruling) (rest : List Ruling) (n : ℕ) → RuleHolds d.conditions r → Enters first d rest n
+      → Takes r first (d ∷ rest) n
+  passes : (first : List Condition) (d : Ruling) (rest : List Ruling) (n m : ℕ) → (RuleHolds d.conditions r → ⊥) → Enters first d rest n
+      → Takes r d.conditions rest m → Takes r first (d ∷ rest) (n + m)
+  ends : (first : List Condition) → Takes r first [] 0

@@ -1,0 +1,11 @@
+-- The definitions that the contracts cite.
+
+-- Between layers: what private functions promise each other. No promise rests on how these are worded.
+pub mod Steps
+pub mod Rows
+pub mod Code
+pub mod Intervals
+pub mod Arguments
+pub mod Conditions
+pub mod Decisions
+pub mod Rules

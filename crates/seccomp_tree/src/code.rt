@@ -1,0 +1,191 @@
+// Code that is written from its end to its front.
+
+ghost use Rattle.std.specs.Prelude.{◌≡◌, ◌≤◌, ◌<◌, ◌+◌, ◌^◌, ◌∷◌, [], IsTrue, IfSome, IfOk, IfErr, OnOk, length};
+ghost use Rattle.seccompiler.specs.Code.{give};
+ghost use Rattle.seccompiler.specs.Machine.{IsFine, IsInRange, greatest_length};
+ghost use Rattle.seccomp_tree.specs.declared.error.TreeError.TheVariants.{OutOfMemory};
+ghost use Rattle.seccomp_tree.specs.Code.{IsSound, IsFullBy, IsIn, IsFar, StandsFor, DoesAs, IsReached, IsTested};
+
+use crate::error::TreeError;
+use crate::steps::Target;
+use seccompiler::BpfProgram;
+use seccompiler::bpf::{
+    BPF_MAX_LEN, JUMP, JUMP_AT_LEAST, JUMP_EQUAL, RETURN, bpf_jump, bpf_stmt, sock_filter,
+};
+use std::alloc::Global;
+use std::marker::Model;
+
+// How many instructions a jump may pass over where one more may still come between: 8 bits hold 255.
+const REACH: usize = 254;
+
+/// How a test compares the accumulator with its operand.
+#[derive(Clone, Copy, Debug)]
+pub(crate) enum Test {
+    /// Whether they are equal.
+    Equal,
+    /// Whether the accumulator is at least the operand, unsigned.
+    AtLeast,
+}
+
+/// The code of a program, from some place to its end. Each instruction is written in front of the others, and jumps lead
+/// forward alone. A place counts from the end, so that what starts there never changes.
+#[derive(Drop)]
+pub(crate) struct Code {
+    // The last instruction first.
+    back: Vec<sock_filter>,
+}
+
+impl Model for Code {
+    ghost use Rattle.std.specs.Prelude.{List, reverse};
+    ghost use Rattle.seccompiler.specs.declared.bpf.sock_filter.{sock_filter};
+    ghost use Rattle.seccomp_tree.specs.Code.{IsSound};
+
+    ghost Value = { List sock_filter };
+
+    ghost view = { λ c. reverse c.back.items };
+
+    ghost invariant = { λ c. IsSound (reverse c.back.items) };
+}
+
+impl Code {
+    /// Code that kills the process.
+    pub(crate) fn new(alloc: Global) -> Result<Self, TreeError>
+        ensures ok { IfOk result (λ code. code ≡ give 0x80000000 ∷ []) }
+        ensures err { IfErr result (λ e. e ≡ OutOfMemory) }
+    {
+        let mut back = Vec::new(alloc);
+        back.push(bpf_stmt(RETURN, 0x8000_0000))?;
+        Ok(Code { back })
+    }
+
+    /// How many instructions there are.
+    pub(crate) fn len(&self) -> usize
+        ensures len { result ≡ length self.now }
+        ensures some { 1 ≤ result }
+        ensures few { result ≤ greatest_length }
+    {
+        self.back.len()
+    }
+
+    /// Writes an instruction in front of the others.
+    pub(crate) fn push(&mut self, instruction: sock_filter) -> Result<(), TreeError>
+        requires fine { IsFine instruction 0 (length self.old + 1) }
+        requires range { IsInRange instruction }
+        ensures ok { OnOk result (self.new ≡ instruction ∷ self.old) }
+        ensures err { IfErr result (IsFullBy self.old 1) }
+    {
+        if self.back.len() == BPF_MAX_LEN {
+            return Err(TreeError::TooLarge);
+        }
+        self.back.push(instruction)?;
+        Ok(())
+    }
+
+    // How many instructions a jump that is written now passes over to a place.
+    fn over(&self, place: usize) -> usize
+        requires { place < length self.now }
+        ensures over { result + place + 1 ≡ length self.now }
+        ensures few { result < greatest_length }
+    {
+        self.back.len() - 1 - place
+    }
+
+    // Whether the instruction at a place does what the target says, whatever is in the accumulator.
+    fn does(&self, place: usize, target: Target) -> bool
+        requires place { place < length self.now }
+        requires target { IsIn self.now target }
+        ensures { IsTrue result → DoesAs self.now target place self.now }
+    {
+        let instruction = self.back[place];
+        match target {
+            Target::Give(word) => instruction.code == RETURN && instruction.k == word,
+            Target::At(to) => {
+                instruction.code == JUMP && to + 1 + instruction.k as usize == place
+            }
+        }
+    }
+
+    // The last place of an instruction that does what the target says, if one is near.
+    fn twin(&self, target: Target) -> Option<usize>
+        requires { IsIn self.now target }
+        ensures does { IfSome result (λ place. DoesAs self.now target place self.now) }
+        ensures near { IfSome result (λ place. length self.now ≤ place + 255) }
+    {
+        let first = self.len().saturating_sub(REACH + 1);
+        for place in (first..self.len()).rev() {
+            if self.does(place, target) {
+                return Some(place);
+            }
+        }
+        None
+    }
+
+    // The last near place of an instruction that does what the target says; or where this one is written, which does.
+    fn stand_in(&mut self, target: Target, instruction: sock_filter) -> Result<usize, TreeError>
+        requires target { IsIn self.old target }
+        requires far { IsFar self.old target }
+        requires fine { IsFine instruction 0 (length self.old + 1) }
+        requires range { IsInRange instruction }
+        requires stands_for { StandsFor instruction (length self.old) target }
+        ensures ok { IfOk result (λ place. IsReached self.old target place self.new) }
+        ensures err { IfErr result (IsFullBy self.old 1) }
+    {
+        if let Some(place) = self.twin(target) {
+            return Ok(place);
+        }
+        self.push(instruction)?;
+        Ok(self.len() - 1)
+    }
+
+    /// A near place that does what the target says: its own, or that of a return or a jump, which is written where none
+    /// is near.
+    pub(crate) fn reach(&mut self, target: Target) -> Result<usize, TreeError>
+        requires { IsIn self.old target }
+        ensures ok { IfOk result (λ place. IsReached self.old target place self.new) }
+        ensures err { IfErr result (IsFullBy self.old 1) }
+    {
+        match target {
+            Target::Give(word) => self.stand_in(target, bpf_stmt(RETURN, word)),
+            Target::At(place) => {
+                let over = self.over(place);
+                if over <= REACH {
+                    return Ok(place);
+                }
+                self.stand_in(target, bpf_stmt(JUMP, over as u32))
+            }
+        }
+    }
+
+    /// Where the accumulator compares with `k`, goes on as the one target says, and else as the other.
+    pub(crate) fn test(
+        &mut self,
+        test: Test,
+        k: u32,
+        yes: Target,
+        no: Target,
+    ) -> Result<Target, TreeError>
+        requires yes { IsIn self.old yes }
+        requires no { IsIn self.old no }
+        ensures ok { IfOk result (λ t. IsTested self.old test k yes no t self.new) }
+        ensures err { IfErr result (IsFullBy self.old 3) }
+    {
+        let yes = self.reach(yes)?;
+        let no = self.reach(no)?;
+        let code = match test {
+            Test::Equal => JUMP_EQUAL,
+            Test::AtLeast => JUMP_AT_LEAST,
+        };
+        self.push(bpf_jump(code, k, self.over(yes) as u8, self.over(no) as u8))?;
+        Ok(Target::At(self.len() - 1))
+    }
+
+    /// The program, its first instruction first.
+    pub(crate) fn into_program(self) -> BpfProgram
+        ensures program { result.items ≡ self }
+        ensures sound { IsSound result.items }
+    {
+        let Code { mut back } = self;
+        back.reverse();
+        back
+    }
+}

@@ -1,0 +1,144 @@
+// Conditions as targets: where one holds, the one target; else the other.
+
+ghost use Rattle.std.specs.Prelude.{◌≡◌, ◌≤◌, ◌<◌, ◌+◌, ◌%◌, ◌^◌, IfOk, IfErr, IsOkUnless, length, true};
+ghost use Rattle.seccompiler.specs.declared.backend.SeccompCmpOp.TheVariants.{MaskedEq};
+ghost use Rattle.seccomp_tree.specs.Steps.{AreSteps};
+ghost use Rattle.seccomp_tree.specs.Intervals.{is_plain, numbers_of};
+ghost use Rattle.seccomp_tree.specs.Code.{AreIn, IsIn, IsFullBy};
+ghost use Rattle.seccomp_tree.specs.Conditions.{AreChoices, IsConditionMet, IsMasked, IsPart, condition_length, part_length};
+ghost use Rattle.seccomp_tree.specs.declared.error.TreeError.TheVariants.{OutOfMemory};
+
+use crate::code::{Code, Test};
+use crate::error::TreeError;
+use crate::intervals::lay_condition;
+use crate::steps::{Step, Target, push_step};
+use seccompiler::bpf::{LOAD, MASK, bpf_stmt};
+use seccompiler::{SeccompCmpArgLen, SeccompCmpOp, SeccompCondition};
+use std::alloc::Global;
+
+// How many low halves there are.
+const HALVES: u64 = 0x1_0000_0000;
+
+impl Code {
+    /// Goes on as the one target says where the condition holds, and else as the other, whatever the accumulator holds.
+    ///
+    /// # Errors
+    ///
+    /// `TooLarge` where the code has no room for the condition, and `OutOfMemory` where memory runs out.
+    pub(crate) fn condition(
+        &mut self,
+        alloc: Global,
+        condition: &SeccompCondition,
+        yes: Target,
+        no: Target,
+    ) -> Result<Target, TreeError>
+        requires yes { IsIn self.old yes }
+        requires no { IsIn self.old no }
+        ensures ok { IfOk result (λ t. IsConditionMet self.old condition.now yes no t self.new) }
+        ensures err { IfErr result (IsFullBy self.old (condition_length condition.now.arg_len condition.now.operator)) }
+    {
+        if yes.is(no) {
+            return Ok(yes);
+        }
+        if let SeccompCmpOp::MaskedEq(mask) = condition.operator() {
+            return self.masked_condition(condition, mask, yes, no);
+        }
+        let steps = choices(alloc, condition, yes, no)?;
+        self.part(alloc, condition.arg_len(), condition.arg_index(), &steps)
+    }
+
+    /// Goes on as the steps say for what is compared of the argument, whatever the accumulator holds.
+    ///
+    /// # Errors
+    ///
+    /// `TooLarge` where the code has no room for the steps, and `OutOfMemory` where memory runs out.
+    pub(crate) fn part(
+        &mut self,
+        alloc: Global,
+        size: SeccompCmpArgLen,
+        index: u8,
+        steps: &[Step],
+    ) -> Result<Target, TreeError>
+        requires index { index ≤ 5 }
+        requires are { AreSteps (numbers_of size) steps.now }
+        requires inside { AreIn self.old steps.now }
+        ensures ok { IfOk result (λ t. IsPart self.old size index steps.now t self.new) }
+        ensures err { IfErr result (IsFullBy self.old (part_length size (length steps.now))) }
+    {
+        match size {
+            SeccompCmpArgLen::Dword => self.word(16 + 8 * index, steps),
+            SeccompCmpArgLen::Qword => self.argument(alloc, index, steps),
+        }
+    }
+
+    // Goes on as a condition with a mask says: the low half first, since code is written from its end.
+    fn masked_condition(
+        &mut self,
+        condition: &SeccompCondition,
+        mask: u64,
+        yes: Target,
+        no: Target,
+    ) -> Result<Target, TreeError>
+        requires masked { condition.now.operator ≡ MaskedEq mask }
+        requires yes { IsIn self.old yes }
+        requires no { IsIn self.old no }
+        ensures ok { IfOk result (λ t. IsConditionMet self.old condition.now yes no t self.new) }
+        ensures err { IfErr result (IsFullBy self.old (condition_length condition.now.arg_len condition.now.operator)) }
+    {
+        let index = condition.arg_index();
+        let (high_value, low_value) = condition.split_value();
+        let yes = self.masked(16 + 8 * index, (mask % HALVES) as u32, low_value, yes, no)?;
+        match condition.arg_len() {
+            SeccompCmpArgLen::Dword => Ok(yes),
+            SeccompCmpArgLen::Qword => self.masked(
+                20 + 8 * index,
+                (mask / HALVES) as u32,
+                high_value,
+                yes,
+                no,
+            ),
+        }
+    }
+
+    // Goes on as the one target says where the record's word at this byte has the value's bits under the mask.
+    fn masked(
+        &mut self,
+        byte: u8,
+        mask: u32,
+        value: u32,
+        yes: Target,
+        no: Target,
+    ) -> Result<Target, TreeError>
+        requires aligned { byte % 4 ≡ 0 }
+        requires inside_record { byte ≤ 60 }
+        requires yes { IsIn self.old yes }
+        requires no { IsIn self.old no }
+        ensures ok { IfOk result (λ t. IsMasked self.old byte mask value yes no t self.new) }
+        ensures err { IfErr result (IsFullBy self.old 5) }
+    {
+        if mask == 0 {
+            return Ok(yes);
+        }
+        self.test(Test::Equal, value & mask, yes, no)?;
+        self.push(bpf_stmt(MASK, mask))?;
+        self.push(bpf_stmt(LOAD, u32::from(byte)))?;
+        Ok(Target::At(self.len() - 1))
+    }
+}
+
+// Steps that have the one target where the condition's comparison holds, and else the other.
+fn choices(
+    alloc: Global,
+    condition: &SeccompCondition,
+    yes: Target,
+    no: Target,
+) -> Result<Vec<Step>, TreeError>
+    requires plain { is_plain condition.now.operator ≡ true }
+    ensures ok { IfOk result (λ steps. AreChoices condition.now yes no steps.items) }
+    ensures memory { IsOkUnless result OutOfMemory }
+{
+    let mut steps = Vec::new(alloc);
+    push_step(&mut steps, 0, no)?;
+    lay_condition(alloc, &mut steps, condition, yes)?;
+    Ok(steps)
+}

@@ -1,0 +1,86 @@
+// The tree of tests of steps.
+
+ghost use Rattle.std.specs.Prelude.{◌≡◌, ◌≤◌, ◌+◌, ◌-◌, ◌*◌, ◌%◌, ◌^◌, ◌↔◌, IsTrue, IfOk, IfErr, length};
+ghost use Rattle.seccomp_tree.specs.Steps.{Ascend};
+ghost use Rattle.seccomp_tree.specs.Rows.{row, second_stands_out, settled};
+ghost use Rattle.seccomp_tree.specs.Code.{AreIn, IsFullBy, IsTree, IsWord};
+
+use crate::code::{Code, Test};
+use crate::error::TreeError;
+use crate::steps::{Step, Target};
+use seccompiler::bpf::{LOAD, bpf_stmt};
+
+// The most tests of a row.
+const MOST: usize = 6;
+
+// Whether the second step is of one number, and its neighbours have one target.
+fn stands_out(steps: &[Step]) -> bool
+    ensures { result ≡ second_stands_out steps.now }
+{
+    steps.len() > 2
+        && steps[0].target == steps[2].target
+        && steps[2].start.saturating_sub(steps[1].start) == 1
+}
+
+// How many of the steps the first test of a row leaves to no other test.
+fn settled(steps: &[Step]) -> usize
+    ensures { result ≡ settled steps.now }
+{
+    if stands_out(steps) { 2 } else { 1 }
+}
+
+// Whether so many tests tell the steps apart, one after the other.
+fn is_row(steps: &[Step], tests: usize) -> bool
+    ensures { IsTrue result ↔ (row steps.now ≤ tests) }
+{
+    if steps.len() < 2 {
+        return true;
+    }
+    if tests == 0 {
+        return false;
+    }
+    is_row(&steps[settled(steps)..], tests - 1)
+}
+
+impl Code {
+    /// Goes on as the steps say for the accumulator. A row of few tests is written as it is, others are halved.
+    pub(crate) fn tree(&mut self, steps: &[Step]) -> Result<Target, TreeError>
+        requires ascend { Ascend (2 ^ 32) steps.now }
+        requires inside { AreIn self.old steps.now }
+        ensures ok { IfOk result (λ t. IsTree self.old steps.now t self.new) }
+        ensures err { IfErr result (IsFullBy self.old (3 * (length steps.now - 1))) }
+    {
+        if steps.len() == 1 {
+            return Ok(steps[0].target);
+        }
+        if !is_row(steps, MOST) {
+            let (low, high) = steps.split_at(steps.len() / 2);
+            let upper = self.tree(high)?;
+            let lower = self.tree(low)?;
+            return self.test(Test::AtLeast, high[0].start as u32, upper, lower);
+        }
+        let border = steps[1].start as u32;
+        let rest = self.tree(&steps[settled(steps)..])?;
+        if stands_out(steps) {
+            return self.test(Test::Equal, border, steps[1].target, rest);
+        }
+        self.test(Test::AtLeast, border, rest, steps[0].target)
+    }
+
+    /// Goes on as the steps say for the record's word at this byte, whatever is in the accumulator.
+    pub(crate) fn word(&mut self, byte: u8, steps: &[Step]) -> Result<Target, TreeError>
+        requires aligned { byte % 4 ≡ 0 }
+        requires inside_record { byte ≤ 60 }
+        requires ascend { Ascend (2 ^ 32) steps.now }
+        requires inside { AreIn self.old steps.now }
+        ensures ok { IfOk result (λ t. IsWord self.old byte steps.now t self.new) }
+        ensures err { IfErr result (IsFullBy self.old (3 * length steps.now - 2)) }
+    {
+        let tested = self.tree(steps)?;
+        if steps.len() == 1 {
+            return Ok(tested);
+        }
+        self.push(bpf_stmt(LOAD, u32::from(byte)))?;
+        Ok(Target::At(self.len() - 1))
+    }
+}

@@ -43,7 +43,8 @@ module _ (arch : TargetArch) (d : Data) (policies : BTreeMap (String Global) Fil
       (λ value policy program has made. record { policy = policy; is_policy = has; compiled = made.compiled })
 
   module _ (front : ByName Filter) (entry : String Global × Filter) (back : ByName Filter)
-      (whole : policies.entries ≡ front ++ entry ∷ back) (order : AreInOrder (front ++ entry ∷ back)) (made : ByName (Vec sock_filter Global)) (h : AreMade Compiles front made) where
+      (whole : policies.entries ≡ front ++ entry ∷ back) (order : AreInOrder (front ++ entry ∷ back))
+      (made : ByName (Vec sock_filter Global)) (h : AreMade Compiles front made) where
     -- Behind policies that are compiled, one that is too large is that of the least name.
     least_too_large : (n : ℕ) → IsTooLarge entry.1 n → IsLeastTooLarge arch n d
     least_too_large n wrong = (

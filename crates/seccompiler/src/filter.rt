@@ -76,6 +76,34 @@ impl SeccompFilter {
         })
     }
 
+    /// The chain of each call number: its rules, joined by or.
+    pub fn rules(&self) -> &BTreeMap<i64, Vec<SeccompRule>>
+        ensures { chains_of result.now.entries ≡ self.now.chains }
+    {
+        &self.rules
+    }
+
+    /// The action where no chain matches.
+    pub fn mismatch_action(&self) -> SeccompAction
+        ensures { result ≡ self.now.mismatch_action }
+    {
+        self.mismatch_action
+    }
+
+    /// The action where a chain matches.
+    pub fn match_action(&self) -> SeccompAction
+        ensures { result ≡ self.now.match_action }
+    {
+        self.match_action
+    }
+
+    /// The architecture that the call numbers are of.
+    pub fn target_arch(&self) -> TargetArch
+        ensures { result ≡ self.now.target_arch }
+    {
+        self.target_arch
+    }
+
     /// An equal filter.
     ///
     /// # Errors

@@ -2,10 +2,6 @@
 #![tactic(auto)]
 
 #[cfg(test)]
-mod actions;
-#[cfg(test)]
-mod architectures;
-#[cfg(test)]
 mod builders;
 #[cfg(test)]
 mod compare;
@@ -14,7 +10,7 @@ mod compared_filters;
 #[cfg(test)]
 mod conditions;
 #[cfg(test)]
-mod filters;
+mod copies;
 #[cfg(test)]
 mod instructions;
 #[cfg(test)]
@@ -29,12 +25,6 @@ mod no_memory;
 mod parts;
 #[cfg(test)]
 mod policies;
-#[cfg(test)]
-mod programs;
-#[cfg(test)]
-mod relays;
-#[cfg(test)]
-mod rules;
 #[cfg(test)]
 mod scarce;
 #[cfg(test)]

@@ -7,6 +7,8 @@ row above them. Statements are
     policy ARCH MISMATCH MATCH    a policy without entries, under which the next rows stand; an action is `allow` or `errno(1)`
     call NUMBER[: RULE]           one entry more of it; behind the number may stand how often, as in `call 7, 813 times: RULE`
 
+    keep                          the policy above is the old one of the comparisons below
+
 RULE is one condition or several with `&` between, each maybe so many times, as in `42 x 0 qword masked_eq(10) 14`: argument,
 length, operator and value. Questions are
 
@@ -16,6 +18,10 @@ length, operator and value. Questions are
                                   what the linear program returns for this call, and the steps that it takes
     tree record NUMBER ..         the same of the tree
     records NUMBER .. | NUMBER .. what both programs return for each of these calls
+    compare, compare at most      on which call of which name the policy decides otherwise than the kept one, or permits more: the
+                                  name and both actions, or `same`, or `nowhere more permissive`
+    raw INSTRUCTIONS [for RECORD] what a program of no policy returns for this call, as `seccomptool run` prints it, or why it may not
+                                  be run; an instruction may stand so many times, as in `4096 x RET 0`, and have a code for a name
     code CONDITION @ OFFSET       the code of a condition that leaves by so many instructions behind its end where it fails
     rule RULE                     the code of a rule
     holds CONDITION for ARGS      whether the condition holds for `all` of these values of its argument, or for `none`
@@ -48,6 +54,7 @@ TESTS = {0x15: lambda a, k: a == k, 0x25: lambda a, k: a > k, 0x35: lambda a, k:
 LENGTHS = {"dword": ({"masked_eq": 3}, 2), "qword": ({"masked_eq": 6, "eq": 4, "ne": 4}, 5)}
 
 CONDITION = re.compile(r"(?:(\d+) x )?(\d+) (dword|qword) (?:(eq|ne|ge|gt|le|lt)|masked_eq\((\w+)\)) (\w+)")
+INSTRUCTION = re.compile(r"(?:(\d+) x )?(\w+) (\w+)(?:,(\d+),(\d+))?")
 CALL = re.compile(r"call (\d+)(?:, (\d+) times)?(?:: (.*))?")
 ACTION = re.compile(r"(\w+)(?:\((\d+)\))?")
 WANTED = re.compile(r"(?:(\d+ instructions)(, \d+ relays)?(?:: |$))?(.*)")
@@ -107,6 +114,16 @@ def record_of(words):
         values[name] = ARCHITECTURES.get(value) or int(value, 0)
     arguments = (values[f"a{index}"] for index in range(6))
     return struct.pack("<IIQ6Q", int(number, 0), values["arch"], values["ip"], *arguments)
+
+
+def instructions(text):
+    """Returns instructions as `struct sock_filter` has them."""
+    made, codes = b"", {name: code for code, name in CODES.items()}
+    for part in text.split(";") if text.strip() else ():
+        count, name, k, when, otherwise = matched(INSTRUCTION, part)
+        code = codes[name] if name in codes else int(name, 16)
+        made += struct.pack("<HBBI", code, int(when or 0), int(otherwise or 0), int(k, 0)) * int(count or 1)
+    return made
 
 
 def shown(code):
@@ -201,6 +218,16 @@ class Policy:
         trees = [outcome_of(tree, it) for it in records] if not isinstance(tree, str) else [None] * len(records)
         return [self.agreed(*it, layout) for it in zip(ran, decided, trees)]
 
+    def compared(self, old, words):
+        """Returns what `seccomptool diff` says of an old policy and this one."""
+        for policy, name in ((old, "old.json"), (self, "row.json")):
+            (self.folder / name).write_text(json.dumps({"a": policy.filter}))
+        status, output, errors = self.run(f"./seccomptool diff {words} -a {self.arch} old.json row.json", self.folder)
+        head, *lines = output.splitlines() or [""]
+        if status == 0 and not lines:
+            return head.removeprefix("filter a: ")
+        return "; ".join(it.strip().partition(",")[0] for it in lines) if status == 1 else (output + errors).strip()
+
     @staticmethod
     def agreed(line, decided, of_tree, layout):
         """Returns a program's word and steps, where both programs return what is decided."""
@@ -214,7 +241,7 @@ class Bench:
     """Answers rows one after the other."""
 
     def __init__(self, run, folder):
-        self.run, self.folder, self.policy, self.is_asked = run, folder, None, True
+        self.run, self.folder, self.policy, self.kept, self.is_asked = run, folder, None, None, True
 
     def begun(self, *words):
         """Returns a new policy of these words."""
@@ -232,6 +259,8 @@ class Bench:
             if not self.is_asked:
                 raise NoRow("nothing is asked of the policy above")
             self.policy, self.is_asked = self.begun(*row.split()[1:]), False
+        elif row == "keep":
+            self.kept, self.is_asked = self.policy, True
         else:
             number, count, rule = matched(CALL, row)
             self.policy.add(int(number), int(count or 1), conditions(rule) if rule else ())
@@ -239,14 +268,18 @@ class Bench:
     def answer(self, asked, wanted):
         """Returns the answer to a question, in the form in which it is wanted."""
         kind, _, rest = asked.partition(" ")
-        if kind in ("program", "tree", "record", "records"):
+        if kind in ("program", "tree", "record", "records", "compare"):
             self.is_asked = True
+        if kind == "compare":
+            return self.policy.compared(self.kept, {"": "", "at most": "--at-most"}[rest])
         if kind == "records":
             outcomes = self.policy.outcomes([record_of(it) for it in rest.split("|")])
             return " and ".join(sorted({it.split()[0] for it in outcomes}))
         if kind == "record" or asked.startswith("tree record "):
             record = record_of(rest.removeprefix("record "))
             return self.policy.outcomes([record], "linear" if kind == "record" else "tree")[0]
+        if kind == "raw":
+            return self.ran(rest)
         code = self.code_of(kind, rest) if kind != "holds" else self.held(rest)
         return code if isinstance(code, str) else shown_as(wanted, code)
 
@@ -278,6 +311,14 @@ class Bench:
         front += conditions("0 dword eq 1") * ((behind - 3 * len(front)) // 2)
         code = self.of_rule([*front, condition]).program("linear")
         return code if isinstance(code, str) else code[7:7 + length_of(condition)]
+
+    def ran(self, rest):
+        """Returns what `seccomptool run` prints of a program."""
+        text, _, record = rest.partition(" for ")
+        (self.folder / "row.bpf").write_bytes(instructions(text))
+        (self.folder / "row.bin").write_bytes(record_of(record or "0"))
+        _, output, errors = self.run("./seccomptool run --records row.bin row.bpf", self.folder)
+        return (output + errors).strip().removeprefix("seccomptool: row.bpf: ")
 
     def held(self, rest):
         """Returns whether a condition holds for all of some values, or for none; else what each gives."""
@@ -317,7 +358,7 @@ def answered(bench, row):
             raise NoRow("no answer is stated")
         told = bench.answer(asked, wanted)
         return (wanted, wanted if numbers_in(wanted) == numbers_in(told) else told)
-    except (NoRow, ValueError, AttributeError, TypeError, IndexError, KeyError) as fault:
+    except (NoRow, ValueError, AttributeError, TypeError, IndexError, KeyError, struct.error) as fault:
         return ("a row that is understood", f"{type(fault).__name__}: {fault}")
 
 

@@ -1,4 +1,5 @@
-// Worked examples of conditions, rules, filters and what installs them, as tests.
+// Tests of what no program shows of conditions, rules, filters, comparisons and what installs them. The other worked
+// examples are rows of `tools/rows`.
 #![tactic(auto)]
 
 #[cfg(test)]

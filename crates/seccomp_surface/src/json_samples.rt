@@ -1,8 +1,5 @@
-// The JSON texts that several tests read, and their programs.
+// The JSON texts that several tests read.
 
-use seccompiler::backend::TargetArch;
-use seccompiler::bpf::BpfProgram;
-use seccompiler::compile_from_json;
 use std::alloc::{AllocError, Global};
 use std::test::Fail;
 
@@ -45,12 +42,6 @@ fn filter_text(alloc: Global, entries: &str) -> Result<String, Fail> {
 pub fn policy(alloc: Global, entries: &str) -> Result<String, Fail> {
     let filter = filter_text(alloc, entries)?;
     Ok(format!(in alloc; "{{\"a\":{filter}}}")?)
-}
-
-/// The x86_64 program under a name of the text.
-pub fn compiled(alloc: Global, text: &str, name: &str) -> Result<BpfProgram, Fail> {
-    let mut programs = compile_from_json(alloc, text.as_bytes(), TargetArch::x86_64)?;
-    Ok(programs.remove(name).ok_or("a program under the name")?)
 }
 
 // The text of two filters, the second named first.

@@ -1,8 +1,8 @@
-// The texts of architectures and of the errors of the backend and of the crate's root.
+// The texts of architectures and of errors of the crate's root, but those that `seccompc` shows.
 
 use crate::builders::assert_that;
 use seccompiler::json::JsonFrontendError;
-use seccompiler::{BackendError, Error, TargetArch};
+use seccompiler::{Error, TargetArch};
 use std::alloc::Global;
 use std::process::Abort;
 use std::test::Fail;
@@ -26,56 +26,6 @@ fn architectures(rt: HostRuntime) -> Result<(), Fail> {
     Ok(())
 }
 
-// Asserts the text of the backend's error.
-fn assert_backend(
-    rt: &impl Abort,
-    alloc: Global,
-    error: &BackendError,
-    want: &str,
-) -> Result<(), Fail> {
-    let text = error.to_string(alloc)?;
-    assert_that(rt, want, text.as_str() == want);
-    Ok(())
-}
-
-const BACKEND_ERRORS: [(BackendError, &str); 6] = [
-    (
-        BackendError::EmptyRule,
-        "The condition vector of a rule cannot be empty.",
-    ),
-    (
-        BackendError::FilterTooLarge(4097),
-        "The seccomp filter contains too many BPF instructions: 4097. Max length is 4096.",
-    ),
-    (
-        BackendError::IdenticalActions,
-        "`match_action` and `mismatch_action` are equal.",
-    ),
-    (
-        BackendError::InvalidArgumentNumber,
-        "The seccomp rule contains an invalid argument index. Maximum index value: 5",
-    ),
-    (
-        BackendError::InvalidSyscallNumber(-1),
-        "Invalid syscall number: -1.",
-    ),
-    (BackendError::OutOfMemory, "Out of memory."),
-];
-
-#[test]
-fn errors_of_the_backend(rt: HostRuntime) -> Result<(), Fail> {
-    for (error, want) in &BACKEND_ERRORS {
-        assert_backend(&rt, rt.alloc(), error, want)?;
-    }
-    Ok(())
-}
-
-#[test]
-fn an_error_of_the_backend_with_a_name(rt: HostRuntime) -> Result<(), Fail> {
-    let error = BackendError::InvalidTargetArch(text(rt.alloc(), "x8664")?);
-    assert_backend(&rt, rt.alloc(), &error, "Invalid target arch: x8664.")
-}
-
 // Asserts the text of the root's error.
 fn assert_root(rt: &impl Abort, alloc: Global, error: &Error, want: &str) -> Result<(), Fail> {
     let text = error.to_string(alloc)?;
@@ -83,11 +33,7 @@ fn assert_root(rt: &impl Abort, alloc: Global, error: &Error, want: &str) -> Res
     Ok(())
 }
 
-const ROOT_ERRORS: [(Error, &str); 6] = [
-    (
-        Error::Backend(BackendError::FilterTooLarge(5002)),
-        "Backend error: The seccomp filter contains too many BPF instructions: 5002. Max length is 4096.",
-    ),
+const ROOT_ERRORS: [(Error, &str); 5] = [
     (Error::EmptyFilter, "Cannot install empty filter."),
     (Error::Prctl(1), "Error calling `prctl`: 1"),
     (Error::Seccomp(22), "Error calling `seccomp`: 22"),

@@ -1,12 +1,9 @@
 // Calls that have entries with conditions and entries without.
 
-use crate::builders::record_of;
 use crate::faults::{Fault, is_frontend_fault};
-use crate::json_samples::{COMPARES, MAIN_THREAD, READS, compiled, policy, repeated};
+use crate::json_samples::{COMPARES, MAIN_THREAD, READS, policy, repeated};
 use seccompiler::backend::TargetArch;
-use seccompiler::bpf::{BpfProgram, sock_filter};
 use seccompiler::json::{JsonCompiler, JsonFilter, read_filters};
-use seccompiler::machine::{Outcome, check, run};
 use serde_json::Value;
 use std::alloc::Global;
 use std::process::Abort;
@@ -77,36 +74,6 @@ fn a_call_with_arguments_twice_is_not_widened(rt: HostRuntime) -> Result<(), Fai
 fn no_call_of_a_main_thread_is_widened(rt: HostRuntime) -> Result<(), Fail> {
     let filter = json_filter(rt.alloc(), MAIN_THREAD, "main_thread")?;
     assert_numbers(&rt, rt.alloc(), &filter, &[])
-}
-
-// The program of `read` without arguments, and so many times with.
-fn of_both_kinds(alloc: Global, count: usize) -> Result<BpfProgram, Fail> {
-    let many = repeated(alloc, COMPARES, count)?;
-    let entries = format!(in alloc; "{READS},{many}")?;
-    let text = policy(alloc, entries.as_str())?;
-    compiled(alloc, text.as_str(), "a")
-}
-
-// Whether the program allows `read` with this argument, in six steps.
-fn is_allowed(program: &[sock_filter], first: u64) -> bool {
-    let record = record_of(0, [first, 0, 0, 0, 0, 0]);
-    let (word, steps) = (0x7fff_0000, 6);
-    check(program) && run(program, &record) == Outcome { word, steps }
-}
-
-#[test]
-fn a_call_of_both_kinds_matches_always(rt: HostRuntime) -> Result<(), Fail> {
-    let program = of_both_kinds(rt.alloc(), 1)?;
-    assert!(rt; program.len() == 10);
-    assert!(rt; is_allowed(&program, 5) && is_allowed(&program, 6));
-    Ok(())
-}
-
-#[test]
-fn one_entry_without_arguments_beside_many_with(rt: HostRuntime) -> Result<(), Fail> {
-    let program = of_both_kinds(rt.alloc(), 818)?;
-    assert!(rt; program.len() == 10);
-    Ok(())
 }
 
 // Whether `widened` tells that there is no argument of an index above 5.

@@ -26,9 +26,6 @@ pub const X86_64: u32 = 0xc000_003e;
 /// `AUDIT_ARCH_AARCH64` of `linux/audit.h`.
 pub const AARCH64: u32 = 0xc000_00b7;
 
-/// `AUDIT_ARCH_RISCV64` of `linux/audit.h`.
-pub const RISCV64: u32 = 0xc000_00f3;
-
 /// The fields of `struct seccomp_data`, in its order.
 #[derive(Clone, Copy, Debug)]
 pub struct SeccompData {
@@ -113,20 +110,6 @@ pub fn is_answered(
     word: u32,
 ) -> bool {
     check(program) && run(program, record).word == word && filter.decide(record) == word
-}
-
-/// Asserts that the filter's program passes the checker, and that it and `decide` answer the call by
-/// this value.
-pub fn assert_word(
-    rt: &impl Abort,
-    name: &str,
-    filter: &SeccompFilter,
-    program: &[sock_filter],
-    call: &SeccompData,
-    word: u32,
-) {
-    let is_answered = is_answered(filter, program, &call.record(), word);
-    assert!(rt; is_answered, "{name} on {call:?}");
 }
 
 // Whether the program passes the checker, and it and the filter's `decide` answer the record by the

@@ -1,10 +1,7 @@
-// Worked examples of conditions, rules, filters and what installs them, as tests.
+// Tests of what no program shows of conditions, rules, filters, comparisons and what installs them. The other worked
+// examples are rows of `tools/rows`.
 #![tactic(auto)]
 
-#[cfg(test)]
-mod actions;
-#[cfg(test)]
-mod architectures;
 #[cfg(test)]
 mod builders;
 #[cfg(test)]
@@ -14,7 +11,7 @@ mod compared_filters;
 #[cfg(test)]
 mod conditions;
 #[cfg(test)]
-mod filters;
+mod copies;
 #[cfg(test)]
 mod instructions;
 #[cfg(test)]
@@ -29,12 +26,6 @@ mod no_memory;
 mod parts;
 #[cfg(test)]
 mod policies;
-#[cfg(test)]
-mod programs;
-#[cfg(test)]
-mod relays;
-#[cfg(test)]
-mod rules;
 #[cfg(test)]
 mod scarce;
 #[cfg(test)]

@@ -1,11 +1,11 @@
-// How long a program may be, and which numbers a call may have.
+// The longest program of empty chains, numbers that no policy can name, and a rule too long for any program.
 
-use crate::builders::{ALLOW, Parts, SeccompData, TRAP, assert_answers, assert_word, call};
-use crate::policies::{Policy, refused_length, refused_number};
-use seccompiler::backend::SeccompCmpArgLen::Dword;
-use seccompiler::backend::SeccompCmpOp::{Eq, Le, MaskedEq};
+use crate::builders::{ALLOW, Parts, TRAP, assert_answers, call, long_rule};
+use crate::instructions::{jump, jump_equal, load, mask};
+use crate::policies::{Policy, refused_number};
+use seccompiler::backend::SeccompCmpArgLen::{Dword, Qword};
+use seccompiler::backend::SeccompCmpOp::{Le, MaskedEq};
 use seccompiler::bpf::sock_filter;
-use seccompiler::filter::SeccompFilter;
 use std::alloc::Global;
 use std::process::Abort;
 use std::test::Fail;
@@ -21,68 +21,6 @@ fn the_longest_program_of_empty_chains(rt: HostRuntime) -> Result<(), Fail> {
         (call(0, [0; 6]), ALLOW, 6),
     ];
     assert_answers(&rt, rt.alloc(), "818 empty chains", &filter, &answers)
-}
-
-// Asserts the length of the filter's program, and its words.
-fn assert_words(
-    rt: &impl Abort,
-    filter: &SeccompFilter,
-    program: &[sock_filter],
-    length: usize,
-    words: &[(SeccompData, u32)],
-) {
-    assert!(rt; program.len() == length);
-    for (call, word) in words {
-        assert_word(rt, "a long program", filter, program, call, *word);
-    }
-}
-
-#[test]
-fn the_longest_program_of_rules(rt: HostRuntime) -> Result<(), Fail> {
-    let rules = &[(813, (0, Dword, Eq, 1)), (4, (0, Dword, MaskedEq(1), 1))];
-    let (number, others) = (7, &[]);
-    let filter = Policy::Rules {
-        number,
-        rules,
-        others,
-    }
-    .filter(rt.alloc())?;
-    let program = filter.to_bpf(rt.alloc())?;
-    let words = [
-        (call(7, [1, 0, 0, 0, 0, 0]), ALLOW),
-        (call(7, [2, 0, 0, 0, 0, 0]), TRAP),
-        (call(8, [1, 0, 0, 0, 0, 0]), TRAP),
-    ];
-    assert_words(&rt, &filter, &program, 4096, &words);
-    Ok(())
-}
-
-// Whether the policy's filter has this length, and is refused for it.
-fn is_too_large(alloc: Global, policy: Policy, length: usize) -> Result<bool, Fail> {
-    let filter = policy.filter(alloc)?;
-    let refused = refused_length(filter.to_bpf(alloc));
-    Ok(refused == Some(length) && filter.program_len() == length)
-}
-
-// A call number, how many rules of this one condition it has, and the length that is refused.
-const TOO_LARGE: [(i64, usize, Parts, usize); 2] = [
-    (1, 818, (0, Dword, Eq, 1), 4097),
-    (7, 999, (0, Dword, Le, 1), 5002),
-];
-
-#[test]
-fn too_large(rt: HostRuntime) -> Result<(), Fail> {
-    for (number, count, parts, length) in &TOO_LARGE {
-        let (number, rules, others) = (*number, &[(*count, *parts)], &[]);
-        let policy = Policy::Rules {
-            number,
-            rules,
-            others,
-        };
-        let is_too_large = is_too_large(rt.alloc(), policy, *length)?;
-        assert!(rt; is_too_large, "{count} rules");
-    }
-    Ok(())
 }
 
 // The call number for which the policy is refused.
@@ -120,4 +58,48 @@ fn the_greatest_number(rt: HostRuntime) -> Result<(), Fail> {
     let filter = Policy::Allowed(&[4294967295]).filter(rt.alloc())?;
     let answers = [(greatest, ALLOW, 6), (call(0, [0; 6]), TRAP, 6)];
     assert_answers(&rt, rt.alloc(), "call 4294967295", &filter, &answers)
+}
+
+const MASKED: Parts = (0, Qword, MaskedEq(0), 0);
+
+// How many relays a rule's code has: nothing but a relay begins with a jump over two.
+fn relays(code: &[sock_filter]) -> usize {
+    code.iter()
+        .filter(|instruction| **instruction == jump(2))
+        .count()
+}
+
+// Asserts what the code of 100,000 masked conditions is, at its ends.
+fn assert_hundred_thousand(rt: &impl Abort, code: &[sock_filter]) {
+    assert!(rt; code.len() == 607142, "the length is {}", code.len());
+    assert!(rt; relays(code) == 2380, "the relays are {}", relays(code));
+    // The last group has 40 conditions.
+    let front = [
+        jump(1),
+        jump(242),
+        load(20),
+        mask(0),
+        jump_equal(0, 0, 238),
+        load(16),
+        mask(0),
+        jump_equal(0, 0, 235),
+    ];
+    assert!(rt; code.starts_with(&front), "the first instructions");
+    let back = [
+        load(20),
+        mask(0),
+        jump_equal(0, 0, 4),
+        load(16),
+        mask(0),
+        jump_equal(0, 0, 1),
+    ];
+    assert!(rt; code.ends_with(&back), "the last instructions");
+}
+
+#[test]
+fn a_rule_of_100000_conditions(rt: HostRuntime) -> Result<(), Fail> {
+    let alloc = rt.alloc();
+    let code = long_rule(alloc, &[(100_000, MASKED)])?.to_bpf(alloc)?;
+    assert_hundred_thousand(&rt, &code);
+    Ok(())
 }

@@ -18,8 +18,6 @@ use std::test::Fail;
 pub enum Policy<'a> {
     /// No chain: each call of the architecture is allowed.
     Empty,
-    /// One call, allowed where its first two arguments are 1 and 2.
-    TwoArguments,
     /// Two calls, one with two rules and one with none.
     TwoCalls,
     /// Three calls, with each operator but `Eq`.
@@ -49,7 +47,6 @@ impl Policy<'_> {
     pub fn filter(self, alloc: Global) -> Result<SeccompFilter, Fail> {
         match self {
             Policy::Empty => empty_policy(alloc),
-            Policy::TwoArguments => two_arguments(alloc),
             Policy::TwoCalls => two_calls(alloc),
             Policy::ThreeCalls(arg_len) => three_calls(alloc, arg_len),
             Policy::ThreeCallsReversed(arg_len) => three_calls_reversed(alloc, arg_len),
@@ -62,11 +59,6 @@ impl Policy<'_> {
                 others,
             } => many_rules(alloc, number, rules, others),
         }
-    }
-
-    /// The filter's program.
-    pub fn program(self, alloc: Global) -> Result<BpfProgram, Fail> {
-        Ok(self.filter(alloc)?.to_bpf(alloc)?)
     }
 
     /// The filter's program of the second layout.
@@ -140,14 +132,6 @@ fn many_rules(
 fn empty_policy(alloc: Global) -> Result<SeccompFilter, Fail> {
     let chains = BTreeMap::new(alloc);
     Ok(SeccompFilter::new(chains, Allow, Trap, TargetArch::x86_64)?)
-}
-
-// One call, allowed where its first two arguments are 1 and 2.
-fn two_arguments(alloc: Global) -> Result<SeccompFilter, Fail> {
-    let both = rule(alloc, &[(0, Dword, Eq, 1), (1, Dword, Eq, 2)])?;
-    let mut chains = BTreeMap::new(alloc);
-    drop(chains.insert(72, vec![in alloc; both]?)?);
-    Ok(SeccompFilter::new(chains, KillProcess, Allow, TargetArch::x86_64)?)
 }
 
 /// Two calls, one with two rules and one with none.

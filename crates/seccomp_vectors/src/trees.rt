@@ -1,13 +1,13 @@
-// The second layout of programs: its instructions, its answers at the borders of ranges, and what
-// it refuses.
+// The second layout of programs, where numbers are greater or more than those of named calls: its
+// instructions, its answers at the borders of ranges, and what it refuses.
 
 use crate::builders::{
-    AARCH64, ALLOW, KILL_PROCESS, Parts, SeccompData, TRAP, X86_64, assert_that, call, is_answered,
+    AARCH64, ALLOW, KILL_PROCESS, SeccompData, TRAP, X86_64, assert_that, call, is_answered,
 };
 use crate::instructions::{give, jump, jump_at_least, jump_equal, load};
 use crate::policies::{Policy, refused_length, refused_number};
-use seccompiler::backend::SeccompCmpArgLen::{Dword, Qword};
-use seccompiler::backend::SeccompCmpOp::{Eq, MaskedEq};
+use seccompiler::backend::SeccompCmpArgLen::Dword;
+use seccompiler::backend::SeccompCmpOp::Eq;
 use seccompiler::bpf::sock_filter;
 use seccompiler::filter::SeccompFilter;
 use seccompiler::machine::{Outcome, check, run};
@@ -41,20 +41,11 @@ fn assert_tree(
 }
 
 #[test]
-fn instructions_of_few_ranges(rt: HostRuntime) -> Result<(), Fail> {
+fn instructions_of_the_greatest_number(rt: HostRuntime) -> Result<(), Fail> {
     let alloc = rt.alloc();
-    let none = [give(ALLOW)];
-    assert_tree(&rt, alloc, "no chain", Policy::Empty, &none)?;
-    let least = [jump_at_least(1, 1, 0), give(ALLOW), give(TRAP)];
-    assert_tree(&rt, alloc, "call 0", Policy::Allowed(&[0]), &least)?;
     let greatest = [jump_at_least(4294967295, 0, 1), give(ALLOW), give(TRAP)];
     let policy = Policy::Allowed(&[4294967295]);
-    assert_tree(&rt, alloc, "call 4294967295", policy, &greatest)
-}
-
-#[test]
-fn instructions_of_several_numbers(rt: HostRuntime) -> Result<(), Fail> {
-    let alloc = rt.alloc();
+    assert_tree(&rt, alloc, "call 4294967295", policy, &greatest)?;
     let both = [
         jump_at_least(1, 0, 1),
         jump_at_least(4294967295, 0, 1),
@@ -62,72 +53,7 @@ fn instructions_of_several_numbers(rt: HostRuntime) -> Result<(), Fail> {
         give(TRAP),
     ];
     let policy = Policy::Allowed(&[0, 4294967295]);
-    assert_tree(&rt, alloc, "calls 0 and 4294967295", policy, &both)?;
-    let neighbours = [
-        jump_at_least(5, 0, 2),
-        jump_at_least(8, 1, 0),
-        give(ALLOW),
-        give(TRAP),
-    ];
-    let policy = Policy::Allowed(&[5, 6, 7]);
-    assert_tree(&rt, alloc, "calls 5 to 7", policy, &neighbours)
-}
-
-#[test]
-fn instructions_of_numbers_that_stand_out(rt: HostRuntime) -> Result<(), Fail> {
-    let alloc = rt.alloc();
-    let one = [jump_equal(5, 0, 1), give(ALLOW), give(TRAP)];
-    assert_tree(&rt, alloc, "call 5", Policy::Allowed(&[5]), &one)?;
-    let gap = [
-        jump_equal(5, 1, 0),
-        jump_equal(7, 0, 1),
-        give(ALLOW),
-        give(TRAP),
-    ];
-    let policy = Policy::Allowed(&[5, 7]);
-    assert_tree(&rt, alloc, "calls 5 and 7", policy, &gap)
-}
-
-#[test]
-fn instructions_of_halved_ranges(rt: HostRuntime) -> Result<(), Fail> {
-    let eight = [
-        jump_at_least(7, 3, 0),
-        jump_at_least(1, 0, 7),
-        jump_at_least(3, 0, 5),
-        jump_at_least(5, 4, 5),
-        jump_at_least(9, 0, 4),
-        jump_at_least(11, 0, 2),
-        jump_at_least(13, 0, 2),
-        jump_at_least(15, 1, 0),
-        give(ALLOW),
-        give(TRAP),
-    ];
-    let policy = Policy::Allowed(&[1, 2, 5, 6, 9, 10, 13, 14]);
-    assert_tree(&rt, rt.alloc(), "eight calls", policy, &eight)
-}
-
-#[test]
-fn instructions_of_ranges_with_rules(rt: HostRuntime) -> Result<(), Fail> {
-    let two = [
-        jump_equal(72, 0, 13),
-        jump(1),
-        jump(6),
-        load(32),
-        jump_equal(1, 0, 3),
-        load(24),
-        jump_equal(2, 0, 1),
-        give(ALLOW),
-        jump(1),
-        jump(4),
-        load(24),
-        jump_equal(1, 0, 1),
-        give(ALLOW),
-        give(KILL_PROCESS),
-        jump_equal(288, 0, 1),
-        give(ALLOW),
-        give(KILL_PROCESS),
-    ];
-    assert_tree(&rt, rt.alloc(), "two calls", Policy::TwoCalls, &two)
+    assert_tree(&rt, alloc, "calls 0 and 4294967295", policy, &both)
 }
 
 #[test]
@@ -156,120 +82,6 @@ fn instructions_of_a_rule_in_the_last_range(rt: HostRuntime) -> Result<(), Fail>
 // Whether the program passes the checker, and answers the call by the word in so many steps.
 fn ends_in(program: &[sock_filter], asked: &SeccompData, word: u32, steps: usize) -> bool {
     check(program) && run(program, &asked.record()) == Outcome { word, steps }
-}
-
-// The conditions of rules of four instructions, and of five. Each rule has a return behind it.
-const OF_FOUR: Parts = (0, Dword, Eq, 1);
-
-const OF_FIVE: Parts = (0, Dword, MaskedEq(1), 1);
-
-// Call 7 has rules of one condition each, each rule as many times as it says, and the others are allowed.
-fn of_call_7<'a>(rules: &'a [(usize, Parts)], others: &'a [i64]) -> Policy<'a> {
-    let number = 7;
-    Policy::Rules {
-        number,
-        rules,
-        others,
-    }
-}
-
-// Asserts the program's instructions from the fifth on, and its answers.
-fn assert_jumps_of(
-    rt: &impl Abort,
-    program: &[sock_filter],
-    jumps: &[sock_filter],
-    answers: &[(SeccompData, u32, usize)],
-) {
-    assert!(rt; program.get(4..4 + jumps.len()) == Some(jumps), "{jumps:?}");
-    for (asked, word, steps) in answers {
-        assert!(rt; ends_in(program, asked, *word, *steps), "{asked:?}");
-    }
-}
-
-// The same of the tree of this policy.
-fn assert_jumps(
-    rt: &impl Abort,
-    alloc: Global,
-    policy: Policy,
-    jumps: &[sock_filter],
-    answers: &[(SeccompData, u32, usize)],
-) -> Result<(), Fail> {
-    let program = policy.tree(alloc)?;
-    assert_jumps_of(rt, &program, jumps, answers);
-    Ok(())
-}
-
-#[test]
-fn a_block_of_255_instructions(rt: HostRuntime) -> Result<(), Fail> {
-    let block = [jump_equal(7, 0, 255), jump(1), jump(4)];
-    let answers = [
-        (call(6, [1; 6]), TRAP, 5),
-        (call(7, [1; 6]), ALLOW, 8),
-        (call(8, [1; 6]), TRAP, 5),
-        (call(4294967295, [1; 6]), TRAP, 5),
-    ];
-    let policy = of_call_7(&[(47, OF_FOUR), (3, OF_FIVE)], &[]);
-    assert_jumps(&rt, rt.alloc(), policy, &block, &answers)
-}
-
-#[test]
-fn ranges_of_256_instructions(rt: HostRuntime) -> Result<(), Fail> {
-    let apart = [
-        jump_at_least(7, 1, 0),
-        give(TRAP),
-        jump_at_least(8, 0, 1),
-        jump(256),
-        jump(1),
-        jump(4),
-    ];
-    let answers = [
-        (call(6, [1; 6]), TRAP, 5),
-        (call(7, [1; 6]), ALLOW, 9),
-        (call(8, [1; 6]), TRAP, 7),
-        (call(4294967295, [1; 6]), TRAP, 7),
-    ];
-    let policy = of_call_7(&[(46, OF_FOUR), (4, OF_FIVE)], &[]);
-    assert_jumps(&rt, rt.alloc(), policy, &apart, &answers)
-}
-
-// Other calls than 7, of which no row of six tests tells.
-const SIX_OTHERS: [i64; 6] = [20, 21, 30, 31, 40, 41];
-
-#[test]
-fn a_jump_over_255_instructions(rt: HostRuntime) -> Result<(), Fail> {
-    let near = [
-        jump_at_least(22, 255, 0),
-        jump_equal(7, 0, 251),
-        jump(1),
-        jump(4),
-    ];
-    let answers = [
-        (call(6, [1; 6]), TRAP, 7),
-        (call(7, [1; 6]), ALLOW, 9),
-        (call(21, [1; 6]), ALLOW, 7),
-        (call(22, [1; 6]), TRAP, 6),
-    ];
-    let policy = of_call_7(&[(50, OF_FOUR)], &SIX_OTHERS);
-    assert_jumps(&rt, rt.alloc(), policy, &near, &answers)
-}
-
-#[test]
-fn a_jump_over_256_instructions(rt: HostRuntime) -> Result<(), Fail> {
-    let far = [
-        jump_at_least(22, 0, 1),
-        jump(256),
-        jump_equal(7, 0, 252),
-        jump(1),
-        jump(4),
-    ];
-    let answers = [
-        (call(6, [1; 6]), TRAP, 7),
-        (call(7, [1; 6]), ALLOW, 9),
-        (call(21, [1; 6]), ALLOW, 7),
-        (call(22, [1; 6]), TRAP, 7),
-    ];
-    let policy = of_call_7(&[(49, OF_FOUR), (1, OF_FIVE)], &SIX_OTHERS);
-    assert_jumps(&rt, rt.alloc(), policy, &far, &answers)
 }
 
 // Whether both programs answer the call number by the word of `decide`, with each of three arguments.
@@ -330,26 +142,10 @@ fn assert_decides(
 }
 
 #[test]
-fn words_at_the_borders_of_shared_policies(rt: HostRuntime) -> Result<(), Fail> {
-    let alloc = rt.alloc();
-    assert_decides(&rt, alloc, Policy::Empty, &[0, 7, 4294967295])?;
-    assert_decides(&rt, alloc, Policy::TwoCalls, &[0, 72, 288, 4294967295])?;
-    let numbers = [0, 1, 9, 10, 4294967295];
-    assert_decides(&rt, alloc, Policy::ThreeCalls(Dword), &numbers)?;
-    assert_decides(&rt, alloc, Policy::ThreeCalls(Qword), &numbers)
-}
-
-#[test]
 fn words_at_the_borders_of_many_ranges(rt: HostRuntime) -> Result<(), Fail> {
     let alloc = rt.alloc();
     let ends = Policy::Allowed(&[0, 4294967295]);
     assert_decides(&rt, alloc, ends, &[0, 4294967295])?;
-    assert_decides(
-        &rt,
-        alloc,
-        of_call_7(&[(51, OF_FOUR)], &[]),
-        &[0, 7, 4294967295],
-    )?;
     let (first, step, count) = (1, 2, 300);
     let with_gaps = Policy::Spread { first, step, count };
     let numbers = [0, 1, 3, 149, 299, 301, 597, 599, 600, 4294967295];

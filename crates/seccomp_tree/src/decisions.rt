@@ -3,12 +3,12 @@
 use seccompiler::SeccompCondition;
 use std::marker::Model;
 
-/// Conditions, and the word that a program returns where they all hold. It always holds where there are none.
+/// Conditions, and the value that a program returns where they all hold. They always hold where there are none.
 #[derive(Debug, Drop)]
 pub struct Decision {
     /// The conditions, joined by and.
     pub conditions: Vec<SeccompCondition>,
-    /// The word, as a kernel reads it: an action and its data.
+    /// The return value, as a kernel reads it: an action and its data.
     pub value: u32,
 }
 

@@ -16,10 +16,10 @@ reason_among-requires-clause-within c =
     all_within c.args.target (pos (word_at c.args.call.now 0)) c.args.entries.now c.as_slice.result.now (found c)
 
 -- The reason among them is the record's.
-is_reason : (c : goal.After-reason_among) → IsReason c.args.target c.args.entries.now c.args.call.now c.reason_among.result
+is_reason : (c : goal.After-drop-indices) → IsReason c.args.target c.args.entries.now c.args.call.now c.reason_among.result
 is_reason c =
     let same = sym c.word_at.ensures ∙ c.if-word_at-get_audit_value.false ∙ c.get_audit_value.ensures in
-    of_call same (c.as_slice.result.now, found c.before, c.reason_among.ensures)
+    of_call same (c.as_slice.result.now, found c.before.before, c.reason_among.ensures)
 
 pub returns-clause-reason : goal.returns-clause-reason
 returns-clause-reason c = is_reason c

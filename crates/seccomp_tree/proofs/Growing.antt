@@ -1,13 +1,12 @@
 -- How code grows, and what stays inside it.
-use Rattle.std.proofs.Common.{◌≡◌, ℕ, ◌+◌, ◌-◌, ◌<◌, ◌≤◌, List, [], ◌∷◌, ◌++◌, length, append_assoc, length-append, refl, sym, ap}
+use Rattle.std.proofs.Common.{◌≡◌, ℕ, ◌+◌, ◌-◌, ◌≤◌, List, [], ◌∷◌, ◌++◌, length, append_assoc, length-append, refl, sym, ap}
 use Rattle.std.proofs.Common.{◌∙◌, subst, arith}
 use Rattle.seccompiler.specs.declared.bpf.sock_filter.{sock_filter}
-use Rattle.seccompiler.specs.Machine.{IsFine, IsInRange, greatest_length}
 use Rattle.seccomp_tree.specs.declared.steps.Target.{Target}
 use Rattle.seccomp_tree.specs.declared.steps.Target.TheVariants.{Give, At}
 use Rattle.seccomp_tree.specs.declared.steps.Step.{Step}
 use Rattle.seccomp_tree.specs.Steps.{found_in}
-use Rattle.seccomp_tree.specs.Code.{IsIn, AreIn, Grows, IsSound}
+use Rattle.seccomp_tree.specs.Code.{IsIn, AreIn, Grows}
 
 pub grows_not : (code : List sock_filter) (most : ℕ) → Grows code most code
 grows_not code most = record { front = []; whole = refl; few = omega arith }
@@ -39,13 +38,3 @@ are_in_grown old new most steps g h = λ a. is_in_grown old new most (found_in s
 -- the place that was written last is inside
 pub last_in : (code : List sock_filter) (t : Target) → t ≡ At (length code - 1) → 1 ≤ length code → IsIn code t
 last_in code t is some = subst (IsIn code) (sym is) (omega arith)
-
--- code stays sound where an instruction is written in front of it
-pub sound_push : (code : List sock_filter) (i : sock_filter) → IsSound code → IsFine i 0 (length code + 1) → IsInRange i
-    → length code < greatest_length → IsSound (i ∷ code)
-sound_push code i h fine range room = record {
-  fine = (fine, (range, h.fine));
-  few = omega arith;
-  front = i ∷ h.front;
-  ends = ap (λ l. i ∷ l) h.ends;
-}

@@ -2,6 +2,7 @@
 pub mod Tails
 pub mod Growing
 pub mod Runs
+pub mod Soundness
 pub mod StepLists
 pub mod Overlays
 pub mod Laying
@@ -13,6 +14,15 @@ pub mod Ruled
 pub mod Reaching
 pub mod Testing
 pub mod Cuts
+pub mod Parts
 pub mod RowTests
 pub mod Trees
-pub mod Program
+pub mod Words
+pub mod ProgramEnds
+pub mod Deciding
+pub mod Defaults
+pub mod RangesPushed
+pub mod CallsPushed
+pub mod FewestSteps
+pub mod WholeProgram
+pub mod Theorem

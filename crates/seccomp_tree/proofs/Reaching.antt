@@ -1,5 +1,5 @@
 -- For `does` and `reach`: the places that do what a target says.
-use Rattle.std.proofs.Common.{◌≡◌, ℕ, zero, suc, ◌+◌, ◌<◌, ◌≤◌, ◌^◌, List, ◌∷◌, length, get_or, refl, sym, ap, ◌∙◌}
+use Rattle.std.proofs.Common.{◌≡◌, ℕ, zero, suc, ◌+◌, ◌<◌, ◌≤◌, ◌^◌, List, ◌∷◌, length, drop, get_or, refl, sym, ap, ◌∙◌}
 use Rattle.std.proofs.Common.{subst, arith}
 use Rattle.std.specs.Prelude.{reverse}
 use Rattle.std.proofs.lemmas.List.{length-reverse}
@@ -7,37 +7,55 @@ use Rattle.seccompiler.specs.declared.bpf.sock_filter.{sock_filter}
 use Rattle.seccompiler.specs.Machine.{Does, jumps}
 use Rattle.seccomp_tree.specs.declared.steps.Target.{Target}
 use Rattle.seccomp_tree.specs.declared.steps.Target.TheVariants.{Give, At}
-use Rattle.seccomp_tree.specs.Code.{StandsFor, tail_at, Returns, gives, goes_on, Starts, at_place, Leads, to_return, to_place, DoesAs}
+use Rattle.seccomp_tree.specs.Code.{tail_at, Returns, gives, goes_on, Starts, at_place, Leads, to_return, to_place, DoesAs}
 use Rattle.seccomp_tree.specs.Code.{IsFar, IsReached}
 use Rattle.seccomp_tree.proofs.Tails.{tail_whole, jump_to, jump_from, tail_written}
 use Rattle.seccomp_tree.proofs.Growing.{grows_not, grows_one}
 use Rattle.seccomp_tree.proofs.Runs.{returns_more, returns_grown, does_of_old}
 
--- an instruction that stands for a target returns what the target leads to
-stands_run : (r : List ℕ) (code : List sock_filter) (place : ℕ) (t : Target) (i : sock_filter) (rest : List sock_filter) (a w n : ℕ)
-    → place < length code → tail_at code place ≡ i ∷ rest → a < 2 ^ 32 → StandsFor i place t → Leads code r t a w n
-    → Returns r (i ∷ rest) a w n
-stands_run r code place (Give v) i rest a w zero inside here small is (to_return u b m some) = absurd (omega arith)
-stands_run r code place (Give v) i rest a w (suc n) inside here small is (to_return u b m some) = gives i rest a v n is.0 is.1
-stands_run r code place (At to) i rest a w n inside here small is (to_place p v b m within h) =
-    let step : Does i r 0 a (1 + i.k) a = jumps is.0 (omega arith) refl in
-    goes_on i rest a a w m i.k step small (subst (λ l. Returns r l a w m) (sym (jump_from code place i.k to i rest inside here is.1)) h)
+-- an instruction that returns the word of a target
+gives_word : (r : List ℕ) (i : sock_filter) (rest code : List sock_filter) (v a w n : ℕ) → i.code ≡ 0x06 → i.k ≡ v
+    → Leads code r (Give v) a w n → Returns r (i ∷ rest) a w n
+gives_word r i rest code v a w zero is word (to_return u b m some) = absurd (omega arith)
+gives_word r i rest code v a w (suc n) is word (to_return u b m some) = gives i rest a v n is word
 
-stands : (code : List sock_filter) (place : ℕ) (t : Target) (i : sock_filter) (rest : List sock_filter) → place < length code
-    → tail_at code place ≡ i ∷ rest → StandsFor i place t → DoesAs code t place code
-stands code place t i rest inside here is = record {
+pub does_return : (code : List sock_filter) (place v : ℕ) (i : sock_filter) (rest : List sock_filter) → place < length code
+    → tail_at code place ≡ i ∷ rest → i.code ≡ 0x06 → i.k ≡ v → DoesAs code (Give v) place code
+does_return code place v i rest inside here is word = record {
   inside = inside;
-  leads = λ r a w n small h.
-      subst (λ l. Returns r l a w n) (sym here) (stands_run r code place t i rest a w n inside here small is h);
+  leads = λ r a w n small h. subst (λ l. Returns r l a w n) (sym here) (gives_word r i rest code v a w n is word h);
 }
 
 -- the same of code as it was written
-pub stands_written : (back code : List sock_filter) (place : ℕ) (t u : Target) (i : sock_filter) → reverse back ≡ code
-    → place < length code → i ≡ get_or back place i → t ≡ u → StandsFor i place u → DoesAs code t place code
-stands_written back code place t u i view inside here same is =
+pub written_return : (back code : List sock_filter) (place v : ℕ) (t : Target) (i : sock_filter) → reverse back ≡ code
+    → place < length code → i ≡ get_or back place i → t ≡ Give v → i.code ≡ 0x06 → i.k ≡ v → DoesAs code t place code
+written_return back code place v t i view inside here is_give is word =
     let at = tail_written back place i (omega (arith, ap length view, length-reverse back)) here in
-    let tail = ap (λ l. tail_at l place) (sym view) ∙ at.1 in
-    stands code place t i at.0 inside tail (subst (StandsFor i place) (sym same) is)
+    let same = ap (λ l. tail_at l place) (sym view) ∙ at.1 in
+    subst (λ u. DoesAs code u place code) (sym is_give) (does_return code place v i at.0 inside same is word)
+
+-- an instruction that jumps to the place of a target
+jumps_there : (r : List ℕ) (i : sock_filter) (rest code : List sock_filter) (to a w n : ℕ) → a < 2 ^ 32 → i.code ≡ 0x05
+    → drop i.k rest ≡ tail_at code to → Leads code r (At to) a w n → Returns r (i ∷ rest) a w n
+jumps_there r i rest code to a w n small is over (to_place p v b m inside h) =
+    let step : Does i r 0 a (1 + i.k) a = jumps is (omega arith) refl in
+    goes_on i rest a a w m i.k step small (subst (λ l. Returns r l a w m) (sym over) h)
+
+pub does_jump : (code : List sock_filter) (place to : ℕ) (i : sock_filter) (rest : List sock_filter) → place < length code
+    → tail_at code place ≡ i ∷ rest → i.code ≡ 0x05 → to + 1 + i.k ≡ place → DoesAs code (At to) place code
+does_jump code place to i rest inside here is over = record {
+  inside = inside;
+  leads = λ r a w n small h.
+      subst (λ l. Returns r l a w n) (sym here)
+      (jumps_there r i rest code to a w n small is (jump_from code place i.k to i rest inside here over) h);
+}
+
+pub written_jump : (back code : List sock_filter) (place to : ℕ) (t : Target) (i : sock_filter) → reverse back ≡ code
+    → place < length code → i ≡ get_or back place i → t ≡ At to → i.code ≡ 0x05 → to + 1 + i.k ≡ place → DoesAs code t place code
+written_jump back code place to t i view inside here is_at is over =
+    let at = tail_written back place i (omega (arith, ap length view, length-reverse back)) here in
+    let same = ap (λ l. tail_at l place) (sym view) ∙ at.1 in
+    subst (λ u. DoesAs code u place code) (sym is_at) (does_jump code place to i at.0 inside same is over)
 
 -- a place by itself
 reached_run : (r : List ℕ) (code : List sock_filter) (m a w n : ℕ) → Leads code r (At m) a w n → Returns r (tail_at code m) a w n
@@ -63,11 +81,9 @@ reached_twin code t place far does near = record {
 
 -- an instruction that is written for it
 pub reached_new : (code : List sock_filter) (t : Target) (i : sock_filter) (new : List sock_filter) (place : ℕ) → IsFar code t
-    → new ≡ i ∷ code → place + 1 ≡ length new → StandsFor i (length code) t → IsReached code t place new
-reached_new code t i new place far written last is =
+    → new ≡ i ∷ code → place + 1 ≡ length new → DoesAs (i ∷ code) t (length code) (i ∷ code) → IsReached code t place new
+reached_new code t i new place far written last does =
     let at : length code ≡ place = omega (arith, ap length written) in
-    let tail = tail_whole (i ∷ code) (length code) (omega arith) in
-    let does = stands (i ∷ code) (length code) t i code (omega arith) tail is in
     subst (IsReached code t place) (sym written)
     (subst (λ p. IsReached code t p (i ∷ code)) at record {
       grows = grows_one code i;
@@ -75,6 +91,16 @@ reached_new code t i new place far written last is =
       near = omega arith;
       itself = λ m is _ close. absurd (omega (arith, far m is));
     })
+
+pub new_return : (code : List sock_filter) (v : ℕ) (i : sock_filter) → i.code ≡ 0x06 → i.k ≡ v
+    → DoesAs (i ∷ code) (Give v) (length code) (i ∷ code)
+new_return code v i is word =
+    does_return (i ∷ code) (length code) v i code (omega arith) (tail_whole (i ∷ code) (length code) (omega arith)) is word
+
+pub new_jump : (code : List sock_filter) (to : ℕ) (i : sock_filter) → i.code ≡ 0x05 → to + 1 + i.k ≡ length code
+    → DoesAs (i ∷ code) (At to) (length code) (i ∷ code)
+new_jump code to i is over =
+    does_jump (i ∷ code) (length code) to i code (omega arith) (tail_whole (i ∷ code) (length code) (omega arith)) is over
 
 -- a run from an instruction in front of the code, which goes on at a place of it
 pub stepped : (i : sock_filter) (code : List sock_filter) (r : List ℕ) (a a' w n d place : ℕ) → a' < 2 ^ 32

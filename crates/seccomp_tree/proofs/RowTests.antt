@@ -1,8 +1,11 @@
 -- For `row` and `tree`: what the first test of a row leaves to the others.
-use Rattle.std.proofs.Common.{◌≡◌, ◌≢◌, ℕ, zero, suc, ◌+◌, ◌-◌, ◌*◌, ◌^◌, ◌<◌, ◌≤◌, List, [], ◌∷◌, length, drop, get_or, Bool, true, false}
-use Rattle.std.proofs.Common.{refl, sym, ap, ◌∙◌, subst, arith, nat_eq, nat_le, if◌then◌else◌, ◌⊎◌, inl, inr, ⊎_elim}
-use Rattle.std.proofs.lemmas.Bool.{and_parts, cases_lt, false≢true}
+use Rattle.std.proofs.Common.{◌≡◌, ◌≢◌, ℕ, zero, suc, ◌+◌, ◌-◌, ◌*◌, ◌^◌, ◌<◌, ◌≤◌, List, [], ◌∷◌, length, drop, take}
+use Rattle.std.proofs.Common.{Bool, true, false}
+use Rattle.std.proofs.Common.{refl, sym, ap, ◌∙◌, arith, nat_eq, nat_le, if◌then◌else◌, length-drop, ◌⊎◌, inl, inr, ⊎_elim}
+use Rattle.std.proofs.lemmas.List.{take_all}
+use Rattle.std.proofs.lemmas.Bool.{and_parts}
 use Rattle.std.proofs.lemmas.Bool.Decides.{nat_tests}
+use lib.Seq.{drop-drop}
 use Rattle.seccomp_tree.specs.declared.steps.Target.{Target}
 use Rattle.seccomp_tree.specs.declared.steps.Target.TheVariants.{Give, At}
 use Rattle.seccomp_tree.specs.declared.steps.Step.{Step}
@@ -10,13 +13,19 @@ use Rattle.seccomp_tree.specs.declared.code.Test.TheVariants.{Equal, AtLeast}
 use Rattle.seccomp_tree.specs.Steps.{found_in, Ascend}
 use Rattle.seccomp_tree.specs.Rows.{same, second_stands_out, settled, row}
 use Rattle.seccomp_tree.specs.Code.{chosen}
-use Rattle.seccomp_tree.proofs.Cuts.{blank, IsCut, cut_found, cut_ascends, found_first}
+use Rattle.seccomp_tree.proofs.Cuts.{IsCut, cut_found, cut_ascends, found_first}
 
 pub same_one : (t u : Target) → same t u ≡ true → t ≡ u
 same_one (Give v) (Give w) e = ap Give (grind (arith, nat_tests))
 same_one (Give v) (At n) e = cc
 same_one (At m) (Give w) e = cc
 same_one (At m) (At n) e = ap At (grind (arith, nat_tests))
+
+pub out_long : (steps : List Step) → second_stands_out steps ≡ true → 3 ≤ length steps
+out_long [] out = absurd (cc)
+out_long (x ∷ []) out = absurd (cc)
+out_long (x ∷ y ∷ []) out = absurd (cc)
+out_long (x ∷ y ∷ z ∷ steps) out = omega arith
 
 -- one test, and those of the steps that it leaves
 pub row_step : (steps : List Step) → 2 ≤ length steps → row steps ≡ 1 + row (drop (settled steps) steps)
@@ -30,7 +39,7 @@ row_step (x ∷ y ∷ z ∷ steps) some = go (second_stands_out (x ∷ y ∷ z �
     go true e = rw e refl
     go false e = rw e refl
 
-pub settled_few : (steps : List Step) → 2 ≤ length steps → (1 ≤ settled steps) × (settled steps < length steps)
+settled_few : (steps : List Step) → 2 ≤ length steps → (1 ≤ settled steps) × (settled steps < length steps)
 settled_few [] some = absurd (omega arith)
 settled_few (x ∷ []) some = absurd (omega arith)
 settled_few (x ∷ y ∷ []) some = (omega arith, omega arith)
@@ -58,9 +67,18 @@ row_short [] few = refl
 row_short (x ∷ []) few = refl
 row_short (x ∷ y ∷ steps) few = absurd (omega arith)
 
--- what it tells that there is no row of so many tests
-pub no_row : (b : Bool) (n m : ℕ) → (n ≤ m → b ≡ true) → b ≡ false → m < n
-no_row b n m short none = ⊎_elim (λ more. more) (λ few. absurd (false≢true (sym none ∙ short few))) (cases_lt m n)
+-- the count of a row's tests goes on
+pub row_counted : (steps : List Step) (done n : ℕ) → 1 < length steps - done → n ≡ settled (take (length steps - done) (drop done steps))
+    → (row (drop done steps) ≡ 1 + row (drop (done + n) steps)) × (done + n < length steps) × (1 ≤ n)
+row_counted steps done n more here =
+    let left : length (drop done steps) ≡ length steps - done = length-drop done steps in
+    let count : n ≡ settled (drop done steps) =
+    here ∙ ap settled (take_all (length steps - done) (drop done steps) (omega (arith, left))) in
+    let few = settled_few (drop done steps) (omega (arith, left)) in
+    let step = row_step (drop done steps) (omega (arith, left)) in
+    let behind : drop (settled (drop done steps)) (drop done steps) ≡ drop (done + n) steps =
+    ap (λ k. drop k (drop done steps)) (sym count) ∙ drop-drop n done steps in
+    (step ∙ ap (λ l. 1 + row l) behind, omega (arith, left, few.1, count), omega (arith, count, few.0))
 
 -- a row of few tests takes at most two steps for each halving
 pub row_halvings : (steps : List Step) (k : ℕ) → 1 ≤ length steps → row steps ≤ 6 → length steps ≤ 2 ^ k → row steps ≤ 2 * k
@@ -74,7 +92,7 @@ abbrev pub Divides : List Step → List Step → Target → (ℕ → Target) →
 Divides steps rest v to = (a : ℕ) → ((to a ≡ v) × (found_in steps a ≡ found_in rest a)) ⊎ (found_in steps a ≡ to a)
 
 -- a test whether a number is at least the start of the second step
-first_divides : (size : ℕ) (x y : Step) (high : List Step) (v : Target) → Ascend size (x ∷ y ∷ high)
+pub first_divides : (size : ℕ) (x y : Step) (high : List Step) (v : Target) → Ascend size (x ∷ y ∷ high)
     → Divides (x ∷ y ∷ high) (y ∷ high) v (chosen AtLeast y.start v x.target)
 first_divides size x y high v h = λ a.
     ⊎_elim
@@ -86,18 +104,8 @@ first_divides size x y high v h = λ a.
     inl (ap (λ b. if b then v else x.target) yes, c.1))
     (cut_found size (x ∷ y ∷ high) (x ∷ []) y high a (record { whole = refl; some = omega arith }) h)
 
-pub divides_first : (size : ℕ) (steps : List Step) (v : Target) → Ascend size steps → 2 ≤ length steps → second_stands_out steps ≡ false
-    → Divides steps (drop (settled steps) steps) v (chosen AtLeast (get_or steps 1 blank).start v (get_or steps 0 blank).target)
-divides_first size [] v h some out = absurd (omega arith)
-divides_first size (x ∷ []) v h some out = absurd (omega arith)
-divides_first size (x ∷ y ∷ []) v h some out = first_divides size x y [] v h
-divides_first size (x ∷ y ∷ z ∷ high) v h some out =
-    let at : drop (settled (x ∷ y ∷ z ∷ high)) (x ∷ y ∷ z ∷ high) ≡ y ∷ z ∷ high =
-    ap (λ b. drop (if b then 2 else 1) (x ∷ y ∷ z ∷ high)) out in
-    subst (λ l. Divides (x ∷ y ∷ z ∷ high) l v (chosen AtLeast y.start v x.target)) (sym at) (first_divides size x y (z ∷ high) v h)
-
 -- a test of the number of a step that stands out
-out_divides : (size : ℕ) (x y z : Step) (high : List Step) (v : Target) → Ascend size (x ∷ y ∷ z ∷ high)
+pub out_divides : (size : ℕ) (x y z : Step) (high : List Step) (v : Target) → Ascend size (x ∷ y ∷ z ∷ high)
     → second_stands_out (x ∷ y ∷ z ∷ high) ≡ true → Divides (x ∷ y ∷ z ∷ high) (z ∷ high) v (chosen Equal y.start y.target v)
 out_divides size x y z high v h out = λ a. go a (nat_eq a y.start) refl
   where
@@ -132,13 +140,3 @@ out_divides size x y z high v h out = λ a. go a (nat_eq a y.start) refl
         inl (other, c.1 ∙ low ∙ same_one x.target z.target both.0 ∙ sym (found_first size z high a rest (omega (arith, c.0)))))
         (λ c. inl (other, c.1))
         (cut_found size (x ∷ y ∷ z ∷ high) (x ∷ y ∷ []) z high a behind h)
-
-pub divides_out : (size : ℕ) (steps : List Step) (v : Target) → Ascend size steps → second_stands_out steps ≡ true
-    → Divides steps (drop (settled steps) steps) v (chosen Equal (get_or steps 1 blank).start (get_or steps 1 blank).target v)
-divides_out size [] v h out = absurd (cc)
-divides_out size (x ∷ []) v h out = absurd (cc)
-divides_out size (x ∷ y ∷ []) v h out = absurd (cc)
-divides_out size (x ∷ y ∷ z ∷ high) v h out =
-    let at : drop (settled (x ∷ y ∷ z ∷ high)) (x ∷ y ∷ z ∷ high) ≡ z ∷ high =
-    ap (λ b. drop (if b then 2 else 1) (x ∷ y ∷ z ∷ high)) out in
-    subst (λ l. Divides (x ∷ y ∷ z ∷ high) l v (chosen Equal y.start y.target v)) (sym at) (out_divides size x y z high v h out)

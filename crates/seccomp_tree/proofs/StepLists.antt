@@ -1,12 +1,11 @@
 -- Steps: what they have for a number, where they are cut, and where a step more is put behind them.
-use Rattle.std.proofs.Common.{◌≡◌, ℕ, zero, suc, ◌+◌, ◌-◌, ◌<◌, ◌≤◌, List, [], ◌∷◌, ◌++◌, length, take, get_or, true, false, refl, sym}
-use Rattle.std.proofs.Common.{ap, ◌∙◌, subst}
-use Rattle.std.proofs.Common.{nat_le, if◌then◌else◌, Some, arith}
+use Rattle.std.proofs.Common.{◌≡◌, ℕ, zero, suc, ◌+◌, ◌-◌, ◌<◌, ◌≤◌, List, [], ◌∷◌, ◌++◌, length, take, drop, get_or, true, false, refl, sym, ap, ◌∙◌, subst}
+use Rattle.std.proofs.Common.{◌≢◌, length-append, None, nat_le, if◌then◌else◌, Some, arith}
 use Rattle.std.specs.Prelude.{slice_get}
 use Rattle.std.proofs.lemmas.Bool.Decides.{nat_tests}
 use Rattle.seccomp_tree.specs.declared.steps.Target.{Target}
 use Rattle.seccomp_tree.specs.declared.steps.Step.{Step}
-use Rattle.seccomp_tree.specs.Steps.{found_from, found_in, AscendFrom, AreSteps, EndIn, Precede, from_none, from_some, IsPushed}
+use Rattle.seccomp_tree.specs.Steps.{TightFrom, AreTight, found_from, found_in, AscendFrom, Ascend, AreSteps, EndIn, Precede, from_none, from_some, IsPushed, IsCut, AreCut, AreLaid, AreOverlaid}
 
 -- ---- ascending
 
@@ -49,14 +48,12 @@ pub found_above : (m start : ℕ) (t : Target) (steps : List Step) (a : ℕ) →
 found_above m start t [] a h le = refl
 found_above m start t (x ∷ steps) a h le = let no : nat_le x.start a ≡ false = grind (arith, nat_tests, h.0) in rw no refl
 
-found_from_push : (t : Target) (steps : List Step) (x : Step) (a : ℕ) → a < x.start
-    → found_from t (steps ++ x ∷ []) a ≡ found_from t steps a
+found_from_push : (t : Target) (steps : List Step) (x : Step) (a : ℕ) → a < x.start → found_from t (steps ++ x ∷ []) a ≡ found_from t steps a
 found_from_push t [] x a below = let no : nat_le x.start a ≡ false = grind (arith, nat_tests) in rw no refl
 found_from_push t (y ∷ steps) x a below = ap (λ v. if nat_le y.start a then v else t) (found_from_push y.target steps x a below)
 
 -- below the start of a step behind others, they decide
-found_push_low : (m : ℕ) (steps : List Step) (x : Step) (a : ℕ) → AreSteps m steps → a < x.start
-    → found_in (steps ++ x ∷ []) a ≡ found_in steps a
+found_push_low : (m : ℕ) (steps : List Step) (x : Step) (a : ℕ) → AreSteps m steps → a < x.start → found_in (steps ++ x ∷ []) a ≡ found_in steps a
 found_push_low m [] x a h below = absurd h.first
 found_push_low m (y ∷ steps) x a h below = found_from_push y.target steps x a below
 
@@ -73,8 +70,7 @@ found_from_last m start t (y ∷ steps) x a h above =
     last_above m start (y ∷ steps) x h = let k = last_above m y.start steps x h.1.1 in omega (arith, h.0)
 
 -- from the start of the last step on it decides
-found_last : (m : ℕ) (steps : List Step) (x : Step) (a : ℕ) → AreSteps m (steps ++ x ∷ []) → x.start ≤ a
-    → found_in (steps ++ x ∷ []) a ≡ x.target
+found_last : (m : ℕ) (steps : List Step) (x : Step) (a : ℕ) → AreSteps m (steps ++ x ∷ []) → x.start ≤ a → found_in (steps ++ x ∷ []) a ≡ x.target
 found_last m [] x a h above = refl
 found_last m (y ∷ steps) x a h above = found_from_last m y.start y.target steps x a h.ascend.1 above
 
@@ -131,14 +127,42 @@ pushed_more old x (from_some are) =
 pub ends_in : (steps : List Step) (x : Step) (target : Target) → slice_get steps (length steps - 1) ≡ Some x → x.target ≡ target
     → EndIn steps target
 ends_in [] x target is same = absurd (cc)
-ends_in (y ∷ []) x target is same = record {
-  front = [];
-  last = y;
-  whole = refl;
-  is = let e : y ≡ x = cc in ap (λ
-      (z : Step). z.target) e ∙ same;
-}
+ends_in (y ∷ []) x target is same = record { front = []; last = y; whole = refl; is = let e : y ≡ x = cc in ap (λ (z : Step). z.target) e ∙ same }
 ends_in (y ∷ z ∷ steps) x target is same =
     let at : length (y ∷ z ∷ steps) - 1 ≡ suc (length (z ∷ steps) - 1) = omega arith in
     let rest = ends_in (z ∷ steps) x target (sym (ap (λ n. slice_get (y ∷ z ∷ steps) n) at) ∙ is) same in
     record { front = y ∷ rest.front; last = rest.last; whole = ap (λ (l : List Step). y ∷ l) rest.whole; is = rest.is }
+
+-- ---- neighbours that differ
+
+not_first : (x : Step) (target : Target) → (EndIn (x ∷ []) target → ⊥) → x.target ≢ target
+not_first x target not is = not (record { front = []; last = x; whole = refl; is = is })
+
+not_behind : (x : Step) (steps : List Step) (target : Target) → (EndIn (x ∷ steps) target → ⊥) → EndIn steps target → ⊥
+not_behind x steps target not end =
+    not (record { front = x ∷ end.front; last = end.last; whole = ap (λ (l : List Step). x ∷ l) end.whole; is = end.is })
+
+-- steps that don't end in a target stay tight with it behind them
+pub tight_pushed : (steps : List Step) (x : Step) → (EndIn steps x.target → ⊥) → AreTight steps → AreTight (steps ++ x ∷ [])
+tight_pushed [] x not h = tt
+tight_pushed (y ∷ []) x not h = (not_first y x.target not, tt)
+tight_pushed (y ∷ z ∷ steps) x not h = (h.0, tight_pushed (z ∷ steps) x (not_behind y (z ∷ steps) x.target not) h.1)
+
+last_get : (front : List Step) (y : Step) → slice_get (front ++ y ∷ []) (length front) ≡ Some y
+last_get [] y = refl
+last_get (z ∷ front) y = last_get front y
+
+end_at : (steps : List Step) (target : Target) (end : EndIn steps target) → slice_get steps (length steps - 1) ≡ Some end.last
+end_at steps target end =
+    let long : length steps - 1 ≡ length end.front =
+    omega (arith, ap length end.whole ∙ length-append end.front (end.last ∷ [])) in
+    ap (λ (l : List Step). slice_get l (length steps - 1)) end.whole ∙ ap (λ n. slice_get (end.front ++ end.last ∷ []) n) long
+    ∙ last_get end.front end.last
+
+pub end_last : (steps : List Step) (x : Step) (target : Target) → slice_get steps (length steps - 1) ≡ Some x → EndIn steps target
+    → x.target ≡ target
+end_last steps x target here end =
+    let at = end_at steps target end in let same : x ≡ end.last = cc in ap (λ (y : Step). y.target) same ∙ end.is
+
+pub no_end : (steps : List Step) (target : Target) → slice_get steps (length steps - 1) ≡ None → EndIn steps target → ⊥
+no_end steps target none end = let at = end_at steps target end in cc

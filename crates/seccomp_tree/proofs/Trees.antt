@@ -1,37 +1,42 @@
 -- For `tree` and `word`: the code of steps, put together of the code of fewer and a test.
-use Rattle.std.proofs.Common.{◌≡◌, ℕ, suc, ◌+◌, ◌-◌, ◌*◌, ◌/◌, ◌^◌, ◌<◌, ◌≤◌, List, [], ◌∷◌, length, drop, get_or, refl, sym, ap, ◌∙◌}
-use Rattle.std.proofs.Common.{subst, length-drop, arith, ⊎_elim, nat_le, true, false, if◌then◌else◌}
+use Rattle.std.proofs.Common.{◌≡◌, ℕ, suc, ◌+◌, ◌-◌, ◌*◌, ◌/◌, ◌^◌, ◌<◌, ◌≤◌, List, [], ◌∷◌, length, drop, get_or, refl}
+use Rattle.std.proofs.Common.{sym, ap, ◌∙◌, subst, arith}
+use Rattle.std.proofs.Common.{⊎_elim, nat_le, true, false, if◌then◌else◌}
 use Rattle.std.proofs.lemmas.Bool.Decides.{nat_tests}
 use Rattle.seccompiler.specs.declared.bpf.sock_filter.{sock_filter}
-use Rattle.seccompiler.specs.Machine.{IsRecord, word_at, Does, loads}
-use Rattle.seccompiler.specs.Code.{load}
 use Rattle.seccomp_tree.specs.declared.steps.Target.{Target}
 use Rattle.seccomp_tree.specs.declared.steps.Target.TheVariants.{At}
 use Rattle.seccomp_tree.specs.declared.steps.Step.{Step}
 use Rattle.seccomp_tree.specs.declared.code.Test.{Test}
-use Rattle.seccomp_tree.specs.declared.code.Test.TheVariants.{AtLeast}
+use Rattle.seccomp_tree.specs.declared.code.Test.TheVariants.{Equal, AtLeast}
 use Rattle.seccomp_tree.specs.Steps.{found_in, Ascend}
-use Rattle.seccomp_tree.specs.Rows.{row, settled}
-use Rattle.seccomp_tree.specs.Code.{AreIn, Starts, Leads, LeadsAlways, Grows, chosen, IsTested, IsTree, IsWord}
-use Rattle.seccomp_tree.proofs.Growing.{grows_not, grows_one, grows_on, last_in}
+use Rattle.seccomp_tree.specs.Rows.{row, second_stands_out}
+use Rattle.seccomp_tree.specs.Code.{IsIn, AreIn, Starts, Leads, chosen, IsTested, IsTree}
+use Rattle.seccomp_tree.proofs.Growing.{grows_not, grows_on, last_in}
 use Rattle.seccomp_tree.proofs.Runs.{starts_more, starts_by, starts_grown, leads_by, leads_grown}
-use Rattle.seccomp_tree.proofs.Reaching.{stepped, starts_at}
-use Rattle.seccomp_tree.proofs.Cuts.{blank, IsCut, cut_found, cut_long, halvings}
-use Rattle.seccomp_tree.proofs.RowTests.{row_halvings, row_step, settled_few, Divides}
+use Rattle.seccomp_tree.proofs.Cuts.{IsCut, cut_found, cut_long, halvings}
+use Rattle.seccomp_tree.proofs.RowTests.{row_halvings, Divides, first_divides, out_divides}
+use Rattle.seccomp_tree.proofs.Parts.{blank}
 
 -- one step is its target
+tree_one : (code : List sock_filter) (steps : List Step) (x : Step) → steps ≡ x ∷ [] → AreIn code steps
+    → IsTree code steps x.target code
+tree_one code steps x is inside =
+    let one : IsTree code (x ∷ []) x.target code = record {
+      grows = grows_not code _;
+      inside = subst (λ l. IsIn code (found_in l 0)) is (inside 0);
+      last = λ two. absurd (omega arith);
+      alone = λ y same. let one : x ≡ y = cc in ap (λ (z : Step). z.target) one;
+      leads = λ r a w n k small le h. starts_more (n + 2 * k) (omega arith) (starts_by h);
+      soon = λ r a w n small le h. starts_more (n + 0) (omega arith) (starts_by h);
+    } in
+    subst (λ l. IsTree code l x.target code) (sym is) one
+
 pub tree_single : (code : List sock_filter) (steps : List Step) → length steps ≡ 1 → AreIn code steps
     → IsTree code steps (get_or steps 0 blank).target code
 tree_single code [] one inside = absurd (omega arith)
+tree_single code (x ∷ []) one inside = tree_one code (x ∷ []) x refl inside
 tree_single code (x ∷ y ∷ steps) one inside = absurd (omega arith)
-tree_single code (x ∷ []) one inside = record {
-  grows = grows_not code _;
-  inside = inside 0;
-  last = λ two. absurd (omega arith);
-  alone = λ y same. let one : x ≡ y = cc in ap (λ (z : Step). z.target) one;
-  leads = λ r a w n k small le h. starts_more (n + 2 * k) (omega arith) (starts_by h);
-  soon = λ r a w n small le h. starts_more (n + 0) (omega arith) (starts_by h);
-}
 
 -- what a test in front goes on with
 module _ (mid new : List sock_filter) (test : Test) (k : ℕ) (u v t : Target) (h : IsTested mid test k u v t new) where
@@ -52,12 +57,11 @@ module _ (mid new : List sock_filter) (test : Test) (k : ℕ) (u v t : Target) (
       h.fresh r a w (n + row (y ∷ z ∷ rest)) small (sym is ∙ last) (subst (λ s. Starts mid r s a w (n + row (y ∷ z ∷ rest))) is run)
 
 -- a test in front of the others of a row
-pub tree_row : (old mid new : List sock_filter) (steps : List Step) (x t : Target) (test : Test) (k : ℕ) (u v : Target)
-    → IsTree old (drop (settled steps) steps) x mid → IsTested mid test k u v t new → 2 ≤ length steps → row steps ≤ 6
-    → Divides steps (drop (settled steps) steps) x (chosen test k u v) → IsTree old steps t new
-tree_row old mid new steps x t test k u v tree h some six divides = record {
-  grows = grows_on old mid new (3 * (length (drop (settled steps) steps) - 1)) 3 (3 * (length steps - 1)) tree.grows h.grows
-      (omega (arith, left, few.0, few.1));
+pub tree_row : (old mid new : List sock_filter) (steps rest : List Step) (x t : Target) (test : Test) (k : ℕ) (u v : Target)
+    → IsTree old rest x mid → IsTested mid test k u v t new → 1 ≤ length rest → length rest < length steps → row steps ≡ 1 + row rest
+    → row steps ≤ 6 → Divides steps rest x (chosen test k u v) → IsTree old steps t new
+tree_row old mid new steps rest x t test k u v tree h some fewer one six divides = record {
+  grows = grows_on old mid new (3 * (length rest - 1)) 3 (3 * (length steps - 1)) tree.grows h.grows (omega arith);
   inside = last_in new t h.last h.some;
   last = λ two. h.last;
   alone = λ y same. absurd (omega (arith, ap length same));
@@ -66,26 +70,44 @@ tree_row old mid new steps x t test k u v tree h some six divides = record {
   soon = λ r a w n small le lead. run r a w n small lead;
 }
   where
-    left : length (drop (settled steps) steps) ≡ length steps - settled steps
-    left = length-drop (settled steps) steps
-
-    few : (1 ≤ settled steps) × (settled steps < length steps)
-    few = settled_few steps some
-
-    one : row steps ≡ 1 + row (drop (settled steps) steps)
-    one = row_step steps some
-
     run : (r : List ℕ) (a w n : ℕ) → a < 2 ^ 32 → Leads old r (found_in steps a) a w n → Starts new r t a w (n + row steps)
     run r a w n small lead =
         ⊎_elim
         (λ c.
         starts_more (n + row steps) (omega (arith, one))
-        (to_rest mid new test k u v t h old (drop (settled steps) steps) x r a w n tree (omega (arith, left, few.1))
-        (omega (arith, one, six)) small (sym c.0) (subst (λ y. Leads old r y a w n) c.1 lead)))
+        (to_rest mid new test k u v t h old rest x r a w n tree some (omega (arith, one, six)) small (sym c.0)
+        (subst (λ y. Leads old r y a w n) c.1 lead)))
         (λ c.
         starts_more (n + row steps) (omega (arith, one))
         (to_target mid new test k u v t h r a w n (found_in steps a) small c (leads_grown old mid _ tree.grows lead)))
         (divides a)
+
+-- the two tests that begin a row
+pub tree_out : (old mid new : List sock_filter) (steps : List Step) (x t : Target) → Ascend (2 ^ 32) steps → second_stands_out steps ≡ true
+    → row steps ≤ 6 → IsTree old (drop 2 steps) x mid
+    → IsTested mid Equal (get_or steps 1 blank).start (get_or steps 1 blank).target x t new → IsTree old steps t new
+tree_out old mid new [] x t up out six tree h = absurd (cc)
+tree_out old mid new (a ∷ []) x t up out six tree h = absurd (cc)
+tree_out old mid new (a ∷ b ∷ []) x t up out six tree h = absurd (cc)
+tree_out old mid new (a ∷ b ∷ c ∷ steps) x t up out six tree h =
+    let one : row (a ∷ b ∷ c ∷ steps) ≡ 1 + row (c ∷ steps) =
+    ap (λ v. 1 + (if v then row (c ∷ steps) else row (b ∷ c ∷ steps))) out in
+    tree_row old mid new (a ∷ b ∷ c ∷ steps) (c ∷ steps) x t Equal b.start b.target x tree h (omega arith) (omega arith) one six
+    (out_divides (2 ^ 32) a b c steps x up out)
+
+pub tree_first : (old mid new : List sock_filter) (steps : List Step) (x t : Target) → Ascend (2 ^ 32) steps → 2 ≤ length steps
+    → second_stands_out steps ≡ false → row steps ≤ 6 → IsTree old (drop 1 steps) x mid
+    → IsTested mid AtLeast (get_or steps 1 blank).start x (get_or steps 0 blank).target t new → IsTree old steps t new
+tree_first old mid new [] x t up some out six tree h = absurd (omega arith)
+tree_first old mid new (a ∷ []) x t up some out six tree h = absurd (omega arith)
+tree_first old mid new (a ∷ b ∷ []) x t up some out six tree h =
+    tree_row old mid new (a ∷ b ∷ []) (b ∷ []) x t AtLeast b.start x a.target tree h (omega arith) (omega arith) refl six
+    (first_divides (2 ^ 32) a b [] x up)
+tree_first old mid new (a ∷ b ∷ c ∷ steps) x t up some out six tree h =
+    let one : row (a ∷ b ∷ c ∷ steps) ≡ 1 + row (b ∷ c ∷ steps) =
+    ap (λ v. 1 + (if v then row (c ∷ steps) else row (b ∷ c ∷ steps))) out in
+    tree_row old mid new (a ∷ b ∷ c ∷ steps) (b ∷ c ∷ steps) x t AtLeast b.start x a.target tree h (omega arith) (omega arith) one six
+    (first_divides (2 ^ 32) a b (c ∷ steps) x up)
 
 -- a test in front of two halves
 pub tree_halves : (old mid both new : List sock_filter) (steps low : List Step) (y : Step) (high : List Step) (u v t : Target)
@@ -126,54 +148,3 @@ tree_halves old mid both new steps low y high u v t c up half long upper lower h
         (to_target both new AtLeast y.start u v t h r a w (suc (n + 2 * up_few.0)) u small (sym (ap (λ b. if b then u else v) yes))
         (leads_by (starts_grown mid both _ lower.grows start))))
         (cut_found (2 ^ 32) steps low y high a c up)
-
--- a word has 32 bits
-pub word_small : (r : List ℕ) (byte : ℕ) → IsRecord r → byte ≤ 60 → word_at r byte < 2 ^ 32
-word_small r byte h inside =
-    let b0 = h.bytes byte 0 (omega (arith, h.long)) in
-    let b1 = h.bytes (byte + 1) 0 (omega (arith, h.long)) in
-    let b2 = h.bytes (byte + 1 + 1) 0 (omega (arith, h.long)) in
-    let b3 = h.bytes (byte + 1 + 1 + 1) 0 (omega (arith, h.long)) in
-    omega (arith, b0, b1, b2, b3)
-
-found_one : (steps : List Step) (a b : ℕ) → length steps ≤ 1 → found_in steps a ≡ found_in steps b
-found_one [] a b few = refl
-found_one (x ∷ []) a b few = refl
-found_one (x ∷ y ∷ steps) a b few = absurd (omega arith)
-
--- one step needs no load
-pub word_one : (old new : List sock_filter) (byte : ℕ) (steps : List Step) (t : Target) → length steps ≡ 1 → IsTree old steps t new
-    → IsWord old byte steps t new
-word_one old new byte steps t one h = record {
-  grows = grows_on old new new (3 * (length steps - 1)) 0 (3 * length steps - 2) h.grows (grows_not new 0) (omega arith);
-  inside = h.inside;
-  leads = λ r is w n k le always a small.
-      let same = found_one steps (word_at r byte) a (omega arith) in
-      starts_more (n + 1 + 2 * k) (omega arith)
-      (h.leads r a w n k small le (subst (λ u. Leads old r u a w n) same (always a small)));
-}
-
-pub word_more : (old mid new : List sock_filter) (byte : ℕ) (steps : List Step) (u t : Target) → byte ≤ 60 → 2 ≤ length steps
-    → IsTree old steps u mid → new ≡ load byte ∷ mid → t ≡ At (length new - 1) → IsWord old byte steps t new
-word_more old mid new byte steps u t inside some h written last = record {
-  grows = subst (Grows old (3 * length steps - 2)) (sym written)
-      (grows_on old mid (load byte ∷ mid) (3 * (length steps - 1)) 1 (3 * length steps - 2) h.grows (grows_one mid (load byte))
-      (omega arith));
-  inside = last_in new t last (omega (arith, ap length written));
-  leads = λ r is w n k le always a small. run r is w n k le always a small;
-}
-  where
-    run : (r : List ℕ) → IsRecord r → (w n k : ℕ) → length steps ≤ 2 ^ k → LeadsAlways old r (found_in steps (word_at r byte)) w n
-        → (a : ℕ) → a < 2 ^ 32 → Starts new r t a w (n + 1 + 2 * k)
-    run r is w n k le always a small =
-        let v = word_at r byte in
-        let fits = word_small r byte is inside in
-        let begins = h.leads r v w n k fits le (always v fits) in
-        let at = starts_at r mid (length mid - 1) v w (n + 2 * k) (subst (λ s. Starts mid r s v w (n + 2 * k)) (h.last some) begins) in
-        let does : Does (load byte) r 0 a (1 + 0) v = loads refl (omega (arith, is.long)) (omega arith) refl in
-        let start = stepped (load byte) mid r a v w (n + 2 * k) 0 (length mid - 1) fits (omega (arith, at.0)) does at.1 in
-        let place : length mid ≡ length new - 1 = omega (arith, ap length written) in
-        let here : At (length mid) ≡ t = ap At place ∙ sym last in
-        starts_more (n + 1 + 2 * k) (omega arith)
-        (subst (λ l. Starts l r t a w (n + 2 * k + 1)) (sym written)
-        (subst (λ s. Starts (load byte ∷ mid) r s a w (n + 2 * k + 1)) here start))

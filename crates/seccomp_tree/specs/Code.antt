@@ -77,11 +77,6 @@ pub record DoesAs (code : List sock_filter) (t : Target) (place : ℕ) (new : Li
   pub inside : place < length new
   pub leads : (r : List ℕ) (a w n : ℕ) → a < 2 ^ 32 → Leads code r t a w n → Returns r (tail_at new place) a w n
 
--- The instruction, at this place, does what the target says: it returns the word, or jumps to the place.
-abbrev pub StandsFor : sock_filter → ℕ → Target → Type 0
-StandsFor i place (Give w) = (i.code ≡ 0x06) × (i.k ≡ w)
-StandsFor i place (At m) = (i.code ≡ 0x05) × (m + 1 + i.k ≡ place)
-
 -- The target is no place that a jump reaches.
 abbrev pub IsFar : List sock_filter → Target → Type 0
 IsFar code t = (m : ℕ) → t ≡ At m → m + 255 < length code
@@ -124,6 +119,8 @@ pub record IsTree (old : List sock_filter) (steps : List Step) (t : Target) (new
 pub record IsWord (old : List sock_filter) (byte : ℕ) (steps : List Step) (t : Target) (new : List sock_filter) : Type 0 where
   pub grows : Grows old (3 * length steps - 2) new
   pub inside : IsIn new t
+  pub last : 2 ≤ length steps → t ≡ At (length new - 1)
+  pub alone : (x : Step) → steps ≡ x ∷ [] → t ≡ x.target
   pub leads : (r : List ℕ) → IsRecord r → (w n k : ℕ) → length steps ≤ 2 ^ k → LeadsAlways old r (found_in steps (word_at r byte)) w n
       → StartsAlways new r t w (n + 1 + 2 * k)
 

@@ -4,7 +4,7 @@ use Rattle.seccompiler.specs.declared.bpf.sock_filter.{sock_filter}
 use Rattle.seccompiler.specs.declared.backend.SeccompCmpArgLen.{SeccompCmpArgLen}
 use Rattle.seccompiler.specs.declared.backend.SeccompCmpArgLen.TheVariants.{Dword, Qword}
 use Rattle.seccompiler.specs.declared.backend.SeccompCmpOp.{SeccompCmpOp}
-use Rattle.seccompiler.specs.declared.backend.SeccompCmpOp.TheVariants.{MaskedEq}
+use Rattle.seccompiler.specs.declared.backend.SeccompCmpOp.TheVariants.{Eq, Ge, Gt, Le, Lt, MaskedEq, Ne}
 use Rattle.seccompiler.specs.Machine.{IsRecord, word_at, argument_at}
 use Rattle.seccompiler.specs.Policy.{Condition, Compares, Holds, part_of}
 use Rattle.seccomp_tree.specs.declared.steps.Target.{Target}
@@ -40,8 +40,7 @@ condition_steps l _ = part_steps l 2
 -- ---- between private functions
 
 -- The target goes on as the steps say for what is compared of the argument, whatever the accumulator holds.
-pub record IsPart (old : List sock_filter) (l : SeccompCmpArgLen) (index : ℕ) (steps : List Step) (t : Target)
-    (new : List sock_filter) : Type 0 where
+pub record IsPart (old : List sock_filter) (l : SeccompCmpArgLen) (index : ℕ) (steps : List Step) (t : Target) (new : List sock_filter) : Type 0 where
   pub grows : Grows old (part_length l (length steps)) new
   pub inside : IsIn new t
   pub leads : (r : List ℕ) → IsRecord r → (w n k : ℕ) → length steps ≤ 2 ^ k

@@ -9,3 +9,6 @@ pub mod Arguments
 pub mod Conditions
 pub mod Decisions
 pub mod Rules
+pub mod Decided
+pub mod TreeProgram
+pub mod CallSteps

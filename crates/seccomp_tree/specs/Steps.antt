@@ -1,7 +1,7 @@
 -- Steps: what is looked up by a number, from a start on, up to the next one.
-use Rattle.std.specs.Prelude.{◌≡◌, ℕ, ◌+◌, ◌-◌, ◌<◌, ◌≤◌, List, [], ◌∷◌, ◌++◌, nat_le, if◌then◌else◌, ⊤, length, slice_index_or}
+use Rattle.std.specs.Prelude.{◌≡◌, ◌≢◌, ℕ, ◌+◌, ◌-◌, ◌<◌, ◌≤◌, List, [], ◌∷◌, ◌++◌, nat_le, if◌then◌else◌, ⊤, length, slice_index_or}
 use Rattle.seccomp_tree.specs.declared.steps.Target.{Target}
-use Rattle.seccomp_tree.specs.declared.steps.Target.TheVariants.{Give}
+use Rattle.seccomp_tree.specs.declared.steps.Target.TheVariants.{Give, At}
 use Rattle.seccomp_tree.specs.declared.steps.Step.{Step}
 
 -- The target for a number: that of the last step that starts at or below it, or this one where none does.
@@ -65,6 +65,15 @@ pub record IsPushed (old : List Step) (start : ℕ) (target : Target) (new : Lis
   pub from : (a : ℕ) → start ≤ a → found_in new a ≡ target
   pub below : (a : ℕ) → a < start → found_in new a ≡ found_in old a
   pub few : length new ≤ length old + 1
+
+-- No two neighbours of steps have one target, the first of which stands behind this one.
+abbrev pub TightFrom : Target → List Step → Type 0
+TightFrom target [] = ⊤
+TightFrom target (x ∷ steps) = (target ≢ x.target) × TightFrom x.target steps
+
+abbrev pub AreTight : List Step → Type 0
+AreTight [] = ⊤
+AreTight (x ∷ steps) = TightFrom x.target steps
 
 -- So many of the steps start at or below the number, and the others above it.
 pub record IsCut (steps : List Step) (number n : ℕ) : Type 0 where

@@ -4,7 +4,7 @@ ghost use Rattle.std.specs.Prelude.{◌≡◌, ◌≤◌, ◌<◌, ◌+◌, ◌^
 ghost use Rattle.seccompiler.specs.Code.{give};
 ghost use Rattle.seccompiler.specs.Machine.{IsFine, IsInRange, greatest_length};
 ghost use Rattle.seccomp_tree.specs.declared.error.TreeError.TheVariants.{OutOfMemory};
-ghost use Rattle.seccomp_tree.specs.Code.{IsSound, IsFullBy, IsIn, IsFar, StandsFor, DoesAs, IsReached, IsTested};
+ghost use Rattle.seccomp_tree.specs.Code.{IsSound, IsFullBy, IsIn, IsFar, DoesAs, IsReached, IsTested};
 
 use crate::error::TreeError;
 use crate::steps::Target;
@@ -126,7 +126,7 @@ impl Code {
         requires far { IsFar self.old target }
         requires fine { IsFine instruction 0 (length self.old + 1) }
         requires range { IsInRange instruction }
-        requires stands_for { StandsFor instruction (length self.old) target }
+        requires does { DoesAs (instruction ∷ self.old) target (length self.old) (instruction ∷ self.old) }
         ensures ok { IfOk result (λ place. IsReached self.old target place self.new) }
         ensures err { IfErr result (IsFullBy self.old 1) }
     {

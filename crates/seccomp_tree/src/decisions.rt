@@ -1,14 +1,24 @@
-// Decisions on one call.
+// Decisions on calls: what each call is answered with.
 
-use seccompiler::SeccompCondition;
+ghost use Rattle.std.specs.Prelude.{◌≡◌, ℕ, ◌≤◌, ◌↔◌, IsTrue};
+ghost use Rattle.seccompiler.specs.Machine.{word_at};
+ghost use Rattle.seccompiler.specs.Policy.{RuleHolds};
+ghost use Rattle.seccomp_tree.specs.Decisions.{First};
+ghost use Rattle.seccomp_tree.specs.Decided.{AscendFromZero, default_for};
+
+use seccompiler::{SeccompCondition, TargetArch};
+use std::collections::BTreeMap;
 use std::marker::Model;
 
-/// Conditions, and the value that a program returns where they all hold. They always hold where there are none.
+// What a record of another architecture is answered with: SECCOMP_RET_KILL_PROCESS of linux/seccomp.h.
+pub(crate) const KILL_PROCESS: u32 = 0x8000_0000;
+
+/// Conditions, and the word that a program returns where they all hold. It always holds where there are none.
 #[derive(Debug, Drop)]
 pub struct Decision {
     /// The conditions, joined by and.
     pub conditions: Vec<SeccompCondition>,
-    /// The return value, as a kernel reads it: an action and its data.
+    /// The word, as a kernel reads it: an action and its data.
     pub value: u32,
 }
 
@@ -21,4 +31,137 @@ impl Model for Decision {
     ghost view = { λ d. record { conditions = d.conditions.items; value = d.value } };
 
     ghost invariant = { λ d. d.value < 2 ^ 32 };
+}
+
+/// What calls are answered with that nothing else is said of, from a number on, up to the next one's.
+#[derive(Clone, Copy, Debug)]
+pub struct DefaultValue {
+    /// The first call number.
+    pub start: u32,
+    /// The word, as a kernel reads it: an action and its data.
+    pub value: u32,
+}
+
+/// What each call is answered with: for each of some call numbers its decisions, of which the first that holds counts;
+/// where none does, the default value of the number. A call of another architecture kills the process.
+#[derive(Debug, Drop)]
+pub struct Decisions {
+    pub(crate) target_arch: TargetArch,
+    pub(crate) defaults: Vec<DefaultValue>,
+    pub(crate) calls: BTreeMap<u32, Vec<Decision>>,
+}
+
+impl Model for Decisions {
+    ghost use Rattle.seccomp_tree.specs.Decided.{DecisionSet, AscendFromZero, calls_of};
+
+    ghost Value = { DecisionSet };
+
+    ghost view = { λ d. record { target_arch = d.target_arch; defaults = d.defaults.items; calls = calls_of d.calls.entries } };
+
+    ghost invariant = { λ d. AscendFromZero d.defaults.items };
+}
+
+impl Decisions {
+    ghost use Rattle.std.specs.Prelude.{IsSome, IfSome};
+    ghost use Rattle.seccomp_tree.specs.Decided.{IsDecided, calls_of, rulings_for};
+
+    /// Makes decisions: `defaults` begin at the number 0, each above the one before it.
+    ///
+    /// Gives none where they don't.
+    pub fn new(
+        target_arch: TargetArch,
+        defaults: Vec<DefaultValue>,
+        calls: BTreeMap<u32, Vec<Decision>>,
+    ) -> Option<Self>
+        ensures made { IfSome result (λ d. d ≡ record { target_arch = target_arch; defaults = defaults.items; calls = calls_of calls.entries }) }
+        ensures some { IsSome result ↔ AscendFromZero defaults.items }
+    {
+        if !ascend_from_zero(&defaults) {
+            return None;
+        }
+        Some(Decisions {
+            target_arch,
+            defaults,
+            calls,
+        })
+    }
+
+    /// The word that is decided for the call of this record (`struct seccomp_data` of `linux/seccomp.h`). No other word is.
+    pub fn decide(&self, call: &[u8; 64]) -> u32
+        ensures decision { IsDecided self.now call.now result }
+        ensures only { (w : ℕ) → IsDecided self.now call.now w → w ≡ result }
+    {
+        if word_at(call, 4) != self.target_arch.get_audit_value() {
+            return KILL_PROCESS;
+        }
+        let number = word_at(call, 0);
+        let default = default_for(&self.defaults, number);
+        match self.calls.get(&number) {
+            Some(rulings) => first_value(rulings, default, call),
+            None => default,
+        }
+    }
+}
+
+// Whether there is a default from 0 on, and each starts above the one before it.
+fn ascend_from_zero(defaults: &[DefaultValue]) -> bool
+    ensures { IsTrue result ↔ AscendFromZero defaults.now }
+{
+    if defaults.is_empty() || defaults[0].start != 0 {
+        return false;
+    }
+    let mut last = 0;
+    for next in &defaults[1..] {
+        if next.start <= last {
+            return false;
+        }
+        last = next.start;
+    }
+    true
+}
+
+/// The value of the last default that starts at or below the number.
+pub(crate) fn default_for(defaults: &[DefaultValue], number: u32) -> u32
+    ensures { result ≡ default_for defaults.now number }
+{
+    let mut value = 0;
+    for default in defaults {
+        if default.start <= number {
+            value = default.value;
+        }
+    }
+    value
+}
+
+// The word of the first of the decisions that holds, or the default.
+fn first_value(rulings: &[Decision], default: u32, call: &[u8; 64]) -> u32
+    ensures first { First default call.now rulings.now result }
+    ensures only { (w : ℕ) → First default call.now rulings.now w → w ≡ result }
+{
+    for ruling in rulings {
+        if all_hold(&ruling.conditions, call) {
+            return ruling.value;
+        }
+    }
+    default
+}
+
+// Whether all the conditions hold for the call of this record.
+fn all_hold(conditions: &[SeccompCondition], call: &[u8; 64]) -> bool
+    ensures { IsTrue result ↔ RuleHolds conditions.now call.now }
+{
+    for condition in conditions {
+        if !condition.holds(call) {
+            return false;
+        }
+    }
+    true
+}
+
+// The 32 bits of bytes `k` to `k + 3`, which are little-endian.
+fn word_at(call: &[u8; 64], k: usize) -> u32
+    requires { k ≤ 60 }
+    ensures { result ≡ word_at call.now k }
+{
+    u32::from_le_bytes([call[k], call[k + 1], call[k + 2], call[k + 3]])
 }

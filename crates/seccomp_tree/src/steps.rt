@@ -1,7 +1,7 @@
 // What is looked up by a number: steps, each from its start up to the next one's.
 
 ghost use Rattle.std.specs.Prelude.{◌≡◌, ◌≤◌, ◌<◌, ◌+◌, ◌^◌, ◌↔◌, IsTrue, IfOk, IfErr, IsOkUnless, length};
-ghost use Rattle.seccomp_tree.specs.Steps.{AreSteps, AreCut, AreLaid, AreOverlaid, AscendFrom, EndIn, IsCut, IsPushed, Precede, found_in};
+ghost use Rattle.seccomp_tree.specs.Steps.{AreSteps, AreCut, AreLaid, AreOverlaid, AreTight, AscendFrom, EndIn, IsCut, IsPushed, Precede, found_in};
 ghost use Rattle.seccomp_tree.specs.declared.error.TreeError.TheVariants.{OutOfMemory, TooLarge};
 
 use crate::error::TreeError;
@@ -10,7 +10,7 @@ use std::alloc::Global;
 /// What a program does next.
 #[derive(Clone, Copy, Debug, PartialEq, Eq)]
 pub(crate) enum Target {
-    /// It returns this value.
+    /// It returns this word.
     Give(u32),
     /// It goes on at this place, counted from its end, whatever the accumulator holds.
     At(usize),
@@ -104,6 +104,7 @@ fn lay(
 pub(crate) fn push_step(steps: &mut Vec<Step>, start: u64, target: Target) -> Result<(), TreeError>
     requires below { Precede start steps.old.items }
     ensures pushed { IfOk result (λ _. IsPushed steps.old.items start target steps.new.items) }
+    ensures tight { IfOk result (λ _. AreTight steps.old.items → AreTight steps.new.items) }
     ensures memory { IsOkUnless result OutOfMemory }
 {
     // Neighbours with one target are one step.
@@ -116,7 +117,7 @@ pub(crate) fn push_step(steps: &mut Vec<Step>, start: u64, target: Target) -> Re
 
 // Whether the last of the steps has this target.
 fn end_in(steps: &[Step], target: Target) -> bool
-    ensures { IsTrue result → EndIn steps.now target }
+    ensures { IsTrue result ↔ EndIn steps.now target }
 {
     match steps.last() {
         Some(step) => step.target.is(target),

@@ -1,6 +1,6 @@
 // The tree of tests of steps.
 
-ghost use Rattle.std.specs.Prelude.{◌≡◌, ◌≤◌, ◌+◌, ◌-◌, ◌*◌, ◌%◌, ◌^◌, ◌↔◌, IsTrue, IfOk, IfErr, length};
+ghost use Rattle.std.specs.Prelude.{◌≡◌, ◌≤◌, ◌+◌, ◌-◌, ◌*◌, ◌%◌, ◌^◌, IfOk, IfErr, length};
 ghost use Rattle.seccomp_tree.specs.Steps.{Ascend};
 ghost use Rattle.seccomp_tree.specs.Rows.{row, second_stands_out, settled};
 ghost use Rattle.seccomp_tree.specs.Code.{AreIn, IsFullBy, IsTree, IsWord};
@@ -29,17 +29,17 @@ fn settled(steps: &[Step]) -> usize
     if stands_out(steps) { 2 } else { 1 }
 }
 
-// Whether so many tests tell the steps apart, one after the other.
-fn is_row(steps: &[Step], tests: usize) -> bool
-    ensures { IsTrue result ↔ (row steps.now ≤ tests) }
+// How many tests tell the steps apart, one after the other.
+fn row(steps: &[Step]) -> usize
+    ensures { result ≡ row steps.now }
 {
-    if steps.len() < 2 {
-        return true;
+    let mut tests = 0;
+    let mut done = 0;
+    while steps.len() - done > 1 {
+        tests += 1;
+        done += settled(&steps[done..]);
     }
-    if tests == 0 {
-        return false;
-    }
-    is_row(&steps[settled(steps)..], tests - 1)
+    tests
 }
 
 impl Code {
@@ -53,21 +53,22 @@ impl Code {
         if steps.len() == 1 {
             return Ok(steps[0].target);
         }
-        if !is_row(steps, MOST) {
+        if row(steps) > MOST {
             let (low, high) = steps.split_at(steps.len() / 2);
             let upper = self.tree(high)?;
             let lower = self.tree(low)?;
             return self.test(Test::AtLeast, high[0].start as u32, upper, lower);
         }
         let border = steps[1].start as u32;
-        let rest = self.tree(&steps[settled(steps)..])?;
         if stands_out(steps) {
+            let rest = self.tree(&steps[2..])?;
             return self.test(Test::Equal, border, steps[1].target, rest);
         }
+        let rest = self.tree(&steps[1..])?;
         self.test(Test::AtLeast, border, rest, steps[0].target)
     }
 
-    /// Goes on as the steps say for the 32 bits of the record from this byte on, whatever is in the accumulator.
+    /// Goes on as the steps say for the record's word at this byte, whatever is in the accumulator.
     pub(crate) fn word(&mut self, byte: u8, steps: &[Step]) -> Result<Target, TreeError>
         requires aligned { byte % 4 ≡ 0 }
         requires inside_record { byte ≤ 60 }

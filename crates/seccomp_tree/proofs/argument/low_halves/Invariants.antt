@@ -1,4 +1,4 @@
-use Rattle.std.proofs.Common.{ℕ}
+use Rattle.std.proofs.Common.{ℕ, ◌*◌, ◌^◌}
 use Rattle.seccomp_tree.proofs.LowHalves.{LowsOn}
 use Rattle.seccomp_tree.proofs.argument.low_halves.Given as goal
 

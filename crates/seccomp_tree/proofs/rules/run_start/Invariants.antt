@@ -1,3 +1,4 @@
+use Rattle.std.proofs.Common.{ℕ}
 use Rattle.seccomp_tree.proofs.Ruled.{RunBack}
 use Rattle.seccomp_tree.proofs.rules.run_start.Given as goal
 

@@ -1,6 +1,7 @@
-use Rattle.std.proofs.Common.{◌+◌, ◌*◌, sym, subst, List}
+use Rattle.std.proofs.Common.{◌+◌, ◌*◌, ◌^◌, ap, length, sym, subst, List, arith}
 use Rattle.seccomp_tree.specs.declared.steps.Step.{Step}
-use Rattle.seccomp_tree.specs.Code.{AreIn, IsWord, IsArgument}
+use Rattle.seccomp_tree.specs.Steps.{Ascend}
+use Rattle.seccomp_tree.specs.Code.{AreIn, IsWord, IsArgument, IsFullBy}
 use Rattle.seccomp_tree.proofs.Overlays.{ok_weaker}
 use Rattle.seccomp_tree.proofs.HighHalves.{highs_in, is_argument}
 use Rattle.seccomp_tree.proofs.code.Code.argument.Goals as goal

@@ -1,4 +1,4 @@
-use Rattle.std.proofs.Common.{◌+◌, ◌*◌, ap, length, sym, subst, List, arith}
+use Rattle.std.proofs.Common.{◌+◌, ◌*◌, ◌≤◌, ap, length, sym, subst, List, arith}
 use Rattle.seccomp_tree.specs.declared.steps.Step.{Step}
 use Rattle.seccomp_tree.specs.Code.{AreIn, IsWord}
 use Rattle.seccomp_tree.specs.Arguments.{IsHalfFullBy}

@@ -1,6 +1,6 @@
-use Rattle.std.proofs.Common.{refl, arith}
+use Rattle.std.proofs.Common.{refl, length, ◌≤◌, ◌+◌, arith}
 use Rattle.std.proofs.lemmas.Result.{err_from_is_err_and}
-use Rattle.seccomp_tree.proofs.Ruled.{rules_none, rules_one, run_room}
+use Rattle.seccomp_tree.proofs.Ruled.{RulesOn, rules_none, rules_one, run_room, rules_all}
 use Rattle.seccomp_tree.proofs.code.Code.rules.Goals as goal
 
 pub loop-end-init : goal.loop-end-init
@@ -17,6 +17,5 @@ returns-in_err-target-clause-err c =
 pub loop-end-preserved : goal.loop-end-preserved
 loop-end-preserved c =
     let l = c.loop-end in
-    rules_one c.args.self.now l.self c.run.new.self c.args.rulings.now c.args.default c.run_start-start.result l.end l.target
-    c.in_ok-target.target
+    rules_one c.args.self.now l.self c.run.new.self c.args.rulings.now c.args.default c.run_start-start.result l.end l.target c.in_ok-target.target
     _ l.invariant c.run_start-start.ensures refl c.in_ok-target.ensures.ok

@@ -1,4 +1,5 @@
 use Rattle.std.proofs.Common.{◌≡◌, List, Some, None, ap, sym, ◌∙◌, subst}
+use Rattle.seccompiler.specs.Policy.{Condition}
 use Rattle.seccomp_tree.specs.declared.steps.Step.{Step}
 use Rattle.seccomp_tree.specs.Code.{AreIn}
 use Rattle.seccomp_tree.specs.Decisions.{Ruling, only}

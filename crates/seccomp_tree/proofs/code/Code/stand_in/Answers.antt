@@ -5,4 +5,4 @@ use Rattle.seccomp_tree.proofs.code.Code.stand_in.Goals as goal
 pub returns-clause-ok : goal.returns-clause-ok
 returns-clause-ok c =
     reached_new c.args.self.now c.args.target c.args.instruction c.push.new.self (c.len.result - 1) c.requires.far c.in_ok-push.ensures.ok
-    (omega (arith, c.len.ensures.len, c.len.ensures.some)) c.requires.stands_for
+    (omega (arith, c.len.ensures.len, c.len.ensures.some)) c.requires.does

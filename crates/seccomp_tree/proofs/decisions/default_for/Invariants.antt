@@ -1,0 +1,6 @@
+use Rattle.std.proofs.Common.{◌≡◌, drop}
+use Rattle.seccomp_tree.specs.Decided.{default_from, default_for}
+use Rattle.seccomp_tree.proofs.decisions.default_for.Given as goal
+
+abbrev pub invariant-loop-default : goal.invariant-loop-default
+invariant-loop-default l = default_from l.value (drop l.default-index l.defaults) l.number ≡ default_for l.defaults l.number

@@ -1,0 +1,95 @@
+-- Between layers: steps over call numbers.
+use Rattle.std.specs.Prelude.{◌≡◌, ℕ, ◌+◌, ◌-◌, ◌*◌, ◌∷◌, length, ◌<◌, ◌≤◌, ◌^◌, List, [], Some, None}
+use Rattle.seccompiler.specs.declared.bpf.sock_filter.{sock_filter}
+use Rattle.seccompiler.specs.Machine.{IsRecord, word_at, greatest_length}
+use Rattle.seccomp_tree.specs.declared.steps.Target.{Target}
+use Rattle.seccomp_tree.specs.declared.steps.Target.TheVariants.{Give, At}
+use Rattle.seccomp_tree.specs.declared.steps.Step.{Step}
+use Rattle.seccomp_tree.specs.declared.decisions.DefaultValue.{DefaultValue}
+use Rattle.seccomp_tree.specs.Steps.{found_in, AreSteps, AreTight, Precede}
+use Rattle.seccomp_tree.specs.Code.{IsIn, IsTested, Grows, LeadsAlways, StartsAlways}
+use Rattle.seccomp_tree.specs.Decisions.{Ruling, First, Takes, rules_length}
+use Rattle.seccomp_tree.specs.Decided.{DecisionSet, default_for, rulings_for}
+use Rattle.seccomp_tree.specs.TreeProgram.{one_value, calls_length, AreRanges, TakesOwn}
+use Rattle.seccompiler.specs.Architecture.{audit_word}
+use Rattle.seccompiler.specs.Code.{load}
+use Rattle.seccomp_tree.specs.declared.code.Test.TheVariants.{Equal}
+use Rattle.seccomp_tree.specs.declared.error.TreeError.{TreeError}
+use Rattle.seccomp_tree.specs.declared.error.TreeError.TheVariants.{TooLarge}
+
+-- The target answers calls as their rulings do, whatever the accumulator holds; where one value answers them, it returns that.
+pub record IsAnswer (code : List sock_filter) (default : ℕ) (rulings : List Ruling) (t : Target) : Type 0 where
+  pub inside : IsIn code t
+  pub one : (v : ℕ) → one_value default rulings ≡ Some v → t ≡ Give v
+  pub own : one_value default rulings ≡ None → (r : List ℕ) → IsRecord r → (w n : ℕ) → First default r rulings w
+      → Takes r [] rulings n → LeadsAlways code r t w (n + 1)
+
+-- Code was put in front, and the target answers calls.
+pub record IsAnswered (old : List sock_filter) (default : ℕ) (rulings : List Ruling) (t : Target) (new : List sock_filter) : Type 0 where
+  pub grows : Grows old (rules_length rulings) new
+  pub answer : IsAnswer new default rulings t
+
+-- Steps have for each number what the default values are, which are words.
+pub record AreDefaults (defaults : List DefaultValue) (steps : List Step) : Type 0 where
+  pub are : AreSteps (2 ^ 32) steps
+  pub found : (n : ℕ) → found_in steps n ≡ Give (default_for defaults n)
+  pub words : (n : ℕ) → default_for defaults n < 2 ^ 32
+
+-- From the start up to the end the steps have what the others have, and below what they had.
+pub record IsRangePushed (old others : List Step) (start end : ℕ) (new : List Step) : Type 0 where
+  pub are : Precede end new
+  pub inside : (n : ℕ) → start ≤ n → n < end → found_in new n ≡ found_in others n
+  pub below : (n : ℕ) → n < start → found_in new n ≡ found_in old n
+  pub tight : AreTight old → AreTight new
+
+-- The steps over the numbers below one answer each of them.
+pub record AreAnswers (d : DecisionSet) (next : ℕ) (code : List sock_filter) (steps : List Step) : Type 0 where
+  pub are : Precede next steps
+  pub tight : AreTight steps
+  pub each : (n : ℕ) → n < next → IsAnswer code (default_for d.defaults n) (rulings_for d.calls n) (found_in steps n)
+
+-- The numbers from one up to another have no rulings.
+abbrev pub HaveNone : DecisionSet → ℕ → ℕ → Type 0
+HaveNone d start end = (n : ℕ) → start ≤ n → n < end → rulings_for d.calls n ≡ []
+
+-- Code was put in front, and the steps answer all numbers.
+pub record AreCallSteps (old : List sock_filter) (d : DecisionSet) (steps : List Step) (new : List sock_filter) : Type 0 where
+  pub grows : Grows old (calls_length d.calls) new
+  pub answers : AreAnswers d (2 ^ 32) new steps
+
+-- Code was put in front, and the steps answer one number more.
+pub record IsCallPushed (old : List sock_filter) (d : DecisionSet) (number : ℕ) (rulings : List Ruling) (steps : List Step)
+    (new : List sock_filter) : Type 0 where
+  pub grows : Grows old (rules_length rulings) new
+  pub answers : AreAnswers d (number + 1) new steps
+
+-- A target that returns the word within so many steps of a test that is written next: it is the last place, or may be far.
+pub data IsEntered (code : List sock_filter) (r : List ℕ) (t : Target) (w : ℕ) : ℕ → Type 0 where
+  near : (n : ℕ) → t ≡ At (length code - 1) → StartsAlways code r t w n → IsEntered code r t w n
+  far : (n : ℕ) → LeadsAlways code r t w n → IsEntered code r t w n
+
+-- The target answers all calls of the architecture.
+pub record IsCallsTarget (old : List sock_filter) (d : DecisionSet) (t : Target) (new : List sock_filter) : Type 0 where
+  pub ranges : ℕ
+  pub some : 1 ≤ ranges
+  pub few : (starts : List ℕ) → AreRanges d starts → ranges ≤ length starts
+  pub grows : Grows old (calls_length d.calls + (3 * ranges - 2)) new
+  pub inside : IsIn new t
+  pub enters : (r : List ℕ) → IsRecord r → (w n k : ℕ) → ranges ≤ 2 ^ k → word_at r 4 ≡ audit_word d.target_arch
+      → First (default_for d.defaults (word_at r 0)) r (rulings_for d.calls (word_at r 0)) w → TakesOwn d r n
+      → IsEntered new r t w (n + 2 + 2 * k)
+
+-- Behind a load of the architecture's word and a test of it there is what answers calls.
+pub record IsWritten (old : List sock_filter) (d : DecisionSet) (new : List sock_filter) : Type 0 where
+  pub calls : Target
+  pub behind : List sock_filter
+  pub answers : IsCallsTarget old d calls behind
+  pub test : Target
+  pub tested : List sock_filter
+  pub tests : IsTested behind Equal (audit_word d.target_arch) calls (Give 0x80000000) test tested
+  pub whole : new ≡ load 4 ∷ tested
+
+-- The code doesn't take what answers all calls, and so many more: this comes only where that is so, or of memory.
+abbrev pub IsTooFull : DecisionSet → List sock_filter → ℕ → TreeError → Type 0
+IsTooFull d code most e = e ≡ TooLarge → (starts : List ℕ) → AreRanges d starts
+    → greatest_length + 2 < length code + calls_length d.calls + 3 * length starts + most

@@ -1,0 +1,185 @@
+// The program of decisions.
+
+ghost use Rattle.std.specs.Prelude.{◌≡◌, ℕ, ◌≤◌, ◌<◌, ◌+◌, ◌*◌, ◌-◌, ◌^◌, IfOk, IfErr, IsOkUnless, length};
+ghost use Rattle.seccomp_tree.specs.Steps.{AreSteps, Precede};
+ghost use Rattle.seccomp_tree.specs.Code.{IsFullBy};
+ghost use Rattle.seccomp_tree.specs.Decisions.{rules_length};
+ghost use Rattle.seccomp_tree.specs.Decided.{AscendFromZero};
+ghost use Rattle.seccomp_tree.specs.TreeProgram.{one_value};
+ghost use Rattle.seccomp_tree.specs.CallSteps.{AreDefaults, IsAnswered, IsRangePushed};
+ghost use Rattle.seccomp_tree.specs.declared.error.TreeError.TheVariants.{OutOfMemory};
+
+use crate::code::{Code, Test};
+use crate::decisions::{Decision, Decisions, DefaultValue, KILL_PROCESS, default_for};
+use crate::error::TreeError;
+use crate::steps::{Step, Target, found, push_step, until};
+use seccompiler::BpfProgram;
+use seccompiler::bpf::{LOAD, SECCOMP_DATA_ARCH_OFFSET, SECCOMP_DATA_NR_OFFSET, bpf_stmt};
+use std::alloc::Global;
+
+// How many call numbers there are.
+const NUMBERS: u64 = 0x1_0000_0000;
+
+impl Decisions {
+    ghost use Rattle.std.specs.Prelude.{[], List};
+    ghost use Rattle.seccomp_tree.specs.Decided.{default_for, rulings_for};
+    ghost use Rattle.seccomp_tree.specs.TreeProgram.{IsTreeProgram, IsTooLargeFor, calls_length};
+    ghost use Rattle.seccomp_tree.specs.CallSteps.{AreAnswers, AreCallSteps, HaveNone, IsCallPushed, IsCallsTarget, IsTooFull, IsWritten};
+
+    /// The program of these decisions: one tree of tests over call numbers, and behind it the tests of their arguments.
+    ///
+    /// # Errors
+    ///
+    /// `TooLarge` where the program would have more than 4096 instructions, and `OutOfMemory` where memory runs out.
+    pub fn to_bpf(&self, alloc: Global) -> Result<BpfProgram, TreeError>
+        ensures program { IfOk result (λ p. IsTreeProgram self.now p.items) }
+        ensures large { IfErr result (IsTooLargeFor self.now) }
+    {
+        let mut code = Code::new(alloc)?;
+        self.write(alloc, &mut code)?;
+        Ok(code.into_program())
+    }
+
+    // Writes the whole program in front of its last return.
+    fn write(&self, alloc: Global, code: &mut Code) -> Result<(), TreeError>
+        ensures ok { IfOk result (λ _. IsWritten code.old self.now code.new) }
+        ensures err { IfErr result (IsTooFull self.now code.old 4) }
+    {
+        let calls = self.write_calls(alloc, code)?;
+        let arch = self.target_arch.get_audit_value();
+        code.test(Test::Equal, arch, calls, Target::Give(KILL_PROCESS))?;
+        code.push(bpf_stmt(LOAD, u32::from(SECCOMP_DATA_ARCH_OFFSET)))
+    }
+
+    // Answers the calls of the architecture.
+    fn write_calls(&self, alloc: Global, code: &mut Code) -> Result<Target, TreeError>
+        ensures ok { IfOk result (λ t. IsCallsTarget code.old self.now t code.new) }
+        ensures err { IfErr result (IsTooFull self.now code.old 0) }
+    {
+        let steps = self.call_steps(alloc, code)?;
+        code.word(SECCOMP_DATA_NR_OFFSET, &steps)
+    }
+
+    // The steps over call numbers.
+    fn call_steps(&self, alloc: Global, code: &mut Code) -> Result<Vec<Step>, TreeError>
+        ensures ok { IfOk result (λ steps. AreCallSteps code.old self.now steps.items code.new) }
+        ensures err { IfErr result (IsFullBy code.old (calls_length self.now.calls)) }
+    {
+        let defaults = default_steps(alloc, &self.defaults)?;
+        let mut steps = Vec::new(alloc);
+        let mut next: u64 = 0;
+        for (number, rulings) in &self.calls {
+            let number = *number;
+            self.push_call(alloc, code, &defaults, &mut steps, next, number, rulings)?;
+            next = u64::from(number) + 1;
+        }
+        push_range(&mut steps, &defaults, next, NUMBERS)?;
+        Ok(steps)
+    }
+
+    // Puts one more call number behind the steps, and in front of it the defaults of those that have no rulings.
+    fn push_call(
+        &self,
+        alloc: Global,
+        code: &mut Code,
+        defaults: &[Step],
+        steps: &mut Vec<Step>,
+        next: u64,
+        number: u32,
+        rulings: &[Decision],
+    ) -> Result<(), TreeError>
+        requires answers { AreAnswers self.now next code.old steps.old.items }
+        requires defaults { AreDefaults self.now.defaults defaults.now }
+        requires order { next ≤ number }
+        requires none { HaveNone self.now next number }
+        requires here { rulings_for self.now.calls number ≡ rulings.now }
+        ensures ok { IfOk result (λ _. IsCallPushed code.old self.now number rulings.now steps.new.items code.new) }
+        ensures err { IfErr result (IsFullBy code.old (rules_length rulings.now)) }
+    {
+        let start = u64::from(number);
+        push_range(steps, defaults, next, start)?;
+        let default = default_for(&self.defaults, number);
+        let target = code.answer(alloc, rulings, default)?;
+        push_step(steps, start, target)
+    }
+}
+
+impl Code {
+    // Goes on as the first of the rulings that holds says, or returns the default.
+    fn answer(
+        &mut self,
+        alloc: Global,
+        rulings: &[Decision],
+        default: u32,
+    ) -> Result<Target, TreeError>
+        ensures ok { IfOk result (λ t. IsAnswered self.old default rulings.now t self.new) }
+        ensures err { IfErr result (IsFullBy self.old (rules_length rulings.now)) }
+    {
+        match one_value(rulings, default) {
+            Some(value) => Ok(Target::Give(value)),
+            None => self.rules(alloc, rulings, default),
+        }
+    }
+}
+
+// The value that alone answers calls of these rulings, if one does.
+fn one_value(rulings: &[Decision], default: u32) -> Option<u32>
+    ensures { result ≡ one_value default rulings.now }
+{
+    if rulings.is_empty() {
+        return Some(default);
+    }
+    let first = &rulings[0];
+    if first.conditions.len() == 0 {
+        return Some(first.value);
+    }
+    None
+}
+
+// The default values as steps.
+fn default_steps(alloc: Global, defaults: &[DefaultValue]) -> Result<Vec<Step>, TreeError>
+    requires { AscendFromZero defaults.now }
+    ensures ok { IfOk result (λ steps. AreDefaults defaults.now steps.items) }
+    ensures memory { IsOkUnless result OutOfMemory }
+{
+    let mut steps = Vec::new(alloc);
+    push_step(&mut steps, 0, Target::Give(value_of(&defaults[0])))?;
+    for default in &defaults[1..] {
+        let (start, value) = (start_of(default), value_of(default));
+        push_step(&mut steps, u64::from(start), Target::Give(value))?;
+    }
+    Ok(steps)
+}
+
+// The first number of a default. (What a function returns lies within its type, as a proof sees it.)
+fn start_of(default: &DefaultValue) -> u32
+    ensures { result ≡ default.now.start }
+{
+    default.start
+}
+
+// The value of a default.
+fn value_of(default: &DefaultValue) -> u32
+    ensures { result ≡ default.now.value }
+{
+    default.value
+}
+
+// Gives the numbers from `start` up to `end` the targets that the others have.
+fn push_range(steps: &mut Vec<Step>, others: &[Step], start: u64, end: u64) -> Result<(), TreeError>
+    requires below { Precede start steps.old.items }
+    requires others { AreSteps (2 ^ 32) others.now }
+    requires order { start ≤ end }
+    requires within { end ≤ 2 ^ 32 }
+    ensures pushed { IfOk result (λ _. IsRangePushed steps.old.items others.now start end steps.new.items) }
+    ensures memory { IsOkUnless result OutOfMemory }
+{
+    if start == end {
+        return Ok(());
+    }
+    push_step(steps, start, found(others, start))?;
+    for step in &others[until(others, start)..until(others, end - 1)] {
+        push_step(steps, step.start, step.target)?;
+    }
+    Ok(())
+}

@@ -1,5 +1,6 @@
 -- Steps over call numbers: one call number more.
-use Rattle.std.proofs.Common.{◌≡◌, ℕ, ◌+◌, ◌-◌, ◌<◌, ◌≤◌, ◌^◌, List, [], ◌∷◌, length, true, false, Some, None, Vec, refl, sym, ap, ◌∙◌, subst, ◌⊎◌, inl, inr, ⊎_elim, arith}
+use Rattle.std.proofs.Common.{◌≡◌, ℕ, ◌+◌, ◌-◌, ◌<◌, ◌≤◌, ◌^◌, List, [], ◌∷◌, length, true, false, Some, None, Vec, refl, sym, ap, ◌∙◌}
+use Rattle.std.proofs.Common.{subst, ◌⊎◌, inl, inr, ⊎_elim, arith}
 use Rattle.std.proofs.Common.{nat_eq, if◌then◌else◌}
 use Rattle.std.proofs.lemmas.Bool.Decides.{nat_tests}
 use Rattle.std.proofs.lemmas.Bool.{cases_lt}
@@ -45,7 +46,8 @@ answers_range d code old defaults new start end order h values none pushed = rec
   are = pushed.are;
   tight = pushed.tight h.tight;
   each = λ n lt. ⊎_elim
-      (λ (less : n < start). subst (IsAnswer code (default_for d.defaults n) (rulings_for d.calls n)) (sym (pushed.below n less)) (h.each n less))
+      (λ (less : n < start). subst (IsAnswer code (default_for d.defaults n) (rulings_for d.calls n)) (sym (pushed.below n less)) (h.each n
+          less))
       (λ (le : start ≤ n).
       let found : found_in new n ≡ Give (default_for d.defaults n) = pushed.inside n le lt ∙ values.found n in
       subst (λ q. IsAnswer code (default_for d.defaults n) q (found_in new n)) (sym (none n le lt))
@@ -53,7 +55,8 @@ answers_range d code old defaults new start end order h values none pushed = rec
       (cases_lt n start);
 }
 
-pub answers_call : (d : DecisionSet) (old new : List sock_filter) (steps mid pushed : List Step) (number default : ℕ) (rulings : List Ruling)
+pub answers_call : (d : DecisionSet) (old new : List sock_filter) (steps mid pushed : List Step) (number default : ℕ) (rulings : List
+    Ruling)
     (t : Target) → AreAnswers d number old mid → default ≡ default_for d.defaults number → rulings_for d.calls number ≡ rulings
     → IsAnswered old default rulings t new → IsPushed mid number t pushed → (AreTight mid → AreTight pushed)
     → IsCallPushed old d number rulings pushed new
@@ -65,7 +68,8 @@ answers_call d old new steps mid pushed number default rulings t h value here an
     each = λ n lt. ⊎_elim
         (λ (less : n < number).
         subst (IsAnswer new (default_for d.defaults n) (rulings_for d.calls n)) (sym (one.below n less))
-        (answer_grown old new (rules_length rulings) (default_for d.defaults n) (rulings_for d.calls n) (found_in mid n) answered.grows (h.each n less)))
+        (answer_grown old new (rules_length rulings) (default_for d.defaults n) (rulings_for d.calls n) (found_in mid n) answered.grows
+            (h.each n less)))
         (λ (le : number ≤ n).
         let is : n ≡ number = omega arith in
         subst (IsAnswer new (default_for d.defaults n) (rulings_for d.calls n)) (sym (one.from n le))
@@ -107,7 +111,8 @@ calls_none next [] n h lt = refl
 calls_none next (e ∷ entries) n h lt =
     let no : nat_eq n e.0 ≡ false = grind (arith, nat_tests, h.0) in rw no (calls_none (e.0 + 1) entries n h.1 (omega (arith, h.0)))
 
-pub record CallsOn (d : DecisionSet) (old : List sock_filter) (next : ℕ) (left : List MapEntry) (steps : List Step) (code : List sock_filter) : Type 0 where
+pub record CallsOn (d : DecisionSet) (old : List sock_filter) (next : ℕ) (left : List MapEntry) (steps : List Step) (code : List
+    sock_filter) : Type 0 where
   pub within : next ≤ 2 ^ 32
   pub from : CallsFrom next left
   pub behind : (n : ℕ) → next ≤ n → rulings_for d.calls n ≡ rulings_for (calls_of left) n
@@ -147,7 +152,8 @@ calls_next d old next number rulings left back steps code is h =
       order = from.0;
       none = λ n le lt.
           let no : nat_eq n number ≡ false = grind (arith, nat_tests) in
-          all n le ∙ ap (λ b. if b then rulings.items else rulings_for (calls_of back) n) no ∙ calls_none (number + 1) back n from.1 (omega arith);
+          all n le ∙ ap (λ b. if b then rulings.items else rulings_for (calls_of back) n) no ∙ calls_none (number + 1) back n from.1 (omega
+              arith);
       here =
           let yes : nat_eq number number ≡ true = grind (arith, nat_tests) in
           all number from.0 ∙ ap (λ b. if b then rulings.items else rulings_for (calls_of back) number) yes;
@@ -170,12 +176,14 @@ calls_step d old next number rulings left back steps new code grown small is h p
       from = x.from;
       behind = x.behind;
       count = h.count + rules_length rulings.items;
-      grows = grows_on old code grown h.count (rules_length rulings.items) (h.count + rules_length rulings.items) h.grows pushed.grows (omega arith);
+      grows = grows_on old code grown h.count (rules_length rulings.items) (h.count + rules_length rulings.items) h.grows pushed.grows
+          (omega arith);
       total = omega (arith, sum, h.total);
       answers = pushed.answers;
     }
 
-pub calls_all : (d : DecisionSet) (old : List sock_filter) (next : ℕ) (left : List MapEntry) (steps defaults new : List Step) (code : List sock_filter)
+pub calls_all : (d : DecisionSet) (old : List sock_filter) (next : ℕ) (left : List MapEntry) (steps defaults new : List Step) (code : List
+    sock_filter)
     → left ≡ [] → CallsOn d old next left steps code → AreDefaults d.defaults defaults → IsRangePushed steps defaults next (2 ^ 32) new
     → AreCallSteps old d new code
 calls_all d old next left steps defaults new code none h values pushed =

@@ -1,5 +1,6 @@
 -- Rulings as targets: one by its conditions, a run by steps.
-use Rattle.std.proofs.Common.{◌≡◌, ℕ, zero, suc, ◌+◌, ◌-◌, ◌*◌, ◌<◌, ◌≤◌, ◌^◌, List, [], ◌∷◌, length, drop, get_or, true, false, refl, sym, ap, ◌∙◌, subst, ◌⊎◌, inl, inr, Option, Some, None, arith}
+use Rattle.std.proofs.Common.{◌≡◌, ℕ, zero, suc, ◌+◌, ◌-◌, ◌*◌, ◌<◌, ◌≤◌, ◌^◌, List, [], ◌∷◌, length, drop, get_or, true, false, refl, sym}
+use Rattle.std.proofs.Common.{ap, ◌∙◌, subst, ◌⊎◌, inl, inr, Option, Some, None, arith}
 use Rattle.std.specs.Prelude.{Bool, bit_and, nat_eq, ◌&&◌, if◌then◌else◌}
 use Rattle.std.proofs.lemmas.Bool.{cases_eq, cases_lt, eqb-true, and_parts, false≢true}
 use Rattle.std.proofs.lemmas.List.Elements.{All-nil, All-cons, All-head, All-tail}
@@ -17,8 +18,10 @@ use Rattle.seccomp_tree.specs.Steps.{found_in, AreSteps, IsPushed}
 use Rattle.seccomp_tree.specs.Intervals.{numbers_of, is_plain, IsLaid}
 use Rattle.seccomp_tree.specs.Code.{Leads, LeadsAlways, StartsAlways, IsIn, AreIn, Grows}
 use Rattle.seccomp_tree.specs.Conditions.{part_length, part_steps, condition_length, condition_steps, IsPart, IsConditionMet}
-use Rattle.seccomp_tree.specs.Decisions.{Ruling, only, alike, joins, same_length, conditions_length, conditions_steps, run_length, RunTakes, by_steps, by_conditions}
-use Rattle.seccomp_tree.specs.Rules.{Chooses, chosen_here, chosen_behind, chosen_after, Joined, IsRun, head, AreRunSteps, IsRulingMet, IsRunMet}
+use Rattle.seccomp_tree.specs.Decisions.{Ruling, only, alike, joins, same_length, conditions_length, conditions_steps, run_length, RunTakes}
+use Rattle.seccomp_tree.specs.Decisions.{by_steps, by_conditions}
+use Rattle.seccomp_tree.specs.Rules.{Chooses, chosen_here, chosen_behind, chosen_after, Joined, IsRun, head, AreRunSteps, IsRulingMet}
+use Rattle.seccomp_tree.specs.Rules.{IsRunMet}
 use Rattle.seccomp_tree.proofs.Growing.{grows_not, grows_on, grown_long}
 use Rattle.seccomp_tree.proofs.Runs.{leads_by, leads_grown, starts_more}
 use Rattle.seccomp_tree.proofs.LowHalves.{are_in_below}
@@ -41,7 +44,8 @@ holds_or_not c r = either (operator_part c.arg_len c.operator) (part_of c.arg_le
     either (MaskedEq m) a v = cases_eq (bit_and a m) (bit_and v m)
 
 -- the loop of `ruling`: the conditions from one on
-pub record RulingOn (old : List sock_filter) (d : Ruling) (after : Target) (conditions : List Condition) (t : Target) (new : List sock_filter) : Type 0 where
+pub record RulingOn (old : List sock_filter) (d : Ruling) (after : Target) (conditions : List Condition) (t : Target) (new : List
+    sock_filter) : Type 0 where
   pub grows : Grows old (conditions_length conditions) new
   pub inside : IsIn new t
   pub met : (r : List ℕ) → IsRecord r → RuleHolds conditions r → (w n : ℕ) → LeadsAlways old r (Give d.value) w n
@@ -61,7 +65,8 @@ ruling_none old d after conditions empty fits = rw empty record {
 pub ruling_one : (old mid new : List sock_filter) (d : Ruling) (after t u : Target) (c : Condition) (rest : List Condition)
     → RulingOn old d after rest t mid → IsConditionMet mid c t after u new → RulingOn old d after (c ∷ rest) u new
 ruling_one old mid new d after t u c rest h one = record {
-  grows = grows_on old mid new (conditions_length rest) (condition_length c.arg_len c.operator) (conditions_length (c ∷ rest)) h.grows one.grows
+  grows = grows_on old mid new (conditions_length rest) (condition_length c.arg_len c.operator) (conditions_length (c ∷ rest)) h.grows
+      one.grows
       (omega arith);
   inside = one.inside;
   met = λ r rec holds w n lead.
@@ -92,8 +97,10 @@ conditions_less (suc n) [] = omega arith
 conditions_less (suc n) (c ∷ q) = let h = conditions_less n q in omega arith
 
 -- how much room a condition takes at most, of what all take
-pub ruling_room : (old mid : List sock_filter) (d : Ruling) (after t : Target) (q : List Condition) (k : ℕ) (c : Condition) (rest : List Condition)
-    → drop k q ≡ c ∷ rest → RulingOn old d after rest t mid → length mid + condition_length c.arg_len c.operator ≤ length old + conditions_length q
+pub ruling_room : (old mid : List sock_filter) (d : Ruling) (after t : Target) (q : List Condition) (k : ℕ) (c : Condition) (rest : List
+    Condition)
+    → drop k q ≡ c ∷ rest → RulingOn old d after rest t mid → length mid + condition_length c.arg_len c.operator ≤ length old +
+        conditions_length q
 ruling_room old mid d after t q k c rest cons h =
     let less = conditions_less k q in
     let same : conditions_length (drop k q) ≡ condition_length c.arg_len c.operator + conditions_length rest = ap conditions_length cons in
@@ -107,7 +114,8 @@ only_alike o e = absurd (false≢true e)
 chosen_last : (after : Target) (r : List ℕ) (t : Target) → Chooses after r [] t → after ≡ t
 chosen_last after r t (chosen_after) = refl
 
-pub run_of_one : (old new : List sock_filter) (d : Ruling) (rest : List Ruling) (after t : Target) → IsRun (d ∷ rest) → only d.conditions ≡ None
+pub run_of_one : (old new : List sock_filter) (d : Ruling) (rest : List Ruling) (after t : Target) → IsRun (d ∷ rest) → only d.conditions ≡
+    None
     → IsRulingMet old d after t new → IsRunMet old (d ∷ rest) after t new
 run_of_one old new d [] after t run is h = record {
   grows = let same : run_length d.conditions 1 ≡ conditions_length d.conditions = rw is refl in
@@ -127,7 +135,8 @@ run_of_one old new d [] after t run is h = record {
     go r rec u w n (chosen_here x rest holds) lead = h.met r rec holds w n lead
     go r rec u w n (chosen_behind x rest v not others) lead =
         h.unmet r rec not w n (subst (λ z. LeadsAlways old r z w n) (sym (chosen_last after r v others)) lead)
-run_of_one old new d (e ∷ rest) after t run is h = absurd (only_alike (only e.conditions) (subst (λ o. alike o (only e.conditions) ≡ true) is run.0))
+run_of_one old new d (e ∷ rest) after t run is h = absurd (only_alike (only e.conditions) (subst (λ o. alike o (only e.conditions) ≡ true)
+    is run.0))
 
 -- ---- a run
 
@@ -182,7 +191,8 @@ pub record OfRun (c : Condition) (q : List Condition) : Type 0 where
   pub whole : q ≡ condition ∷ []
   pub run : InRun c condition
 
-pub of_run : (c : Condition) (rulings : List Ruling) → IsRun rulings → only (head rulings) ≡ Some c → (k : ℕ) (d : Ruling) → k < length rulings
+pub of_run : (c : Condition) (rulings : List Ruling) → IsRun rulings → only (head rulings) ≡ Some c → (k : ℕ) (d : Ruling) → k < length
+    rulings
     → OfRun c ((get_or rulings k d).conditions)
 of_run c [] run is k d lt = absurd run
 of_run c (e ∷ rulings) run is k d lt =
@@ -198,10 +208,12 @@ numbers_some Qword = omega arith
 pub record RunOn (c : Condition) (rulings : List Ruling) (after : Target) (steps : List Step) : Type 0 where
   pub are : AreSteps (numbers_of c.arg_len) steps
   pub few : length steps ≤ 2 * length rulings + 1
-  pub each : (r : List ℕ) → IsRecord r → (t : Target) → Chooses after r rulings t → found_in steps (part_of c.arg_len (argument_at r c.arg_index)) ≡ t
+  pub each : (r : List ℕ) → IsRecord r → (t : Target) → Chooses after r rulings t → found_in steps (part_of c.arg_len (argument_at r
+      c.arg_index)) ≡ t
   pub inside : (code : List sock_filter) → IsIn code after → (a : ℕ) → a < numbers_of c.arg_len → IsIn code (found_in steps a)
 
-pub run_none : (c : Condition) (rulings : List Ruling) (after : Target) (steps : List Step) → rulings ≡ [] → AreSteps (numbers_of c.arg_len) steps
+pub run_none : (c : Condition) (rulings : List Ruling) (after : Target) (steps : List Step) → rulings ≡ [] → AreSteps (numbers_of
+    c.arg_len) steps
     → IsPushed [] 0 after steps → RunOn c rulings after steps
 run_none c rulings after steps empty are pushed = rw empty record {
   are = are;
@@ -210,7 +222,8 @@ run_none c rulings after steps empty are pushed = rw empty record {
   inside = λ code inside a lt. subst (IsIn code) (sym (pushed.from a (omega arith))) inside;
 }
 
-pub run_one : (c x : Condition) (d : Ruling) (rest : List Ruling) (after : Target) (steps new : List Step) → InRun c x → d.conditions ≡ x ∷ []
+pub run_one : (c x : Condition) (d : Ruling) (rest : List Ruling) (after : Target) (steps new : List Step) → InRun c x → d.conditions ≡ x ∷
+    []
     → d.value < 2 ^ 32 → RunOn c rest after steps → IsLaid x steps (Give d.value) new → RunOn c (d ∷ rest) after new
 run_one c x d rest after steps new same is fits h laid = record {
   are = subst (λ l. AreSteps (numbers_of l) new) same.size laid.laid.are;
@@ -226,7 +239,8 @@ run_one c x d rest after steps new same is fits h laid = record {
     size a lt = subst (λ l. a < numbers_of l) (sym same.size) lt
 
     place : (r : List ℕ) → part_of c.arg_len (argument_at r c.arg_index) ≡ part_of x.arg_len (argument_at r x.arg_index)
-    place r = ap (λ l. part_of l (argument_at r c.arg_index)) (sym same.size) ∙ ap (λ i. part_of x.arg_len (argument_at r i)) (sym same.index)
+    place r = ap (λ l. part_of l (argument_at r c.arg_index)) (sym same.size) ∙ ap (λ i. part_of x.arg_len (argument_at r i)) (sym
+        same.index)
 
     one : (r : List ℕ) → RuleHolds d.conditions r → Holds x r
     one r holds = All-head (λ (y : Condition). Holds y r) x [] (subst (λ (q : List Condition). RuleHolds q r) is holds)
@@ -235,7 +249,8 @@ run_one c x d rest after steps new same is fits h laid = record {
     back r holds = subst (λ (q : List Condition). RuleHolds q r) (sym is)
         (All-cons (λ (y : Condition). Holds y r) x [] holds (All-nil (λ (y : Condition). Holds y r)))
 
-    go : (r : List ℕ) → IsRecord r → (t : Target) → Chooses after r (d ∷ rest) t → found_in new (part_of c.arg_len (argument_at r c.arg_index)) ≡ t
+    go : (r : List ℕ) → IsRecord r → (t : Target) → Chooses after r (d ∷ rest) t → found_in new (part_of c.arg_len (argument_at r
+        c.arg_index)) ≡ t
     go r rec t (chosen_here y others holds) =
         let a = part_of x.arg_len (argument_at r x.arg_index) in
         ap (λ p. found_in new p) (place r)
@@ -252,7 +267,8 @@ run_all c rulings all after steps whole h =
     let k = subst (λ (l : List Ruling). RunOn c l after steps) whole h in
     record { are = k.are; few = k.few; each = k.each; inside = k.inside }
 
-pub run_in : (code : List sock_filter) (c : Condition) (rulings : List Ruling) (after : Target) (steps : List Step) → AreRunSteps c rulings after steps
+pub run_in : (code : List sock_filter) (c : Condition) (rulings : List Ruling) (after : Target) (steps : List Step) → AreRunSteps c rulings
+    after steps
     → IsIn code after → AreIn code steps
 run_in code c rulings after steps h inside =
     are_in_below code (numbers_of c.arg_len) steps (some c.arg_len) h.are (λ a lt. h.inside code inside a lt)
@@ -290,7 +306,8 @@ pub run_head : (rulings : List Ruling) (x : Ruling) → IsRun rulings → x ≡ 
 run_head [] x run is = absurd run
 run_head (d ∷ rest) x run is = ap (λ (y : Ruling). y.conditions) (sym is)
 
-pub run_single : (old new : List sock_filter) (rulings : List Ruling) (x : Ruling) (after t : Target) → IsRun rulings → x ≡ get_or rulings 0 x
+pub run_single : (old new : List sock_filter) (rulings : List Ruling) (x : Ruling) (after t : Target) → IsRun rulings → x ≡ get_or rulings
+    0 x
     → only (head rulings) ≡ None → IsRulingMet old x after t new → IsRunMet old rulings after t new
 run_single old new [] x after t run is none h = absurd run
 run_single old new (d ∷ rest) x after t run is none h =

@@ -1,5 +1,6 @@
 -- The high halves of an argument: steps over them, whose targets go on by the low halves.
-use Rattle.std.proofs.Common.{◌≡◌, ℕ, zero, suc, ◌+◌, ◌-◌, ◌*◌, ◌/◌, ◌<◌, ◌≤◌, ◌^◌, List, [], ◌∷◌, length, drop, get_or, true, false, nat_le, if◌then◌else◌, length-drop, refl, sym, ap, ◌∙◌, subst, ◌⊎◌, inl, inr, ⊎_elim, arith}
+use Rattle.std.proofs.Common.{◌≡◌, ℕ, zero, suc, ◌+◌, ◌-◌, ◌*◌, ◌/◌, ◌<◌, ◌≤◌, ◌^◌, List, [], ◌∷◌, length, drop, get_or, true, false}
+use Rattle.std.proofs.Common.{nat_le, if◌then◌else◌, length-drop, refl, sym, ap, ◌∙◌, subst, ◌⊎◌, inl, inr, ⊎_elim, arith}
 use Rattle.std.proofs.lemmas.Bool.{cases_lt}
 use Rattle.std.proofs.lemmas.Bool.Decides.{nat_tests}
 use Rattle.std.proofs.lemmas.List.{get_or-drop, get_or_default}
@@ -12,7 +13,8 @@ use Rattle.seccomp_tree.specs.declared.steps.Target.{Target}
 use Rattle.seccomp_tree.specs.declared.steps.Step.{Step}
 use Rattle.seccomp_tree.specs.Steps.{found_from, found_in, AscendFrom, Ascend, AreSteps, Precede, from_none, from_some, IsPushed, IsCut}
 use Rattle.seccomp_tree.specs.Code.{AreIn, IsIn, Grows, Leads, to_return, to_place, StartsAlways, LeadsAlways, IsFullBy, IsWord, IsArgument}
-use Rattle.seccomp_tree.specs.Arguments.{first_of, last_of, AreWithin, AreLows, IsHalf, IsHalfFullBy, IsHalfPushed, IsNext, AreDone, AreHighs}
+use Rattle.seccomp_tree.specs.Arguments.{first_of, last_of, AreWithin, AreLows, IsHalf, IsHalfFullBy, IsHalfPushed, IsNext, AreDone}
+use Rattle.seccomp_tree.specs.Arguments.{AreHighs}
 use Rattle.seccomp_tree.proofs.Growing.{grows_not, grows_on, grown_long, is_in_grown}
 use Rattle.seccomp_tree.proofs.Runs.{returns_more, leads_by, leads_grown}
 use Rattle.seccomp_tree.proofs.Overlays.{cut_order, steps_rise, start_below, found_dropped}
@@ -97,7 +99,8 @@ pub half_in : (code : List sock_filter) (steps lows : List Step) (high : ℕ) �
 half_in code steps lows high h inside =
     are_in_below code (2 ^ 32) lows (omega arith) h.are (λ a lt. subst (IsIn code) (sym (h.found a lt)) (inside (first_of high + a)))
 
-pub half_long : (steps lows : List Step) (high begin end : ℕ) → AreSteps (2 ^ 64) steps → AreLows steps high lows → AreWithin steps high begin end
+pub half_long : (steps lows : List Step) (high begin end : ℕ) → AreSteps (2 ^ 64) steps → AreLows steps high lows → AreWithin steps high
+    begin end
     → 3 * length lows - 2 ≤ 3 * (end - begin) + 1
 half_long steps lows high begin end are h within =
     let b = cut_same (2 ^ 64) (first_of high) begin h.begin steps are within.begins h.within.begins in
@@ -180,7 +183,8 @@ between_same steps high next end x low d cut behind above below small =
         rw at (omega arith))
 
 -- at the number of a cut its last step decides
-pub found_at : (steps : List Step) (number n : ℕ) (d : Step) → IsCut steps number n → found_in steps number ≡ (get_or steps (n - 1) d).target
+pub found_at : (steps : List Step) (number n : ℕ) (d : Step) → IsCut steps number n → found_in steps number ≡ (get_or steps (n - 1)
+    d).target
 found_at steps number n d cut =
     found_dropped steps number n number d cut (omega arith)
     ∙ found_before ((get_or steps (n - 1) d).target) (drop n steps) number
@@ -189,7 +193,8 @@ found_at steps number n d cut =
     let far = cut.high (n + k) e (omega arith) (omega (arith, cut.within)) in
     rw at far)
 
-pub next_none : (steps : List Step) (high n : ℕ) → high < 2 ^ 32 → IsCut steps (last_of high) n → n ≡ length steps → IsNext steps high (2 ^ 32)
+pub next_none : (steps : List Step) (high n : ℕ) → high < 2 ^ 32 → IsCut steps (last_of high) n → n ≡ length steps → IsNext steps high (2 ^
+    32)
 next_none steps high n small cut all = record {
   above = small;
   within = omega arith;
@@ -218,7 +223,8 @@ next_some steps high n next d are cut lt is =
       starts = λ e _. let same = ap (λ (x : Step). x.start) (get_or_default steps n e d lt) in omega arith;
     }
 
-pub half_pushed : (highs steps one two : List Step) (high next : ℕ) (t u : Target) → IsPushed highs high t one → IsPushed one (high + 1) u two
+pub half_pushed : (highs steps one two : List Step) (high next : ℕ) (t u : Target) → IsPushed highs high t one → IsPushed one (high + 1) u
+    two
     → high + 1 < next → u ≡ found_in steps (last_of high) → IsHalfPushed highs steps high next t two
 half_pushed highs steps one two high next t u first second far is = record {
   are = steps_more (high + 1 + 1) next two (omega arith) second.are;
@@ -228,7 +234,8 @@ half_pushed highs steps one two high next t u first second far is = record {
   few = omega (arith, first.few, second.few);
 }
 
-pub half_pushed_alone : (highs steps one : List Step) (high next : ℕ) (t : Target) → IsPushed highs high t one → high < next → next ≤ high + 1
+pub half_pushed_alone : (highs steps one : List Step) (high next : ℕ) (t : Target) → IsPushed highs high t one → high < next → next ≤ high
+    + 1
     → IsHalfPushed highs steps high next t one
 half_pushed_alone highs steps one high next t first some near = record {
   are = steps_more (high + 1) next one (omega arith) first.are;
@@ -238,7 +245,8 @@ half_pushed_alone highs steps one high next t first some near = record {
   few = omega (arith, first.few);
 }
 
-pub leads_more : {code : List sock_filter} {r : List ℕ} {t : Target} {a w n : ℕ} (m : ℕ) → n ≤ m → Leads code r t a w n → Leads code r t a w m
+pub leads_more : {code : List sock_filter} {r : List ℕ} {t : Target} {a w n : ℕ} (m : ℕ) → n ≤ m → Leads code r t a w n → Leads code r t a
+    w m
 leads_more m le (to_return w a n some) = to_return w a m (omega arith)
 leads_more zero le (to_place p w a n inside h) = absurd (omega arith)
 leads_more (suc m) le (to_place p w a n inside h) = to_place p w a m inside (returns_more m (omega arith) h)
@@ -279,14 +287,16 @@ highs_one old mid new index steps highs more high next t are inside h small half
           let start = half.leads r rec w n k few (λ a fits. leads_grown old mid (4 * h.done) h.grows (here a fits)) in
           λ a fits. leads_more (n + 2 + 2 * k) (omega arith) (leads_by (start a fits)))
           (λ above.
-          let there = between_same steps high next on.end x (word_at r (16 + 8 * index)) (first_step (2 ^ 64) steps are) on.ends on.behind above lt
+          let there = between_same steps high next on.end x (word_at r (16 + 8 * index)) (first_step (2 ^ 64) steps are) on.ends on.behind
+              above lt
           (word_fits r (16 + 8 * index) rec) in
           let last : LeadsAlways old r (found_in steps (last_of high)) w n = subst (λ u. LeadsAlways old r u w n) there lead in
           λ a fits. leads_more (n + 2 + 2 * k) (omega arith) (leads_grown old new (4 * on.end) whole (last a fits)))
           lt;
     }
   where
-    by_place : (x : ℕ) (P : Target → Type 0) → (x < high → P (found_in highs x)) → (high ≡ x → P t) → (high < x → P (found_in steps (last_of high))) → x < next
+    by_place : (x : ℕ) (P : Target → Type 0) → (x < high → P (found_in highs x)) → (high ≡ x → P t) → (high < x → P (found_in steps
+        (last_of high))) → x < next
         → P (found_in more x)
     by_place x P below here between lt = elim (cases_lt x high) [
       | inl less ↦ subst P (sym (pushed.below x less)) (below less)
@@ -309,7 +319,8 @@ highs_are old new index steps highs h = elim h.are [
   | from_some are ↦ are
 ]
 
-pub highs_in : (old new : List sock_filter) (index : ℕ) (steps highs : List Step) → AreHighs old index steps (2 ^ 32) highs new → AreIn new highs
+pub highs_in : (old new : List sock_filter) (index : ℕ) (steps highs : List Step) → AreHighs old index steps (2 ^ 32) highs new → AreIn new
+    highs
 highs_in old new index steps highs h =
     are_in_below new (2 ^ 32) highs (omega arith) (highs_are old new index steps highs h) h.inside
 

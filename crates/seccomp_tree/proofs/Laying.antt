@@ -18,7 +18,8 @@ laid_over size low high Has old new target h there back = record {
   unmet = λ a lt not.
       ⊎_elim
       (λ (below : a < low). h.below a below)
-      (λ (from : low ≤ a). ⊎_elim (λ (above : high < a). h.above a above lt) (λ (to : a ≤ high). absurd (not (back a from to))) (cases_lt high a))
+      (λ (from : low ≤ a). ⊎_elim (λ (above : high < a). h.above a above lt) (λ (to : a ≤ high). absurd (not (back a from to))) (cases_lt
+          high a))
       (cases_lt a low);
 }
 
@@ -51,13 +52,15 @@ laid_twice size Has Is Either old mid new target one two left right other decide
 }
 
 -- what is laid over where an operator compares is laid for the condition
-pub laid_for : (c : Condition) (size value : ℕ) (operator : SeccompCmpOp) (old new : List Step) (target : Target) → size ≡ numbers_of c.arg_len
+pub laid_for : (c : Condition) (size value : ℕ) (operator : SeccompCmpOp) (old new : List Step) (target : Target) → size ≡ numbers_of
+    c.arg_len
     → value ≡ part_of c.arg_len c.value → operator ≡ c.operator → AreLaidOver size (λ a. Compares operator a value) old target new
     → length new ≤ length old + 2 → IsLaid c old target new
 laid_for c size value operator old new target same part is h few =
     let one = subst (λ s. AreLaidOver s (λ a. Compares operator a value) old target new) same h in
     let two = subst (λ v. AreLaidOver (numbers_of c.arg_len) (λ a. Compares operator a v) old target new) part one in
-    let three = subst (λ (o : SeccompCmpOp). AreLaidOver (numbers_of c.arg_len) (λ a. Compares o a (part_of c.arg_len c.value)) old target new) is two in
+    let three = subst (λ (o : SeccompCmpOp). AreLaidOver (numbers_of c.arg_len) (λ a. Compares o a (part_of c.arg_len c.value)) old target
+        new) is two in
     record { laid = three; few = few }
 
 -- ---- each operator
@@ -66,7 +69,8 @@ pub laid_eq : (c : Condition) (size value : ℕ) (old new : List Step) (target :
     → value ≡ part_of c.arg_len c.value → Eq ≡ c.operator → AreOverlaid size old value value target new → IsLaid c old target new
 laid_eq c size value old new target same part is h =
     laid_for c size value Eq old new target same part is
-    (laid_over size value value (λ (a : ℕ). a ≡ value) old new target h (λ a lt e. (omega arith, omega arith)) (λ a le le'. omega arith)) h.few
+    (laid_over size value value (λ (a : ℕ). a ≡ value) old new target h (λ a lt e. (omega arith, omega arith)) (λ a le le'. omega arith))
+        h.few
 
 pub laid_ge : (c : Condition) (size value greatest : ℕ) (old new : List Step) (target : Target) → size ≡ numbers_of c.arg_len
     → value ≡ part_of c.arg_len c.value → Ge ≡ c.operator → size ≡ greatest + 1 → AreOverlaid size old value greatest target new

@@ -1,5 +1,6 @@
 -- The low halves of an argument: steps of one high half.
-use Rattle.std.proofs.Common.{◌≡◌, ℕ, zero, suc, ◌+◌, ◌-◌, ◌*◌, ◌<◌, ◌≤◌, ◌^◌, List, [], ◌∷◌, length, take, drop, get_or, true, false, refl, sym, ap, ◌∙◌, subst}
+use Rattle.std.proofs.Common.{◌≡◌, ℕ, zero, suc, ◌+◌, ◌-◌, ◌*◌, ◌<◌, ◌≤◌, ◌^◌, List, [], ◌∷◌, length, take, drop, get_or, true, false, refl}
+use Rattle.std.proofs.Common.{sym, ap, ◌∙◌, subst}
 use Rattle.std.proofs.Common.{nat_le, if◌then◌else◌, ⊎_elim, arith}
 use Rattle.std.proofs.lemmas.Bool.Decides.{nat_tests}
 use Rattle.std.proofs.lemmas.Bool.{cases_lt}
@@ -87,7 +88,8 @@ pub lows_one : (steps : List Step) (first : ℕ) (part lows new : List Step) (i 
     → drop i part ≡ x ∷ drop (i + 1) part → LowsOn steps first part lows i last → s ≡ x.start - first → IsPushed lows s x.target new
     → LowsOn steps first part new (i + 1) s
 lows_one steps first part lows new i last s x cons h is pushed =
-    let rest : AscendFrom (first + 2 ^ 32) (first + last) (x ∷ drop (i + 1) part) = subst (AscendFrom (first + 2 ^ 32) (first + last)) cons h.rest in
+    let rest : AscendFrom (first + 2 ^ 32) (first + last) (x ∷ drop (i + 1) part) = subst (AscendFrom (first + 2 ^ 32) (first + last)) cons
+        h.rest in
     let above = rest.0 in
     let inside = rest.1.0 in
     let at : x.start ≡ first + s = omega arith in
@@ -118,16 +120,19 @@ pub lows_room : (steps : List Step) (first : ℕ) (part lows : List Step) (i las
     → drop i part ≡ x ∷ drop (i + 1) part → LowsOn steps first part lows i last
     → (first ≤ x.start) × (Precede (x.start - first) lows)
 lows_room steps first part lows i last x cons h =
-    let rest : AscendFrom (first + 2 ^ 32) (first + last) (x ∷ drop (i + 1) part) = subst (AscendFrom (first + 2 ^ 32) (first + last)) cons h.rest in
+    let rest : AscendFrom (first + 2 ^ 32) (first + last) (x ∷ drop (i + 1) part) = subst (AscendFrom (first + 2 ^ 32) (first + last)) cons
+        h.rest in
     let above = rest.0 in
     (omega arith, from_some (steps_more (last + 1) (x.start - first) lows (omega arith) h.are))
 
-pub lows_all : (m : ℕ) (steps : List Step) (high begin end : ℕ) (lows : List Step) (last : ℕ) → AreSteps m steps → IsCut steps (first_of high) begin
+pub lows_all : (m : ℕ) (steps : List Step) (high begin end : ℕ) (lows : List Step) (last : ℕ) → AreSteps m steps → IsCut steps (first_of
+    high) begin
     → IsCut steps (last_of high) end → (part : List Step) → part ≡ take (end - begin) (drop begin steps)
     → LowsOn steps (first_of high) part lows (length part) last → AreLows steps high lows
 lows_all m steps high begin end lows last are b e part is h = record {
   are = steps_more (last + 1) (2 ^ 32) lows (omega (arith, h.below)) h.are;
-  found = λ a lt. subst (λ (l : List Step). found_from (found_in lows a) l (first_of high + a) ≡ found_in steps (first_of high + a)) (none part) (h.found a lt);
+  found = λ a lt. subst (λ (l : List Step). found_from (found_in lows a) l (first_of high + a) ≡ found_in steps (first_of high + a)) (none
+      part) (h.found a lt);
   begin = begin;
   end = end;
   within = record { begins = b; ends = e };

@@ -1,5 +1,6 @@
 -- Conditions as targets: what choices and masks make of them.
-use Rattle.std.proofs.Common.{◌≡◌, ℕ, zero, suc, ◌+◌, ◌-◌, ◌*◌, ◌/◌, ◌%◌, ◌<◌, ◌≤◌, ◌^◌, List, [], ◌∷◌, length, drop, true, false, refl, sym, ap, ◌∙◌, subst, ◌⊎◌, inl, inr, arith}
+use Rattle.std.proofs.Common.{◌≡◌, ℕ, zero, suc, ◌+◌, ◌-◌, ◌*◌, ◌/◌, ◌%◌, ◌<◌, ◌≤◌, ◌^◌, List, [], ◌∷◌, length, drop, true, false, refl}
+use Rattle.std.proofs.Common.{sym, ap, ◌∙◌, subst, ◌⊎◌, inl, inr, arith}
 use Rattle.std.proofs.Common.{nat_eq, if◌then◌else◌}
 use Rattle.std.specs.Prelude.{bit_and}
 use Rattle.std.specs.Int.Bits.{and_lt, and_zero_r}
@@ -20,8 +21,10 @@ use Rattle.seccomp_tree.specs.declared.steps.Target.TheVariants.{Give, At}
 use Rattle.seccomp_tree.specs.declared.steps.Step.{Step}
 use Rattle.seccomp_tree.specs.Steps.{found_in, AreSteps, IsPushed}
 use Rattle.seccomp_tree.specs.Intervals.{numbers_of, is_plain, AreLaidOver, IsLaid}
-use Rattle.seccomp_tree.specs.Code.{tail_at, Returns, goes_on, Starts, by_return, at_place, Leads, LeadsAlways, StartsAlways, IsIn, AreIn, Grows, chosen, IsTested, IsWord, IsArgument}
-use Rattle.seccomp_tree.specs.Conditions.{part_length, part_steps, condition_length, condition_steps, IsPart, IsMasked, AreChoices, IsConditionMet}
+use Rattle.seccomp_tree.specs.Code.{tail_at, Returns, goes_on, Starts, by_return, at_place, Leads, LeadsAlways, StartsAlways, IsIn, AreIn}
+use Rattle.seccomp_tree.specs.Code.{Grows, chosen, IsTested, IsWord, IsArgument}
+use Rattle.seccomp_tree.specs.Conditions.{part_length, part_steps, condition_length, condition_steps, IsPart, IsMasked, AreChoices}
+use Rattle.seccomp_tree.specs.Conditions.{IsConditionMet}
 use Rattle.seccomp_tree.proofs.Tails.{tail_whole}
 use Rattle.seccomp_tree.proofs.Growing.{grows_not, grows_one, grows_on, is_in_grown, last_in}
 use Rattle.seccomp_tree.proofs.Runs.{starts_more, starts_by, leads_by, leads_grown}
@@ -158,7 +161,8 @@ met_by_choices old new c fit unfit t steps plain h part =
     }
 
 -- where both targets are one, it is met at once
-pub met_alike : (old : List sock_filter) (c : Condition) (fit unfit : Target) → fit ≡ unfit → IsIn old fit → IsConditionMet old c fit unfit fit old
+pub met_alike : (old : List sock_filter) (c : Condition) (fit unfit : Target) → fit ≡ unfit → IsIn old fit → IsConditionMet old c fit unfit
+    fit old
 met_alike old c fit unfit same inside = record {
   grows = grows_not old (condition_length c.arg_len c.operator);
   inside = inside;
@@ -181,15 +185,18 @@ pub starts_behind : (code : List sock_filter) (i : sock_filter) (r : List ℕ) (
     → Starts (i ∷ code) r (At (length (i ∷ code) - 1)) a w (n + 1)
 starts_behind code i r t a a' w n is some does fits h =
     let run = returns_at (length code - 1) is h in
-    let whole : Returns r code a' w n = subst (λ (l : List sock_filter). Returns r l a' w n) (tail_whole code (length code - 1) (omega arith)) run in
+    let whole : Returns r code a' w n = subst (λ (l : List sock_filter). Returns r l a' w n) (tail_whole code (length code - 1) (omega
+        arith)) run in
     let count : n + 1 ≡ suc n = omega arith in
     let first : Returns r (i ∷ code) a w (suc n) = goes_on i code a a' w n 0 does fits whole in
     let here = tail_whole (i ∷ code) (length (i ∷ code) - 1) (omega arith) in
     subst (λ m. Starts (i ∷ code) r (At (length (i ∷ code) - 1)) a w m) (sym count)
-    (at_place (length (i ∷ code) - 1) w a (suc n) (omega arith) (subst (λ (l : List sock_filter). Returns r l a w (suc n)) (sym here) first))
+    (at_place (length (i ∷ code) - 1) w a (suc n) (omega arith) (subst (λ (l : List sock_filter). Returns r l a w (suc n)) (sym here)
+        first))
 
 -- a mask of nothing is met by each word
-pub masked_none : (old : List sock_filter) (byte m value : ℕ) (fit unfit : Target) → m ≡ 0 → IsIn old fit → IsMasked old byte m value fit unfit fit old
+pub masked_none : (old : List sock_filter) (byte m value : ℕ) (fit unfit : Target) → m ≡ 0 → IsIn old fit → IsMasked old byte m value fit
+    unfit fit old
 masked_none old byte m value fit unfit z inside = record {
   grows = grows_not old 5;
   inside = inside;
@@ -206,17 +213,20 @@ pub masked_some : (old mid new : List sock_filter) (byte m value : ℕ) (fit unf
     → IsMasked old byte m value fit unfit (At (length new - 1)) new
 masked_some old mid new byte m value fit unfit t low small tested is = rw is record {
   grows = grows_on old mid (load byte ∷ mask m ∷ mid) 3 2 5 tested.grows
-      (grows_on mid (mask m ∷ mid) (load byte ∷ mask m ∷ mid) 1 1 2 (grows_one mid (mask m)) (grows_one (mask m ∷ mid) (load byte)) (omega arith))
+      (grows_on mid (mask m ∷ mid) (load byte ∷ mask m ∷ mid) 1 1 2 (grows_one mid (mask m)) (grows_one (mask m ∷ mid) (load byte)) (omega
+          arith))
       (omega arith);
   inside = omega arith;
   met = λ r rec e w n lead a fits. go r rec w n a (yes_by r e) (λ b f. lead b f);
   unmet = λ r rec not w n lead a fits. go r rec w n a (no_by r not) (λ b f. lead b f);
 }
   where
-    yes_by : (r : List ℕ) → bit_and (word_at r byte) m ≡ bit_and value m → chosen Equal (bit_and value m) fit unfit (bit_and (word_at r byte) m) ≡ fit
+    yes_by : (r : List ℕ) → bit_and (word_at r byte) m ≡ bit_and value m → chosen Equal (bit_and value m) fit unfit (bit_and (word_at r
+        byte) m) ≡ fit
     yes_by r e = let same = eq-eqb (bit_and (word_at r byte) m) (bit_and value m) e in rw same refl
 
-    no_by : (r : List ℕ) → (bit_and (word_at r byte) m ≡ bit_and value m → ⊥) → chosen Equal (bit_and value m) fit unfit (bit_and (word_at r byte) m) ≡ unfit
+    no_by : (r : List ℕ) → (bit_and (word_at r byte) m ≡ bit_and value m → ⊥) → chosen Equal (bit_and value m) fit unfit (bit_and (word_at
+        r byte) m) ≡ unfit
     no_by r not = let other = ne_eqb (bit_and (word_at r byte) m) (bit_and value m) not in rw other refl
 
     go : {u : Target} (r : List ℕ) → IsRecord r → (w n a : ℕ) → chosen Equal (bit_and value m) fit unfit (bit_and (word_at r byte) m) ≡ u
@@ -234,34 +244,41 @@ masked_some old mid new byte m value fit unfit t low small tested is = rw is rec
         let count : n + 1 + 1 + 1 ≡ n + 3 = omega arith in
         subst (λ k. Starts (load byte ∷ mask m ∷ mid) r (At (length (load byte ∷ mask m ∷ mid) - 1)) a w k) count loaded
 
-with_parts : (old new : List sock_filter) (c : Condition) (m : ℕ) (fit unfit t : Target) (l : SeccompCmpArgLen) → c.arg_len ≡ l → c.operator ≡ MaskedEq m
+with_parts : (old new : List sock_filter) (c : Condition) (m : ℕ) (fit unfit t : Target) (l : SeccompCmpArgLen) → c.arg_len ≡ l →
+    c.operator ≡ MaskedEq m
     → IsConditionMet old (record { arg_index = c.arg_index; arg_len = l; operator = MaskedEq m; value = c.value }) fit unfit t new
     → IsConditionMet old c fit unfit t new
 with_parts old new c m fit unfit t l long is h =
     subst
-    (λ (k : SeccompCmpArgLen). IsConditionMet old (record { arg_index = c.arg_index; arg_len = k; operator = c.operator; value = c.value }) fit unfit t new)
+    (λ (k : SeccompCmpArgLen). IsConditionMet old (record { arg_index = c.arg_index; arg_len = k; operator = c.operator; value = c.value })
+        fit unfit t new)
     (sym long)
     (subst
-    (λ (o : SeccompCmpOp). IsConditionMet old (record { arg_index = c.arg_index; arg_len = l; operator = o; value = c.value }) fit unfit t new)
+    (λ (o : SeccompCmpOp). IsConditionMet old (record { arg_index = c.arg_index; arg_len = l; operator = o; value = c.value }) fit unfit t
+        new)
     (sym is) h)
 
 pub masked_dword : (old new : List sock_filter) (c : Condition) (m : ℕ) (fit unfit t : Target) → c.arg_len ≡ Dword → c.operator ≡ MaskedEq m
     → IsMasked old (16 + 8 * c.arg_index) (m % 2 ^ 32) (c.value % 2 ^ 32) fit unfit t new → IsConditionMet old c fit unfit t new
 masked_dword old new c m fit unfit t short is h =
-    let base : IsConditionMet old (record { arg_index = c.arg_index; arg_len = Dword; operator = MaskedEq m; value = c.value }) fit unfit t new = record {
+    let base : IsConditionMet old (record { arg_index = c.arg_index; arg_len = Dword; operator = MaskedEq m; value = c.value }) fit unfit t
+        new = record {
       grows = h.grows;
       inside = h.inside;
       met = λ r rec e w n lead.
-          h.met r rec (subst (λ x. bit_and x (m % 2 ^ 32) ≡ bit_and (c.value % 2 ^ 32) (m % 2 ^ 32)) (low_word r c.arg_index rec) e) w n lead;
+          h.met r rec (subst (λ x. bit_and x (m % 2 ^ 32) ≡ bit_and (c.value % 2 ^ 32) (m % 2 ^ 32)) (low_word r c.arg_index rec) e) w n
+              lead;
       unmet = λ r rec not w n lead.
           h.unmet r rec
-          (λ e. not (subst (λ x. bit_and x (m % 2 ^ 32) ≡ bit_and (c.value % 2 ^ 32) (m % 2 ^ 32)) (sym (low_word r c.arg_index rec)) e)) w n lead;
+          (λ e. not (subst (λ x. bit_and x (m % 2 ^ 32) ≡ bit_and (c.value % 2 ^ 32) (m % 2 ^ 32)) (sym (low_word r c.arg_index rec)) e)) w
+              n lead;
     } in
     with_parts old new c m fit unfit t Dword short is base
 
 -- numbers agree under a mask where their halves do
 mask_parts : (x v m : ℕ) → bit_and x m ≡ bit_and v m
-    → (bit_and (x / 2 ^ 32) (m / 2 ^ 32) ≡ bit_and (v / 2 ^ 32) (m / 2 ^ 32)) × (bit_and (x % 2 ^ 32) (m % 2 ^ 32) ≡ bit_and (v % 2 ^ 32) (m % 2 ^ 32))
+    → (bit_and (x / 2 ^ 32) (m / 2 ^ 32) ≡ bit_and (v / 2 ^ 32) (m / 2 ^ 32)) × (bit_and (x % 2 ^ 32) (m % 2 ^ 32) ≡ bit_and (v % 2 ^ 32)
+        (m % 2 ^ 32))
 mask_parts x v m e =
     let a = mask_halves x m in
     let b = mask_halves v m in
@@ -276,27 +293,32 @@ mask_whole x v m high low =
     let b = mask_halves v m in
     omega arith
 
-pub masked_qword : (old mid new : List sock_filter) (c : Condition) (m : ℕ) (fit unfit one t : Target) → c.arg_len ≡ Qword → c.operator ≡ MaskedEq m
+pub masked_qword : (old mid new : List sock_filter) (c : Condition) (m : ℕ) (fit unfit one t : Target) → c.arg_len ≡ Qword → c.operator ≡
+    MaskedEq m
     → IsMasked old (16 + 8 * c.arg_index) (m % 2 ^ 32) (c.value % 2 ^ 32) fit unfit one mid
     → IsMasked mid (20 + 8 * c.arg_index) (m / 2 ^ 32) (c.value / 2 ^ 32) one unfit t new → IsConditionMet old c fit unfit t new
 masked_qword old mid new c m fit unfit one t long is low high =
-    let base : IsConditionMet old (record { arg_index = c.arg_index; arg_len = Qword; operator = MaskedEq m; value = c.value }) fit unfit t new = record {
+    let base : IsConditionMet old (record { arg_index = c.arg_index; arg_len = Qword; operator = MaskedEq m; value = c.value }) fit unfit t
+        new = record {
       grows = grows_on old mid new 5 5 10 low.grows high.grows (omega arith);
       inside = high.inside;
       met = λ r rec e w n lead.
           let parts = mask_parts (argument_at r c.arg_index) c.value m e in
-          let first = low.met r rec (subst (λ x. bit_and x (m % 2 ^ 32) ≡ bit_and (c.value % 2 ^ 32) (m % 2 ^ 32)) (low_word r c.arg_index rec) parts.1)
+          let first = low.met r rec (subst (λ x. bit_and x (m % 2 ^ 32) ≡ bit_and (c.value % 2 ^ 32) (m % 2 ^ 32)) (low_word r c.arg_index
+              rec) parts.1)
           w n lead in
           let second = high.met r rec
           (subst (λ x. bit_and x (m / 2 ^ 32) ≡ bit_and (c.value / 2 ^ 32) (m / 2 ^ 32)) (high_word r c.arg_index rec) parts.0)
           w (suc (n + 3)) (λ a fits. leads_by (first a fits)) in
           λ a fits. starts_more (n + 7) (omega arith) (second a fits);
-      unmet = λ r rec not w n lead. elim (cases_eq (bit_and (word_at r (20 + 8 * c.arg_index)) (m / 2 ^ 32)) (bit_and (c.value / 2 ^ 32) (m / 2 ^ 32))) [
+      unmet = λ r rec not w n lead. elim (cases_eq (bit_and (word_at r (20 + 8 * c.arg_index)) (m / 2 ^ 32)) (bit_and (c.value / 2 ^ 32) (m
+          / 2 ^ 32))) [
         | inl same ↦
             let first = low.unmet r rec
             (λ e. not (mask_whole (argument_at r c.arg_index) c.value m
             (subst (λ x. bit_and x (m / 2 ^ 32) ≡ bit_and (c.value / 2 ^ 32) (m / 2 ^ 32)) (sym (high_word r c.arg_index rec)) same)
-            (subst (λ x. bit_and x (m % 2 ^ 32) ≡ bit_and (c.value % 2 ^ 32) (m % 2 ^ 32)) (sym (low_word r c.arg_index rec)) e))) w n lead in
+            (subst (λ x. bit_and x (m % 2 ^ 32) ≡ bit_and (c.value % 2 ^ 32) (m % 2 ^ 32)) (sym (low_word r c.arg_index rec)) e))) w n lead
+                in
             let second = high.met r rec same w (suc (n + 3)) (λ a fits. leads_by (first a fits)) in
             λ a fits. starts_more (n + 7) (omega arith) (second a fits)
         | inr other ↦

@@ -1,5 +1,6 @@
 -- Steps that are cut at a number, and steps that are laid over others.
-use Rattle.std.proofs.Common.{◌≡◌, ℕ, zero, suc, ◌+◌, ◌-◌, ◌<◌, ◌≤◌, List, [], ◌∷◌, ◌++◌, length, take, drop, get_or, true, false, refl, sym, ap, ◌∙◌, subst}
+use Rattle.std.proofs.Common.{◌≡◌, ℕ, zero, suc, ◌+◌, ◌-◌, ◌<◌, ◌≤◌, List, [], ◌∷◌, ◌++◌, length, take, drop, get_or, true, false, refl}
+use Rattle.std.proofs.Common.{sym, ap, ◌∙◌, subst}
 use Rattle.std.proofs.Common.{nat_le, if◌then◌else◌, arith, length-drop, add-one}
 use Rattle.std.proofs.lemmas.Bool.Decides.{nat_tests}
 use Rattle.std.proofs.lemmas.Bool.{cases_lt, leb-true, leb-false}
@@ -12,7 +13,8 @@ use Rattle.seccomp_tree.specs.declared.error.TreeError.TheVariants.{TooLarge, Ou
 use Rattle.std.proofs.Common.{⊎_elim, inl, inr, ◌⊎◌}
 use Rattle.seccomp_tree.specs.declared.steps.Target.{Target}
 use Rattle.seccomp_tree.specs.declared.steps.Step.{Step}
-use Rattle.seccomp_tree.specs.Steps.{found_from, found_in, AscendFrom, Ascend, AreSteps, Precede, from_none, from_some, IsPushed, IsCut, AreCut, AreLaid, AreOverlaid}
+use Rattle.seccomp_tree.specs.Steps.{found_from, found_in, AscendFrom, Ascend, AreSteps, Precede, from_none, from_some, IsPushed, IsCut}
+use Rattle.seccomp_tree.specs.Steps.{AreCut, AreLaid, AreOverlaid}
 use Rattle.seccomp_tree.proofs.StepLists.{steps_more, from_take, from_low, found_above}
 
 -- ---- cutting
@@ -35,7 +37,8 @@ found_taken (x ∷ steps) number zero a cut le = absurd (omega (arith, cut.some)
 found_taken (x ∷ steps) number (suc n) a cut le =
     from_taken x.target steps n a (λ k d le' lt. let h = cut.high (suc k) d (omega arith) (omega arith) in omega arith)
 
-from_dropped : (y : Step) (steps : List Step) (n a : ℕ) (d : Step) → ((k : ℕ) (d : Step) → k < n → k < length steps → (get_or steps k d).start ≤ a)
+from_dropped : (y : Step) (steps : List Step) (n a : ℕ) (d : Step) → ((k : ℕ) (d : Step) → k < n → k < length steps → (get_or steps k
+    d).start ≤ a)
     → n ≤ length steps → found_from y.target steps a ≡ found_from ((get_or (y ∷ steps) n d).target) (drop n steps) a
 from_dropped y steps zero a d low le = refl
 from_dropped y [] (suc n) a d low le = absurd (omega arith)
@@ -50,7 +53,8 @@ pub found_dropped : (steps : List Step) (number n a : ℕ) (d : Step) → IsCut 
 found_dropped [] number n a d cut le = absurd (omega (arith, cut.some, cut.within))
 found_dropped (x ∷ steps) number zero a d cut le = absurd (omega (arith, cut.some))
 found_dropped (x ∷ steps) number (suc n) a d cut le =
-    let h = from_dropped x steps n a d (λ k d' lt lt'. let low = cut.low (suc k) d' (omega arith) in omega arith) (omega (arith, cut.within)) in
+    let h = from_dropped x steps n a d (λ k d' lt lt'. let low = cut.low (suc k) d' (omega arith) in omega arith) (omega (arith,
+        cut.within)) in
     let e : suc n - 1 ≡ n = omega arith in
     rw e h
 
@@ -141,7 +145,8 @@ cut_none m old new low z empty = rw empty record {
   at = λ some. absurd (omega arith);
 }
 
-pub cut_some : (m : ℕ) (old new : List Step) (low n : ℕ) → AreSteps m old → 1 ≤ low → IsCut old (low - 1) n → new ≡ take n old → AreCut old low new
+pub cut_some : (m : ℕ) (old new : List Step) (low n : ℕ) → AreSteps m old → 1 ≤ low → IsCut old (low - 1) n → new ≡ take n old → AreCut old
+    low new
 cut_some m old new low n h some cut is =
     let e : suc (low - 1) ≡ low = omega arith in
     let long : length new ≡ n = ap length is ∙ taken_long n old (omega (arith, cut.within)) in
@@ -260,7 +265,8 @@ overlaid size old low high next n target d cut new are order inside some near fi
 
 -- ---- searching
 
-from_rises : (m start : ℕ) (steps : List Step) (j : ℕ) (d : Step) → AscendFrom m start steps → j < length steps → start ≤ (get_or steps j d).start
+from_rises : (m start : ℕ) (steps : List Step) (j : ℕ) (d : Step) → AscendFrom m start steps → j < length steps → start ≤ (get_or steps j
+    d).start
 from_rises m start [] j d h lt = absurd (omega arith)
 from_rises m start (x ∷ steps) zero d h lt = omega (arith, h.0)
 from_rises m start (x ∷ steps) (suc j) d h lt = let k = from_rises m x.start steps j d h.1.1 (omega arith) in omega (arith, h.0)

@@ -37,7 +37,8 @@ pub record EndsWithin (p : List sock_filter) (r : List ℕ) (w n long : ℕ) : T
   pub ends : Ends p r steps w
 
 -- a run that has come to a place ends as it does from there
-ends_from : (p : List sock_filter) (r : List ℕ) (tail : List sock_filter) (place m a w n : ℕ) → drop place p ≡ tail → Goes p r 0 0 m place a → a < 2 ^ 32
+ends_from : (p : List sock_filter) (r : List ℕ) (tail : List sock_filter) (place m a w n : ℕ) → drop place p ≡ tail → Goes p r 0 0 m place
+    a → a < 2 ^ 32
     → Returns r tail a w n → EndsWithin p r w (m + n) (m + length tail)
 ends_from p r tail place m a w n at goes small (gives i rest b v k is word) = record {
   steps = m + 1;

@@ -1,5 +1,6 @@
 -- For `push_range`: what other steps have for the numbers of a range.
-use Rattle.std.proofs.Common.{◌≡◌, ℕ, ◌+◌, ◌-◌, ◌<◌, ◌≤◌, ◌^◌, List, [], ◌∷◌, length, take, drop, get_or, length-drop, refl, sym, ap, ◌∙◌, subst, arith}
+use Rattle.std.proofs.Common.{◌≡◌, ℕ, ◌+◌, ◌-◌, ◌<◌, ◌≤◌, ◌^◌, List, [], ◌∷◌, length, take, drop, get_or, length-drop, refl, sym, ap, ◌∙◌}
+use Rattle.std.proofs.Common.{subst, arith}
 use Rattle.std.proofs.lemmas.List.{get_or-drop}
 use Rattle.seccomp_tree.specs.declared.steps.Target.{Target}
 use Rattle.seccomp_tree.specs.declared.steps.Step.{Step}
@@ -27,14 +28,17 @@ range_part m others start end begin stop are order b e =
     from_part m end start (stop - begin) (drop begin others) (dropped_ascend m start begin others are b)
     (λ k d lt lt'. let at = get_or-drop begin others k d in let h = e.low (begin + k) d (omega arith) in rw at (omega arith))
 
-pub range_all : (m : ℕ) (old others first new : List Step) (start end begin stop last i : ℕ) (t : Target) (part : List Step) → AreSteps m others
+pub range_all : (m : ℕ) (old others first new : List Step) (start end begin stop last i : ℕ) (t : Target) (part : List Step) → AreSteps m
+    others
     → start < end → IsCut others start begin → IsCut others (end - 1) stop → t ≡ found_in others start
     → part ≡ take (stop - begin) (drop begin others) → IsPushed old start t first → LaysOn end first part last new i → length part ≤ i
     → (AreTight old → AreTight new) → IsRangePushed old others start end new
 range_all m old others first new start end begin stop last i t part are order b e is parts pushed h all tight =
     let whole : (n : ℕ) → found_in new n ≡ found_from (found_in first n) part n
-    = λ n. subst (λ (l : List Step). found_from (found_in new n) l n ≡ found_from (found_in first n) part n) (drop_end part i all) (h.found n) in
-    let ascend : AscendFrom end start part = subst (AscendFrom end start) (sym parts) (range_part m others start end begin stop are order b e) in
+    = λ n. subst (λ (l : List Step). found_from (found_in new n) l n ≡ found_from (found_in first n) part n) (drop_end part i all) (h.found
+        n) in
+    let ascend : AscendFrom end start part = subst (AscendFrom end start) (sym parts) (range_part m others start end begin stop are order b
+        e) in
     record {
       are = from_some (steps_more (last + 1) end new (omega (arith, h.below)) h.are);
       inside = λ n le lt. whole n ∙ ap (λ u. found_from u part n) (pushed.from n le) ∙ others_have n le lt;

@@ -1,5 +1,6 @@
 -- Rulings as a target, run by run from the last to the first.
-use Rattle.std.proofs.Common.{◌≡◌, ℕ, zero, suc, ◌+◌, ◌-◌, ◌*◌, ◌<◌, ◌≤◌, ◌^◌, List, [], ◌∷◌, ◌++◌, length, take, drop, true, false, refl, sym, ap, ◌∙◌, subst, ◌⊎◌, inl, inr, Option, Some, None, arith}
+use Rattle.std.proofs.Common.{◌≡◌, ℕ, zero, suc, ◌+◌, ◌-◌, ◌*◌, ◌<◌, ◌≤◌, ◌^◌, List, [], ◌∷◌, ◌++◌, length, take, drop, true, false, refl}
+use Rattle.std.proofs.Common.{sym, ap, ◌∙◌, subst, ◌⊎◌, inl, inr, Option, Some, None, arith}
 use Rattle.std.proofs.Common.{get_or, zero-add, if◌then◌else◌}
 use Rattle.std.proofs.lemmas.List.{drop_more}
 use Rattle.std.proofs.lemmas.Bool.{false≢true, true≢false}
@@ -9,8 +10,10 @@ use Rattle.seccompiler.specs.Policy.{Condition, RuleHolds}
 use Rattle.seccomp_tree.specs.declared.steps.Target.{Target}
 use Rattle.seccomp_tree.specs.declared.steps.Target.TheVariants.{Give}
 use Rattle.seccomp_tree.specs.Code.{Leads, to_return, LeadsAlways, IsIn, Grows}
-use Rattle.seccomp_tree.specs.Decisions.{Ruling, First, here, behind, nothing, alike, only, joins, joined, run_length, RunTakes, length_behind, rules_length, Enters, goes_on, begins, Takes, stops, passes, ends}
-use Rattle.seccomp_tree.specs.Rules.{Chooses, chosen_here, chosen_behind, chosen_after, Joined, IsRun, before, head, IsRunFrom, IsRunMet, AreRules}
+use Rattle.seccomp_tree.specs.Decisions.{Ruling, First, here, behind, nothing, alike, only, joins, joined, run_length, RunTakes}
+use Rattle.seccomp_tree.specs.Decisions.{length_behind, rules_length, Enters, goes_on, begins, Takes, stops, passes, ends}
+use Rattle.seccomp_tree.specs.Rules.{Chooses, chosen_here, chosen_behind, chosen_after, Joined, IsRun, before, head, IsRunFrom, IsRunMet}
+use Rattle.seccomp_tree.specs.Rules.{AreRules}
 use Rattle.seccomp_tree.proofs.Growing.{grows_not, grows_on, grown_long}
 use Rattle.seccomp_tree.proofs.HighHalves.{leads_more}
 
@@ -72,7 +75,8 @@ before_last first (suc start) (suc end) (d ∷ rulings) le within =
 
 -- ---- walking through a run
 
-enters_joined : (first : List Condition) (d : Ruling) (rest : List Ruling) (n : ℕ) → joins first d.conditions ≡ true → Enters first d rest n → n ≡ 0
+enters_joined : (first : List Condition) (d : Ruling) (rest : List Ruling) (n : ℕ) → joins first d.conditions ≡ true → Enters first d rest
+    n → n ≡ 0
 enters_joined first d rest n along (goes_on e) = refl
 enters_joined first d rest n along (begins m apart takes) = absurd (true≢false (sym along ∙ apart))
 
@@ -82,7 +86,8 @@ enters_first first d rest n apart (goes_on along) = absurd (true≢false (sym al
 enters_first first d rest n apart (begins m e takes) = takes
 
 abbrev Walked : ℕ → List ℕ → Target → List Condition → List Ruling → List Ruling → ℕ → ℕ → Type 0
-Walked default r after first run rest w n = Chooses after r run (Give w) ⊎ (Chooses after r run after × First default r rest w × Takes r (last first run) rest n)
+Walked default r after first run rest w n = Chooses after r run (Give w) ⊎ (Chooses after r run after × First default r rest w × Takes r
+    (last first run) rest n)
 
 walk : (default : ℕ) (r : List ℕ) (after : Target) (first : List Condition) (run rest : List Ruling) (w n : ℕ) → Joined first run
     → First default r (run ++ rest) w → Takes r first (run ++ rest) n → Walked default r after first run rest w n
@@ -105,7 +110,8 @@ pub record RulesOn (old : List sock_filter) (rulings : List Ruling) (default end
   pub begins_here : joins (before [] end rulings) (head (drop end rulings)) ≡ false
   pub grows : Grows old (length_behind (before [] end rulings) (drop end rulings)) new
   pub inside : IsIn new t
-  pub leads : (r : List ℕ) → IsRecord r → (w n : ℕ) → First default r (drop end rulings) w → Takes r (before [] end rulings) (drop end rulings) n
+  pub leads : (r : List ℕ) → IsRecord r → (w n : ℕ) → First default r (drop end rulings) w → Takes r (before [] end rulings) (drop end
+      rulings) n
       → LeadsAlways new r t w (n + 1)
 
 joins_nothing : (q : List Condition) → joins q [] ≡ false
@@ -142,25 +148,30 @@ in_front : (default : ℕ) (p : List Condition) (run rest : List Ruling) (after 
     → ((r : List ℕ) → IsRecord r → (w n : ℕ) → First default r rest w → Takes r (last p run) rest n → LeadsAlways mid r after w (n + 1))
     → (r : List ℕ) → IsRecord r → (w n : ℕ) → First default r (run ++ rest) w → Takes r p (run ++ rest) n → LeadsAlways new r t w (n + 1)
 in_front default p [] rest after t mid new run apart end met further r rec w n is takes = absurd run
-in_front default p (d ∷ run) rest after t mid new joined_run apart end met further r rec w n (here x others holds) (stops q y z m holds' enters) =
+in_front default p (d ∷ run) rest after t mid new joined_run apart end met further r rec w n (here x others holds) (stops q y z m holds'
+    enters) =
     let exact = joined_exact d.conditions run rest joined_run end in
     let cost = subst (λ j. RunTakes d.conditions (1 + j) m) exact (enters_first p d (run ++ rest) m apart enters) in
     let whole : 1 + length run ≡ length (d ∷ run) = omega arith in
     let fee = subst (λ j. RunTakes d.conditions j m) whole cost in
     let lead = met.leads r rec (Give w) w 1 m (chosen_here d run holds) fee (λ a small. to_return w a 1 (omega arith)) in
     λ a small. leads_more (m + 1) (omega arith) (lead a small)
-in_front default p (d ∷ run) rest after t mid new joined_run apart end met further r rec w n (here x others holds) (passes q y z m k not enters takes) =
+in_front default p (d ∷ run) rest after t mid new joined_run apart end met further r rec w n (here x others holds) (passes q y z m k not
+    enters takes) =
     absurd (not holds)
-in_front default p (d ∷ run) rest after t mid new joined_run apart end met further r rec w n (behind x others v not is) (stops q y z m holds enters) =
+in_front default p (d ∷ run) rest after t mid new joined_run apart end met further r rec w n (behind x others v not is) (stops q y z m
+    holds enters) =
     absurd (not holds)
-in_front default p (d ∷ run) rest after t mid new joined_run apart end met further r rec w n (behind x others v not is) (passes q y z m k not' enters takes) =
+in_front default p (d ∷ run) rest after t mid new joined_run apart end met further r rec w n (behind x others v not is) (passes q y z m k
+    not' enters takes) =
     let exact = joined_exact d.conditions run rest joined_run end in
     let cost = subst (λ j. RunTakes d.conditions (1 + j) m) exact (enters_first p d (run ++ rest) m apart enters) in
     let whole : 1 + length run ≡ length (d ∷ run) = omega arith in
     let fee = subst (λ j. RunTakes d.conditions j m) whole cost in
     elim (walk default r after d.conditions run rest w k joined_run is takes) [
       | inl inside ↦
-          let lead = met.leads r rec (Give w) w 1 m (chosen_behind d run (Give w) not inside) fee (λ a small. to_return w a 1 (omega arith)) in
+          let lead = met.leads r rec (Give w) w 1 m (chosen_behind d run (Give w) not inside) fee (λ a small. to_return w a 1 (omega
+              arith)) in
           λ a small. leads_more (m + k + 1) (omega arith) (lead a small)
       | inr (chosen, more, left) ↦
           let lead = met.leads r rec after w (k + 1) m (chosen_behind d run after not chosen) fee (further r rec w k more left) in
@@ -171,7 +182,8 @@ head_front : (run rest : List Ruling) → IsRun run → head (run ++ rest) ≡ h
 head_front [] rest h = absurd h
 head_front (d ∷ run) rest h = refl
 
-length_front : (p : List Condition) (run rest : List Ruling) → IsRun run → joins p (head run) ≡ false → joins (last p run) (head rest) ≡ false
+length_front : (p : List Condition) (run rest : List Ruling) → IsRun run → joins p (head run) ≡ false → joins (last p run) (head rest) ≡
+    false
     → length_behind p (run ++ rest) ≡ run_length (head run) (length run) + length_behind (last p run) rest
 length_front p [] rest h apart end = absurd h
 length_front p (d ∷ run) rest h apart end =
@@ -190,15 +202,19 @@ rules_one old mid new rulings default start end after t run h from is met =
     let p = before [] start rulings in
     let order = from.some in
     let within = h.within in
-    let cut : drop start rulings ≡ run ++ rest = cut_two start end rulings (omega arith) within ∙ ap (λ (l : List Ruling). l ++ rest) (sym is) in
-    let lasts : before [] end rulings ≡ last p run = before_last [] start end rulings (omega arith) within ∙ ap (λ (l : List Ruling). last p l) (sym is) in
+    let cut : drop start rulings ≡ run ++ rest = cut_two start end rulings (omega arith) within ∙ ap (λ (l : List Ruling). l ++ rest) (sym
+        is) in
+    let lasts : before [] end rulings ≡ last p run = before_last [] start end rulings (omega arith) within ∙ ap (λ (l : List Ruling). last
+        p l) (sym is) in
     let is_run : IsRun run = subst IsRun (sym is) from.run in
     let heads : head (drop start rulings) ≡ head run = ap head cut ∙ head_front run rest is_run in
     let apart : joins p (head run) ≡ false = sym (ap (λ (q : List Condition). joins p q) heads) ∙ from.begins in
     let over : joins (last p run) (head rest) ≡ false = sym (ap (λ (q : List Condition). joins q (head rest)) lasts) ∙ h.begins_here in
     let long = length_front p run rest is_run apart over in
-    let long_start : length_behind p (drop start rulings) ≡ length_behind p (run ++ rest) = ap (λ (l : List Ruling). length_behind p l) cut in
-    let long_end : length_behind (before [] end rulings) rest ≡ length_behind (last p run) rest = ap (λ (q : List Condition). length_behind q rest) lasts in
+    let long_start : length_behind p (drop start rulings) ≡ length_behind p (run ++ rest) = ap (λ (l : List Ruling). length_behind p l) cut
+        in
+    let long_end : length_behind (before [] end rulings) rest ≡ length_behind (last p run) rest = ap (λ (q : List Condition). length_behind
+        q rest) lasts in
     record {
       within = omega arith;
       begins_here = from.begins;
@@ -220,20 +236,25 @@ run_room old mid rulings default start end after run h from is =
     let p = before [] start rulings in
     let order = from.some in
     let within = h.within in
-    let cut : drop start rulings ≡ run ++ rest = cut_two start end rulings (omega arith) within ∙ ap (λ (l : List Ruling). l ++ rest) (sym is) in
-    let lasts : before [] end rulings ≡ last p run = before_last [] start end rulings (omega arith) within ∙ ap (λ (l : List Ruling). last p l) (sym is) in
+    let cut : drop start rulings ≡ run ++ rest = cut_two start end rulings (omega arith) within ∙ ap (λ (l : List Ruling). l ++ rest) (sym
+        is) in
+    let lasts : before [] end rulings ≡ last p run = before_last [] start end rulings (omega arith) within ∙ ap (λ (l : List Ruling). last
+        p l) (sym is) in
     let is_run : IsRun run = subst IsRun (sym is) from.run in
     let heads : head (drop start rulings) ≡ head run = ap head cut ∙ head_front run rest is_run in
     let apart : joins p (head run) ≡ false = sym (ap (λ (q : List Condition). joins p q) heads) ∙ from.begins in
     let over : joins (last p run) (head rest) ≡ false = sym (ap (λ (q : List Condition). joins q (head rest)) lasts) ∙ h.begins_here in
     let long = length_front p run rest is_run apart over in
-    let long_start : length_behind p (drop start rulings) ≡ length_behind p (run ++ rest) = ap (λ (l : List Ruling). length_behind p l) cut in
-    let long_end : length_behind (before [] end rulings) rest ≡ length_behind (last p run) rest = ap (λ (q : List Condition). length_behind q rest) lasts in
+    let long_start : length_behind p (drop start rulings) ≡ length_behind p (run ++ rest) = ap (λ (l : List Ruling). length_behind p l) cut
+        in
+    let long_end : length_behind (before [] end rulings) rest ≡ length_behind (last p run) rest = ap (λ (q : List Condition). length_behind
+        q rest) lasts in
     let less = length_less [] start rulings in
     let grown = grown_long old mid (length_behind (before [] end rulings) rest) h.grows in
     omega (arith, grown.1)
 
-pub rules_all : (old new : List sock_filter) (rulings : List Ruling) (default end : ℕ) (t : Target) → end ≡ 0 → RulesOn old rulings default end t new
+pub rules_all : (old new : List sock_filter) (rulings : List Ruling) (default end : ℕ) (t : Target) → end ≡ 0 → RulesOn old rulings default
+    end t new
     → AreRules old rulings default t new
 rules_all old new rulings default end t z h =
     let k = subst (λ n. RulesOn old rulings default n t new) z h in
@@ -276,8 +297,10 @@ back_one rulings before_it start end x y within at x_is y_is along h =
     let e : end - before_it ≡ suc (end - start) = omega arith in
     let n : before_it + 1 ≡ start = at in
     let cons : drop before_it rulings ≡ x ∷ drop start rulings
-    = drop_more rulings before_it x (omega arith) ∙ ap (λ z. z ∷ drop (before_it + 1) rulings) (sym x_is) ∙ ap (λ k. x ∷ drop k rulings) n in
-    let heads : head (drop start rulings) ≡ y.conditions = head_item rulings start y (omega arith) ∙ ap (λ (d : Ruling). d.conditions) (sym y_is) in
+    = drop_more rulings before_it x (omega arith) ∙ ap (λ z. z ∷ drop (before_it + 1) rulings) (sym x_is) ∙ ap (λ k. x ∷ drop k rulings) n
+        in
+    let heads : head (drop start rulings) ≡ y.conditions = head_item rulings start y (omega arith) ∙ ap (λ (d : Ruling). d.conditions) (sym
+        y_is) in
     record {
       some = omega arith;
       run = rw (e, cons) (longer (end - start) (drop start rulings) (omega arith)
@@ -297,11 +320,13 @@ back_all rulings before_it start end x y within at x_is y_is apart h =
     let e : start ≡ suc before_it = omega arith in
     let front : before [] start rulings ≡ x.conditions
     = ap (λ n. before [] n rulings) e ∙ before_item [] rulings before_it x (omega arith) ∙ ap (λ (d : Ruling). d.conditions) (sym x_is) in
-    let heads : head (drop start rulings) ≡ y.conditions = head_item rulings start y (omega arith) ∙ ap (λ (d : Ruling). d.conditions) (sym y_is) in
+    let heads : head (drop start rulings) ≡ y.conditions = head_item rulings start y (omega arith) ∙ ap (λ (d : Ruling). d.conditions) (sym
+        y_is) in
     record {
       some = h.some;
       run = h.run;
-      begins = ap (λ (q : List Condition). joins q (head (drop start rulings))) front ∙ ap (λ (q : List Condition). joins x.conditions q) heads ∙ apart;
+      begins = ap (λ (q : List Condition). joins q (head (drop start rulings))) front ∙ ap (λ (q : List Condition). joins x.conditions q)
+          heads ∙ apart;
     }
 
 pub back_first : (rulings : List Ruling) (start end : ℕ) → start ≡ 0 → RunBack rulings start end → IsRunFrom rulings 0 end

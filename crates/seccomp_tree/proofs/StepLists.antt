@@ -1,11 +1,13 @@
 -- Steps: what they have for a number, where they are cut, and where a step more is put behind them.
-use Rattle.std.proofs.Common.{◌≡◌, ℕ, zero, suc, ◌+◌, ◌-◌, ◌<◌, ◌≤◌, List, [], ◌∷◌, ◌++◌, length, take, drop, get_or, true, false, refl, sym, ap, ◌∙◌, subst}
+use Rattle.std.proofs.Common.{◌≡◌, ℕ, zero, suc, ◌+◌, ◌-◌, ◌<◌, ◌≤◌, List, [], ◌∷◌, ◌++◌, length, take, drop, get_or, true, false, refl}
+use Rattle.std.proofs.Common.{sym, ap, ◌∙◌, subst}
 use Rattle.std.proofs.Common.{◌≢◌, length-append, None, nat_le, if◌then◌else◌, Some, arith}
 use Rattle.std.specs.Prelude.{slice_get}
 use Rattle.std.proofs.lemmas.Bool.Decides.{nat_tests}
 use Rattle.seccomp_tree.specs.declared.steps.Target.{Target}
 use Rattle.seccomp_tree.specs.declared.steps.Step.{Step}
-use Rattle.seccomp_tree.specs.Steps.{TightFrom, AreTight, found_from, found_in, AscendFrom, Ascend, AreSteps, EndIn, Precede, from_none, from_some, IsPushed, IsCut, AreCut, AreLaid, AreOverlaid}
+use Rattle.seccomp_tree.specs.Steps.{TightFrom, AreTight, found_from, found_in, AscendFrom, Ascend, AreSteps, EndIn, Precede, from_none}
+use Rattle.seccomp_tree.specs.Steps.{from_some, IsPushed, IsCut, AreCut, AreLaid, AreOverlaid}
 
 -- ---- ascending
 
@@ -48,12 +50,14 @@ pub found_above : (m start : ℕ) (t : Target) (steps : List Step) (a : ℕ) →
 found_above m start t [] a h le = refl
 found_above m start t (x ∷ steps) a h le = let no : nat_le x.start a ≡ false = grind (arith, nat_tests, h.0) in rw no refl
 
-found_from_push : (t : Target) (steps : List Step) (x : Step) (a : ℕ) → a < x.start → found_from t (steps ++ x ∷ []) a ≡ found_from t steps a
+found_from_push : (t : Target) (steps : List Step) (x : Step) (a : ℕ) → a < x.start → found_from t (steps ++ x ∷ []) a ≡ found_from t steps
+    a
 found_from_push t [] x a below = let no : nat_le x.start a ≡ false = grind (arith, nat_tests) in rw no refl
 found_from_push t (y ∷ steps) x a below = ap (λ v. if nat_le y.start a then v else t) (found_from_push y.target steps x a below)
 
 -- below the start of a step behind others, they decide
-found_push_low : (m : ℕ) (steps : List Step) (x : Step) (a : ℕ) → AreSteps m steps → a < x.start → found_in (steps ++ x ∷ []) a ≡ found_in steps a
+found_push_low : (m : ℕ) (steps : List Step) (x : Step) (a : ℕ) → AreSteps m steps → a < x.start → found_in (steps ++ x ∷ []) a ≡ found_in
+    steps a
 found_push_low m [] x a h below = absurd h.first
 found_push_low m (y ∷ steps) x a h below = found_from_push y.target steps x a below
 
@@ -70,7 +74,8 @@ found_from_last m start t (y ∷ steps) x a h above =
     last_above m start (y ∷ steps) x h = let k = last_above m y.start steps x h.1.1 in omega (arith, h.0)
 
 -- from the start of the last step on it decides
-found_last : (m : ℕ) (steps : List Step) (x : Step) (a : ℕ) → AreSteps m (steps ++ x ∷ []) → x.start ≤ a → found_in (steps ++ x ∷ []) a ≡ x.target
+found_last : (m : ℕ) (steps : List Step) (x : Step) (a : ℕ) → AreSteps m (steps ++ x ∷ []) → x.start ≤ a → found_in (steps ++ x ∷ []) a ≡
+    x.target
 found_last m [] x a h above = refl
 found_last m (y ∷ steps) x a h above = found_from_last m y.start y.target steps x a h.ascend.1 above
 
@@ -127,7 +132,8 @@ pushed_more old x (from_some are) =
 pub ends_in : (steps : List Step) (x : Step) (target : Target) → slice_get steps (length steps - 1) ≡ Some x → x.target ≡ target
     → EndIn steps target
 ends_in [] x target is same = absurd (cc)
-ends_in (y ∷ []) x target is same = record { front = []; last = y; whole = refl; is = let e : y ≡ x = cc in ap (λ (z : Step). z.target) e ∙ same }
+ends_in (y ∷ []) x target is same = record { front = []; last = y; whole = refl; is = let e : y ≡ x = cc in ap (λ (z : Step). z.target) e ∙
+    same }
 ends_in (y ∷ z ∷ steps) x target is same =
     let at : length (y ∷ z ∷ steps) - 1 ≡ suc (length (z ∷ steps) - 1) = omega arith in
     let rest = ends_in (z ∷ steps) x target (sym (ap (λ n. slice_get (y ∷ z ∷ steps) n) at) ∙ is) same in

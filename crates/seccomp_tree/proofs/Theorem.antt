@@ -1,5 +1,6 @@
 -- The theorem: what is written answers every record as is decided.
-use Rattle.std.proofs.Common.{◌≡◌, ◌≢◌, ℕ, suc, zero, ◌+◌, ◌-◌, ◌*◌, ◌<◌, ◌≤◌, ◌^◌, List, [], ◌∷◌, length, Bool, true, false, Option, Some, None, refl, sym, ap, ◌∙◌, subst, ◌⊎◌, inl, inr, ⊎_elim, arith}
+use Rattle.std.proofs.Common.{◌≡◌, ◌≢◌, ℕ, suc, zero, ◌+◌, ◌-◌, ◌*◌, ◌<◌, ◌≤◌, ◌^◌, List, [], ◌∷◌, length, Bool, true, false, Option, Some}
+use Rattle.std.proofs.Common.{None, refl, sym, ap, ◌∙◌, subst, ◌⊎◌, inl, inr, ⊎_elim, arith}
 use Rattle.std.proofs.Common.{nat_eq, if◌then◌else◌, All}
 use Rattle.std.proofs.Math.Nat.{pow-succ'}
 use Rattle.std.proofs.lemmas.Bool.Decides.{nat_tests}
@@ -15,10 +16,12 @@ use Rattle.seccomp_tree.specs.declared.steps.Target.TheVariants.{Give, At}
 use Rattle.seccomp_tree.specs.declared.code.Test.TheVariants.{Equal}
 use Rattle.seccomp_tree.specs.Code.{IsSound, Returns, goes_on, Starts, Leads, to_return, IsTested, Grows, tail_at, chosen}
 use Rattle.seccomp_tree.specs.Conditions.{part_steps}
-use Rattle.seccomp_tree.specs.Decisions.{Ruling, First, here, behind, nothing, Takes, stops, passes, ends, Enters, begins, RunTakes, by_steps, by_conditions, only, joins, joined, conditions_steps}
+use Rattle.seccomp_tree.specs.Decisions.{Ruling, First, here, behind, nothing, Takes, stops, passes, ends, Enters, begins, RunTakes}
+use Rattle.seccomp_tree.specs.Decisions.{by_steps, by_conditions, only, joins, joined, conditions_steps}
 use Rattle.seccomp_tree.specs.Decisions.{goes_on as runs_on}
 use Rattle.seccomp_tree.specs.Decided.{DecisionSet, default_for, rulings_for, IsDecided, other_architecture, decided}
-use Rattle.seccomp_tree.specs.TreeProgram.{calls_length, length_by, AreRanges, TakesOwn, other, one, own, EndsWithin, EndsAsDecided, IsTreeProgram}
+use Rattle.seccomp_tree.specs.TreeProgram.{calls_length, length_by, AreRanges, TakesOwn, other, one, own, EndsWithin, EndsAsDecided}
+use Rattle.seccomp_tree.specs.TreeProgram.{IsTreeProgram}
 use Rattle.seccomp_tree.specs.CallSteps.{IsEntered, near, far, IsCallsTarget, IsWritten}
 use Rattle.seccomp_tree.proofs.Growing.{grown_long}
 use Rattle.seccomp_tree.proofs.Runs.{returns_more}
@@ -107,14 +110,16 @@ entered d old p h r w m rec arch (near m' last starts) =
     loaded r h.tested h.test w (m + 1) rec h.tests.last h.tests.some (h.tests.fresh r a w m small (choice ∙ last)
     (subst (λ u. Starts h.behind r u a w m) (sym choice) (starts a small)))
 
-killed : (d : DecisionSet) (old p : List sock_filter) (h : IsWritten old d p) (r : List ℕ) → IsRecord r → word_at r 4 ≢ audit_word d.target_arch
+killed : (d : DecisionSet) (old p : List sock_filter) (h : IsWritten old d p) (r : List ℕ) → IsRecord r → word_at r 4 ≢ audit_word
+    d.target_arch
     → Returns r (load 4 ∷ h.tested) 0 0x80000000 (suc (1 + 1))
 killed d old p h r rec not =
     let a = word_at r 4 in
     let small = word_small r 4 rec (omega arith) in
     let no : nat_eq a (audit_word d.target_arch) ≡ false = grind (arith, nat_tests, not) in
     loaded r h.tested h.test 0x80000000 (1 + 1) rec h.tests.last h.tests.some (h.tests.leads r a 0x80000000 1 small
-    (subst (λ b. Leads h.behind r (if b then h.calls else Give 0x80000000) a 0x80000000 1) (sym no) (to_return 0x80000000 a 1 (omega arith))))
+    (subst (λ b. Leads h.behind r (if b then h.calls else Give 0x80000000) a 0x80000000 1) (sym no) (to_return 0x80000000 a 1 (omega
+        arith))))
 
 -- a program that is written returns what is decided
 written_returns : (d : DecisionSet) (old p : List sock_filter) (h : IsWritten old d p) (r : List ℕ) (w n k : ℕ) → IsRecord r
@@ -147,7 +152,8 @@ written_program d p h sound = record {
   decides = λ r rec. written_decides d (give 0x80000000 ∷ []) p h r rec;
   soon = λ r rec w n k decision takes starts ranges few.
       let all = h.answers.few starts ranges in
-      let end = program_ends p r w (4 + 2 * k + n) (written_returns d (give 0x80000000 ∷ []) p h r w n k rec (omega arith) decision takes) in
+      let end = program_ends p r w (4 + 2 * k + n) (written_returns d (give 0x80000000 ∷ []) p h r w n k rec (omega arith) decision takes)
+          in
       record { steps = end.steps; few = end.few; ends = end.ends };
   short = λ starts ranges.
       let all = h.answers.few starts ranges in

@@ -1,5 +1,6 @@
 -- The theorem: what is written answers every record as is decided.
-use Rattle.std.proofs.Common.{◌≡◌, ◌≢◌, ℕ, suc, zero, ◌+◌, ◌-◌, ◌*◌, ◌<◌, ◌≤◌, ◌^◌, List, [], ◌∷◌, length, Bool, true, false, Option, Some, None, refl, sym, ap, ◌∙◌, subst, ◌⊎◌, inl, inr, ⊎_elim, arith}
+use Rattle.std.proofs.Common.{◌≡◌, ◌≢◌, ℕ, suc, zero, ◌+◌, ◌-◌, ◌*◌, ◌<◌, ◌≤◌, ◌^◌, List, [], ◌∷◌, length, Bool, true, false, Option, Some}
+use Rattle.std.proofs.Common.{None, refl, sym, ap, ◌∙◌, subst, ◌⊎◌, inl, inr, ⊎_elim, arith}
 use Rattle.std.proofs.Common.{nat_eq, if◌then◌else◌, All}
 use Rattle.std.proofs.lemmas.Bool.Decides.{nat_tests}
 use Rattle.std.proofs.lemmas.Bool.{cases_eq, cases_Bool, cases_lt}
@@ -31,11 +32,13 @@ one_first : (default v w : ℕ) (rulings : List Ruling) (r : List ℕ) → one_v
 one_first default v w [] r is nothing = cc
 one_first default v w (d ∷ rulings) r is h = go d.conditions refl (nat_eq (length d.conditions) 0) refl is
   where
-    go : (q : List Condition) → d.conditions ≡ q → (b : Bool) → nat_eq (length d.conditions) 0 ≡ b → (if b then Some d.value else None) ≡ Some v
+    go : (q : List Condition) → d.conditions ≡ q → (b : Bool) → nat_eq (length d.conditions) 0 ≡ b → (if b then Some d.value else None) ≡
+        Some v
         → w ≡ v
     go q e false is none = cc
     go [] e true is some =
-        let holds : RuleHolds d.conditions r = subst (λ (q : List Condition). RuleHolds q r) (sym e) (All-nil (λ (c : Condition). Holds c r)) in
+        let holds : RuleHolds d.conditions r = subst (λ (q : List Condition). RuleHolds q r) (sym e) (All-nil (λ (c : Condition). Holds c
+            r)) in
         let value = first_here d rulings holds h in
         cc
     go (c ∷ q) e true is some =
@@ -97,16 +100,19 @@ calls_target d old mid new steps t h word =
       ranges = length steps;
       some = some;
       few = λ starts ranges. fewest d mid steps starts h.answers ranges;
-      grows = grows_on old mid new (calls_length d.calls) (3 * length steps - 2) (calls_length d.calls + (3 * length steps - 2)) h.grows word.grows
+      grows = grows_on old mid new (calls_length d.calls) (3 * length steps - 2) (calls_length d.calls + (3 * length steps - 2)) h.grows
+          word.grows
           (omega arith);
       inside = word.inside;
       enters = λ r rec w n k few arch first takes.
           let number = word_at r 0 in
-          let leads = answer_leads d mid (found_in steps number) r w n rec (h.answers.each number (word_small r 0 rec (omega arith))) arch first takes in
+          let leads = answer_leads d mid (found_in steps number) r w n rec (h.answers.each number (word_small r 0 rec (omega arith))) arch
+              first takes in
           enter r rec w n k few leads (cases_lt 1 (length steps));
     }
   where
-    alone : (steps : List Step) → length steps ≤ 1 → 1 ≤ length steps → (a : ℕ) → ((x : Step) → steps ≡ x ∷ [] → t ≡ x.target) → found_in steps a ≡ t
+    alone : (steps : List Step) → length steps ≤ 1 → 1 ≤ length steps → (a : ℕ) → ((x : Step) → steps ≡ x ∷ [] → t ≡ x.target) → found_in
+        steps a ≡ t
     alone [] le some a is = absurd (omega arith)
     alone (x ∷ []) le some a is = sym (is x refl)
     alone (x ∷ y ∷ l) le some a is = absurd (omega arith)
@@ -115,7 +121,8 @@ calls_target d old mid new steps t h word =
         → (1 < length steps) ⊎ (length steps ≤ 1) → IsEntered new r t w (n + 2 + 2 * k)
     enter r rec w n k few leads (inl more) =
         let count : n + 1 + 1 + 2 * k ≡ n + 2 + 2 * k = omega arith in
-        near (n + 2 + 2 * k) (word.last (omega arith)) (λ a small. subst (λ m. Starts new r t a w m) count (word.leads r rec w (n + 1) k few leads a small))
+        near (n + 2 + 2 * k) (word.last (omega arith)) (λ a small. subst (λ m. Starts new r t a w m) count (word.leads r rec w (n + 1) k
+            few leads a small))
     enter r rec w n k few leads (inr less) =
         let same = alone steps less (some_precede steps h.answers.are) (word_at r 0) word.alone in
         far (n + 2 + 2 * k) (λ a small.

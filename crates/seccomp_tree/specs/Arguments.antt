@@ -67,7 +67,8 @@ pub record AreDone (steps : List Step) (high done : ℕ) : Type 0 where
   pub starts : (d : Step) → high < 2 ^ 32 → (slice_index_or steps done d).start ≤ last_of high
 
 -- Steps over the high halves below one, whose targets go on as steps say for an argument.
-pub record AreHighs (old : List sock_filter) (index : ℕ) (steps : List Step) (high : ℕ) (highs : List Step) (new : List sock_filter) : Type 0 where
+pub record AreHighs (old : List sock_filter) (index : ℕ) (steps : List Step) (high : ℕ) (highs : List Step) (new : List sock_filter) : Type
+    0 where
   pub within : high ≤ 2 ^ 32
   pub done : ℕ
   pub are_done : AreDone steps high done
@@ -76,4 +77,5 @@ pub record AreHighs (old : List sock_filter) (index : ℕ) (steps : List Step) (
   pub grows : Grows old (4 * done) new
   pub inside : (h : ℕ) → h < high → IsIn new (found_in highs h)
   pub leads : (h : ℕ) → h < high → (r : List ℕ) → IsRecord r → (w n k : ℕ) → length steps ≤ 2 ^ k
-      → LeadsAlways old r (found_in steps (first_of h + word_at r (16 + 8 * index))) w n → LeadsAlways new r (found_in highs h) w (n + 2 + 2 * k)
+      → LeadsAlways old r (found_in steps (first_of h + word_at r (16 + 8 * index))) w n → LeadsAlways new r (found_in highs h) w (n + 2 +
+          2 * k)

@@ -40,7 +40,8 @@ condition_steps l _ = part_steps l 2
 -- ---- between private functions
 
 -- The target goes on as the steps say for what is compared of the argument, whatever the accumulator holds.
-pub record IsPart (old : List sock_filter) (l : SeccompCmpArgLen) (index : ℕ) (steps : List Step) (t : Target) (new : List sock_filter) : Type 0 where
+pub record IsPart (old : List sock_filter) (l : SeccompCmpArgLen) (index : ℕ) (steps : List Step) (t : Target) (new : List sock_filter) :
+    Type 0 where
   pub grows : Grows old (part_length l (length steps)) new
   pub inside : IsIn new t
   pub leads : (r : List ℕ) → IsRecord r → (w n k : ℕ) → length steps ≤ 2 ^ k

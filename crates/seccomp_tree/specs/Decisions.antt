@@ -1,5 +1,6 @@
 -- Decisions on one call: rulings in order, of which the first that holds names the word.
-use Rattle.std.specs.Prelude.{◌≡◌, ℕ, suc, ◌+◌, ◌*◌, ◌≤◌, ◌^◌, List, [], ◌∷◌, length, Bool, true, false, ◌&&◌, nat_eq, if◌then◌else◌, Option, Some, None}
+use Rattle.std.specs.Prelude.{◌≡◌, ℕ, suc, ◌+◌, ◌*◌, ◌≤◌, ◌^◌, List, [], ◌∷◌, length, Bool, true, false, ◌&&◌, nat_eq, if◌then◌else◌}
+use Rattle.std.specs.Prelude.{Option, Some, None}
 use Rattle.seccompiler.specs.declared.backend.SeccompCmpArgLen.{SeccompCmpArgLen}
 use Rattle.seccompiler.specs.declared.backend.SeccompCmpArgLen.TheVariants.{Dword, Qword}
 use Rattle.seccompiler.specs.Policy.{Condition, RuleHolds}
@@ -14,7 +15,8 @@ pub record Ruling : Type 0 where
 -- The first of the rulings that holds for the record names this word, or none holds and it is the default.
 pub data First (default : ℕ) (r : List ℕ) : List Ruling → ℕ → Type 0 where
   here : (d : Ruling) (rest : List Ruling) → RuleHolds d.conditions r → First default r (d ∷ rest) d.value
-  behind : (d : Ruling) (rest : List Ruling) (w : ℕ) → (RuleHolds d.conditions r → ⊥) → First default r rest w → First default r (d ∷ rest) w
+  behind : (d : Ruling) (rest : List Ruling) (w : ℕ) → (RuleHolds d.conditions r → ⊥) → First default r rest w → First default r (d ∷ rest)
+      w
   nothing : First default r [] default
 
 -- ---- runs: rulings that compare one argument, one behind the other

@@ -1,5 +1,6 @@
 -- Rulings as a target: what the first that holds says, or what there is behind them.
-use Rattle.std.specs.Prelude.{◌≡◌, ℕ, zero, suc, ◌+◌, ◌-◌, ◌*◌, ◌<◌, ◌≤◌, ◌^◌, ⊤, List, [], ◌∷◌, length, take, drop, Bool, true, false, Option, Some, None}
+use Rattle.std.specs.Prelude.{◌≡◌, ℕ, zero, suc, ◌+◌, ◌-◌, ◌*◌, ◌<◌, ◌≤◌, ◌^◌, ⊤, List, [], ◌∷◌, length, take, drop, Bool, true, false}
+use Rattle.std.specs.Prelude.{Option, Some, None}
 use Rattle.seccompiler.specs.declared.bpf.sock_filter.{sock_filter}
 use Rattle.seccompiler.specs.Machine.{IsRecord, argument_at}
 use Rattle.seccompiler.specs.Policy.{Condition, RuleHolds, part_of}
@@ -9,7 +10,8 @@ use Rattle.seccomp_tree.specs.declared.steps.Step.{Step}
 use Rattle.seccomp_tree.specs.Steps.{found_in, AreSteps}
 use Rattle.seccomp_tree.specs.Intervals.{numbers_of}
 use Rattle.seccomp_tree.specs.Code.{IsIn, Grows, LeadsAlways, StartsAlways}
-use Rattle.seccomp_tree.specs.Decisions.{Ruling, First, Takes, RunTakes, joins, run_length, rules_length, conditions_length, conditions_steps}
+use Rattle.seccomp_tree.specs.Decisions.{Ruling, First, Takes, RunTakes, joins, run_length, rules_length, conditions_length}
+use Rattle.seccomp_tree.specs.Decisions.{conditions_steps}
 
 -- The target of the first of the rulings that holds for the record, or this one behind them where none does.
 pub data Chooses (after : Target) (r : List ℕ) : List Ruling → Target → Type 0 where
@@ -49,7 +51,8 @@ pub record IsRunFrom (rulings : List Ruling) (start end : ℕ) : Type 0 where
 pub record AreRunSteps (c : Condition) (rulings : List Ruling) (after : Target) (steps : List Step) : Type 0 where
   pub are : AreSteps (numbers_of c.arg_len) steps
   pub few : length steps ≤ 2 * length rulings + 1
-  pub each : (r : List ℕ) → IsRecord r → (t : Target) → Chooses after r rulings t → found_in steps (part_of c.arg_len (argument_at r c.arg_index)) ≡ t
+  pub each : (r : List ℕ) → IsRecord r → (t : Target) → Chooses after r rulings t → found_in steps (part_of c.arg_len (argument_at r
+      c.arg_index)) ≡ t
   pub inside : (code : List sock_filter) → IsIn code after → (a : ℕ) → a < numbers_of c.arg_len → IsIn code (found_in steps a)
 
 -- The target goes on as the ruling says where it holds, and else as there is behind it; whatever the accumulator holds.

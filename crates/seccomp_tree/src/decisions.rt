@@ -13,12 +13,12 @@ use std::marker::Model;
 // What a record of another architecture is answered with: SECCOMP_RET_KILL_PROCESS of linux/seccomp.h.
 pub(crate) const KILL_PROCESS: u32 = 0x8000_0000;
 
-/// Conditions, and the word that a program returns where they all hold. It always holds where there are none.
+/// Conditions, and the value that a program returns where they all hold. They always hold where there are none.
 #[derive(Debug, Drop)]
 pub struct Decision {
     /// The conditions, joined by and.
     pub conditions: Vec<SeccompCondition>,
-    /// The word, as a kernel reads it: an action and its data.
+    /// The return value, as a kernel reads it: an action and its data.
     pub value: u32,
 }
 
@@ -38,7 +38,7 @@ impl Model for Decision {
 pub struct DefaultValue {
     /// The first call number.
     pub start: u32,
-    /// The word, as a kernel reads it: an action and its data.
+    /// The return value, as a kernel reads it: an action and its data.
     pub value: u32,
 }
 
@@ -86,7 +86,7 @@ impl Decisions {
         })
     }
 
-    /// The word that is decided for the call of this record (`struct seccomp_data` of `linux/seccomp.h`). No other word is.
+    /// The return value that is decided for the call of this record (`struct seccomp_data` of `linux/seccomp.h`). No other value is.
     pub fn decide(&self, call: &[u8; 64]) -> u32
         ensures decision { IsDecided self.now call.now result }
         ensures only { (w : ℕ) → IsDecided self.now call.now w → w ≡ result }

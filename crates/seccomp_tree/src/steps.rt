@@ -10,7 +10,7 @@ use std::alloc::Global;
 /// What a program does next.
 #[derive(Clone, Copy, Debug, PartialEq, Eq)]
 pub(crate) enum Target {
-    /// It returns this word.
+    /// It returns this value.
     Give(u32),
     /// It goes on at this place, counted from its end, whatever the accumulator holds.
     At(usize),

@@ -68,7 +68,7 @@ impl Code {
         self.test(Test::AtLeast, border, rest, steps[0].target)
     }
 
-    /// Goes on as the steps say for the record's word at this byte, whatever is in the accumulator.
+    /// Goes on as the steps say for the 32 bits of the record from this byte on, whatever is in the accumulator.
     pub(crate) fn word(&mut self, byte: u8, steps: &[Step]) -> Result<Target, TreeError>
         requires aligned { byte % 4 ≡ 0 }
         requires inside_record { byte ≤ 60 }

@@ -1,4 +1,4 @@
-// Tests of what no program shows of conditions, rules, filters, comparisons and what installs them. The other worked
+// Tests of what no program shows of conditions, rules, filters, decisions, comparisons and installing. The other worked
 // examples are rows of `tools/rows`.
 #![tactic(auto)]
 
@@ -12,6 +12,8 @@ mod compared_filters;
 mod conditions;
 #[cfg(test)]
 mod copies;
+#[cfg(test)]
+mod decisions;
 #[cfg(test)]
 mod instructions;
 #[cfg(test)]

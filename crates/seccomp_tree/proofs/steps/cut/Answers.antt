@@ -10,4 +10,5 @@ returns-then-low-eq0 c = cut_none (2 ^ 64) c.args.steps.now.items c.clear.new.se
 pub returns : goal.returns
 returns c =
     cut_some (2 ^ 64) c.args.steps.now.items c.truncate.new.self.items c.args.low c.until-count.result c.requires.are (omega arith)
-    (subst (λ (l : List Step). IsCut l (c.args.low - 1) c.until-count.result) c.deref.ensures.value c.until-count.ensures) c.truncate.ensures.items
+    (subst (λ (l : List Step). IsCut l (c.args.low - 1) c.until-count.result) c.deref.ensures.value c.until-count.ensures)
+        c.truncate.ensures.items

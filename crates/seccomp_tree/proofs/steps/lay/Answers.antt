@@ -14,7 +14,8 @@ returns-then-high-greatest-clause-laid c =
 
 pub push_step-requires-2 : goal.push_step-requires-2
 push_step-requires-2 c = record {
-  below = from_some (steps_more (c.args.low + 1) (c.args.high + 1) c.push_step.new.steps.items (omega arith) c.in_ok-push_step.ensures.pushed.are);
+  below = from_some (steps_more (c.args.low + 1) (c.args.high + 1) c.push_step.new.steps.items (omega arith)
+      c.in_ok-push_step.ensures.pushed.are);
 }
 
 pub loop-step-init : goal.loop-step-init
@@ -56,4 +57,5 @@ returns-clause-laid c =
     laid_all (c.args.greatest + 1) c.args.steps.now.items c.args.low c.args.high c.args.target c.args.after c.args.tail.now
     c.push_step.new.steps.items c.push_step-2.new.steps.items l.invariant.0 l.steps.items c.requires.ordered (omega arith) c.requires.behind
     c.in_ok-push_step.ensures.pushed c.in_ok-push_step-2.ensures.pushed
-    (subst (λ n. LaysOn (c.args.greatest + 1) c.push_step-2.new.steps.items c.args.tail.now l.invariant.0 l.steps.items n) all l.invariant.1)
+    (subst (λ n. LaysOn (c.args.greatest + 1) c.push_step-2.new.steps.items c.args.tail.now l.invariant.0 l.steps.items n) all
+        l.invariant.1)

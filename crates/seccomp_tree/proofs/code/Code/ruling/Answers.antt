@@ -16,7 +16,8 @@ loop-left-init c =
     let fits : d.value < 2 ^ 32 = subst (λ v. v < 2 ^ 32) value c.ruling.invariant in (
       omega arith,
       subst (λ v. RulingOn c.args.self.now d c.args.after (drop c.len-left.result d.conditions) (Give v) c.args.self.now) (sym value)
-          (ruling_none c.args.self.now d c.args.after (drop c.len-left.result d.conditions) (drop_all c.len-left.result d.conditions (omega arith)) fits),
+          (ruling_none c.args.self.now d c.args.after (drop c.len-left.result d.conditions) (drop_all c.len-left.result d.conditions (omega
+              arith)) fits),
     )
 
 pub returns-in_err-target-clause-err : goal.returns-in_err-target-clause-err

@@ -47,7 +47,7 @@ answers_range d code old defaults new start end order h values none pushed = rec
   tight = pushed.tight h.tight;
   each = λ n lt. ⊎_elim
       (λ (less : n < start). subst (IsAnswer code (default_for d.defaults n) (rulings_for d.calls n)) (sym (pushed.below n less)) (h.each n
-          less))
+      less))
       (λ (le : start ≤ n).
       let found : found_in new n ≡ Give (default_for d.defaults n) = pushed.inside n le lt ∙ values.found n in
       subst (λ q. IsAnswer code (default_for d.defaults n) q (found_in new n)) (sym (none n le lt))
@@ -69,7 +69,7 @@ answers_call d old new steps mid pushed number default rulings t h value here an
         (λ (less : n < number).
         subst (IsAnswer new (default_for d.defaults n) (rulings_for d.calls n)) (sym (one.below n less))
         (answer_grown old new (rules_length rulings) (default_for d.defaults n) (rulings_for d.calls n) (found_in mid n) answered.grows
-            (h.each n less)))
+        (h.each n less)))
         (λ (le : number ≤ n).
         let is : n ≡ number = omega arith in
         subst (IsAnswer new (default_for d.defaults n) (rulings_for d.calls n)) (sym (one.from n le))
@@ -153,7 +153,7 @@ calls_next d old next number rulings left back steps code is h =
       none = λ n le lt.
           let no : nat_eq n number ≡ false = grind (arith, nat_tests) in
           all n le ∙ ap (λ b. if b then rulings.items else rulings_for (calls_of back) n) no ∙ calls_none (number + 1) back n from.1 (omega
-              arith);
+          arith);
       here =
           let yes : nat_eq number number ≡ true = grind (arith, nat_tests) in
           all number from.0 ∙ ap (λ b. if b then rulings.items else rulings_for (calls_of back) number) yes;

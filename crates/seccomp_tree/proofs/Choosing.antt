@@ -100,7 +100,7 @@ conditions_less (suc n) (c ∷ q) = let h = conditions_less n q in omega arith
 pub ruling_room : (old mid : List sock_filter) (d : Ruling) (after t : Target) (q : List Condition) (k : ℕ) (c : Condition) (rest : List
     Condition)
     → drop k q ≡ c ∷ rest → RulingOn old d after rest t mid → length mid + condition_length c.arg_len c.operator ≤ length old +
-        conditions_length q
+    conditions_length q
 ruling_room old mid d after t q k c rest cons h =
     let less = conditions_less k q in
     let same : conditions_length (drop k q) ≡ condition_length c.arg_len c.operator + conditions_length rest = ap conditions_length cons in

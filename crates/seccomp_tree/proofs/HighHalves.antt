@@ -288,7 +288,7 @@ highs_one old mid new index steps highs more high next t are inside h small half
           λ a fits. leads_more (n + 2 + 2 * k) (omega arith) (leads_by (start a fits)))
           (λ above.
           let there = between_same steps high next on.end x (word_at r (16 + 8 * index)) (first_step (2 ^ 64) steps are) on.ends on.behind
-              above lt
+          above lt
           (word_fits r (16 + 8 * index) rec) in
           let last : LeadsAlways old r (found_in steps (last_of high)) w n = subst (λ u. LeadsAlways old r u w n) there lead in
           λ a fits. leads_more (n + 2 + 2 * k) (omega arith) (leads_grown old new (4 * on.end) whole (last a fits)))

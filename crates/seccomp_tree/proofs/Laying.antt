@@ -19,7 +19,7 @@ laid_over size low high Has old new target h there back = record {
       ⊎_elim
       (λ (below : a < low). h.below a below)
       (λ (from : low ≤ a). ⊎_elim (λ (above : high < a). h.above a above lt) (λ (to : a ≤ high). absurd (not (back a from to))) (cases_lt
-          high a))
+      high a))
       (cases_lt a low);
 }
 
@@ -60,7 +60,7 @@ laid_for c size value operator old new target same part is h few =
     let one = subst (λ s. AreLaidOver s (λ a. Compares operator a value) old target new) same h in
     let two = subst (λ v. AreLaidOver (numbers_of c.arg_len) (λ a. Compares operator a v) old target new) part one in
     let three = subst (λ (o : SeccompCmpOp). AreLaidOver (numbers_of c.arg_len) (λ a. Compares o a (part_of c.arg_len c.value)) old target
-        new) is two in
+    new) is two in
     record { laid = three; few = few }
 
 -- ---- each operator
@@ -70,7 +70,7 @@ pub laid_eq : (c : Condition) (size value : ℕ) (old new : List Step) (target :
 laid_eq c size value old new target same part is h =
     laid_for c size value Eq old new target same part is
     (laid_over size value value (λ (a : ℕ). a ≡ value) old new target h (λ a lt e. (omega arith, omega arith)) (λ a le le'. omega arith))
-        h.few
+    h.few
 
 pub laid_ge : (c : Condition) (size value greatest : ℕ) (old new : List Step) (target : Target) → size ≡ numbers_of c.arg_len
     → value ≡ part_of c.arg_len c.value → Ge ≡ c.operator → size ≡ greatest + 1 → AreOverlaid size old value greatest target new

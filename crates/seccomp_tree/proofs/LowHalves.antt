@@ -89,7 +89,7 @@ pub lows_one : (steps : List Step) (first : ℕ) (part lows new : List Step) (i 
     → LowsOn steps first part new (i + 1) s
 lows_one steps first part lows new i last s x cons h is pushed =
     let rest : AscendFrom (first + 2 ^ 32) (first + last) (x ∷ drop (i + 1) part) = subst (AscendFrom (first + 2 ^ 32) (first + last)) cons
-        h.rest in
+    h.rest in
     let above = rest.0 in
     let inside = rest.1.0 in
     let at : x.start ≡ first + s = omega arith in
@@ -121,7 +121,7 @@ pub lows_room : (steps : List Step) (first : ℕ) (part lows : List Step) (i las
     → (first ≤ x.start) × (Precede (x.start - first) lows)
 lows_room steps first part lows i last x cons h =
     let rest : AscendFrom (first + 2 ^ 32) (first + last) (x ∷ drop (i + 1) part) = subst (AscendFrom (first + 2 ^ 32) (first + last)) cons
-        h.rest in
+    h.rest in
     let above = rest.0 in
     (omega arith, from_some (steps_more (last + 1) (x.start - first) lows (omega arith) h.are))
 

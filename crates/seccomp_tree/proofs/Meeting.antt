@@ -186,13 +186,13 @@ pub starts_behind : (code : List sock_filter) (i : sock_filter) (r : List ℕ) (
 starts_behind code i r t a a' w n is some does fits h =
     let run = returns_at (length code - 1) is h in
     let whole : Returns r code a' w n = subst (λ (l : List sock_filter). Returns r l a' w n) (tail_whole code (length code - 1) (omega
-        arith)) run in
+    arith)) run in
     let count : n + 1 ≡ suc n = omega arith in
     let first : Returns r (i ∷ code) a w (suc n) = goes_on i code a a' w n 0 does fits whole in
     let here = tail_whole (i ∷ code) (length (i ∷ code) - 1) (omega arith) in
     subst (λ m. Starts (i ∷ code) r (At (length (i ∷ code) - 1)) a w m) (sym count)
     (at_place (length (i ∷ code) - 1) w a (suc n) (omega arith) (subst (λ (l : List sock_filter). Returns r l a w (suc n)) (sym here)
-        first))
+    first))
 
 -- a mask of nothing is met by each word
 pub masked_none : (old : List sock_filter) (byte m value : ℕ) (fit unfit : Target) → m ≡ 0 → IsIn old fit → IsMasked old byte m value fit
@@ -214,7 +214,7 @@ pub masked_some : (old mid new : List sock_filter) (byte m value : ℕ) (fit unf
 masked_some old mid new byte m value fit unfit t low small tested is = rw is record {
   grows = grows_on old mid (load byte ∷ mask m ∷ mid) 3 2 5 tested.grows
       (grows_on mid (mask m ∷ mid) (load byte ∷ mask m ∷ mid) 1 1 2 (grows_one mid (mask m)) (grows_one (mask m ∷ mid) (load byte)) (omega
-          arith))
+      arith))
       (omega arith);
   inside = omega arith;
   met = λ r rec e w n lead a fits. go r rec w n a (yes_by r e) (λ b f. lead b f);
@@ -251,34 +251,34 @@ with_parts : (old new : List sock_filter) (c : Condition) (m : ℕ) (fit unfit t
 with_parts old new c m fit unfit t l long is h =
     subst
     (λ (k : SeccompCmpArgLen). IsConditionMet old (record { arg_index = c.arg_index; arg_len = k; operator = c.operator; value = c.value })
-        fit unfit t new)
+    fit unfit t new)
     (sym long)
     (subst
     (λ (o : SeccompCmpOp). IsConditionMet old (record { arg_index = c.arg_index; arg_len = l; operator = o; value = c.value }) fit unfit t
-        new)
+    new)
     (sym is) h)
 
 pub masked_dword : (old new : List sock_filter) (c : Condition) (m : ℕ) (fit unfit t : Target) → c.arg_len ≡ Dword → c.operator ≡ MaskedEq m
     → IsMasked old (16 + 8 * c.arg_index) (m % 2 ^ 32) (c.value % 2 ^ 32) fit unfit t new → IsConditionMet old c fit unfit t new
 masked_dword old new c m fit unfit t short is h =
     let base : IsConditionMet old (record { arg_index = c.arg_index; arg_len = Dword; operator = MaskedEq m; value = c.value }) fit unfit t
-        new = record {
+    new = record {
       grows = h.grows;
       inside = h.inside;
       met = λ r rec e w n lead.
           h.met r rec (subst (λ x. bit_and x (m % 2 ^ 32) ≡ bit_and (c.value % 2 ^ 32) (m % 2 ^ 32)) (low_word r c.arg_index rec) e) w n
-              lead;
+          lead;
       unmet = λ r rec not w n lead.
           h.unmet r rec
           (λ e. not (subst (λ x. bit_and x (m % 2 ^ 32) ≡ bit_and (c.value % 2 ^ 32) (m % 2 ^ 32)) (sym (low_word r c.arg_index rec)) e)) w
-              n lead;
+          n lead;
     } in
     with_parts old new c m fit unfit t Dword short is base
 
 -- numbers agree under a mask where their halves do
 mask_parts : (x v m : ℕ) → bit_and x m ≡ bit_and v m
     → (bit_and (x / 2 ^ 32) (m / 2 ^ 32) ≡ bit_and (v / 2 ^ 32) (m / 2 ^ 32)) × (bit_and (x % 2 ^ 32) (m % 2 ^ 32) ≡ bit_and (v % 2 ^ 32)
-        (m % 2 ^ 32))
+    (m % 2 ^ 32))
 mask_parts x v m e =
     let a = mask_halves x m in
     let b = mask_halves v m in
@@ -299,13 +299,13 @@ pub masked_qword : (old mid new : List sock_filter) (c : Condition) (m : ℕ) (f
     → IsMasked mid (20 + 8 * c.arg_index) (m / 2 ^ 32) (c.value / 2 ^ 32) one unfit t new → IsConditionMet old c fit unfit t new
 masked_qword old mid new c m fit unfit one t long is low high =
     let base : IsConditionMet old (record { arg_index = c.arg_index; arg_len = Qword; operator = MaskedEq m; value = c.value }) fit unfit t
-        new = record {
+    new = record {
       grows = grows_on old mid new 5 5 10 low.grows high.grows (omega arith);
       inside = high.inside;
       met = λ r rec e w n lead.
           let parts = mask_parts (argument_at r c.arg_index) c.value m e in
           let first = low.met r rec (subst (λ x. bit_and x (m % 2 ^ 32) ≡ bit_and (c.value % 2 ^ 32) (m % 2 ^ 32)) (low_word r c.arg_index
-              rec) parts.1)
+          rec) parts.1)
           w n lead in
           let second = high.met r rec
           (subst (λ x. bit_and x (m / 2 ^ 32) ≡ bit_and (c.value / 2 ^ 32) (m / 2 ^ 32)) (high_word r c.arg_index rec) parts.0)
@@ -313,17 +313,17 @@ masked_qword old mid new c m fit unfit one t long is low high =
           λ a fits. starts_more (n + 7) (omega arith) (second a fits);
       unmet = λ r rec not w n lead. elim (cases_eq (bit_and (word_at r (20 + 8 * c.arg_index)) (m / 2 ^ 32)) (bit_and (c.value / 2 ^ 32) (m
           / 2 ^ 32))) [
-        | inl same ↦
-            let first = low.unmet r rec
-            (λ e. not (mask_whole (argument_at r c.arg_index) c.value m
-            (subst (λ x. bit_and x (m / 2 ^ 32) ≡ bit_and (c.value / 2 ^ 32) (m / 2 ^ 32)) (sym (high_word r c.arg_index rec)) same)
-            (subst (λ x. bit_and x (m % 2 ^ 32) ≡ bit_and (c.value % 2 ^ 32) (m % 2 ^ 32)) (sym (low_word r c.arg_index rec)) e))) w n lead
+            | inl same ↦
+                let first = low.unmet r rec
+                (λ e. not (mask_whole (argument_at r c.arg_index) c.value m
+                (subst (λ x. bit_and x (m / 2 ^ 32) ≡ bit_and (c.value / 2 ^ 32) (m / 2 ^ 32)) (sym (high_word r c.arg_index rec)) same)
+                (subst (λ x. bit_and x (m % 2 ^ 32) ≡ bit_and (c.value % 2 ^ 32) (m % 2 ^ 32)) (sym (low_word r c.arg_index rec)) e))) w n lead
                 in
-            let second = high.met r rec same w (suc (n + 3)) (λ a fits. leads_by (first a fits)) in
-            λ a fits. starts_more (n + 7) (omega arith) (second a fits)
-        | inr other ↦
-            let second = high.unmet r rec other w n (λ a fits. leads_grown old mid 5 low.grows (lead a fits)) in
-            λ a fits. starts_more (n + 7) (omega arith) (second a fits)
-      ];
+                let second = high.met r rec same w (suc (n + 3)) (λ a fits. leads_by (first a fits)) in
+                λ a fits. starts_more (n + 7) (omega arith) (second a fits)
+            | inr other ↦
+                let second = high.unmet r rec other w n (λ a fits. leads_grown old mid 5 low.grows (lead a fits)) in
+                λ a fits. starts_more (n + 7) (omega arith) (second a fits)
+          ];
     } in
     with_parts old new c m fit unfit t Qword long is base

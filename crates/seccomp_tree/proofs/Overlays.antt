@@ -53,8 +53,10 @@ pub found_dropped : (steps : List Step) (number n a : ℕ) (d : Step) → IsCut 
 found_dropped [] number n a d cut le = absurd (omega (arith, cut.some, cut.within))
 found_dropped (x ∷ steps) number zero a d cut le = absurd (omega (arith, cut.some))
 found_dropped (x ∷ steps) number (suc n) a d cut le =
-    let h = from_dropped x steps n a d (λ k d' lt lt'. let low = cut.low (suc k) d' (omega arith) in omega arith) (omega (arith,
-        cut.within)) in
+    let h = from_dropped x steps n a d (λ k d' lt lt'. let low = cut.low (suc k) d' (omega arith) in omega arith) (omega (
+      arith,
+      cut.within,
+    )) in
     let e : suc n - 1 ≡ n = omega arith in
     rw e h
 

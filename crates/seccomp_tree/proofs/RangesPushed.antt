@@ -36,9 +36,9 @@ pub range_all : (m : ℕ) (old others first new : List Step) (start end begin st
 range_all m old others first new start end begin stop last i t part are order b e is parts pushed h all tight =
     let whole : (n : ℕ) → found_in new n ≡ found_from (found_in first n) part n
     = λ n. subst (λ (l : List Step). found_from (found_in new n) l n ≡ found_from (found_in first n) part n) (drop_end part i all) (h.found
-        n) in
+    n) in
     let ascend : AscendFrom end start part = subst (AscendFrom end start) (sym parts) (range_part m others start end begin stop are order b
-        e) in
+    e) in
     record {
       are = from_some (steps_more (last + 1) end new (omega (arith, h.below)) h.are);
       inside = λ n le lt. whole n ∙ ap (λ u. found_from u part n) (pushed.from n le) ∙ others_have n le lt;

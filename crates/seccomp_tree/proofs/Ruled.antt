@@ -171,7 +171,7 @@ in_front default p (d ∷ run) rest after t mid new joined_run apart end met fur
     elim (walk default r after d.conditions run rest w k joined_run is takes) [
       | inl inside ↦
           let lead = met.leads r rec (Give w) w 1 m (chosen_behind d run (Give w) not inside) fee (λ a small. to_return w a 1 (omega
-              arith)) in
+          arith)) in
           λ a small. leads_more (m + k + 1) (omega arith) (lead a small)
       | inr (chosen, more, left) ↦
           let lead = met.leads r rec after w (k + 1) m (chosen_behind d run after not chosen) fee (further r rec w k more left) in
@@ -203,18 +203,18 @@ rules_one old mid new rulings default start end after t run h from is met =
     let order = from.some in
     let within = h.within in
     let cut : drop start rulings ≡ run ++ rest = cut_two start end rulings (omega arith) within ∙ ap (λ (l : List Ruling). l ++ rest) (sym
-        is) in
+    is) in
     let lasts : before [] end rulings ≡ last p run = before_last [] start end rulings (omega arith) within ∙ ap (λ (l : List Ruling). last
-        p l) (sym is) in
+    p l) (sym is) in
     let is_run : IsRun run = subst IsRun (sym is) from.run in
     let heads : head (drop start rulings) ≡ head run = ap head cut ∙ head_front run rest is_run in
     let apart : joins p (head run) ≡ false = sym (ap (λ (q : List Condition). joins p q) heads) ∙ from.begins in
     let over : joins (last p run) (head rest) ≡ false = sym (ap (λ (q : List Condition). joins q (head rest)) lasts) ∙ h.begins_here in
     let long = length_front p run rest is_run apart over in
     let long_start : length_behind p (drop start rulings) ≡ length_behind p (run ++ rest) = ap (λ (l : List Ruling). length_behind p l) cut
-        in
+    in
     let long_end : length_behind (before [] end rulings) rest ≡ length_behind (last p run) rest = ap (λ (q : List Condition). length_behind
-        q rest) lasts in
+    q rest) lasts in
     record {
       within = omega arith;
       begins_here = from.begins;
@@ -237,18 +237,18 @@ run_room old mid rulings default start end after run h from is =
     let order = from.some in
     let within = h.within in
     let cut : drop start rulings ≡ run ++ rest = cut_two start end rulings (omega arith) within ∙ ap (λ (l : List Ruling). l ++ rest) (sym
-        is) in
+    is) in
     let lasts : before [] end rulings ≡ last p run = before_last [] start end rulings (omega arith) within ∙ ap (λ (l : List Ruling). last
-        p l) (sym is) in
+    p l) (sym is) in
     let is_run : IsRun run = subst IsRun (sym is) from.run in
     let heads : head (drop start rulings) ≡ head run = ap head cut ∙ head_front run rest is_run in
     let apart : joins p (head run) ≡ false = sym (ap (λ (q : List Condition). joins p q) heads) ∙ from.begins in
     let over : joins (last p run) (head rest) ≡ false = sym (ap (λ (q : List Condition). joins q (head rest)) lasts) ∙ h.begins_here in
     let long = length_front p run rest is_run apart over in
     let long_start : length_behind p (drop start rulings) ≡ length_behind p (run ++ rest) = ap (λ (l : List Ruling). length_behind p l) cut
-        in
+    in
     let long_end : length_behind (before [] end rulings) rest ≡ length_behind (last p run) rest = ap (λ (q : List Condition). length_behind
-        q rest) lasts in
+    q rest) lasts in
     let less = length_less [] start rulings in
     let grown = grown_long old mid (length_behind (before [] end rulings) rest) h.grows in
     omega (arith, grown.1)
@@ -298,9 +298,9 @@ back_one rulings before_it start end x y within at x_is y_is along h =
     let n : before_it + 1 ≡ start = at in
     let cons : drop before_it rulings ≡ x ∷ drop start rulings
     = drop_more rulings before_it x (omega arith) ∙ ap (λ z. z ∷ drop (before_it + 1) rulings) (sym x_is) ∙ ap (λ k. x ∷ drop k rulings) n
-        in
+    in
     let heads : head (drop start rulings) ≡ y.conditions = head_item rulings start y (omega arith) ∙ ap (λ (d : Ruling). d.conditions) (sym
-        y_is) in
+    y_is) in
     record {
       some = omega arith;
       run = rw (e, cons) (longer (end - start) (drop start rulings) (omega arith)
@@ -321,7 +321,7 @@ back_all rulings before_it start end x y within at x_is y_is apart h =
     let front : before [] start rulings ≡ x.conditions
     = ap (λ n. before [] n rulings) e ∙ before_item [] rulings before_it x (omega arith) ∙ ap (λ (d : Ruling). d.conditions) (sym x_is) in
     let heads : head (drop start rulings) ≡ y.conditions = head_item rulings start y (omega arith) ∙ ap (λ (d : Ruling). d.conditions) (sym
-        y_is) in
+    y_is) in
     record {
       some = h.some;
       run = h.run;

@@ -132,8 +132,13 @@ pushed_more old x (from_some are) =
 pub ends_in : (steps : List Step) (x : Step) (target : Target) → slice_get steps (length steps - 1) ≡ Some x → x.target ≡ target
     → EndIn steps target
 ends_in [] x target is same = absurd (cc)
-ends_in (y ∷ []) x target is same = record { front = []; last = y; whole = refl; is = let e : y ≡ x = cc in ap (λ (z : Step). z.target) e ∙
-    same }
+ends_in (y ∷ []) x target is same = record {
+  front = [];
+  last = y;
+  whole = refl;
+  is = let e : y ≡ x = cc in ap (λ (z : Step). z.target) e ∙
+      same;
+}
 ends_in (y ∷ z ∷ steps) x target is same =
     let at : length (y ∷ z ∷ steps) - 1 ≡ suc (length (z ∷ steps) - 1) = omega arith in
     let rest = ends_in (z ∷ steps) x target (sym (ap (λ n. slice_get (y ∷ z ∷ steps) n) at) ∙ is) same in

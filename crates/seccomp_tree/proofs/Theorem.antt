@@ -119,7 +119,7 @@ killed d old p h r rec not =
     let no : nat_eq a (audit_word d.target_arch) ≡ false = grind (arith, nat_tests, not) in
     loaded r h.tested h.test 0x80000000 (1 + 1) rec h.tests.last h.tests.some (h.tests.leads r a 0x80000000 1 small
     (subst (λ b. Leads h.behind r (if b then h.calls else Give 0x80000000) a 0x80000000 1) (sym no) (to_return 0x80000000 a 1 (omega
-        arith))))
+    arith))))
 
 -- a program that is written returns what is decided
 written_returns : (d : DecisionSet) (old p : List sock_filter) (h : IsWritten old d p) (r : List ℕ) (w n k : ℕ) → IsRecord r
@@ -153,7 +153,7 @@ written_program d p h sound = record {
   soon = λ r rec w n k decision takes starts ranges few.
       let all = h.answers.few starts ranges in
       let end = program_ends p r w (4 + 2 * k + n) (written_returns d (give 0x80000000 ∷ []) p h r w n k rec (omega arith) decision takes)
-          in
+      in
       record { steps = end.steps; few = end.few; ends = end.ends };
   short = λ starts ranges.
       let all = h.answers.few starts ranges in

@@ -38,7 +38,7 @@ one_first default v w (d ∷ rulings) r is h = go d.conditions refl (nat_eq (len
     go q e false is none = cc
     go [] e true is some =
         let holds : RuleHolds d.conditions r = subst (λ (q : List Condition). RuleHolds q r) (sym e) (All-nil (λ (c : Condition). Holds c
-            r)) in
+        r)) in
         let value = first_here d rulings holds h in
         cc
     go (c ∷ q) e true is some =
@@ -107,7 +107,7 @@ calls_target d old mid new steps t h word =
       enters = λ r rec w n k few arch first takes.
           let number = word_at r 0 in
           let leads = answer_leads d mid (found_in steps number) r w n rec (h.answers.each number (word_small r 0 rec (omega arith))) arch
-              first takes in
+          first takes in
           enter r rec w n k few leads (cases_lt 1 (length steps));
     }
   where
@@ -122,7 +122,7 @@ calls_target d old mid new steps t h word =
     enter r rec w n k few leads (inl more) =
         let count : n + 1 + 1 + 2 * k ≡ n + 2 + 2 * k = omega arith in
         near (n + 2 + 2 * k) (word.last (omega arith)) (λ a small. subst (λ m. Starts new r t a w m) count (word.leads r rec w (n + 1) k
-            few leads a small))
+        few leads a small))
     enter r rec w n k few leads (inr less) =
         let same = alone steps less (some_precede steps h.answers.are) (word_at r 0) word.alone in
         far (n + 2 + 2 * k) (λ a small.

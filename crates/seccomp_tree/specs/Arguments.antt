@@ -78,4 +78,4 @@ pub record AreHighs (old : List sock_filter) (index : ℕ) (steps : List Step) (
   pub inside : (h : ℕ) → h < high → IsIn new (found_in highs h)
   pub leads : (h : ℕ) → h < high → (r : List ℕ) → IsRecord r → (w n k : ℕ) → length steps ≤ 2 ^ k
       → LeadsAlways old r (found_in steps (first_of h + word_at r (16 + 8 * index))) w n → LeadsAlways new r (found_in highs h) w (n + 2 +
-          2 * k)
+      2 * k)

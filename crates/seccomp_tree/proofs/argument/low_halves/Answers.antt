@@ -10,11 +10,14 @@ pub loop-step-init : goal.loop-step-init
 loop-step-init c =
     let x : Step = get_or c.args.steps.now (c.until-begin.result - 1) (record { start = 0; target = Give 0 }) in (
       0,
-      lows_none (2 ^ 64) c.args.steps.now (c.args.high * 2 ^ 32) c.until-begin.result c.until-end.result (record { start = 0; target = Give
-          0 })
+      lows_none (2 ^ 64) c.args.steps.now (c.args.high * 2 ^ 32) c.until-begin.result c.until-end.result (record {
+        start = 0;
+        target = Give
+            0;
+      })
           c.push_step.new.steps.items c.requires.are c.until-begin.ensures c.until-end.ensures
           (subst (λ (l : List Step). IsPushed l 0 x.target c.push_step.new.steps.items) c.new-lows.ensures.items
-              c.in_ok-push_step.ensures.pushed),
+          c.in_ok-push_step.ensures.pushed),
     )
 
 pub push_step-requires-in-loop-step : goal.push_step-requires-in-loop-step

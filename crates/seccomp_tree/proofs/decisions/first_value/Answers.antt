@@ -42,7 +42,7 @@ loop-ruling-preserved c =
     let cons = drop_at c.args.rulings.now l.ruling-index d c.loop-ruling-test.true c.ruling-item.is in
     let not : RuleHolds d.conditions r → ⊥
     = λ h. false≢true (sym c.if-all_hold.false ∙ c.all_hold.ensures.1 (subst (λ (q : List Condition). RuleHolds q r) (sym (conditions_are
-        c.before)) h)) in
+    c.before)) h)) in
     record {
       first = λ w h. l.invariant.first w (subst (λ (q : List Ruling). First c.args.default r q w) (sym cons) (behind d rest w not h));
       only = λ w h. first_behind d rest not (subst (λ (q : List Ruling). First c.args.default r q w) cons (l.invariant.only w h));

@@ -25,8 +25,10 @@ loop-left-init c =
 pub index-requires : goal.index-requires
 index-requires c =
     let d : Ruling = c.index-rulings-left.result in
-    let o = of_run c.args.condition.now c.args.rulings.now c.requires.run c.requires.first (c.loop-left.left - 1) d (omega (arith,
-        c.loop-left.invariant.0)) in
+    let o = of_run c.args.condition.now c.args.rulings.now c.requires.run c.requires.first (c.loop-left.left - 1) d (omega (
+      arith,
+      c.loop-left.invariant.0,
+    )) in
     let q : c.ruling.inside.conditions.items ≡ o.condition ∷ [] =
     ap (λ (x : Ruling). x.conditions) c.ruling.view_is ∙ ap (λ (x : Ruling). x.conditions) c.index-rulings-left.is ∙ o.whole in
     omega (arith, ap length q, c.ruling.inside.conditions.ok.0)
@@ -34,8 +36,10 @@ index-requires c =
 pub lay_condition-requires-clause-plain : goal.lay_condition-requires-clause-plain
 lay_condition-requires-clause-plain c =
     let d : Ruling = c.index-rulings-left.result in
-    let o = of_run c.args.condition.now c.args.rulings.now c.requires.run c.requires.first (c.loop-left.left - 1) d (omega (arith,
-        c.loop-left.invariant.0)) in
+    let o = of_run c.args.condition.now c.args.rulings.now c.requires.run c.requires.first (c.loop-left.left - 1) d (omega (
+      arith,
+      c.loop-left.invariant.0,
+    )) in
     let q : c.ruling.inside.conditions.items ≡ o.condition ∷ [] =
     ap (λ (x : Ruling). x.conditions) c.ruling.view_is ∙ ap (λ (x : Ruling). x.conditions) c.index-rulings-left.is ∙ o.whole in
     let item : c.index.result.now ≡ o.condition = c.index.ensures ∙ ap (λ (l : List Condition). get_or l 0 c.index.result.now) q in
@@ -44,8 +48,10 @@ lay_condition-requires-clause-plain c =
 pub lay_condition-requires-clause-are : goal.lay_condition-requires-clause-are
 lay_condition-requires-clause-are c =
     let d : Ruling = c.index-rulings-left.result in
-    let o = of_run c.args.condition.now c.args.rulings.now c.requires.run c.requires.first (c.loop-left.left - 1) d (omega (arith,
-        c.loop-left.invariant.0)) in
+    let o = of_run c.args.condition.now c.args.rulings.now c.requires.run c.requires.first (c.loop-left.left - 1) d (omega (
+      arith,
+      c.loop-left.invariant.0,
+    )) in
     let q : c.ruling.inside.conditions.items ≡ o.condition ∷ [] =
     ap (λ (x : Ruling). x.conditions) c.ruling.view_is ∙ ap (λ (x : Ruling). x.conditions) c.index-rulings-left.is ∙ o.whole in
     let item : c.index.result.now ≡ o.condition = c.index.ensures ∙ ap (λ (l : List Condition). get_or l 0 c.index.result.now) q in
@@ -67,7 +73,7 @@ loop-left-preserved c =
     let more : k + 1 ≡ l.left = omega arith in
     let cons : drop k rulings ≡ d ∷ drop l.left rulings =
     drop_more rulings k d lt ∙ ap (λ (x : Ruling). x ∷ drop (k + 1) rulings) (sym c.index-rulings-left.is) ∙ ap (λ n. d ∷ drop n rulings)
-        more in
+    more in
     let fits : d.value < 2 ^ 32 = subst (λ v. v < 2 ^ 32) value c.ruling.invariant in
     let one = subst (λ (x : Condition). IsLaid x l.steps.items (Give c.ruling.inside.value) c.lay_condition.new.steps.items) item
     c.in_ok-lay_condition.ensures.laid in
@@ -75,7 +81,7 @@ loop-left-preserved c =
       omega (arith, l.invariant.0),
       subst (λ (s : List Ruling). RunOn c.args.condition.now s c.args.after c.lay_condition.new.steps.items) (sym cons)
           (run_one c.args.condition.now o.condition d (drop l.left rulings) c.args.after l.steps.items c.lay_condition.new.steps.items
-              o.run whole
+          o.run whole
           fits l.invariant.1 laid),
     )
 

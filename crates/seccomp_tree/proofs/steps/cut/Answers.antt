@@ -11,4 +11,4 @@ pub returns : goal.returns
 returns c =
     cut_some (2 ^ 64) c.args.steps.now.items c.truncate.new.self.items c.args.low c.until-count.result c.requires.are (omega arith)
     (subst (λ (l : List Step). IsCut l (c.args.low - 1) c.until-count.result) c.deref.ensures.value c.until-count.ensures)
-        c.truncate.ensures.items
+    c.truncate.ensures.items

@@ -58,4 +58,4 @@ returns-clause-laid c =
     c.push_step.new.steps.items c.push_step-2.new.steps.items l.invariant.0 l.steps.items c.requires.ordered (omega arith) c.requires.behind
     c.in_ok-push_step.ensures.pushed c.in_ok-push_step-2.ensures.pushed
     (subst (λ n. LaysOn (c.args.greatest + 1) c.push_step-2.new.steps.items c.args.tail.now l.invariant.0 l.steps.items n) all
-        l.invariant.1)
+    l.invariant.1)

@@ -29,7 +29,7 @@ lay-requires c =
       last = c.requires.last;
       behind = subst (λ (l : List Step). AscendFrom (c.args.greatest + 1) (c.args.high + 1) l) (sym tail)
           (behind_ascend (c.args.greatest + 1) c.args.high c.min.result n old c.requires.are cut (omega arith) (λ lt. omega arith) (λ le.
-              omega arith));
+          omega arith));
     }
 
 pub returns-clause-overlaid : goal.returns-clause-overlaid
@@ -43,7 +43,7 @@ returns-clause-overlaid c =
     c.deref-3.ensures.value ∙ c.in_ok-tail.ensures.items ∙ take_rest c.deref-2.result.now n
     ∙ ap (λ (l : List Step). drop n l) c.deref-2.ensures.value in
     ok_weaker c.lay.result (λ _. AreLaid size c.cut.new.steps.items c.args.low c.args.high c.args.target x.target c.deref-3.result.now
-        c.lay.new.steps.items)
+    c.lay.new.steps.items)
     (λ _. AreOverlaid size old c.args.low c.args.high c.args.target c.lay.new.steps.items)
     (λ _ h. overlaid size old c.args.low c.args.high c.min.result n c.args.target x c.cut.new.steps.items c.lay.new.steps.items
     c.requires.are c.requires.ordered (omega arith) (omega arith) (omega arith) (omega arith) (λ lt. omega arith) cut c.cut.ensures

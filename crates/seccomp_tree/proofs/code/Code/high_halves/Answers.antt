@@ -15,5 +15,5 @@ loop-high-preserved c =
     let l = c.loop-high in
     highs_one c.args.self.now l.self c.half.new.self c.args.index c.args.steps.now l.highs.items c.push_half.new.highs.items l.high
     c.next_half-next.result c.in_ok-target.target c.requires.are c.requires.inside l.invariant c.loop-high-test.true
-        c.in_ok-target.ensures.ok
+    c.in_ok-target.ensures.ok
     c.next_half-next.ensures c.in_ok-push_half.ensures.pushed

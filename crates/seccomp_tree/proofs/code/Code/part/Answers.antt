@@ -16,6 +16,6 @@ pub returns-in-Qword-clause-ok : goal.returns-in-Qword-clause-ok
 returns-in-Qword-clause-ok c =
     ok_weaker c.argument.result _ (λ t. IsPart c.args.self.now c.args.size c.args.index c.args.steps.now t c.argument.new.self)
     (λ t h. subst (λ (l : SeccompCmpArgLen). IsPart c.args.self.now l c.args.index c.args.steps.now t c.argument.new.self) (sym
-        c.in-Qword.is)
+    c.in-Qword.is)
     (part_of_argument c.args.self.now c.argument.new.self c.args.index c.args.steps.now t h))
     c.argument.ensures.ok

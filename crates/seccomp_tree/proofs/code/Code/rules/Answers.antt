@@ -18,5 +18,5 @@ pub loop-end-preserved : goal.loop-end-preserved
 loop-end-preserved c =
     let l = c.loop-end in
     rules_one c.args.self.now l.self c.run.new.self c.args.rulings.now c.args.default c.run_start-start.result l.end l.target
-        c.in_ok-target.target
+    c.in_ok-target.target
     _ l.invariant c.run_start-start.ensures refl c.in_ok-target.ensures.ok

@@ -17,7 +17,7 @@ loop-left-init c =
       omega arith,
       subst (λ v. RulingOn c.args.self.now d c.args.after (drop c.len-left.result d.conditions) (Give v) c.args.self.now) (sym value)
           (ruling_none c.args.self.now d c.args.after (drop c.len-left.result d.conditions) (drop_all c.len-left.result d.conditions (omega
-              arith)) fits),
+          arith)) fits),
     )
 
 pub returns-in_err-target-clause-err : goal.returns-in_err-target-clause-err

@@ -27,10 +27,15 @@ returns-in_err-push_call-clause-err c =
     let p = err_from_is_err_and c.from_residual-in_err-push_call.result c.from_residual-in_err-push_call.ensures.1 in
     let l = c.loop-number in
     let room = calls_room c.args.self.now c.args.code.now l.next c.in-Some.number.now c.in-Some.rulings.now l.number-iterator
-        c.next.new.self
+    c.next.new.self
     l.steps.items l.code c.in-Some.ensures.steps l.invariant in
-    rw (p.1, p.2) (λ is. let full = c.in_err-push_call.ensures.err is in omega (arith, full, room, ap rules_length
-        c.deref-in-loop-number-2.ensures.value))
+    rw (p.1, p.2) (λ is. let full = c.in_err-push_call.ensures.err is in omega (
+      arith,
+      full,
+      room,
+      ap rules_length
+          c.deref-in-loop-number-2.ensures.value,
+    ))
 
 pub loop-number-preserved : goal.loop-number-preserved
 loop-number-preserved c =
@@ -42,5 +47,5 @@ loop-number-preserved c =
     (calls_step c.args.self.now c.args.code.now l.next number c.in-Some.rulings.now l.number-iterator c.next.new.self l.steps.items
     c.push_call.new.steps.items l.code c.push_call.new.code small c.in-Some.ensures.steps l.invariant
     (subst (λ q. IsCallPushed l.code c.args.self.now number q c.push_call.new.steps.items c.push_call.new.code)
-        c.deref-in-loop-number-2.ensures.value
+    c.deref-in-loop-number-2.ensures.value
     c.in_ok-push_call.ensures.ok))

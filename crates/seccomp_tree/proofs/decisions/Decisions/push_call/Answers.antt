@@ -28,5 +28,5 @@ returns-clause-ok c =
     (λ _. IsCallPushed c.args.code.now d number c.args.rulings.now new c.answer.new.self)
     (λ _ p q. answers_call d c.args.code.now c.answer.new.self c.args.steps.now.items mid new number c.default_for-default.result
     c.args.rulings.now t answers value c.requires.here c.in_ok-target.ensures.ok (subst (λ n. IsPushed mid n t new) c.from-start.ensures p)
-        q)
+    q)
     c.push_step.ensures.pushed c.push_step.ensures.tight

@@ -317,8 +317,8 @@ masked_qword old mid new c m fit unfit one t long is low high =
                 let first = low.unmet r rec
                 (λ e. not (mask_whole (argument_at r c.arg_index) c.value m
                 (subst (λ x. bit_and x (m / 2 ^ 32) ≡ bit_and (c.value / 2 ^ 32) (m / 2 ^ 32)) (sym (high_word r c.arg_index rec)) same)
-                (subst (λ x. bit_and x (m % 2 ^ 32) ≡ bit_and (c.value % 2 ^ 32) (m % 2 ^ 32)) (sym (low_word r c.arg_index rec)) e))) w n lead
-                in
+                (subst (λ x. bit_and x (m % 2 ^ 32) ≡ bit_and (c.value % 2 ^ 32) (m % 2 ^ 32)) (sym (low_word r c.arg_index rec)) e)))
+                w n lead in
                 let second = high.met r rec same w (suc (n + 3)) (λ a fits. leads_by (first a fits)) in
                 λ a fits. starts_more (n + 7) (omega arith) (second a fits)
             | inr other ↦

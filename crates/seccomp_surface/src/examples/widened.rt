@@ -15,7 +15,7 @@ fn both_kinds(alloc: Global, policy: &str, name: &str) -> anyhow::Result<Vec<i64
     }
 }
 
-// The filter of docs/JAILER.md.
+// A filter in which two calls have entries of both kinds.
 const POLICY: &str = r#"{"a":{"mismatch_action":"trap","match_action":"allow","filter":[
     { "syscall": "close", "args": [ { "index": 0, "type": "dword", "op": "eq", "val": 5 } ] },
     { "syscall": "read" },

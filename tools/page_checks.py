@@ -8,10 +8,11 @@ usage: tools/page_checks.py [--long]
 - Each path in backticks that looks like one of the repository's is there. In it a part in capitals, as MODULE,
   stands for any name. A path may be given from the top, from the page's folder or from a crate's.
 - The files of definitions that docs/PROMISES.md lists to be read are there, and promised: they stand in the first block
-  of a Lib.antt.
+  of a Lib.antt. docs/DEFINITIONS.md names all promised ones.
 - Pages use the terms of the table 'Words' of CONTRIBUTING.md, and none of those that its last column has. So does the
   documentation in the sources of DOCUMENTED, that of Rust and Rattle in its lines `///` and `//!`, outside examples.
-- A table's cell has at most 200 characters, and README.md at most 1,000 words outside its blocks of code.
+- A table's cell has at most 200 characters, README.md at most 1,000 words outside its blocks of code, and README.md,
+  CONTRIBUTING.md and the pages of docs/ together have at most PAGES_WORDS, blocks included.
 - docs/CHECKS.md has the codes of warnings in the order of the definitions, in its table and as sections, and the first
   line of each section, without its marks, is what the code's definition says.
 - The picture in docs/ is what tools/make-picture makes of its source.
@@ -36,10 +37,8 @@ TOP = pathlib.Path(__file__).resolve().parent.parent
 CELL = 200
 LINE = 140
 README_WORDS = 1000
+PAGES_WORDS = 44500
 SENTENCE = 30
-
-# The pages that tell history, which keep the terms and paths of their time.
-HISTORY = ("CHANGELOG.md",)
 
 LINK = re.compile(r"\[[^\]]*\]\(<?([^()\s>]+)>?\)|(?:src|srcset)=\"([^\"]+)\"")
 CODE = re.compile(r"``.+?``|`[^`]+`")
@@ -155,7 +154,7 @@ def is_there(page, path):
 
 def compare_paths(results):
     """Looks up each path that stands in backticks."""
-    for page in current():
+    for page in pages():
         for number, line in lines_of(page):
             words = [word for span in CODE.findall(line) for word in span.strip("`").split()]
             for path in [it for word in words if looks_like_path(word) for it in spelled_out(word)]:
@@ -171,8 +170,10 @@ def promised_definitions():
 
 
 def compare_definitions(results):
-    """Looks up the definitions that docs/PROMISES.md lists to be read."""
+    """Looks up the definitions that docs/PROMISES.md lists to be read, and all of them in docs/DEFINITIONS.md."""
     page, promised = TOP / "docs/PROMISES.md", promised_definitions()
+    named = set(re.findall(r"`([A-Z]\w+)`", (TOP / "docs/DEFINITIONS.md").read_text(encoding="utf-8")))
+    results.compare("docs/DEFINITIONS.md lacks definitions", ([],), (sorted(promised - named),))
     rows = [cells_of(line) for _, line in section_of(page, "What to read to believe it")]
     listed = {name for row in rows if len(row) > 1 for name in re.findall(r"`([A-Z]\w+)`", row[1])}
     results.compare("docs/PROMISES.md lists definitions", (True,), (bool(listed),))
@@ -238,7 +239,7 @@ def compare_terms(results):
     """Looks for terms that pages don't use, outside code and the table itself."""
     results.compare("CONTRIBUTING.md: terms in its table 'Words'", (True,), (len(unwanted_terms()) > 9,))
     table = section_of(TOP / "CONTRIBUTING.md", "Words")
-    texts = {page: [it for it in lines_of(page) if it not in table] for page in current()}
+    texts = {page: [it for it in lines_of(page) if it not in table] for page in pages()}
     for pattern in DOCUMENTED:
         sources = [it for it in sorted(TOP.glob(pattern)) if not BUILT.search(name_of(it))]
         results.compare(f"{pattern}: sources with documentation", (True,), (bool(sources),))
@@ -247,14 +248,9 @@ def compare_terms(results):
         results.compare(f"{name_of(source)}: terms that pages don't use", ([],), (unwanted_in(lines),))
 
 
-def current():
-    """Returns the pages whose text is looked at: all but those of history."""
-    return [it for it in pages() if name_of(it) not in HISTORY]
-
-
 def compare_lengths(results):
-    """Compares the lengths of the cells of tables, and of the README."""
-    for page in current():
+    """Compares the lengths of the cells of tables, of the README, and of all pages for readers."""
+    for page in pages():
         rows = [(number, cell) for number, line in lines_of(page) for cell in cells_of(line)]
         long = [f"{number}: {cell}" for number, cell in rows if len(cell) > CELL]
         results.compare(f"{name_of(page)}: cells of more than {CELL} characters", ([],), (long,))
@@ -262,6 +258,9 @@ def compare_lengths(results):
             text = LINK.sub(lambda it: it[0].partition("](")[0], "\n".join(line for _, line in lines_of(page)))
             words = len(re.findall(r"\S*\w\S*", re.sub(r"<[^>]*>", "", text)))
             results.compare(f"README.md: at most {README_WORDS} words", (True,), (words <= README_WORDS or words,))
+    counted = [TOP / "README.md", TOP / "CONTRIBUTING.md", *TOP.glob("docs/*.md")]
+    words = sum(len(page.read_text(encoding="utf-8").split()) for page in counted)
+    results.compare(f"the pages: at most {PAGES_WORDS} words", (True,), (words <= PAGES_WORDS or words,))
 
 
 def compare_picture(results):
@@ -358,7 +357,7 @@ class Results:
 
 def main():
     if sys.argv[1:] == ["--long"]:
-        for page in current():
+        for page in pages():
             for number, sentence in sentences_of(page):
                 if len(sentence.split()) > SENTENCE:
                     print(f"{name_of(page)}:{number}: {len(sentence.split())} words: {sentence}")

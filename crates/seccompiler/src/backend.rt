@@ -50,7 +50,7 @@ impl EqualByParts for TargetArch {
 }
 
 impl TargetArch {
-    ghost use Rattle.std.specs.Prelude.{◌≡◌, ◌≢◌, ◌⊎◌, Ok, Some, IfOk, IfErr, IfSome, AllPairs, Contains};
+    ghost use Rattle.std.specs.Prelude.{◌≡◌, ◌≢◌, ◌⊎◌, Ok, IfOk, IfErr, AllPairs, Contains};
     ghost use Rattle.std.specs.Str.{str_to_ascii_lowercase};
     ghost use Rattle.seccompiler.specs.declared.backend.TargetArch.{TargetArch};
     ghost use Rattle.seccompiler.specs.declared.backend.BackendError.TheVariants.{OutOfMemory};
@@ -86,25 +86,14 @@ impl TargetArch {
         ensures read { IfOk result (λ arch. str_to_ascii_lowercase text.now ≡ arch_text arch) }
         ensures refused { IfErr result (λ e. IsInvalidArch e text.now ⊎ (e ≡ OutOfMemory)) }
     {
-        match TargetArch::by_name(text) {
-            Some(arch) => Ok(arch),
-            None => Err(BackendError::InvalidTargetArch(String::from_str(alloc, text)?)),
-        }
-    }
-
-    // The architecture of this name, without regard to ASCII case.
-    fn by_name(text: &str) -> Option<Self>
-        ensures named { (arch : TargetArch) → str_to_ascii_lowercase text.now ≡ arch_text arch → result ≡ Some arch }
-        ensures found { IfSome result (λ arch. str_to_ascii_lowercase text.now ≡ arch_text arch) }
-    {
         if text.eq_ignore_ascii_case("x86_64") {
-            Some(TargetArch::x86_64)
+            Ok(TargetArch::x86_64)
         } else if text.eq_ignore_ascii_case("aarch64") {
-            Some(TargetArch::aarch64)
+            Ok(TargetArch::aarch64)
         } else if text.eq_ignore_ascii_case("riscv64") {
-            Some(TargetArch::riscv64)
+            Ok(TargetArch::riscv64)
         } else {
-            None
+            Err(BackendError::InvalidTargetArch(String::from_str(alloc, text)?))
         }
     }
 

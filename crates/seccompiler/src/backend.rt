@@ -5,7 +5,6 @@ use crate::bpf::{
     jump_if_equal, load_word, return_word, sock_filter,
 };
 use crate::equality::EqualByParts;
-use seccomp_tables::{aarch64_calls, riscv64_calls, x86_64_calls};
 use std::alloc::{AllocError, AllocFailed, Global};
 use std::{error, fmt};
 
@@ -54,8 +53,7 @@ impl TargetArch {
     ghost use Rattle.std.specs.Str.{str_to_ascii_lowercase};
     ghost use Rattle.seccompiler.specs.declared.backend.TargetArch.{TargetArch};
     ghost use Rattle.seccompiler.specs.declared.backend.BackendError.TheVariants.{OutOfMemory};
-    ghost use Rattle.seccompiler.specs.Architecture.{arch_text, audit_word, table_of};
-    ghost use Rattle.seccompiler.specs.SyscallTable.{pairs_of};
+    ghost use Rattle.seccompiler.specs.Architecture.{arch_text, audit_word};
     ghost use Rattle.seccompiler.specs.Texts.{IsInvalidArch};
 
     /// Every architecture, each once.
@@ -116,17 +114,6 @@ impl TargetArch {
             TargetArch::x86_64 => AUDIT_ARCH_X86_64,
             TargetArch::aarch64 => AUDIT_ARCH_AARCH64,
             TargetArch::riscv64 => AUDIT_ARCH_RISCV64,
-        }
-    }
-
-    // The pairs of the architecture's table, in byte order of names.
-    pub(crate) fn pairs(self) -> &'static [(&'static str, i64)]
-        ensures { pairs_of result.now ≡ table_of self }
-    {
-        match self {
-            TargetArch::x86_64 => x86_64_calls(),
-            TargetArch::aarch64 => aarch64_calls(),
-            TargetArch::riscv64 => riscv64_calls(),
         }
     }
 }
@@ -263,8 +250,7 @@ pub enum BackendError {
 }
 
 impl EqualByParts for BackendError {
-    ghost use Rattle.seccompiler.specs.Equality.{IsSameRefusal};
-    ghost use Rattle.seccompiler.specs.EqualityLaws.{refusals_decide};
+    ghost use Rattle.seccompiler.specs.Equality.{IsSameRefusal, refusals_decide};
 
     ghost has_same_parts = { IsSameRefusal };
 

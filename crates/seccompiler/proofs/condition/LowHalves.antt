@@ -2,7 +2,7 @@
 use Rattle.std.proofs.Common.{◌↔◌, IsTrue, ℕ, ◌%◌, ◌^◌, List, Bool, sym, ap, ◌∙◌, subst}
 use Rattle.seccompiler.specs.Machine.{argument_at}
 use Rattle.seccompiler.specs.Policy.{Condition, part_of, operator_part, Compares, Holds}
-use Rattle.seccompiler.specs.LowHalf.{IsSameLowHalf, HasSameLowArgument}
+use Rattle.seccompiler.specs.Reorder.{IsSameLowHalf, HasSameLowArgument}
 
 -- A condition on the low half of an argument depends on the low 32 bits of argument, value and mask alone.
 low_half_decides : (c d : Condition) (r s : List ℕ) → IsSameLowHalf c d → HasSameLowArgument c.arg_index r s → Holds c r → Holds d s

@@ -2,7 +2,7 @@ use Rattle.std.proofs.Common.{◌≡◌, ◌∷◌, ◌++◌, [], String, Global
 use Rattle.std.proofs.Common.{rules}
 use Rattle.std.specs.BTreeMap.{get_by_text, IsFromIterResult}
 use Rattle.std.proofs.lemmas.Result.{err_from_is_err_and}
-use Rattle.seccompiler.specs.ByName.{ByName, AreInOrder}
+use Rattle.seccompiler.proofs.ByName.{ByName, AreInOrder}
 use Rattle.seccompiler.specs.Policy.{Filter}
 use Rattle.seccompiler.specs.declared.bpf.sock_filter.{sock_filter}
 use Rattle.seccompiler.proofs.ByName.{AreMade, made_more, made_in_order, ordered}

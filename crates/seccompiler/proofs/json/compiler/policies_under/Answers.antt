@@ -1,7 +1,7 @@
 use Rattle.std.proofs.Common.{◌≡◌, ◌∷◌, ◌++◌, [], String, Global, string_cmp, sym, ap, refl, ◌∙◌, subst, append_assoc, append-nil, rules}
 use Rattle.std.specs.BTreeMap.{get_by_text, IsFromIterResult}
 use Rattle.std.proofs.lemmas.Result.{err_from_is_err_and}
-use Rattle.seccompiler.specs.ByName.{ByName, AreInOrder}
+use Rattle.seccompiler.proofs.ByName.{ByName, AreInOrder}
 use Rattle.seccompiler.specs.JsonAnswers.{IsLeastRefused}
 use Rattle.seccompiler.specs.JsonPolicyOf.{IsPolicyOf, IsFirstFault}
 use Rattle.seccompiler.specs.JsonTypes.{JsonFilter}

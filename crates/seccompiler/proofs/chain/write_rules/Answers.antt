@@ -41,12 +41,3 @@ loop-rule-preserved c =
         same_len_mid l.start (length l.part - l.start) l.part c.write_rule-start.new.part (long ∙ sym lent),
       );
     }
-
-pub returns : goal.returns
-returns c =
-    let l = c.loop-rule in
-    let all = rules_all c.args.chain.now l.rule-index c.args.matched (take l.start l.part) c.loop-rule-test.false l.invariant.code in
-    record {
-      length = sym (length-take-le l.start l.part l.invariant.within) ∙ all.long;
-      code = all;
-    }

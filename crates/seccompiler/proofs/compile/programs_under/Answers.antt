@@ -9,12 +9,6 @@ use Rattle.seccompiler.proofs.ByName.{AreMade, made_more, made_in_order, ordered
 use Rattle.seccompiler.proofs.compile.TextPrograms.{Compiles, are_programs, refusal_of}
 use Rattle.seccompiler.proofs.compile.programs_under.Goals as goal
 
-pub loop-name-init : goal.loop-name-init
-loop-name-init c = record {
-  all = sym c.into_iter-name-iterator.ensures.into_iter_gives.0;
-  made = subst (AreMade Compiles []) (sym c.new-found.ensures.items) tt;
-}
-
 pub loop-name-preserved : goal.loop-name-preserved
 loop-name-preserved c =
     let l = c.loop-name in

@@ -11,12 +11,6 @@ use Rattle.seccompiler.proofs.json.compiler.TextPolicies.{are_policies, least_re
 use Rattle.seccompiler.proofs.json.policy.EntryFaults.{tells_more}
 use Rattle.seccompiler.proofs.json.compiler.policies_under.Goals as goal
 
-pub loop-name-init : goal.loop-name-init
-loop-name-init c = record {
-  all = sym c.into_iter-name-iterator.ensures.into_iter_gives.0;
-  made = subst (AreMade (IsPolicyOf c.args.arch) []) (sym c.new-found.ensures.items) tt;
-}
-
 pub loop-name-preserved : goal.loop-name-preserved
 loop-name-preserved c =
     let l = c.loop-name in

@@ -7,10 +7,6 @@ pub returns-in-None-clause-none : goal.returns-in-None-clause-none
 returns-in-None-clause-none c = rw (c.in-Array.is, view-Array c.in-Array.items, ← c.deref-item-items.ensures.value)
     (fails IsEntry _ _ _ _ c.loop-item.invariant c.loop-item-test.true c.item-item.is (rw c.in-None.is at c.in_ok-rule.ensures.none))
 
-pub loop-item-preserved : goal.loop-item-preserved
-loop-item-preserved c = rw c.in_ok-push-in-Some.ensures.items
-    (goes_on IsEntry _ _ _ _ _ c.loop-item.invariant c.loop-item-test.true c.item-item.is (rw c.in-Some.is at c.in_ok-rule.ensures.found))
-
 pub returns-clause-found : goal.returns-clause-found
 returns-clause-found c = rw (c.in-Array.is, view-Array c.in-Array.items, ← c.deref-item-items.ensures.value)
     (ends IsEntry _ _ _ c.loop-item.invariant c.loop-item-test.false)

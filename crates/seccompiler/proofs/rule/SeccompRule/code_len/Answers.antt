@@ -6,9 +6,6 @@ use Rattle.seccompiler.proofs.rule.RuleLoops.{counted_empty, counted_more, count
 use Rattle.seccompiler.proofs.rule.SeccompRule.code_len.Goals as goal
 use Rattle.seccompiler.proofs.rule.SeccompRule.code_len.Goals.{then-offset-gt-GREATEST_OFFSET, else-offset-gt-GREATEST_OFFSET}
 
-pub loop-condition-init : goal.loop-condition-init
-loop-condition-init c = counted_empty
-
 pub loop-condition-preserved : goal.loop-condition-preserved
 loop-condition-preserved c =
     let l = c.loop-condition in

@@ -19,11 +19,6 @@ loop-condition-init c =
       free = omega (arith, ap length none, c.requires.room, ap rule_length same);
     }
 
-pub relay_if_far-front-requires-clause-within : goal.relay_if_far-front-requires-clause-within
-relay_if_far-front-requires-clause-within c = end_within c.loop-condition.end c.loop-condition.part c.deref-condition-items.result.now
-    (omega (arith, c.requires.room, ap rule_length (c.deref-condition-items.ensures.value ∙ c.self.view_is)))
-    c.loop-condition.invariant.free
-
 pub relay_if_far-front-requires-clause-room : goal.relay_if_far-front-requires-clause-room
 relay_if_far-front-requires-clause-room c =
     let l = c.loop-condition in

@@ -26,3 +26,5 @@ pub mod CallsPushed
 pub mod FewestSteps
 pub mod WholeProgram
 pub mod Theorem
+pub mod FilterCalls
+pub mod FilterDecided

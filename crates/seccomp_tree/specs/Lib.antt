@@ -12,3 +12,6 @@ pub mod Rules
 pub mod Decided
 pub mod TreeProgram
 pub mod CallSteps
+-- Filters as decisions, and their programs in either layout.
+pub mod FilterDecisions
+pub mod Layouts

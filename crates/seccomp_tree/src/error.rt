@@ -1,6 +1,7 @@
 // Why there is no program.
 
 use std::alloc::{AllocError, AllocFailed};
+use std::{error, fmt};
 
 /// Why decisions have no program.
 #[derive(Clone, Copy, Debug, PartialEq, Eq)]
@@ -30,5 +31,61 @@ impl<T: Drop> From<AllocFailed<T>> for TreeError {
 
     fn from(_: AllocFailed<T>) -> Self {
         TreeError::OutOfMemory
+    }
+}
+
+/// Why a filter has no program in a layout.
+#[derive(Clone, Copy, Debug, PartialEq, Eq)]
+pub enum FilterError {
+    /// This key of the filter's map lies outside 0 to 4294967295, and no lesser one does.
+    InvalidSyscallNumber(i64),
+    /// The linear program takes this many instructions, which is more than a program may have.
+    FilterTooLarge(usize),
+    /// The tree would have more instructions than a program may have.
+    TreeTooLarge,
+    /// Memory ran out.
+    OutOfMemory,
+}
+
+/// The error's text.
+impl fmt::Display for FilterError {
+    fn fmt<W: fmt::Write>(&self, f: &mut fmt::Formatter<W>) -> fmt::Result {
+        match self {
+            FilterError::InvalidSyscallNumber(number) => {
+                write!(f, "Invalid syscall number: {number}.")
+            }
+            FilterError::FilterTooLarge(length) => write!(
+                f,
+                "The seccomp filter contains too many BPF instructions: {length}. Max length is 4096."
+            ),
+            FilterError::TreeTooLarge => f.write_str(
+                "The seccomp filter contains too many BPF instructions as a tree. Max length is 4096.",
+            ),
+            FilterError::OutOfMemory => f.write_str("Out of memory."),
+        }
+    }
+}
+
+impl error::Error for FilterError {}
+
+impl From<AllocError> for FilterError {
+    ghost use Rattle.std.specs.Prelude.{◌≡◌};
+    ghost use Rattle.seccomp_tree.specs.declared.error.FilterError.TheVariants.{OutOfMemory};
+
+    ghost from_gives = { λ _ e. e ≡ OutOfMemory };
+
+    fn from(_: AllocError) -> Self {
+        FilterError::OutOfMemory
+    }
+}
+
+impl<T: Drop> From<AllocFailed<T>> for FilterError {
+    ghost use Rattle.std.specs.Prelude.{◌≡◌};
+    ghost use Rattle.seccomp_tree.specs.declared.error.FilterError.TheVariants.{OutOfMemory};
+
+    ghost from_gives = { λ _ e. e ≡ OutOfMemory };
+
+    fn from(_: AllocFailed<T>) -> Self {
+        FilterError::OutOfMemory
     }
 }

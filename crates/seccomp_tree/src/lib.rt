@@ -15,6 +15,10 @@
 //! let decisions = Decisions::new(TargetArch::x86_64, defaults, calls).ok_or("the defaults don't ascend from 0")?;
 //! let program = decisions.to_bpf(alloc)?;
 //! ```
+//!
+//! A filter is such decisions too ([`Decisions::of_filter`]). [`to_tree_bpf`] gives their program,
+//! [`to_bpf_in`] that or the linear one ([`Layout`]), and [`fitting_bpf`] the tree where it fits, else the
+//! linear program.
 #![tactic(auto)]
 
 mod argument;
@@ -22,11 +26,14 @@ mod code;
 mod condition;
 mod decisions;
 mod error;
+mod filter;
 mod intervals;
+mod layout;
 mod program;
 mod rules;
 mod steps;
 mod tree;
 
 pub use decisions::{Decision, Decisions, DefaultValue};
-pub use error::TreeError;
+pub use error::{FilterError, TreeError};
+pub use layout::{Layout, fitting_bpf, to_bpf_in, to_tree_bpf};

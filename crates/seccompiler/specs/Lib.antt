@@ -19,15 +19,12 @@ pub mod JsonPolicyOf
 pub mod JsonAnswers
 pub mod JsonPrograms
 pub mod Reads
--- What other calls promise: the code of conditions and rules; the tree layout, and either layout;
--- the first place of a program that isn't taken; each step from JSON to filters; which records meet an entry; entries
--- without conditions; errors and their texts; installing; the order of rules and the low half of an argument; equality.
+-- What other calls promise: the code of conditions and rules; the first place of a program that isn't taken; each step
+-- from JSON to filters; which records meet an entry; entries without conditions; errors and their texts; installing;
+-- the order of rules and the low half of an argument; equality.
 pub mod Code
 pub mod ConditionCode
 pub mod Pieces
-pub mod Ranges
-pub mod Tree
-pub mod Layouts
 pub mod FirstUnfit
 pub mod JsonSteps
 pub mod JsonEntries
@@ -39,7 +36,5 @@ pub mod Reorder
 pub mod Equality
 -- Between layers: what private functions promise each other. No promise rests on how these are worded.
 pub mod ChainCode
-pub mod TreeCode
-pub mod BlankProgram
 pub mod JsonGathered
 pub mod ColonCount

@@ -1,0 +1,50 @@
+use Rattle.std.proofs.Common.{◌≡◌, ℕ, List, Result, Ok, Err, sym, subst, ◌∙◌}
+use Rattle.std.specs.Prelude.{IfOk, Vec}
+use Rattle.std.specs.declared.alloc.Global.{Global}
+use Rattle.seccompiler.specs.declared.bpf.sock_filter.{sock_filter}
+use Rattle.seccompiler.specs.Machine.{IsRecord, Ends}
+use Rattle.seccompiler.specs.Policy.{Filter, IsDecision, other_architecture, policy_matches, policy_differs}
+use Rattle.seccompiler.specs.Compiled.{EndsAtDecision}
+use Rattle.seccomp_tree.specs.declared.layout.Layout.{Layout}
+use Rattle.seccomp_tree.specs.declared.layout.Layout.TheVariants.{Linear, Tree}
+use Rattle.seccomp_tree.specs.Layouts.{AgreesInAll, IsCompiledIn}
+use Rattle.seccomp_tree.proofs.layout.to_bpf_in.Goals as goal
+
+-- a filter names one word for a record
+one_decision : (f : Filter) (r : List ℕ) (v w : ℕ) → IsDecision f r v → IsDecision f r w → v ≡ w
+one_decision f r v w (other_architecture not is) (other_architecture not' is') = is ∙ sym is'
+one_decision f r v w (other_architecture not is) (policy_matches own m is') = absurd (not own)
+one_decision f r v w (other_architecture not is) (policy_differs own never is') = absurd (not own)
+one_decision f r v w (policy_matches own m is) (other_architecture not is') = absurd (not own)
+one_decision f r v w (policy_matches own m is) (policy_matches own' m' is') = is ∙ sym is'
+one_decision f r v w (policy_matches own m is) (policy_differs own' never is') = absurd (never m)
+one_decision f r v w (policy_differs own never is) (other_architecture not is') = absurd (not own)
+one_decision f r v w (policy_differs own never is) (policy_matches own' m is') = absurd (never m)
+one_decision f r v w (policy_differs own never is) (policy_differs own' no' is') = is ∙ sym is'
+
+ends_at : (layout : Layout) (f : Filter) (p : List sock_filter) → IsCompiledIn layout f p → (r : List ℕ) → IsRecord r → EndsAtDecision f p r
+ends_at Linear f p compiled = compiled.decides
+ends_at Tree f p compiled = compiled.decides
+
+agree : (layout : Layout) (f : Filter) (p : List sock_filter) → IsCompiledIn layout f p → AgreesInAll f p
+agree layout f p compiled = λ other q also r rec.
+    let at = ends_at layout f p compiled r rec in
+    let at_other = ends_at other f q also r rec in
+    record {
+      word = at.word;
+      steps = at.steps;
+      ends = at.ends;
+      other_steps = at_other.steps;
+      other_ends = subst (Ends q r at_other.steps) (one_decision f r at_other.word at.word at_other.decision at.decision) at_other.ends;
+    }
+
+agree_ok : {E : Type 0} (layout : Layout) (f : Filter) (made : Result (Vec sock_filter Global) E)
+    → IfOk made (λ p. IsCompiledIn layout f p.items) → IfOk made (λ p. AgreesInAll f p.items)
+agree_ok layout f (Ok p) compiled = agree layout f p.items compiled
+agree_ok layout f (Err e) compiled = tt
+
+pub returns-in-Linear-clause-agrees : goal.returns-in-Linear-clause-agrees
+returns-in-Linear-clause-agrees c = agree_ok Linear c.args.filter.now c.to_linear_bpf.result c.to_linear_bpf.ensures.compiled
+
+pub returns-in-Tree-clause-agrees : goal.returns-in-Tree-clause-agrees
+returns-in-Tree-clause-agrees c = agree_ok Tree c.args.filter.now c.to_tree_bpf.result c.to_tree_bpf.ensures.compiled

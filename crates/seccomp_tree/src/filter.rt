@@ -1,0 +1,101 @@
+// A filter as decisions.
+
+ghost use Rattle.std.specs.Prelude.{◌≡◌, ℤ, pos, map, IfOk, IfErr, OnOk, IsOkUnless};
+ghost use Rattle.seccompiler.specs.Policy.{IsCallNumber, chains_of};
+ghost use Rattle.seccompiler.specs.Compiled.{AreCallNumbers, IsLeastUnfit, numbers_of};
+ghost use Rattle.seccomp_tree.specs.declared.error.FilterError.TheVariants.{InvalidSyscallNumber, OutOfMemory};
+ghost use Rattle.seccomp_tree.specs.Decided.{calls_of};
+ghost use Rattle.seccomp_tree.specs.FilterDecisions.{call_of, rulings_of};
+
+use crate::decisions::{Decision, Decisions, DefaultValue};
+use crate::error::FilterError;
+use seccompiler::{BackendError, SeccompFilter, SeccompRule};
+use std::alloc::Global;
+use std::collections::BTreeMap;
+
+impl Decisions {
+    ghost use Rattle.seccomp_tree.specs.FilterDecisions.{DecideAs, IsUndecidable, decisions_of};
+
+    /// A filter as decisions: each rule of a chain, or the chain where it has none, names the return value of
+    /// the match action; that of the mismatch action is the default.
+    ///
+    /// # Errors
+    ///
+    /// `InvalidSyscallNumber` with the least key that lies outside 0 to 4294967295, where there is one, which
+    /// takes no memory; else `OutOfMemory` where memory runs out.
+    pub fn of_filter(alloc: Global, filter: &SeccompFilter) -> Result<Decisions, FilterError>
+        ensures made { IfOk result (λ d. d ≡ decisions_of filter.now) }
+        ensures alike { IfOk result (λ d. DecideAs filter.now d) }
+        ensures numbers { OnOk result (AreCallNumbers (numbers_of filter.now.chains)) }
+        ensures refused { IfErr result (IsUndecidable filter.now) }
+    {
+        check_numbers(filter)?;
+        let calls = calls_of(alloc, filter.rules(), filter.match_action().into())?;
+        let value = filter.mismatch_action().into();
+        let defaults = vec![in alloc; DefaultValue { start: 0, value }]?;
+        match Decisions::new(filter.target_arch(), defaults, calls) {
+            Some(decisions) => Ok(decisions),
+            None => unreachable!(),
+        }
+    }
+}
+
+// Refuses a filter of which a number is no call number.
+fn check_numbers(filter: &SeccompFilter) -> Result<(), FilterError>
+    ensures fit { OnOk result (AreCallNumbers (numbers_of filter.now.chains)) }
+    ensures unfit { IfErr result (λ e. (n : ℤ) × (e ≡ InvalidSyscallNumber n) × IsLeastUnfit (numbers_of filter.now.chains) n) }
+{
+    match filter.compiled_len() {
+        Err(BackendError::InvalidSyscallNumber(number)) => {
+            Err(FilterError::InvalidSyscallNumber(number))
+        }
+        _ => Ok(()),
+    }
+}
+
+// The rulings of each chain, with its number.
+fn calls_of(
+    alloc: Global,
+    chains: &BTreeMap<i64, Vec<SeccompRule>>,
+    value: u32,
+) -> Result<BTreeMap<u32, Vec<Decision>>, FilterError>
+    requires numbers { AreCallNumbers (numbers_of (chains_of chains.now.entries)) }
+    ensures made { IfOk result (λ calls. calls_of calls.entries ≡ map (call_of value) (chains_of chains.now.entries)) }
+    ensures memory { IsOkUnless result OutOfMemory }
+{
+    let mut calls = BTreeMap::new(alloc);
+    for (number, chain) in chains {
+        drop(calls.insert(call_number(number), rulings_of(alloc, chain, value)?)?);
+    }
+    Ok(calls)
+}
+
+// The call number as a record has it.
+fn call_number(number: &i64) -> u32
+    requires { IsCallNumber number.now }
+    ensures { number.now ≡ pos result }
+{
+    *number as u32
+}
+
+// The rulings of a chain.
+fn rulings_of(
+    alloc: Global,
+    chain: &[SeccompRule],
+    value: u32,
+) -> Result<Vec<Decision>, FilterError>
+    ensures made { IfOk result (λ rulings. rulings.items ≡ rulings_of value chain.now) }
+    ensures memory { IsOkUnless result OutOfMemory }
+{
+    let mut rulings = Vec::new(alloc);
+    if chain.is_empty() {
+        let conditions = Vec::new(alloc);
+        rulings.push(Decision { conditions, value })?;
+        return Ok(rulings);
+    }
+    for rule in chain {
+        let conditions = rule.conditions().to_vec(alloc)?;
+        rulings.push(Decision { conditions, value })?;
+    }
+    Ok(rulings)
+}

@@ -173,7 +173,8 @@ impl SeccompRule {
             end = front - size;
             offset = near + size as u8;
         }
-        write_entry(&mut part[..end], offset);
+        // On to the conditions, and past the rule.
+        part[..end].copy_from_slice(&[jump_over(1), jump_over(u32::from(offset) + 1)]);
     }
 }
 
@@ -209,8 +210,7 @@ impl EqualByParts for SeccompRule {
 }
 
 ghost use Rattle.std.specs.Prelude.{◌≡◌, ◌≤◌, ◌+◌, ◌++◌, length, drop};
-ghost use Rattle.seccompiler.specs.Layout.{entry_length};
-ghost use Rattle.seccompiler.specs.ChainCode.{entry_code, relay_front, offset_behind};
+ghost use Rattle.seccompiler.specs.ChainCode.{relay_front, offset_behind};
 
 // Puts a relay in front of what is written from `end` on, where the offset is too far for a further
 // condition: on to the conditions behind it, to the failure exit, and past the rule. Gives where the code
@@ -229,12 +229,4 @@ fn relay_if_far(part: &mut [sock_filter], end: usize, offset: u8) -> (usize, u8)
     let far = u32::from(offset) + 1;
     part[start..end].copy_from_slice(&[jump_over(2), jump_over(far), jump_over(far)]);
     (start, 1)
-}
-
-// The two jumps in front of a rule: on to its conditions, and past the rule.
-fn write_entry(part: &mut [sock_filter], offset: u8)
-    requires room { length part.old ≡ entry_length }
-    ensures code { part.new ≡ entry_code offset }
-{
-    part.copy_from_slice(&[jump_over(1), jump_over(u32::from(offset) + 1)]);
 }

@@ -73,20 +73,6 @@ fn rule_of(alloc: Global, conditions: &[JsonCondition]) -> Result<SeccompRule, J
     Ok(SeccompRule::new(found)?)
 }
 
-// The number of the call of this name.
-fn number_of_call(alloc: Global, arch: TargetArch, name: &str) -> Result<i64, JsonFrontendError>
-    ensures found { IfOk result (λ number. number_of (table_of arch) name.now ≡ Some number) }
-    ensures unknown { IfErr result (Tells (λ fault. (number_of (table_of arch) name.now ≡ None) × (fault ≡ unknown_call name.now arch))) }
-{
-    match SyscallTable::new(arch).get_syscall_nr(name) {
-        Some(number) => Ok(number),
-        None => {
-            let name = String::from_str(alloc, name)?;
-            Err(JsonFrontendError::SyscallName(name, arch))
-        }
-    }
-}
-
 // Puts the rule at the end of the number's rules, of which there may be none yet.
 fn add_rule(
     alloc: Global,
@@ -103,7 +89,7 @@ fn add_rule(
 }
 
 // Adds what the entry stands for: its rule at the end of those of its call's number, or that number.
-#[tactic(auto, using(crate::proofs::json::policy::EntryFaults::wrong_entry))]
+#[tactic(auto, using(crate::proofs::json::policy::EntryFaults::wrong_entry, crate::proofs::json::policy::EntryFaults::unknown_entry))]
 fn add_entry(
     alloc: Global,
     arch: TargetArch,
@@ -114,7 +100,11 @@ fn add_entry(
     ensures added { OnOk result (HasAdded arch entry.now gathered.old gathered.new) }
     ensures refused { IfErr result (Tells (IsFaultOf arch entry.now)) }
 {
-    let number = number_of_call(alloc, arch, entry.syscall.as_str())?;
+    let name = entry.syscall.as_str();
+    let Some(number) = SyscallTable::new(arch).get_syscall_nr(name) else {
+        let name = String::from_str(alloc, name)?;
+        return Err(JsonFrontendError::SyscallName(name, arch));
+    };
     match &entry.conditions {
         Some(conditions) => {
             let rule = rule_of(alloc, conditions.as_slice())?;

@@ -6,7 +6,7 @@ use Rattle.seccompiler.specs.Policy.{Rule, Chain}
 use Rattle.seccompiler.specs.Layout.{rule_length, rules_length}
 use Rattle.seccompiler.specs.ChainCode.{IsRulesCode}
 use Rattle.seccompiler.proofs.Parts.{take-front, length-part}
-use Rattle.seccompiler.proofs.chain.RulesCode.{rules_empty, rules_step, rules_all, rules_room}
+use Rattle.seccompiler.proofs.chain.RulesCode.{rules_empty, rules_step, rules_room}
 use Rattle.seccompiler.proofs.chain.write_rules.Goals as goal
 
 -- there is room for a further rule and its return

@@ -3,7 +3,7 @@ use Rattle.std.proofs.lemmas.Bool.Decides.{nat_tests}
 use Rattle.std.proofs.lemmas.Bool.{false≢true, true≢false}
 use Rattle.std.proofs.lemmas.Option.{slice_get-get_or}
 use Rattle.seccompiler.specs.Machine.{greatest_length, IsFine, IsInRange}
-use Rattle.seccompiler.specs.FirstUnfit.{too_many, not_fine, no_return}
+use Rattle.seccompiler.specs.FirstUnfit.{not_fine, no_return}
 use Rattle.seccompiler.proofs.machine.CheckedLemmas.{one_more, checked_if}
 use Rattle.seccompiler.proofs.machine.first_unfit.Goals as goal
 

@@ -1,9 +1,8 @@
-use Rattle.std.proofs.Common.{◌≡◌, ◌++◌, [], sym, ap, ◌∙◌, w64, rules, append-nil}
+use Rattle.std.proofs.Common.{◌≡◌, ◌∙◌, w64, rules}
 use mir.Val.{SFits}
 use Rattle.std.specs.Ordering.{int_cmp}
 use Rattle.std.specs.BTreeMap.{insert_entry}
 use Rattle.std.proofs.lemmas.Int.{to_z-of_z}
-use Rattle.seccompiler.specs.Policy.{chains_of}
 use Rattle.seccompiler.proofs.filter.Chains.{insert_next}
 use Rattle.seccompiler.proofs.filter.SeccompFilter.clone.Goals as goal
 

@@ -1,10 +1,9 @@
-use Rattle.std.proofs.Common.{◌≡◌, ◌∷◌, ◌++◌, [], string_bytes, string_cmp, sym, ap, ◌∙◌, subst, append_assoc, rules}
+use Rattle.std.proofs.Common.{◌≡◌, ◌∷◌, ◌++◌, [], string_bytes, string_cmp, sym, ap, ◌∙◌, subst, append_assoc}
 use Rattle.std.specs.List.Sorted.{IsStrictlySortedBy}
 use Rattle.std.specs.Map.{keys_of}
-use Rattle.std.proofs.lemmas.List.{append-nil}
 use Rattle.std.proofs.lemmas.Map.Text.{btree_map_updates_text}
 use Rattle.serde_json.proofs.Views.{Entry}
-use Rattle.seccompiler.proofs.json.filter_map.FilterMaps.{begins, one_more, least_fault}
+use Rattle.seccompiler.proofs.json.filter_map.FilterMaps.{one_more, least_fault}
 use Rattle.seccompiler.proofs.json.filter_map.filters_under.Goals as goal
 
 pub loop-name-preserved : goal.loop-name-preserved

@@ -1,6 +1,6 @@
 use Rattle.serde_json.proofs.Views.{view-Array}
 use Rattle.seccompiler.specs.JsonShape.{IsEntry}
-use Rattle.seccompiler.proofs.json.parts.ReadLists.{goes_on, fails, ends}
+use Rattle.seccompiler.proofs.json.parts.ReadLists.{fails, ends}
 use Rattle.seccompiler.proofs.json.parts.read_rules.Goals as goal
 
 pub returns-in-None-clause-none : goal.returns-in-None-clause-none

@@ -1,7 +1,6 @@
 use Rattle.std.proofs.Common.{ℕ, List, ◌++◌, append_assoc, codes, string_bytes, refl}
 use Rattle.std.proofs.Output.{has_written_of_eq}
 use Rattle.seccompiler.specs.Architecture.{arch_text}
-use Rattle.seccompiler.specs.Texts.{backend_text}
 use Rattle.seccompiler.proofs.json.error.JsonFrontendErrorDisplay.fmt.Goals as goal
 
 pub returns-in-SyscallName-clause-writes : goal.returns-in-SyscallName-clause-writes

@@ -1,11 +1,10 @@
 // What the readers of a JSON object share: its names, its numbers and its comment.
 
-ghost use Rattle.std.specs.Prelude.{◌≡◌, ◌↔◌, ℕ, ◌^◌, ◌-◌, IsTrue, IfSome, IfNone, map, option_map};
+ghost use Rattle.std.specs.Prelude.{◌≡◌, ◌↔◌, ℕ, IsTrue, IfSome, IfNone, map};
 ghost use Rattle.std.specs.List.{list_any};
 ghost use Rattle.std.specs.Str.{bytes_eq};
-ghost use Rattle.serde_json.specs.Data.{object};
-ghost use Rattle.serde_json.specs.View.{view, members_view};
-ghost use Rattle.seccompiler.specs.JsonShape.{HasOnly, Under, IsWhole, IsNumbered, IsComment, IsCommented};
+ghost use Rattle.serde_json.specs.View.{view};
+ghost use Rattle.seccompiler.specs.JsonShape.{HasOnly, Under, IsWhole, IsNumbered, IsCommented};
 
 use serde_json::Value;
 

@@ -3,9 +3,8 @@
 // Each reader has two clauses: what it gives is what the value is (`found`), and where it gives
 // nothing, the value is no such part (`none`).
 
-ghost use Rattle.std.specs.Prelude.{◌≡◌, List, [], ◌∷◌, Option, option_map, codes, IfOk, IfSome, IfNone, IsSome};
+ghost use Rattle.std.specs.Prelude.{List, [], ◌∷◌, Option, option_map, codes, IfOk, IfSome, IfNone, IsSome};
 ghost use Rattle.serde_json.specs.Find.{get};
-ghost use Rattle.serde_json.specs.Data.{string, array};
 ghost use Rattle.serde_json.specs.View.{view, items_view};
 ghost use Rattle.seccompiler.specs.JsonShape.{HasOnly, IsAction, IsOperator, IsArgLen, IsCondition, OneByOne, IsListOf, IsArgs, IsEntry, IsOneAction, IsFilter};
 ghost use Rattle.seccompiler.specs.declared.backend.SeccompAction.{SeccompAction};

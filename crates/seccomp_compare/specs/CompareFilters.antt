@@ -1,15 +1,15 @@
 -- What a comparison of two filters says of the calls of a set, and why there is none.
-use Rattle.std.specs.Prelude.{◌≡◌, ℕ, ◌⊎◌, List}
+use Rattle.std.specs.Prelude.{◌≡◌, ℕ, List}
 use Rattle.seccompiler.specs.declared.bpf.sock_filter.{sock_filter}
 use Rattle.seccompiler.specs.declared.backend.BackendError.{BackendError}
-use Rattle.seccompiler.specs.declared.backend.BackendError.TheVariants.{FilterTooLarge, InvalidSyscallNumber, OutOfMemory}
+use Rattle.seccompiler.specs.declared.backend.BackendError.TheVariants.{OutOfMemory}
 use Rattle.seccomp_compare.specs.declared.Relation.{Relation}
 use Rattle.seccomp_compare.specs.declared.Comparison.{Comparison}
 use Rattle.seccomp_compare.specs.declared.Comparison.TheVariants.{Holds, Fails, Undecided}
-use Rattle.seccompiler.specs.Machine.{IsRecord, Ends, IsChecked}
+use Rattle.seccompiler.specs.Machine.{Ends}
 use Rattle.seccompiler.specs.Policy.{Filter, IsDecision}
-use Rattle.seccompiler.specs.Compiled.{EndsAtDecision, numbers_of, AreCallNumbers, IsLeastUnfit, IsCompilable, IsTooLarge}
-use Rattle.seccompiler.specs.Tree.{IsTreeCompilable, IsTreeTooLarge}
+use Rattle.seccompiler.specs.Compiled.{numbers_of, AreCallNumbers}
+use Rattle.seccomp_tree.specs.Layouts.{IsFitting, IsFittingRefusal}
 use Rattle.seccomp_compare.specs.Compare.{CallSet, IsCallOf, Related}
 
 -- Two filters name words for the record of which the relation holds.
@@ -60,31 +60,15 @@ ComparesProgram calls relation p f Holds = (r : List ℕ) → IsCallOf calls r �
 ComparesProgram calls relation p f (Fails r) = IsCallOf calls r × AnswerUnrelated relation p f r
 ComparesProgram calls relation p f Undecided = Unit {0}
 
--- The filter may be compiled in one of the two layouts.
-abbrev pub IsCompilableInSome : Filter → Type 0
-IsCompilableInSome f = IsTreeCompilable f ⊎ IsCompilable f
-
--- The filter is too large in both layouts; in the first it takes n instructions.
-pub record IsTooLargeInBoth (f : Filter) (n : ℕ) : Type 0 where
-  pub in_first : IsTooLarge f n
-  pub in_second : (m : ℕ) × IsTreeTooLarge f m
-
--- Why there is no program of a filter in either layout: the least number that is no call number; else that both programs
--- are too large; and want of memory comes only where all numbers are call numbers.
-abbrev pub IsProgramRefusal : Filter → BackendError → Type 0
-IsProgramRefusal f (FilterTooLarge n) = IsTooLargeInBoth f n
-IsProgramRefusal f (InvalidSyscallNumber n) = IsLeastUnfit (numbers_of f.chains) n
-IsProgramRefusal f OutOfMemory = AreCallNumbers (numbers_of f.chains)
-IsProgramRefusal f _ = ⊥
+-- The filter may be compiled: its numbers are call numbers, and its tree fits, or else its linear program.
+pub record IsCompilableInSome (f : Filter) : Type 0 where
+  pub numbers : AreCallNumbers (numbers_of f.chains)
+  pub program : List sock_filter
+  pub fitting : IsFitting f program
 
 -- Why two filters aren't compared: the refusal of the first; else, where that may be compiled, the refusal of the second;
 -- else, where both may be, want of memory.
 pub data IsComparisonRefusal (f g : Filter) (e : BackendError) : Type 0 where
-  of_first : IsProgramRefusal f e → IsComparisonRefusal f g e
-  of_second : IsCompilableInSome f → IsProgramRefusal g e → IsComparisonRefusal f g e
+  of_first : IsFittingRefusal f e → IsComparisonRefusal f g e
+  of_second : IsCompilableInSome f → IsFittingRefusal g e → IsComparisonRefusal f g e
   of_memory : IsCompilableInSome f → IsCompilableInSome g → e ≡ OutOfMemory → IsComparisonRefusal f g e
-
--- The program may be run, and returns the filter's decision on every call record.
-pub record Decides (f : Filter) (p : List sock_filter) : Type 0 where
-  pub checked : IsChecked p
-  pub decides : (r : List ℕ) → IsRecord r → EndsAtDecision f p r

@@ -1,11 +1,13 @@
 // Comparisons of filters with filters and with programs, by the filters' programs.
 
 ghost use Rattle.std.specs.Prelude.{IfOk, IfErr, OnOk};
-ghost use Rattle.seccomp_compare.specs.CompareFilters.{ComparesFilters, IsCompilableInSome, IsProgramRefusal, IsComparisonRefusal, Decides, ComparesProgram};
+ghost use Rattle.seccomp_compare.specs.CompareFilters.{ComparesFilters, IsCompilableInSome, IsComparisonRefusal, ComparesProgram};
+ghost use Rattle.seccomp_tree.specs.Layouts.{IsFittingRefusal};
 ghost use Rattle.seccompiler.specs.Machine.{IsChecked};
 
 use crate::{Calls, Comparison, Relation, compare};
-use seccompiler::bpf::{BpfProgram, BpfProgramRef};
+use seccomp_tree::fitting_bpf;
+use seccompiler::bpf::BpfProgramRef;
 use seccompiler::{BackendError, SeccompFilter};
 use std::alloc::Global;
 
@@ -16,15 +18,15 @@ use std::alloc::Global;
 /// Whether a new policy permits nothing that the old one doesn't is `AtMostAsPermissive` of the
 /// new one, with the old one as `other`.
 ///
-/// It compares programs as [`compare`](crate::compare) does, in the layout of
-/// [`to_tree_bpf`](SeccompFilter::to_tree_bpf) where that fits, else in that of
-/// [`to_bpf`](SeccompFilter::to_bpf), and looks at `most` sets of records at most.
+/// It compares programs as [`compare`](crate::compare) does, those of
+/// [`fitting_bpf`](seccomp_tree::fitting_bpf): trees where they fit, else linear programs. It looks at
+/// `most` sets of records at most.
 ///
 /// # Errors
 ///
 /// Those of `filter`, then those of `other`: `InvalidSyscallNumber` with the least key that lies
-/// outside 0 to 4294967295; `FilterTooLarge` with `program_len` where both layouts take more than
-/// 4096 instructions. `OutOfMemory` where memory runs out.
+/// outside 0 to 4294967295; `FilterTooLarge` with `program_len` where neither layout fits 4096
+/// instructions. `OutOfMemory` where memory runs out.
 ///
 /// # Examples
 ///
@@ -47,8 +49,8 @@ pub fn compare_filters(
     ensures compilable { OnOk result (IsCompilableInSome filter.now × IsCompilableInSome other.now) }
     ensures refused { IfErr result (IsComparisonRefusal filter.now other.now) }
 {
-    let program = fitting_program(alloc, filter)?;
-    let other_program = fitting_program(alloc, other)?;
+    let program = fitting_bpf(alloc, filter)?;
+    let other_program = fitting_bpf(alloc, other)?;
     compare(alloc, &program, &other_program, calls, relation, most)
 }
 
@@ -66,8 +68,7 @@ pub fn compare_filters(
 /// # Errors
 ///
 /// `InvalidSyscallNumber` with the least key that lies outside 0 to 4294967295; `FilterTooLarge`
-/// with `program_len` where both layouts take more than 4096 instructions. `OutOfMemory` where
-/// memory runs out.
+/// with `program_len` where neither layout fits 4096 instructions. `OutOfMemory` where memory runs out.
 pub fn compare_program(
     alloc: Global,
     program: BpfProgramRef<'_>,
@@ -79,20 +80,8 @@ pub fn compare_program(
     requires { IsChecked program.now }
     ensures compares { IfOk result (λ answer. ComparesProgram calls.now relation program.now filter.now answer) }
     ensures compilable { OnOk result (IsCompilableInSome filter.now) }
-    ensures refused { IfErr result (IsProgramRefusal filter.now) }
+    ensures refused { IfErr result (IsFittingRefusal filter.now) }
 {
-    let own = fitting_program(alloc, filter)?;
+    let own = fitting_bpf(alloc, filter)?;
     compare(alloc, program, &own, calls, relation, most)
-}
-
-// The filter's program in the tree layout where that fits, else in the linear layout.
-fn fitting_program(alloc: Global, filter: &SeccompFilter) -> Result<BpfProgram, BackendError>
-    ensures decides { IfOk result (λ program. Decides filter.now program.items) }
-    ensures compilable { OnOk result (IsCompilableInSome filter.now) }
-    ensures refused { IfErr result (IsProgramRefusal filter.now) }
-{
-    match filter.to_tree_bpf(alloc) {
-        Err(BackendError::FilterTooLarge(_)) => filter.to_bpf(alloc),
-        made => made,
-    }
 }

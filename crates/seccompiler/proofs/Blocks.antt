@@ -9,7 +9,6 @@ use Rattle.seccompiler.specs.Pieces.{IsInside, IsClosed, Leads}
 use Rattle.seccompiler.specs.ChainCode.{Returns, IsBlock}
 use Rattle.seccompiler.proofs.Runs.{get_before, get_behind, goes_shift, goes_on, goes_front, stands_second}
 use Rattle.seccompiler.proofs.Closed.{inside_shift, get_split}
-use Rattle.seccompiler.specs.TreeCode.{ReturnsAfter}
 
 -- a return of the first of two pieces, or of the second, is one of both
 pub returns_front : (a b : List sock_filter) (r : List ℕ) (x s w : ℕ) → Returns a r x s w → Returns (a ++ b) r x s w
@@ -119,6 +118,16 @@ block_one x m h = record { each = go }
 -- the range of a test of equality
 pub test_in_range : (n jt jf : ℕ) → n < 2 ^ 32 → jt < 2 ^ 8 → jf < 2 ^ 8 → IsInRange (jump_equal n jt jf)
 test_in_range n jt jf small t f = record { code = omega arith; jt = t; jf = f; k = small }
+
+-- A run from a place and an accumulator returns this word, after exactly so many steps and the return.
+pub record ReturnsAfter (p : List sock_filter) (r : List ℕ) (place a count w : ℕ) : Type 0 where
+  pub to : ℕ
+  pub accumulator : ℕ
+  pub instruction : sock_filter
+  pub goes : Goes p r place a count to accumulator
+  pub here : slice_get p to ≡ Some instruction
+  pub returns : instruction.code ≡ 0x06
+  pub value : instruction.k ≡ w
 
 -- a return, with its steps counted
 pub counted : (p : List sock_filter) (r : List ℕ) (x a w : ℕ) (h : Returns p r x a w) → ReturnsAfter p r x a h.count w

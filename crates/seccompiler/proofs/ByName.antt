@@ -19,8 +19,19 @@ use Rattle.std.proofs.lemmas.Map.Made.{update_all_none}
 use Rattle.std.proofs.lemmas.Map.Text.{is_eq-slice_cmp, text_cmp}
 use Rattle.std.proofs.lemmas.Map.Views.{lookup-from_Contains}
 use Rattle.std.proofs.lemmas.Slice.Eq.{bytes_eq-Decides}
-use Rattle.seccompiler.specs.ByName.{ByName, under, AreInOrder}
 use Rattle.seccompiler.specs.JsonFilters.{IsBelow}
+
+-- Values, each with its name.
+abbrev pub ByName : Type 0 → Type 0
+ByName X = List (String Global × X)
+
+-- The value under a name, if there is one.
+abbrev pub under : {X : Type 0} → ByName X → List ℕ → Option X
+under values name = lookup (λ key. bytes_eq name (string_bytes key)) values
+
+-- The names stand in byte order, and each stands once.
+abbrev pub AreInOrder : {X : Type 0} → ByName X → Type 0
+AreInOrder values = IsStrictlySortedBy string_cmp (keys_of values)
 
 module _ {X : Type 0} where
   -- ---- in a list

@@ -1,5 +1,5 @@
 -- Laws of the definitions, which the proofs of several modules cite: of records, lists, the machine and pieces of code; of
--- chains, ranges, tables and what stands under names. The lemmas of one module lie in that module's folder, and the file
+-- chains, tables and what stands under names. The lemmas of one module lie in that module's folder, and the file
 -- beside the folder lists them.
 pub mod Words
 pub mod Parts
@@ -13,7 +13,6 @@ pub mod Blocks
 pub mod CappedLengths
 pub mod FoundChains
 pub mod ChainNumbers
-pub mod RangesOnly
 pub mod TableFacts
 pub mod TableNames
 pub mod ByName

@@ -89,11 +89,6 @@ headed front (x ∷ y ∷ v ∷ w ∷ xs) ys a b c d z is long =
     ∙ same_len_mid 4 (last - 4) first ys (count ∙ sym (length-part 4 last first (omega arith) (omega arith))) in
     rw is (sym (take_all (last + 1) whole (omega arith)) ∙ take-written 4 last first ys z (omega arith) (omega arith) count)
 
--- a list whose last element was set
-pub last-written : {X : Type 0} (n : ℕ) (xs : List X) (z : X) → length xs ≡ n + 1 → set xs n z ≡ take n xs ++ z ∷ []
-last-written n xs z long =
-    sym (take_all (suc n) (set xs n z) (omega (arith, length-set xs n z))) ∙ take-suc-set xs n z (omega arith)
-
 -- up to an element that is set behind what was written in front, a list has what was written and that element
 pub front-written : {X : Type 0} (n : ℕ) (xs ys : List X) (x : X) → length ys ≡ n → n < length xs
     → take (n + 1) (set (ys ++ drop n xs) n x) ≡ ys ++ x ∷ []
@@ -102,9 +97,3 @@ front-written n xs ys x long within =
     let here : n < length (ys ++ drop n xs) = omega (arith, length-append ys (drop n xs), length-drop n xs) in
     ap (λ m. take m (set (ys ++ drop n xs) n x)) one_more ∙ take-suc-set (ys ++ drop n xs) n x here
     ∙ ap (λ l. l ++ x ∷ []) (take_at ys (drop n xs) n long)
-
--- a list of one element
-pub only_one : {X : Type 0} (xs : List X) (x : X) → length xs ≡ 1 → x ≡ get_or xs 0 x → xs ≡ x ∷ []
-only_one [] x one is = absurd (omega arith)
-only_one (y ∷ []) x one is = ap (λ z. z ∷ []) (sym is)
-only_one (y ∷ z ∷ xs) x one is = absurd (omega arith)

@@ -4,7 +4,7 @@ use Rattle.std.proofs.Common.{refl, sym, ap, ◌∙◌, subst}
 use Rattle.std.specs.BTreeMap.{BTreeMap, get_by_text}
 use Rattle.serde_json.specs.Data.{Data}
 use Rattle.serde_json.specs.Find.{get}
-use Rattle.seccompiler.specs.ByName.{ByName, under, AreInOrder}
+use Rattle.seccompiler.proofs.ByName.{ByName, under, AreInOrder}
 use Rattle.seccompiler.specs.JsonFilters.{AreFound, IsLeast}
 use Rattle.seccompiler.specs.JsonShape.{Under}
 use Rattle.seccompiler.specs.Reads.{Reads}

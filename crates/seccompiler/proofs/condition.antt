@@ -1,4 +1,3 @@
 -- Lemmas for the functions of `condition`.
 pub mod Comparisons
 pub mod ConditionCode
-pub mod LowHalves

@@ -1,10 +1,30 @@
--- What the code of rules with their returns, of a chain and of a filter's chains promises to the code around it.
-use Rattle.std.specs.Prelude.{◌≡◌, ◌≢◌, ℕ, ℤ, ◌+◌, ◌^◌, ◌<◌, ◌⊎◌, List, length, Any, Some, None, slice_get, sum_by}
+-- The jumps that tie the conditions of a rule together, and what the code of rules with their returns, of a chain and of a
+-- filter's chains promises to the code around it.
+use Rattle.std.specs.Prelude.{◌≡◌, ◌≢◌, ℕ, ℤ, ◌+◌, ◌^◌, ◌<◌, ◌⊎◌, List, [], ◌∷◌, length, Any, Some, None, slice_get, sum_by, nat_lt}
+use Rattle.std.specs.Prelude.{if◌then◌else◌}
 use Rattle.seccompiler.specs.declared.bpf.sock_filter.{sock_filter}
+use Rattle.seccompiler.specs.Code.{jump}
 use Rattle.seccompiler.specs.Machine.{IsRecord, Goes, AreInRange}
 use Rattle.seccompiler.specs.Pieces.{IsInside, Leads}
 use Rattle.seccompiler.specs.Policy.{Rule, Chain, RuleHolds, ChainMatches, chain_under}
-use Rattle.seccompiler.specs.Layout.{rule_length, rule_steps, chain_length, chain_steps, chains_length, chains_steps, rules_length}
+use Rattle.seccompiler.specs.Layout.{greatest_offset, rule_length, rule_steps, chain_length, chain_steps, chains_length, chains_steps}
+use Rattle.seccompiler.specs.Layout.{rules_length}
+
+-- The two jumps in front of a rule whose failure exit is o places behind them.
+abbrev pub entry_code : ℕ → List sock_filter
+entry_code o = jump 1 ∷ jump (o + 1) ∷ []
+
+-- The three jumps of a relay in front of code whose failure exit is o places behind them.
+abbrev pub relay_code : ℕ → List sock_filter
+relay_code o = jump 2 ∷ jump (o + 1) ∷ jump (o + 1) ∷ []
+
+-- The relay that a further condition needs at this offset, if any.
+abbrev pub relay_front : ℕ → List sock_filter
+relay_front o = if nat_lt greatest_offset o then relay_code o else []
+
+-- The offset behind which the further condition then stands.
+abbrev pub offset_behind : ℕ → ℕ
+offset_behind o = if nat_lt greatest_offset o then 1 else o
 
 -- A run from a place and an accumulator returns this word, after so many steps and the return.
 pub record Returns (p : List sock_filter) (r : List ℕ) (place a w : ℕ) : Type 0 where

@@ -1,14 +1,29 @@
--- What `==` of rules and filters computes, and when two refusals of the backend are the same.
-use Rattle.std.specs.Prelude.{◌≡◌, ℤ, Bool, ◌&&◌, string_bytes, String}
-use Rattle.std.specs.Ordering.{int_eq}
-use Rattle.std.specs.Cmp.Lexicographic.{pointwise}
+-- What `==` computes of values that own memory, when two values have the same parts, and that each test of equality
+-- tells whether they have.
+use Rattle.std.specs.Prelude.{◌≡◌, ℤ, ℕ, Bool, true, ◌&&◌, List, [], ◌∷◌, Option, Some, None, map, nat_eq, String, string_eq, string_bytes}
+use Rattle.std.specs.Prelude.{refl, Decides}
+use Rattle.std.specs.Cmp.{IsPartialEquivalence, partial_equiv_from_equiv, decided, and_per, on_per, unsigned_Decides, signed_Decides}
+use Rattle.std.specs.Cmp.Lexicographic.{pointwise, pointwise_decides, bytes_decides, lists_per, nat_list_eq_equiv}
+use Rattle.std.specs.Option.{option_eq}
+use Rattle.std.specs.Ordering.{int_eq, on, eq_of_both}
 use Rattle.std.specs.declared.alloc.Global.{Global}
+use Rattle.std.proofs.Common.{sym, ap}
+use Rattle.std.proofs.lemmas.Bool.{true≢false}
+use Rattle.std.proofs.lemmas.Bool.Decides.{Decides-and}
 use Rattle.seccompiler.specs.declared.backend.BackendError.{BackendError}
-use Rattle.seccompiler.specs.declared.backend.BackendError.TheVariants.{InvalidTargetArch}
-use Rattle.seccompiler.specs.Policy.{Rule, Chain, Filter}
-use Rattle.seccompiler.specs.contracts.condition.SeccompConditionPartialEq.TheImpl as condition
+use Rattle.seccompiler.specs.declared.backend.BackendError.TheVariants as e
+use Rattle.seccompiler.specs.declared.json.types.JsonFilterMap.{JsonFilterMap}
+use Rattle.seccompiler.specs.contracts.backend.BackendErrorPartialEq.TheImpl as refusal
 use Rattle.seccompiler.specs.contracts.backend.SeccompActionPartialEq.TheImpl as action
+use Rattle.seccompiler.specs.contracts.backend.SeccompActionEqualByParts.TheImpl.Laws as action_law
 use Rattle.seccompiler.specs.contracts.backend.TargetArchPartialEq.TheImpl as arch
+use Rattle.seccompiler.specs.contracts.backend.TargetArchEqualByParts.TheImpl.Laws as arch_law
+use Rattle.seccompiler.specs.contracts.condition.SeccompConditionPartialEq.TheImpl as condition
+use Rattle.seccompiler.specs.contracts.condition.SeccompConditionEqualByParts.TheImpl.Laws as condition_law
+use Rattle.seccompiler.specs.contracts.json.types.JsonConditionPartialEq.TheImpl as json_condition
+use Rattle.seccompiler.specs.contracts.json.types.JsonConditionEqualByParts.TheImpl.Laws as json_law
+use Rattle.seccompiler.specs.JsonTypes.{JsonRule, JsonFilter}
+use Rattle.seccompiler.specs.Policy.{Rule, Chain, Filter}
 
 -- The rules have equal conditions, in their order.
 abbrev pub are_rules_equal : Rule → Rule → Bool
@@ -29,5 +44,122 @@ are_filters_equal f g =
 -- Two refusals of the backend are the same: they are equal, or both refuse an architecture's name, with the same bytes.
 pub data IsSameRefusal (x y : BackendError) : Type 0 where
   same : x ≡ y → IsSameRefusal x y
-  same_name : (s t : String Global) → x ≡ InvalidTargetArch s → y ≡ InvalidTargetArch t
+  same_name : (s t : String Global) → x ≡ e.InvalidTargetArch s → y ≡ e.InvalidTargetArch t
       → string_bytes s ≡ string_bytes t → IsSameRefusal x y
+
+-- Whether two entries are equal: the bytes of their names, and their conditions, one by one.
+abbrev pub rule_eq : JsonRule → JsonRule → Bool
+rule_eq = eq_of_both (on (λ (r : JsonRule). r.syscall) (pointwise nat_eq))
+    (on (λ (r : JsonRule). r.conditions) (option_eq (pointwise json_condition.ghosts.eq)))
+
+-- Whether two filters are equal: their actions, and their entries, one by one.
+abbrev pub filter_eq : JsonFilter → JsonFilter → Bool
+filter_eq = eq_of_both (on (λ (f : JsonFilter). f.mismatch_action) action.ghosts.eq)
+    (eq_of_both (on (λ (f : JsonFilter). f.match_action) action.ghosts.eq) (on (λ (f : JsonFilter). f.rules) (pointwise rule_eq)))
+
+-- Whether two maps of filters have equal names and filters.
+abbrev pub filter_map_eq : JsonFilterMap → JsonFilterMap → Bool
+filter_map_eq = on (λ (m : JsonFilterMap). m.0.entries)
+    (pointwise (λ (p q : String Global × JsonFilter). string_eq p.0 q.0 && filter_eq p.1 q.1))
+
+-- A filter with its name, which is given by its bytes.
+abbrev pub Named : Type 0
+Named = List ℕ × JsonFilter
+
+-- An entry of the map, seen so.
+abbrev pub named : String Global × JsonFilter → Named
+named entry = (string_bytes entry.0, entry.1)
+
+-- The map's filters with their names, in byte order of the names.
+abbrev pub named_filters : JsonFilterMap → List Named
+named_filters filters = map named filters.0.entries
+
+-- A test that tells a fact tells each fact that is as good.
+pub through : {P Q : Type 0} (b : Bool) → (P → Q) → (Q → P) → Decides b P → Decides b Q
+through b there back h = (λ t. there (h.0 t), λ q. h.1 (back q))
+
+pub rules_decide : (x y : Rule) → Decides (are_rules_equal x y) (x ≡ y)
+rules_decide = pointwise_decides condition_law.decides-law
+
+entries_decide : (x y : ℤ × Chain) → Decides (are_entries_equal x y) (x ≡ y)
+entries_decide x y = through (are_entries_equal x y) (λ e. λ i. (e.0 i, e.1 i)) (λ e. (ap (λ p. p.0) e, ap (λ p. p.1) e))
+    (Decides-and _ _ (signed_Decides x.0 y.0) (pointwise_decides rules_decide x.1 y.1))
+
+pub filters_decide : (f g : Filter) → Decides (are_filters_equal f g) (f ≡ g)
+filters_decide f g = through (are_filters_equal f g)
+    (λ e. λ i. record { chains = e.0.0.0 i; mismatch_action = e.0.0.1 i; match_action = e.0.1 i; target_arch = e.1 i })
+    (λ e. (((ap (λ h. h.chains) e, ap (λ h. h.mismatch_action) e), ap (λ h. h.match_action) e), ap (λ h. h.target_arch) e))
+    (Decides-and _ _ (Decides-and _ _ (Decides-and _ _ (pointwise_decides entries_decide f.chains g.chains) (action_law.decides-law _ _))
+    (action_law.decides-law _ _)) (arch_law.decides-law _ _))
+
+-- Refusals that pass the test are the same.
+same_refusal : (x y : BackendError) → refusal.ghosts.eq x y ≡ true → IsSameRefusal x y
+same_refusal e.EmptyRule e.EmptyRule h = same refl
+same_refusal (e.FilterTooLarge m) (e.FilterTooLarge n) h = same (ap e.FilterTooLarge ((unsigned_Decides m n).0 h))
+same_refusal e.IdenticalActions e.IdenticalActions h = same refl
+same_refusal e.InvalidArgumentNumber e.InvalidArgumentNumber h = same refl
+same_refusal (e.InvalidTargetArch s) (e.InvalidTargetArch t) h = same_name s t refl refl ((bytes_decides (string_bytes s) (string_bytes t)).0 h)
+same_refusal (e.InvalidSyscallNumber m) (e.InvalidSyscallNumber n) h = same (ap e.InvalidSyscallNumber ((signed_Decides m n).0 h))
+same_refusal e.OutOfMemory e.OutOfMemory h = same refl
+same_refusal _ _ h = absurd (true≢false (sym h))
+
+-- A refusal passes the test with itself.
+refusal_itself : (x : BackendError) → refusal.ghosts.eq x x ≡ true
+refusal_itself (e.FilterTooLarge n) = (unsigned_Decides n n).1 refl
+refusal_itself (e.InvalidTargetArch t) = (bytes_decides (string_bytes t) (string_bytes t)).1 refl
+refusal_itself (e.InvalidSyscallNumber n) = (signed_Decides n n).1 refl
+refusal_itself _ = refl
+
+-- Refusals that are the same pass the test.
+refusal_passes : (x y : BackendError) → IsSameRefusal x y → refusal.ghosts.eq x y ≡ true
+refusal_passes x y (same e) = rw e (refusal_itself y)
+refusal_passes x y (same_name s t is is' bytes) = rw (is, is') ((bytes_decides (string_bytes s) (string_bytes t)).1 bytes)
+
+pub refusals_decide : (x y : BackendError) → Decides (refusal.ghosts.eq x y) (IsSameRefusal x y)
+refusals_decide x y = (same_refusal x y, refusal_passes x y)
+
+-- of two `Option`s
+option_decides : {K : Type 0} {E : K → K → Bool} → ((x y : K) → Decides (E x y) (x ≡ y))
+    → (x y : Option K) → Decides (option_eq E x y) (x ≡ y)
+option_decides h None None = (λ _. refl, λ _. refl)
+option_decides h None (Some y) = (λ t. absurd (true≢false (sym t)), λ e. cc)
+option_decides h (Some x) None = (λ t. absurd (true≢false (sym t)), λ e. cc)
+option_decides h (Some x) (Some y) = (λ t. ap Some ((h x y).0 t), λ e. (h x y).1 cc)
+
+pub rule_decides : (x y : JsonRule) → Decides (rule_eq x y) (x ≡ y)
+rule_decides x y = through (rule_eq x y) (λ e. λ i. record { syscall = e.0 i; conditions = e.1 i })
+    (λ e. (ap (λ r. r.syscall) e, ap (λ r. r.conditions) e))
+    (Decides-and _ _ (bytes_decides x.syscall y.syscall)
+    (option_decides (pointwise_decides json_law.decides-law) x.conditions y.conditions))
+
+pub rule_eq_law : IsPartialEquivalence rule_eq
+rule_eq_law = partial_equiv_from_equiv (decided rule_eq rule_decides)
+
+pub filter_decides : (x y : JsonFilter) → Decides (filter_eq x y) (x ≡ y)
+filter_decides x y = through (filter_eq x y) (λ e. λ i. record { mismatch_action = e.0 i; match_action = e.1.0 i; rules = e.1.1 i })
+    (λ e. (ap (λ r. r.mismatch_action) e, (ap (λ r. r.match_action) e, ap (λ r. r.rules) e)))
+    (Decides-and _ _ (action_law.decides-law _ _) (Decides-and _ _ (action_law.decides-law _ _) (pointwise_decides rule_decides _ _)))
+
+pub filter_eq_law : IsPartialEquivalence filter_eq
+filter_eq_law = partial_equiv_from_equiv (decided filter_eq filter_decides)
+
+entry_decides : (p q : String Global × JsonFilter) → Decides (string_eq p.0 q.0 && filter_eq p.1 q.1) (named p ≡ named q)
+entry_decides p q = through _ (λ e. λ i. (e.0 i, e.1 i)) (λ e. (ap (λ n. n.0) e, ap (λ n. n.1) e))
+    (Decides-and _ _ (bytes_decides (string_bytes p.0) (string_bytes q.0)) (filter_decides _ _))
+
+named_decide : (ps qs : List (String Global × JsonFilter))
+    → Decides (pointwise (λ (p q : String Global × JsonFilter). string_eq p.0 q.0 && filter_eq p.1 q.1) ps qs) (map named ps ≡ map named qs)
+named_decide [] [] = (λ _. refl, λ _. refl)
+named_decide [] (q ∷ qs) = (λ t. absurd (true≢false (sym t)), λ e. cc)
+named_decide (p ∷ ps) [] = (λ t. absurd (true≢false (sym t)), λ e. cc)
+named_decide (p ∷ ps) (q ∷ qs) = through _ (λ e. λ i. e.0 i ∷ e.1 i) (λ e. (cc, cc))
+    (Decides-and _ _ (entry_decides p q) (named_decide ps qs))
+
+pub filter_map_decides : (m n : JsonFilterMap) → Decides (filter_map_eq m n) (named_filters m ≡ named_filters n)
+filter_map_decides m n = named_decide m.0.entries n.0.entries
+
+pub filter_map_eq_law : IsPartialEquivalence filter_map_eq
+filter_map_eq_law = on_per (λ (m : JsonFilterMap). m.0.entries)
+    (lists_per (and_per (on_per (λ (p : String Global × JsonFilter). p.0)
+    (on_per string_bytes (partial_equiv_from_equiv nat_list_eq_equiv)))
+    (on_per (λ (p : String Global × JsonFilter). p.1) filter_eq_law)))

@@ -19,15 +19,12 @@ pub mod JsonPolicyOf
 pub mod JsonAnswers
 pub mod JsonPrograms
 pub mod Reads
--- What other calls promise: the code of conditions and rules; the tree layout, and either layout;
--- the first place of a program that isn't taken; each step from JSON to filters; which records meet an entry; entries
--- without conditions; errors and their texts; installing; the order of rules; the low half of an argument; equality.
+-- What other calls promise: the code of conditions and rules; the first place of a program that isn't taken; each step
+-- from JSON to filters; which records meet an entry; entries without conditions; errors and their texts; installing;
+-- the order of rules and the low half of an argument; equality.
 pub mod Code
 pub mod ConditionCode
 pub mod Pieces
-pub mod Ranges
-pub mod Tree
-pub mod Layouts
 pub mod FirstUnfit
 pub mod JsonSteps
 pub mod JsonEntries
@@ -36,17 +33,8 @@ pub mod Texts
 pub mod Errors
 pub mod Install
 pub mod Reorder
-pub mod LowHalf
 pub mod Equality
-pub mod JsonEquality
--- Between layers: what private functions promise each other, and laws that the tests of equality need. No promise rests
--- on how these are worded.
-pub mod Relay
+-- Between layers: what private functions promise each other. No promise rests on how these are worded.
 pub mod ChainCode
-pub mod TreeCode
-pub mod BlankProgram
 pub mod JsonGathered
-pub mod ByName
 pub mod ColonCount
-pub mod EqualityLaws
-pub mod JsonEqualityLaws

@@ -1,9 +1,11 @@
--- Filters that differ in the order of rules and conditions alone, and records that differ in the instruction pointer
--- alone.
-use Rattle.std.specs.Prelude.{◌≡◌, ℕ, ℤ, ◌<◌, ◌≤◌, ◌⊎◌, List, slice_index}
+-- Filters that differ in the order of rules and conditions alone, records that differ in the instruction pointer alone,
+-- and conditions on the low half of an argument that differ in high halves alone.
+use Rattle.std.specs.Prelude.{◌≡◌, ℕ, ℤ, ◌%◌, ◌^◌, ◌<◌, ◌≤◌, ◌⊎◌, List, slice_index}
 use Rattle.std.specs.List.{AllZip}
 use Rattle.std.specs.List.Sorted.{IsPermutation}
-use Rattle.seccompiler.specs.Policy.{Rule, Chain, Filter}
+use Rattle.seccompiler.specs.declared.backend.SeccompCmpArgLen.TheVariants.{Dword}
+use Rattle.seccompiler.specs.Machine.{argument_at}
+use Rattle.seccompiler.specs.Policy.{Condition, Rule, Chain, Filter, operator_part}
 
 -- The second rule has the conditions of the first, in another order or the same.
 abbrev pub IsReorderedRule : Rule → Rule → Type 0
@@ -31,3 +33,16 @@ pub record IsReordered (f g : Filter) : Type 0 where
 -- Two records agree in every byte but bytes 8 to 15, the instruction pointer (linux/seccomp.h).
 pub record IsSameCall (r s : List ℕ) : Type 0 where
   pub bytes : (k : ℕ) → (k < 8) ⊎ (16 ≤ k) → slice_index r k ≡ slice_index s k
+
+-- Two conditions on the low half of one argument have the same operator, and agree in the low 32 bits of the value and
+-- of the mask.
+pub record IsSameLowHalf (c d : Condition) : Type 0 where
+  pub first_length : c.arg_len ≡ Dword
+  pub second_length : d.arg_len ≡ Dword
+  pub index : c.arg_index ≡ d.arg_index
+  pub operator : operator_part Dword c.operator ≡ operator_part Dword d.operator
+  pub value : c.value % 2 ^ 32 ≡ d.value % 2 ^ 32
+
+-- Two records agree in the low 32 bits of argument i.
+abbrev pub HasSameLowArgument : ℕ → List ℕ → List ℕ → Type 0
+HasSameLowArgument i r s = argument_at r i % 2 ^ 32 ≡ argument_at s i % 2 ^ 32

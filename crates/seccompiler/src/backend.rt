@@ -5,7 +5,6 @@ use crate::bpf::{
     jump_if_equal, load_word, return_word, sock_filter,
 };
 use crate::equality::EqualByParts;
-use seccomp_tables::{aarch64_calls, riscv64_calls, x86_64_calls};
 use std::alloc::{AllocError, AllocFailed, Global};
 use std::{error, fmt};
 
@@ -50,12 +49,11 @@ impl EqualByParts for TargetArch {
 }
 
 impl TargetArch {
-    ghost use Rattle.std.specs.Prelude.{◌≡◌, ◌≢◌, ◌⊎◌, Ok, Some, IfOk, IfErr, IfSome, AllPairs, Contains};
+    ghost use Rattle.std.specs.Prelude.{◌≡◌, ◌≢◌, ◌⊎◌, Ok, IfOk, IfErr, AllPairs, Contains};
     ghost use Rattle.std.specs.Str.{str_to_ascii_lowercase};
     ghost use Rattle.seccompiler.specs.declared.backend.TargetArch.{TargetArch};
     ghost use Rattle.seccompiler.specs.declared.backend.BackendError.TheVariants.{OutOfMemory};
-    ghost use Rattle.seccompiler.specs.Architecture.{arch_text, audit_word, table_of};
-    ghost use Rattle.seccompiler.specs.SyscallTable.{pairs_of};
+    ghost use Rattle.seccompiler.specs.Architecture.{arch_text, audit_word};
     ghost use Rattle.seccompiler.specs.Texts.{IsInvalidArch};
 
     /// Every architecture, each once.
@@ -86,25 +84,14 @@ impl TargetArch {
         ensures read { IfOk result (λ arch. str_to_ascii_lowercase text.now ≡ arch_text arch) }
         ensures refused { IfErr result (λ e. IsInvalidArch e text.now ⊎ (e ≡ OutOfMemory)) }
     {
-        match TargetArch::by_name(text) {
-            Some(arch) => Ok(arch),
-            None => Err(BackendError::InvalidTargetArch(String::from_str(alloc, text)?)),
-        }
-    }
-
-    // The architecture of this name, without regard to ASCII case.
-    fn by_name(text: &str) -> Option<Self>
-        ensures named { (arch : TargetArch) → str_to_ascii_lowercase text.now ≡ arch_text arch → result ≡ Some arch }
-        ensures found { IfSome result (λ arch. str_to_ascii_lowercase text.now ≡ arch_text arch) }
-    {
         if text.eq_ignore_ascii_case("x86_64") {
-            Some(TargetArch::x86_64)
+            Ok(TargetArch::x86_64)
         } else if text.eq_ignore_ascii_case("aarch64") {
-            Some(TargetArch::aarch64)
+            Ok(TargetArch::aarch64)
         } else if text.eq_ignore_ascii_case("riscv64") {
-            Some(TargetArch::riscv64)
+            Ok(TargetArch::riscv64)
         } else {
-            None
+            Err(BackendError::InvalidTargetArch(String::from_str(alloc, text)?))
         }
     }
 
@@ -127,17 +114,6 @@ impl TargetArch {
             TargetArch::x86_64 => AUDIT_ARCH_X86_64,
             TargetArch::aarch64 => AUDIT_ARCH_AARCH64,
             TargetArch::riscv64 => AUDIT_ARCH_RISCV64,
-        }
-    }
-
-    // The pairs of the architecture's table, in byte order of names.
-    pub(crate) fn pairs(self) -> &'static [(&'static str, i64)]
-        ensures { pairs_of result.now ≡ table_of self }
-    {
-        match self {
-            TargetArch::x86_64 => x86_64_calls(),
-            TargetArch::aarch64 => aarch64_calls(),
-            TargetArch::riscv64 => riscv64_calls(),
         }
     }
 }
@@ -274,8 +250,7 @@ pub enum BackendError {
 }
 
 impl EqualByParts for BackendError {
-    ghost use Rattle.seccompiler.specs.Equality.{IsSameRefusal};
-    ghost use Rattle.seccompiler.specs.EqualityLaws.{refusals_decide};
+    ghost use Rattle.seccompiler.specs.Equality.{IsSameRefusal, refusals_decide};
 
     ghost has_same_parts = { IsSameRefusal };
 

@@ -53,7 +53,7 @@ impl SeccompCondition {
     ghost use Rattle.seccompiler.specs.Layout.{greatest_offset};
     ghost use Rattle.seccompiler.specs.Policy.{Condition, Holds, size_of};
     ghost use Rattle.seccompiler.specs.ConditionCode.{condition_code};
-    ghost use Rattle.seccompiler.specs.LowHalf.{IsSameLowHalf, HasSameLowArgument};
+    ghost use Rattle.seccompiler.specs.Reorder.{IsSameLowHalf, HasSameLowArgument};
     ghost use Rattle.seccompiler.specs.Machine.{AreInRange};
     ghost use Rattle.seccompiler.specs.Pieces.{IsConditionCode};
 

@@ -169,8 +169,7 @@ impl SeccompFilter {
 /// Filters are equal where their chains, their actions and their architectures are.
 impl PartialEq for SeccompFilter {
     ghost use Rattle.std.specs.Cmp.{decided, partial_equiv_from_equiv};
-    ghost use Rattle.seccompiler.specs.Equality.{are_filters_equal};
-    ghost use Rattle.seccompiler.specs.EqualityLaws.{filters_decide};
+    ghost use Rattle.seccompiler.specs.Equality.{are_filters_equal, filters_decide};
 
     ghost eq = { are_filters_equal };
 
@@ -186,15 +185,14 @@ impl PartialEq for SeccompFilter {
 
 impl Eq for SeccompFilter {
     ghost use Rattle.std.specs.Cmp.{decided};
-    ghost use Rattle.seccompiler.specs.Equality.{are_filters_equal};
-    ghost use Rattle.seccompiler.specs.EqualityLaws.{filters_decide};
+    ghost use Rattle.seccompiler.specs.Equality.{are_filters_equal, filters_decide};
 
     ghost laws = { decided are_filters_equal filters_decide };
 }
 
 impl EqualByParts for SeccompFilter {
     ghost use Rattle.std.specs.Prelude.{◌≡◌};
-    ghost use Rattle.seccompiler.specs.EqualityLaws.{filters_decide};
+    ghost use Rattle.seccompiler.specs.Equality.{filters_decide};
 
     ghost has_same_parts = { λ x y. x ≡ y };
 

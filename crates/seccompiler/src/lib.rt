@@ -38,10 +38,9 @@
 //! ```
 //!
 //! [`SeccompFilter::to_bpf`] carries the theorem on programs, and [`SeccompFilter::decide`] says what a
-//! policy means. [`SeccompFilter::to_tree_bpf`] gives a program of fewer steps. [`compile_from_json`]
-//! reads policies as text, [`JsonCompiler`] in more steps. [`machine`] checks and runs programs,
-//! [`apply_filter`] installs them in a [`Kernel`], and [`SyscallTable`] knows the names of calls. The
-//! folder `docs/` has the definitions in English, the JSON format and advice for jailers.
+//! policy means. [`compile_from_json`] reads policies as text, [`JsonCompiler`] in more steps. [`machine`]
+//! checks and runs programs, [`apply_filter`] installs them in a [`Kernel`], and [`SyscallTable`] knows the
+//! names of calls. The folder `docs/` has the definitions in English, the JSON format and advice for jailers.
 #![tactic(auto)]
 
 pub mod backend;
@@ -54,7 +53,7 @@ pub mod error;
 pub mod filter;
 pub mod install;
 pub mod json;
-pub mod layout;
+mod linear;
 pub mod machine;
 pub(crate) mod record;
 pub mod rule;
@@ -71,7 +70,6 @@ pub use install::{Kernel, apply_filter, apply_filter_all_threads};
 pub use json::{
     JsonCompiler, JsonCondition, JsonFilter, JsonFilterMap, JsonFrontendError, JsonRule,
 };
-pub use layout::Layout;
 pub use machine::Outcome;
 pub use rule::SeccompRule;
 pub use syscall_table::{Lookup, SyscallTable};

@@ -50,15 +50,7 @@ impl EqualByParts for Outcome {
 pub fn check(prog: BpfProgramRef<'_>) -> bool
     ensures { IsTrue result ↔ IsChecked prog.now }
 {
-    if prog.is_empty() || prog.len() > BPF_MAX_LEN {
-        return false;
-    }
-    for (place, instruction) in prog.iter().enumerate() {
-        if !is_fine(*instruction, place, prog.len()) {
-            return false;
-        }
-    }
-    prog[prog.len() - 1].code == RETURN
+    first_unfit(prog).is_none()
 }
 
 /// Gives the first place of a program that keeps [`check`] from passing it, if there is one.

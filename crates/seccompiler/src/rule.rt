@@ -173,7 +173,8 @@ impl SeccompRule {
             end = front - size;
             offset = near + size as u8;
         }
-        write_entry(&mut part[..end], offset);
+        // On to the conditions, and past the rule.
+        part[..end].copy_from_slice(&[jump_over(1), jump_over(u32::from(offset) + 1)]);
     }
 }
 
@@ -201,7 +202,7 @@ impl Eq for SeccompRule {
 
 impl EqualByParts for SeccompRule {
     ghost use Rattle.std.specs.Prelude.{◌≡◌};
-    ghost use Rattle.seccompiler.specs.EqualityLaws.{rules_decide};
+    ghost use Rattle.seccompiler.specs.Equality.{rules_decide};
 
     ghost has_same_parts = { λ x y. x ≡ y };
 
@@ -209,12 +210,11 @@ impl EqualByParts for SeccompRule {
 }
 
 ghost use Rattle.std.specs.Prelude.{◌≡◌, ◌≤◌, ◌+◌, ◌++◌, length, drop};
-ghost use Rattle.seccompiler.specs.Machine.{AreInRange};
-ghost use Rattle.seccompiler.specs.Layout.{entry_length, relay_length};
-ghost use Rattle.seccompiler.specs.Relay.{entry_code, relay_code, relay_front, offset_behind};
+ghost use Rattle.seccompiler.specs.ChainCode.{relay_front, offset_behind};
 
 // Puts a relay in front of what is written from `end` on, where the offset is too far for a further
-// condition. Gives where the code begins then, and the offset there.
+// condition: on to the conditions behind it, to the failure exit, and past the rule. Gives where the code
+// begins then, and the offset there.
 fn relay_if_far(part: &mut [sock_filter], end: usize, offset: u8) -> (usize, u8)
     requires within { end ≤ length part.old }
     requires room { length (relay_front offset) ≤ end }
@@ -226,23 +226,7 @@ fn relay_if_far(part: &mut [sock_filter], end: usize, offset: u8) -> (usize, u8)
         return (end, offset);
     }
     let start = end - RELAY_LEN;
-    write_relay(&mut part[start..end], offset);
-    (start, 1)
-}
-
-// The three jumps of a relay: on to the conditions behind it, to the failure exit, and past the rule.
-fn write_relay(part: &mut [sock_filter], offset: u8)
-    requires room { length part.old ≡ relay_length }
-    ensures code { part.new ≡ relay_code offset }
-{
     let far = u32::from(offset) + 1;
-    part.copy_from_slice(&[jump_over(2), jump_over(far), jump_over(far)]);
-}
-
-// The two jumps in front of a rule: on to its conditions, and past the rule.
-fn write_entry(part: &mut [sock_filter], offset: u8)
-    requires room { length part.old ≡ entry_length }
-    ensures code { part.new ≡ entry_code offset }
-{
-    part.copy_from_slice(&[jump_over(1), jump_over(u32::from(offset) + 1)]);
+    part[start..end].copy_from_slice(&[jump_over(2), jump_over(far), jump_over(far)]);
+    (start, 1)
 }

@@ -6,6 +6,7 @@ ghost use Rattle.seccompiler.specs.SyscallTable.{HalvingCompares, IsTableNumber,
 
 use crate::backend::TargetArch;
 use crate::equality::EqualByParts;
+use seccomp_tables::{aarch64_calls, riscv64_calls, x86_64_calls};
 use std::cmp::Ordering;
 use std::marker::Model;
 
@@ -69,7 +70,11 @@ impl SyscallTable {
     pub fn pairs(&self) -> &'static [(&'static str, i64)]
         ensures { pairs_of result.now ≡ table_of self.now }
     {
-        self.arch.pairs()
+        match self.arch {
+            TargetArch::x86_64 => x86_64_calls(),
+            TargetArch::aarch64 => aarch64_calls(),
+            TargetArch::riscv64 => riscv64_calls(),
+        }
     }
 
     /// Looks the system call with exactly this name up, case included, by halving the table.

@@ -6,7 +6,7 @@ use Rattle.std.specs.BTreeMap.{BTreeMap, get_by_text}
 use Rattle.std.proofs.lemmas.Int.{ints}
 use Rattle.std.proofs.lemmas.List.Elements.{All-contains}
 use Rattle.serde_json.specs.Data.{Data}
-use Rattle.seccompiler.specs.ByName.{ByName, AreInOrder, under}
+use Rattle.seccompiler.proofs.ByName.{ByName, AreInOrder, under}
 use Rattle.seccompiler.specs.Machine.{IsChecked}
 use Rattle.seccompiler.specs.Errors.{from_backend, from_frontend}
 use Rattle.seccompiler.specs.JsonAnswers.{IsValueOf, HasPolicy, ArePoliciesOf, TellsFrontendFault}

@@ -14,7 +14,7 @@ use Rattle.seccompiler.specs.Machine.{IsRecord, Goes, stays, then_step, AreInRan
 use Rattle.seccompiler.specs.Pieces.{inside_jump, IsClosed, Leads, Exits, IsConditionCode, IsRuleCode}
 use Rattle.seccompiler.specs.Policy.{Condition, Holds, size_by, size_of, RuleHolds}
 use Rattle.seccompiler.specs.Layout.{greatest_offset, total_size, relays}
-use Rattle.seccompiler.specs.Relay.{relay_code, entry_code}
+use Rattle.seccompiler.specs.ChainCode.{relay_code, entry_code}
 use Rattle.seccompiler.proofs.Runs.{goes_shift, goes_on, stands_second, leads_to, leads_from, leads_second, stays_small, leads_through}
 use Rattle.seccompiler.proofs.Runs.{leads_both, via}
 use Rattle.seccompiler.proofs.Closed.{closed_join, closed_from, ranges_join, ranges_from, jump_in_range}

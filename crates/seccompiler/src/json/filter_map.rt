@@ -1,8 +1,6 @@
 // The filters of a JSON value. docs/JSON.md has the format.
 
 ghost use Rattle.std.specs.Prelude.{◌≡◌, IfOk, IfErr};
-ghost use Rattle.std.specs.BTreeMap.{IsOrdered};
-ghost use Rattle.std.specs.String.{string_cmp};
 ghost use Rattle.serde_json.specs.Data.{Data, object};
 ghost use Rattle.serde_json.specs.View.{view, members_view};
 ghost use Rattle.seccompiler.specs.JsonSteps.{AreFilters, IsShapeRefusal};

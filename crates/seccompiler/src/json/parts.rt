@@ -3,9 +3,8 @@
 // Each reader has two clauses: what it gives is what the value is (`found`), and where it gives
 // nothing, the value is no such part (`none`).
 
-ghost use Rattle.std.specs.Prelude.{◌≡◌, List, [], ◌∷◌, Option, option_map, codes, IfOk, IfSome, IfNone, IsSome};
+ghost use Rattle.std.specs.Prelude.{List, [], ◌∷◌, Option, option_map, codes, IfOk, IfSome, IfNone, IsSome};
 ghost use Rattle.serde_json.specs.Find.{get};
-ghost use Rattle.serde_json.specs.Data.{string, array};
 ghost use Rattle.serde_json.specs.View.{view, items_view};
 ghost use Rattle.seccompiler.specs.JsonShape.{HasOnly, IsAction, IsOperator, IsArgLen, IsCondition, OneByOne, IsListOf, IsArgs, IsEntry, IsOneAction, IsFilter};
 ghost use Rattle.seccompiler.specs.declared.backend.SeccompAction.{SeccompAction};
@@ -15,24 +14,15 @@ ghost use Rattle.seccompiler.specs.declared.json.types.JsonCondition.{JsonCondit
 ghost use Rattle.seccompiler.specs.JsonTypes.{JsonRule, JsonFilter};
 
 use crate::backend::{SeccompAction, SeccompCmpArgLen, SeccompCmpOp};
-use crate::json::members::{is_commented, is_object_of, u8_under, u32_alone, u64_alone, u64_under};
+use crate::json::members::{is_commented, is_object_of, number_alone, number_under};
 use crate::json::types::{JsonCondition, JsonFilter, JsonRule};
 use serde_json::Value;
 use std::alloc::{AllocError, Global};
 
-fn read_plain_action(text: &str) -> Option<SeccompAction>
-    ensures found { IfSome result (IsAction (string text.now)) }
-    ensures none { IfNone result ((a : SeccompAction) → IsAction (string text.now) a → ⊥) }
-{
-    match text {
-        "allow" => Some(SeccompAction::Allow),
-        "kill_thread" => Some(SeccompAction::KillThread),
-        "kill_process" => Some(SeccompAction::KillProcess),
-        "log" => Some(SeccompAction::Log),
-        "trap" => Some(SeccompAction::Trap),
-        _ => None,
-    }
-}
+// The greatest number of an action, and of an argument's index.
+const GREATEST_DATA: u64 = 0xffff_ffff;
+
+const GREATEST_INDEX: u64 = 0xff;
 
 /// The action that a JSON value is, or `None` where it is none.
 ///
@@ -53,10 +43,17 @@ pub fn read_action(value: &Value) -> Option<SeccompAction>
     ensures none { IfNone result ((a : SeccompAction) → IsAction (view value.now) a → ⊥) }
 {
     match value {
-        Value::String(text) => read_plain_action(text),
-        Value::Object(_) => match u32_alone(value, "errno") {
-            Some(number) => Some(SeccompAction::Errno(number)),
-            None => Some(SeccompAction::Trace(u32_alone(value, "trace")?)),
+        Value::String(text) => match text.as_str() {
+            "allow" => Some(SeccompAction::Allow),
+            "kill_thread" => Some(SeccompAction::KillThread),
+            "kill_process" => Some(SeccompAction::KillProcess),
+            "log" => Some(SeccompAction::Log),
+            "trap" => Some(SeccompAction::Trap),
+            _ => None,
+        },
+        Value::Object(_) => match number_alone(value, "errno", GREATEST_DATA) {
+            Some(number) => Some(SeccompAction::Errno(number as u32)),
+            None => Some(SeccompAction::Trace(number_alone(value, "trace", GREATEST_DATA)? as u32)),
         },
         _ => None,
     }
@@ -72,21 +69,6 @@ pub fn read_arg_len(value: &Value) -> Option<SeccompCmpArgLen>
     match value.as_str()? {
         "dword" => Some(SeccompCmpArgLen::Dword),
         "qword" => Some(SeccompCmpArgLen::Qword),
-        _ => None,
-    }
-}
-
-fn read_plain_operator(text: &str) -> Option<SeccompCmpOp>
-    ensures found { IfSome result (IsOperator (string text.now)) }
-    ensures none { IfNone result ((op : SeccompCmpOp) → IsOperator (string text.now) op → ⊥) }
-{
-    match text {
-        "eq" => Some(SeccompCmpOp::Eq),
-        "ge" => Some(SeccompCmpOp::Ge),
-        "gt" => Some(SeccompCmpOp::Gt),
-        "le" => Some(SeccompCmpOp::Le),
-        "lt" => Some(SeccompCmpOp::Lt),
-        "ne" => Some(SeccompCmpOp::Ne),
         _ => None,
     }
 }
@@ -110,8 +92,20 @@ pub fn read_operator(value: &Value) -> Option<SeccompCmpOp>
     ensures none { IfNone result ((op : SeccompCmpOp) → IsOperator (view value.now) op → ⊥) }
 {
     match value {
-        Value::String(text) => read_plain_operator(text),
-        Value::Object(_) => Some(SeccompCmpOp::MaskedEq(u64_alone(value, "masked_eq")?)),
+        Value::String(text) => match text.as_str() {
+            "eq" => Some(SeccompCmpOp::Eq),
+            "ge" => Some(SeccompCmpOp::Ge),
+            "gt" => Some(SeccompCmpOp::Gt),
+            "le" => Some(SeccompCmpOp::Le),
+            "lt" => Some(SeccompCmpOp::Lt),
+            "ne" => Some(SeccompCmpOp::Ne),
+            _ => None,
+        },
+        Value::Object(_) => Some(SeccompCmpOp::MaskedEq(number_alone(
+            value,
+            "masked_eq",
+            u64::MAX,
+        )?)),
         _ => None,
     }
 }
@@ -123,10 +117,10 @@ fn read_condition(value: &Value) -> Option<JsonCondition>
     if !is_object_of(value, &["index", "type", "op", "val", "comment"]) || !is_commented(value) {
         return None;
     }
-    let arg_index = u8_under(value, "index")?;
+    let arg_index = number_under(value, "index", GREATEST_INDEX)? as u8;
     let arg_len = read_arg_len(value.get("type")?)?;
     let operator = read_operator(value.get("op")?)?;
-    let value = u64_under(value, "val")?;
+    let value = number_under(value, "val", u64::MAX)?;
     Some(JsonCondition {
         arg_index,
         arg_len,
@@ -195,12 +189,15 @@ fn read_entry(alloc: Global, value: &Value) -> Result<Option<JsonRule>, AllocErr
     }))
 }
 
-fn read_entries(alloc: Global, items: &Vec<Value>) -> Result<Option<Vec<JsonRule>>, AllocError>
+fn read_rules(alloc: Global, value: &Value) -> Result<Option<Vec<JsonRule>>, AllocError>
     ensures found { IfOk result
-        (λ o. IfSome o (λ all. OneByOne IsEntry (items_view items.now.items) all.items)) }
-    ensures none { IfOk result (λ o. IfNone o
-        ((all : List JsonRule) → OneByOne IsEntry (items_view items.now.items) all → ⊥)) }
+        (λ o. IfSome o (λ all. IsListOf IsEntry (view value.now) all.items)) }
+    ensures none { IfOk result
+        (λ o. IfNone o ((all : List JsonRule) → IsListOf IsEntry (view value.now) all → ⊥)) }
 {
+    let Value::Array(items) = value else {
+        return Ok(None);
+    };
     let mut found = Vec::with_capacity(alloc, items.len())?;
     for item in items {
         match read_entry(alloc, item)? {
@@ -209,18 +206,6 @@ fn read_entries(alloc: Global, items: &Vec<Value>) -> Result<Option<Vec<JsonRule
         }
     }
     Ok(Some(found))
-}
-
-fn read_rules(alloc: Global, value: &Value) -> Result<Option<Vec<JsonRule>>, AllocError>
-    ensures found { IfOk result
-        (λ o. IfSome o (λ all. IsListOf IsEntry (view value.now) all.items)) }
-    ensures none { IfOk result
-        (λ o. IfNone o ((all : List JsonRule) → IsListOf IsEntry (view value.now) all → ⊥)) }
-{
-    match value {
-        Value::Array(items) => read_entries(alloc, items),
-        _ => Ok(None),
-    }
 }
 
 // The action under the one of two names that is there. Both together are a fault.

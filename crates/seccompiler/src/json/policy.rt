@@ -5,9 +5,7 @@ ghost use Rattle.std.specs.BTreeMap.{IsOrdered};
 ghost use Rattle.std.specs.List.Sorted.{IsStrictlySortedBy};
 ghost use Rattle.std.specs.Ordering.{int_cmp, int_eq};
 ghost use Rattle.seccompiler.specs.Policy.{chains_of};
-ghost use Rattle.seccompiler.specs.Architecture.{table_of};
-ghost use Rattle.seccompiler.specs.SyscallTable.{number_of};
-ghost use Rattle.seccompiler.specs.JsonPolicyOf.{unknown_call, chain_at, condition_of, AreFineArgs, IsFaultIn, IsFaultOf, IsFineEntry, IsFirstOf, IsPolicyOf};
+ghost use Rattle.seccompiler.specs.JsonPolicyOf.{chain_at, condition_of, AreFineArgs, IsFaultIn, IsFaultOf, IsFineEntry, IsFirstOf, IsPolicyOf};
 ghost use Rattle.seccompiler.specs.JsonGathered.{added, AreGathered, HasAdded, HasChains, numbers_of_both};
 ghost use Rattle.seccompiler.specs.JsonWidened.{IsWidened};
 ghost use Rattle.seccompiler.specs.JsonSteps.{IsConditionOf, IsPolicyRefusal, Tells};
@@ -73,20 +71,6 @@ fn rule_of(alloc: Global, conditions: &[JsonCondition]) -> Result<SeccompRule, J
     Ok(SeccompRule::new(found)?)
 }
 
-// The number of the call of this name.
-fn number_of_call(alloc: Global, arch: TargetArch, name: &str) -> Result<i64, JsonFrontendError>
-    ensures found { IfOk result (λ number. number_of (table_of arch) name.now ≡ Some number) }
-    ensures unknown { IfErr result (Tells (λ fault. (number_of (table_of arch) name.now ≡ None) × (fault ≡ unknown_call name.now arch))) }
-{
-    match SyscallTable::new(arch).get_syscall_nr(name) {
-        Some(number) => Ok(number),
-        None => {
-            let name = String::from_str(alloc, name)?;
-            Err(JsonFrontendError::SyscallName(name, arch))
-        }
-    }
-}
-
 // Puts the rule at the end of the number's rules, of which there may be none yet.
 fn add_rule(
     alloc: Global,
@@ -103,7 +87,7 @@ fn add_rule(
 }
 
 // Adds what the entry stands for: its rule at the end of those of its call's number, or that number.
-#[tactic(auto, using(crate::proofs::json::policy::EntryFaults::wrong_entry))]
+#[tactic(auto, using(crate::proofs::json::policy::EntryFaults::wrong_entry, crate::proofs::json::policy::EntryFaults::unknown_entry))]
 fn add_entry(
     alloc: Global,
     arch: TargetArch,
@@ -114,7 +98,11 @@ fn add_entry(
     ensures added { OnOk result (HasAdded arch entry.now gathered.old gathered.new) }
     ensures refused { IfErr result (Tells (IsFaultOf arch entry.now)) }
 {
-    let number = number_of_call(alloc, arch, entry.syscall.as_str())?;
+    let name = entry.syscall.as_str();
+    let Some(number) = SyscallTable::new(arch).get_syscall_nr(name) else {
+        let name = String::from_str(alloc, name)?;
+        return Err(JsonFrontendError::SyscallName(name, arch));
+    };
     match &entry.conditions {
         Some(conditions) => {
             let rule = rule_of(alloc, conditions.as_slice())?;

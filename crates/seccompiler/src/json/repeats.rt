@@ -63,6 +63,7 @@ fn after_members(members: &Map<String, Value>, mut left: usize) -> usize
 }
 
 // How many bytes `:` stand outside strings.
+#[tactic(auto, using(crate::proofs::json::repeats::TextCuts::counted_to_end))]
 fn colons(text: &[u8]) -> usize
     ensures { HasColons text.now result }
 {

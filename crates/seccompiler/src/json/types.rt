@@ -54,8 +54,7 @@ impl Model for JsonRule {
 }
 
 impl PartialEq for JsonRule {
-    ghost use Rattle.seccompiler.specs.JsonEquality.{rule_eq};
-    ghost use Rattle.seccompiler.specs.JsonEqualityLaws.{rule_eq_law};
+    ghost use Rattle.seccompiler.specs.Equality.{rule_eq, rule_eq_law};
 
     ghost eq = { rule_eq };
 
@@ -68,7 +67,7 @@ impl PartialEq for JsonRule {
 
 impl EqualByParts for JsonRule {
     ghost use Rattle.std.specs.Prelude.{◌≡◌};
-    ghost use Rattle.seccompiler.specs.JsonEqualityLaws.{rule_decides};
+    ghost use Rattle.seccompiler.specs.Equality.{rule_decides};
 
     ghost has_same_parts = { λ x y. x ≡ y };
 
@@ -98,8 +97,7 @@ impl Model for JsonFilter {
 }
 
 impl PartialEq for JsonFilter {
-    ghost use Rattle.seccompiler.specs.JsonEquality.{filter_eq};
-    ghost use Rattle.seccompiler.specs.JsonEqualityLaws.{filter_eq_law};
+    ghost use Rattle.seccompiler.specs.Equality.{filter_eq, filter_eq_law};
 
     ghost eq = { filter_eq };
 
@@ -114,7 +112,7 @@ impl PartialEq for JsonFilter {
 
 impl EqualByParts for JsonFilter {
     ghost use Rattle.std.specs.Prelude.{◌≡◌};
-    ghost use Rattle.seccompiler.specs.JsonEqualityLaws.{filter_decides};
+    ghost use Rattle.seccompiler.specs.Equality.{filter_decides};
 
     ghost has_same_parts = { λ x y. x ≡ y };
 
@@ -128,8 +126,7 @@ impl EqualByParts for JsonFilter {
 pub struct JsonFilterMap(pub BTreeMap<String, JsonFilter>);
 
 impl PartialEq for JsonFilterMap {
-    ghost use Rattle.seccompiler.specs.JsonEquality.{filter_map_eq};
-    ghost use Rattle.seccompiler.specs.JsonEqualityLaws.{filter_map_eq_law};
+    ghost use Rattle.seccompiler.specs.Equality.{filter_map_eq, filter_map_eq_law};
 
     ghost eq = { filter_map_eq };
 
@@ -142,8 +139,7 @@ impl PartialEq for JsonFilterMap {
 
 impl EqualByParts for JsonFilterMap {
     ghost use Rattle.std.specs.Prelude.{◌≡◌};
-    ghost use Rattle.seccompiler.specs.JsonEqualityLaws.{filter_map_decides};
-    ghost use Rattle.seccompiler.specs.JsonEquality.{named_filters};
+    ghost use Rattle.seccompiler.specs.Equality.{filter_map_decides, named_filters};
 
     ghost has_same_parts = { λ m n. named_filters m ≡ named_filters n };
 

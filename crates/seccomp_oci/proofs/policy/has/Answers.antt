@@ -1,6 +1,6 @@
 use Rattle.std.proofs.Common.{◌≡◌, Some, ap, sym, ◌∙◌}
 use Rattle.std.specs.BTreeMap.{get_by_text}
-use Rattle.seccompiler.specs.JsonEqualityLaws.{filter_decides}
+use Rattle.seccompiler.specs.Equality.{filter_decides}
 use Rattle.seccomp_oci.proofs.policy.has.Goals as goal
 
 pub returns-in-Some : goal.returns-in-Some

@@ -6,7 +6,7 @@ use Rattle.seccompiler.specs.Policy.{Rule, Chain}
 use Rattle.seccompiler.specs.Layout.{rule_length, rules_length}
 use Rattle.seccompiler.specs.ChainCode.{IsRulesCode}
 use Rattle.seccompiler.proofs.Parts.{take-front, length-part}
-use Rattle.seccompiler.proofs.chain.RulesCode.{rules_empty, rules_step, rules_all, rules_room}
+use Rattle.seccompiler.proofs.chain.RulesCode.{rules_empty, rules_step, rules_room}
 use Rattle.seccompiler.proofs.chain.write_rules.Goals as goal
 
 -- there is room for a further rule and its return
@@ -40,13 +40,4 @@ loop-rule-preserved c =
         c.write_rule-start.ensures.length,
         same_len_mid l.start (length l.part - l.start) l.part c.write_rule-start.new.part (long ∙ sym lent),
       );
-    }
-
-pub returns : goal.returns
-returns c =
-    let l = c.loop-rule in
-    let all = rules_all c.args.chain.now l.rule-index c.args.matched (take l.start l.part) c.loop-rule-test.false l.invariant.code in
-    record {
-      length = sym (length-take-le l.start l.part l.invariant.within) ∙ all.long;
-      code = all;
     }

@@ -16,12 +16,6 @@ returns-in_err-text-clause-fault g c =
     rw (p.1, p.2) (reads_some (g.R.Read.remaining c.args.reader) _
     (λ text. told_by_frontend c.args.arch text c.in_err-text.field-0.0 (c.in_err-text.ensures.fault c.args.arch text)))
 
-pub returns-in_err-programs-clause-fault : goal.returns-in_err-programs-clause-fault
-returns-in_err-programs-clause-fault g c =
-    let p = err_from_is_err_and c.from_residual-in_err-programs.result c.from_residual-in_err-programs.ensures.1 in
-    let fault = rw c.as_slice.ensures.value at c.in_err-programs.ensures.fault in
-    rw (p.1, p.2) (reads_this (g.R.Read.remaining c.args.reader) _ _ c.in_ok-text.ensures.text fault)
-
 pub returns-clause-programs : goal.returns-clause-programs
 returns-clause-programs g c =
     let found = c.in_ok-programs.programs in

@@ -2,18 +2,12 @@ use Rattle.std.proofs.Common.{◌≡◌, ◌∷◌, ◌++◌, [], String, Global
 use Rattle.std.proofs.Common.{rules}
 use Rattle.std.specs.BTreeMap.{get_by_text, IsFromIterResult}
 use Rattle.std.proofs.lemmas.Result.{err_from_is_err_and}
-use Rattle.seccompiler.specs.ByName.{ByName, AreInOrder}
+use Rattle.seccompiler.proofs.ByName.{ByName, AreInOrder}
 use Rattle.seccompiler.specs.Policy.{Filter}
 use Rattle.seccompiler.specs.declared.bpf.sock_filter.{sock_filter}
 use Rattle.seccompiler.proofs.ByName.{AreMade, made_more, made_in_order, ordered}
 use Rattle.seccompiler.proofs.compile.TextPrograms.{Compiles, are_programs, refusal_of}
 use Rattle.seccompiler.proofs.compile.programs_under.Goals as goal
-
-pub loop-name-init : goal.loop-name-init
-loop-name-init c = record {
-  all = sym c.into_iter-name-iterator.ensures.into_iter_gives.0;
-  made = subst (AreMade Compiles []) (sym c.new-found.ensures.items) tt;
-}
 
 pub loop-name-preserved : goal.loop-name-preserved
 loop-name-preserved c =

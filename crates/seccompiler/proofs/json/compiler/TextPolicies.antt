@@ -2,7 +2,7 @@
 use Rattle.std.proofs.Common.{◌≡◌, ℕ, ◌++◌, List, ◌∷◌, Option, Some, None, String, Global, IfSome, string_bytes, refl}
 use Rattle.std.specs.Prelude.{All}
 use Rattle.serde_json.specs.Data.{Data}
-use Rattle.seccompiler.specs.ByName.{ByName, AreInOrder, under}
+use Rattle.seccompiler.proofs.ByName.{ByName, AreInOrder, under}
 use Rattle.seccompiler.specs.Errors.{IsNoMemoryInFrontend}
 use Rattle.seccompiler.specs.JsonAnswers.{IsValueOf, HasPolicy, HasSomePolicy, ArePoliciesOf, IsLeastRefused, TellsFrontendFault}
 use Rattle.seccompiler.specs.JsonPolicyOf.{Fault, IsPolicyOf, IsFirstFault}

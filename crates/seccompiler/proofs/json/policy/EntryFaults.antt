@@ -32,6 +32,11 @@ module _ (arch : TargetArch) where
   wrong_entry entry number conditions error known are told =
       tells_more (IsFaultIn conditions) (IsFaultOf arch entry) (λ fault wrong. wrong_args number conditions known are wrong) error told
 
+  -- An entry whose call has no number is told by its call's name.
+  pub unknown_entry : (entry : JsonRule) (name : List ℕ) → number_of (table_of arch) entry.syscall ≡ None
+      → name ≡ entry.syscall → IsFaultOf arch entry (unknown_call name arch)
+  unknown_entry entry name unknown is = unknown_name unknown (ap (λ n. unknown_call n arch) is)
+
   -- Nothing is wrong with an entry, or some fault is its first.
   fine_or_fault : (entry : JsonRule) → IsFineEntry arch entry ⊎ ((fault : Fault) × IsFaultOf arch entry fault)
   fine_or_fault entry = by (number_of (table_of arch) entry.syscall) entry.conditions refl refl

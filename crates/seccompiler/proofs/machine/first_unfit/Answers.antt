@@ -3,22 +3,9 @@ use Rattle.std.proofs.lemmas.Bool.Decides.{nat_tests}
 use Rattle.std.proofs.lemmas.Bool.{false≢true, true≢false}
 use Rattle.std.proofs.lemmas.Option.{slice_get-get_or}
 use Rattle.seccompiler.specs.Machine.{greatest_length, IsFine, IsInRange}
-use Rattle.seccompiler.specs.FirstUnfit.{too_many, not_fine, no_return}
+use Rattle.seccompiler.specs.FirstUnfit.{not_fine, no_return}
 use Rattle.seccompiler.proofs.machine.CheckedLemmas.{one_more, checked_if}
 use Rattle.seccompiler.proofs.machine.first_unfit.Goals as goal
-
-pub returns-then-place-eq-BPF_MAX_LEN-clause-unfit : goal.returns-then-place-eq-BPF_MAX_LEN-clause-unfit
-returns-then-place-eq-BPF_MAX_LEN-clause-unfit c = record {
-  few = c.loop-place.invariant.few;
-  before = λ earlier i below found. (c.loop-place.invariant.each earlier below i found).0;
-  unfit = too_many c.if-place-eq-BPF_MAX_LEN.true c.loop-place-test.true;
-}
-
-pub returns-then-place-eq-BPF_MAX_LEN-clause-checked : goal.returns-then-place-eq-BPF_MAX_LEN-clause-checked
-returns-then-place-eq-BPF_MAX_LEN-clause-checked c = (
-  λ e. absurd (true≢false e),
-  λ checked. absurd (let few = checked.few in omega (arith, few, c.if-place-eq-BPF_MAX_LEN.true, c.loop-place-test.true)),
-)
 
 pub returns-then-not-is_fine-clause-unfit : goal.returns-then-not-is_fine-clause-unfit
 returns-then-not-is_fine-clause-unfit c = record {

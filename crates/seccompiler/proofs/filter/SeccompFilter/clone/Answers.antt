@@ -1,17 +1,10 @@
-use Rattle.std.proofs.Common.{◌≡◌, ◌++◌, [], sym, ap, ◌∙◌, w64, rules, append-nil}
+use Rattle.std.proofs.Common.{◌≡◌, ◌∙◌, w64, rules}
 use mir.Val.{SFits}
 use Rattle.std.specs.Ordering.{int_cmp}
 use Rattle.std.specs.BTreeMap.{insert_entry}
 use Rattle.std.proofs.lemmas.Int.{to_z-of_z}
-use Rattle.seccompiler.specs.Policy.{chains_of}
 use Rattle.seccompiler.proofs.filter.Chains.{insert_next}
 use Rattle.seccompiler.proofs.filter.SeccompFilter.clone.Goals as goal
-
-pub loop-number-init : goal.loop-number-init
-loop-number-init c =
-    let all : c.into_iter-number-iterator.result ≡ c.self.inside.rules.entries = c.into_iter-number-iterator.ensures.into_iter_gives.0 in
-    let empty : c.new-rules.result.entries ≡ [] = c.new-rules.ensures.empty in
-    rw empty (ap chains_of all)
 
 pub loop-number-preserved : goal.loop-number-preserved
 loop-number-preserved c =
@@ -25,10 +18,3 @@ loop-number-preserved c =
     rw added (insert_next entries so_far c.loop-number.number-iterator c.next.new.self
     number c.in-Some.chain.now copy c.into_iter-number-iterator.ensures.into_iter_gives.5
     c.loop-number.invariant c.in-Some.ensures.steps same)
-
-pub returns-clause-same : goal.returns-clause-same
-returns-clause-same c =
-    let none : c.loop-number.number-iterator ≡ [] = c.in-None.ensures.steps.0 in
-    let all : chains_of c.loop-number.rules.entries ≡ chains_of c.self.inside.rules.entries =
-    sym (append-nil _) ∙ ap (λ es. chains_of c.loop-number.rules.entries ++ chains_of es) (sym none) ∙ c.loop-number.invariant in
-    rw all c.self.view_is

@@ -7,8 +7,8 @@ use Rattle.seccompiler.specs.Policy.{Filter, IsCallNumber}
 use Rattle.seccompiler.specs.Compiled.{numbers_of}
 use Rattle.seccompiler.proofs.Parts.{four-written, headed}
 use Rattle.seccompiler.proofs.ChainNumbers.{numbers_are_keys}
-use Rattle.seccompiler.proofs.layout.Guarded.{words_of}
-use Rattle.seccompiler.proofs.layout.linear.WholeProgram.{written_full, written_empty, counted_full, counted_empty}
+use Rattle.seccompiler.proofs.linear.Guarded.{words_of}
+use Rattle.seccompiler.proofs.linear.WholeProgram.{written_full, written_empty, counted_full, counted_empty}
 use Rattle.seccompiler.proofs.filter.SeccompFilter.write.Goals as goal
 
 pub returns-then-is_empty : goal.returns-then-is_empty

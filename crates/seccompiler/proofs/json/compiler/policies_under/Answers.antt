@@ -1,7 +1,7 @@
 use Rattle.std.proofs.Common.{◌≡◌, ◌∷◌, ◌++◌, [], String, Global, string_cmp, sym, ap, refl, ◌∙◌, subst, append_assoc, append-nil, rules}
 use Rattle.std.specs.BTreeMap.{get_by_text, IsFromIterResult}
 use Rattle.std.proofs.lemmas.Result.{err_from_is_err_and}
-use Rattle.seccompiler.specs.ByName.{ByName, AreInOrder}
+use Rattle.seccompiler.proofs.ByName.{ByName, AreInOrder}
 use Rattle.seccompiler.specs.JsonAnswers.{IsLeastRefused}
 use Rattle.seccompiler.specs.JsonPolicyOf.{IsPolicyOf, IsFirstFault}
 use Rattle.seccompiler.specs.JsonTypes.{JsonFilter}
@@ -10,12 +10,6 @@ use Rattle.seccompiler.proofs.ByName.{AreMade, made_more, made_in_order, ordered
 use Rattle.seccompiler.proofs.json.compiler.TextPolicies.{are_policies, least_refused}
 use Rattle.seccompiler.proofs.json.policy.EntryFaults.{tells_more}
 use Rattle.seccompiler.proofs.json.compiler.policies_under.Goals as goal
-
-pub loop-name-init : goal.loop-name-init
-loop-name-init c = record {
-  all = sym c.into_iter-name-iterator.ensures.into_iter_gives.0;
-  made = subst (AreMade (IsPolicyOf c.args.arch) []) (sym c.new-found.ensures.items) tt;
-}
 
 pub loop-name-preserved : goal.loop-name-preserved
 loop-name-preserved c =

@@ -1,14 +1,10 @@
-use Rattle.std.proofs.Common.{◌≡◌, ◌∷◌, ◌++◌, [], string_bytes, string_cmp, sym, ap, ◌∙◌, subst, append_assoc, rules}
+use Rattle.std.proofs.Common.{◌≡◌, ◌∷◌, ◌++◌, [], string_bytes, string_cmp, sym, ap, ◌∙◌, subst, append_assoc}
 use Rattle.std.specs.List.Sorted.{IsStrictlySortedBy}
 use Rattle.std.specs.Map.{keys_of}
-use Rattle.std.proofs.lemmas.List.{append-nil}
 use Rattle.std.proofs.lemmas.Map.Text.{btree_map_updates_text}
 use Rattle.serde_json.proofs.Views.{Entry}
-use Rattle.seccompiler.proofs.json.filter_map.FilterMaps.{begins, one_more, least_fault}
+use Rattle.seccompiler.proofs.json.filter_map.FilterMaps.{one_more, least_fault}
 use Rattle.seccompiler.proofs.json.filter_map.filters_under.Goals as goal
-
-pub loop-name-init : goal.loop-name-init
-loop-name-init c = ([], search rules, begins c.new-found.result c.new-found.ensures.empty)
 
 pub loop-name-preserved : goal.loop-name-preserved
 loop-name-preserved c =
@@ -38,10 +34,3 @@ returns-in-None-2-clause-refusal c =
     let none = rw c.in-None-2.is at c.in_ok-filter.ensures.none in
     rw (all, same) (least_fault done e left sorted (λ name v there. let f = c.loop-name.invariant.2.each name v there in
     (f.found, f.own)) none)
-
-pub returns-clause-filters : goal.returns-clause-filters
-returns-clause-filters c =
-    let done = c.loop-name.invariant.0 in
-    let all : c.args.members.now.entries ≡ done = c.loop-name.invariant.1 ∙ ap (λ es. done ++ es) c.in-None.ensures.steps.0
-    ∙ append-nil done in
-    rw all c.loop-name.invariant.2

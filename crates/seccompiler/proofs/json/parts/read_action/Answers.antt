@@ -15,9 +15,9 @@ no_action d given is errno trace (Errno n) h = errno n h
 no_action d given is errno trace (Trace n) h = trace n h
 no_action d given is errno trace a h = let e = sym is ∙ h in cc
 
-pub returns-in_err-u32_alone-in-None-clause-none : goal.returns-in_err-u32_alone-in-None-clause-none
-returns-in_err-u32_alone-in-None-clause-none c =
+pub returns-in_err-number_alone-in-None-clause-none : goal.returns-in_err-number_alone-in-None-clause-none
+returns-in_err-number_alone-in-None-clause-none c =
     let members = members_view c.in-Object.field-0.entries in
     let is : view c.args.value.now ≡ object members = ap view c.in-Object.is ∙ view-Object c.in-Object.field-0 in
     rw c.from_residual.ensures
-    (no_action (view c.args.value.now) members is c.in-None.ensures.none c.in_err-u32_alone-in-None.ensures.none)
+    (no_action (view c.args.value.now) members is c.in-None.ensures.none c.in_err-number_alone-in-None.ensures.none)

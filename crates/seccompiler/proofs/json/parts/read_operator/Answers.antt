@@ -13,8 +13,8 @@ no_operator : (d : Data) (members : Members) → d ≡ object members
 no_operator d given is masked (MaskedEq mask) h = masked mask h
 no_operator d given is masked op h = let e = sym is ∙ h in cc
 
-pub returns-in_err-u64_alone-in-Object-clause-none : goal.returns-in_err-u64_alone-in-Object-clause-none
-returns-in_err-u64_alone-in-Object-clause-none c =
+pub returns-in_err-number_alone-in-Object-clause-none : goal.returns-in_err-number_alone-in-Object-clause-none
+returns-in_err-number_alone-in-Object-clause-none c =
     let members = members_view c.in-Object.field-0.entries in
     let is : view c.args.value.now ≡ object members = ap view c.in-Object.is ∙ view-Object c.in-Object.field-0 in
-    rw c.from_residual.ensures (no_operator (view c.args.value.now) members is c.in_err-u64_alone-in-Object.ensures.none)
+    rw c.from_residual.ensures (no_operator (view c.args.value.now) members is c.in_err-number_alone-in-Object.ensures.none)

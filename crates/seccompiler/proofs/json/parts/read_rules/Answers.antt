@@ -1,5 +1,12 @@
 use Rattle.serde_json.proofs.Views.{view-Array}
+use Rattle.seccompiler.specs.JsonShape.{IsEntry}
+use Rattle.seccompiler.proofs.json.parts.ReadLists.{fails, ends}
 use Rattle.seccompiler.proofs.json.parts.read_rules.Goals as goal
 
-pub returns-in-Array-clause-none : goal.returns-in-Array-clause-none
-returns-in-Array-clause-none c = rw (c.in-Array.is, view-Array c.in-Array.items) c.read_entries.ensures.none
+pub returns-in-None-clause-none : goal.returns-in-None-clause-none
+returns-in-None-clause-none c = rw (c.in-Array.is, view-Array c.in-Array.items, ← c.deref-item-items.ensures.value)
+    (fails IsEntry _ _ _ _ c.loop-item.invariant c.loop-item-test.true c.item-item.is (rw c.in-None.is at c.in_ok-rule.ensures.none))
+
+pub returns-clause-found : goal.returns-clause-found
+returns-clause-found c = rw (c.in-Array.is, view-Array c.in-Array.items, ← c.deref-item-items.ensures.value)
+    (ends IsEntry _ _ _ c.loop-item.invariant c.loop-item-test.false)

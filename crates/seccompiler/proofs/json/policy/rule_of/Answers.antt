@@ -1,5 +1,4 @@
-use Rattle.std.proofs.Common.{◌≤◌, ◌++◌, ◌∷◌, [], map, take, ap, sym, ◌∙◌, arith}
-use Rattle.std.proofs.lemmas.Grind.{common_steps}
+use Rattle.std.proofs.Common.{◌≤◌, ◌++◌, ◌∷◌, [], map, take, ap, sym, ◌∙◌}
 use Rattle.std.proofs.lemmas.List.{map_more}
 use Rattle.std.proofs.lemmas.List.Elements.{All-more}
 use Rattle.seccompiler.specs.JsonPolicyOf.{condition_of}
@@ -18,12 +17,3 @@ loop-condition-preserved c =
       indices = All-more (λ (c : JsonCondition). c.arg_index ≤ 5) given place _ c.loop-condition-test.true
           c.loop-condition.invariant.indices of.0;
     }
-
-pub returns-in_err-new-clause-refused : goal.returns-in_err-new-clause-refused
-returns-in_err-new-clause-refused c = grind (arith, common_steps)
-
-pub returns-clause-made : goal.returns-clause-made
-returns-clause-made c = grind (arith, common_steps)
-
-pub returns-clause-fine : goal.returns-clause-fine
-returns-clause-fine c = grind (arith, common_steps)

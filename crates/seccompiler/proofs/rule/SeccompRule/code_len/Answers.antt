@@ -2,12 +2,9 @@ use Rattle.std.proofs.Common.{◌≡◌, ◌≤◌, ◌^◌, ◌-◌, ◌∙◌,
 use Rattle.seccompiler.specs.Policy.{size_of}
 use Rattle.seccompiler.specs.Layout.{rule_length}
 use Rattle.seccompiler.proofs.rule.GroupCuts.{groups_of-only, relays_small}
-use Rattle.seccompiler.proofs.rule.RuleLoops.{counted_empty, counted_more, counted_relay, counted_at, counted_rule}
+use Rattle.seccompiler.proofs.rule.RuleLoops.{counted_more, counted_relay, counted_at, counted_rule}
 use Rattle.seccompiler.proofs.rule.SeccompRule.code_len.Goals as goal
 use Rattle.seccompiler.proofs.rule.SeccompRule.code_len.Goals.{then-offset-gt-GREATEST_OFFSET, else-offset-gt-GREATEST_OFFSET}
-
-pub loop-condition-init : goal.loop-condition-init
-loop-condition-init c = counted_empty
 
 pub loop-condition-preserved : goal.loop-condition-preserved
 loop-condition-preserved c =

@@ -4,7 +4,7 @@ use lib.Seq.{length-take-le}
 use borrow.Rule.Slice.PartMut.{put_mid}
 use Rattle.seccompiler.specs.Layout.{rule_length}
 use Rattle.seccompiler.specs.Policy.{Rule}
-use Rattle.seccompiler.specs.Relay.{relay_front}
+use Rattle.seccompiler.specs.ChainCode.{entry_code, relay_front}
 use Rattle.seccompiler.specs.Pieces.{IsConditionCode, IsRuleCode}
 use Rattle.seccompiler.proofs.rule.RuleLoops.{Built, built_empty, built_step, built_all, built_rule, entry_room, room_at, end_within}
 use Rattle.seccompiler.proofs.Parts.{drop-written, length-part}
@@ -18,11 +18,6 @@ loop-condition-init c =
       built = subst (λ l. Built [] l 1) (sym none) built_empty;
       free = omega (arith, ap length none, c.requires.room, ap rule_length same);
     }
-
-pub relay_if_far-front-requires-clause-within : goal.relay_if_far-front-requires-clause-within
-relay_if_far-front-requires-clause-within c = end_within c.loop-condition.end c.loop-condition.part c.deref-condition-items.result.now
-    (omega (arith, c.requires.room, ap rule_length (c.deref-condition-items.ensures.value ∙ c.self.view_is)))
-    c.loop-condition.invariant.free
 
 pub relay_if_far-front-requires-clause-room : goal.relay_if_far-front-requires-clause-room
 relay_if_far-front-requires-clause-room c =
@@ -84,8 +79,8 @@ loop-condition-preserved c =
       );
     }
 
-pub write_entry-requires : goal.write_entry-requires
-write_entry-requires c =
+pub copy_from_slice-requires : goal.copy_from_slice-requires
+copy_from_slice-requires c =
     let l = c.loop-condition in
     let q = c.deref-condition-items.result.now in
     let some : 1 ≤ length q = omega (arith, ap length c.deref-condition-items.ensures.value, c.self.invariant) in
@@ -93,7 +88,7 @@ write_entry-requires c =
     let two : l.end ≡ 2 = entry_room q (drop l.end l.part) l.offset l.end some all l.invariant.free in
     let within = end_within l.end l.part q
     (omega (arith, c.requires.room, ap rule_length (c.deref-condition-items.ensures.value ∙ c.self.view_is))) l.invariant.free in
-    record { room = length-take-le l.end l.part within ∙ two }
+    length-take-le l.end l.part within ∙ two
 
 pub returns : goal.returns
 returns c =
@@ -101,8 +96,10 @@ returns c =
     let q = c.deref-condition-items.result.now in
     let some : 1 ≤ length q = omega (arith, ap length c.deref-condition-items.ensures.value, c.self.invariant) in
     let all = built_all q l.condition-index (drop l.end l.part) l.offset c.loop-condition-test.false l.invariant.built in
-    let code = built_rule q (drop l.end l.part) (c.write_entry.new.part ++ drop l.end l.part) l.offset some all
-    (ap (λ e. e ++ drop l.end l.part) c.write_entry.ensures.code) in
-    let whole = c.write_entry.new.part ++ drop l.end l.part in
+    let entry : c.copy_from_slice.new.self ≡ entry_code l.offset = c.copy_from_slice.ensures.after
+    ∙ cc (c.jump_over.ensures.instruction, c.jump_over-2.ensures.instruction, c.from.ensures) in
+    let code = built_rule q (drop l.end l.part) (c.copy_from_slice.new.self ++ drop l.end l.part) l.offset some all
+    (ap (λ e. e ++ drop l.end l.part) entry) in
+    let whole = c.copy_from_slice.new.self ++ drop l.end l.part in
     let same = c.deref-condition-items.ensures.value ∙ c.self.view_is in
     record { code = subst (λ (r : Rule). IsRuleCode r whole) same code }

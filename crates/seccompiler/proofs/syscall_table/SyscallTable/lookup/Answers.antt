@@ -96,12 +96,3 @@ returns-clause-compared c =
 
 pub returns-clause-only : goal.returns-clause-only
 returns-clause-only c n compares = compares_only c.args.name.now compares (returns-clause-compared c) refl
-
-pub returns-clause-number : goal.returns-clause-number
-returns-clause-number c = grind (arith, common_steps)
-
-pub returns-clause-few : goal.returns-clause-few
-returns-clause-few c = grind (arith, common_steps)
-
-pub returns-in-Equal-clause-few : goal.returns-in-Equal-clause-few
-returns-in-Equal-clause-few c = grind (arith, common_steps)

@@ -1,9 +1,0 @@
-use Rattle.std.proofs.Common.{arith}
-use Rattle.std.proofs.lemmas.Grind.{common_steps}
-use Rattle.seccompiler.proofs.condition.SeccompCondition.to_bpf.Goals as goal
-
-pub returns-clause-code : goal.returns-clause-code
-returns-clause-code c = grind (arith, common_steps)
-
-pub returns-clause-meets : goal.returns-clause-meets
-returns-clause-meets c = grind (arith, common_steps)

@@ -1,4 +1,0 @@
--- Lemmas for the functions of `layout::linear`.
-pub mod OneChain
-pub mod AllChains
-pub mod WholeProgram

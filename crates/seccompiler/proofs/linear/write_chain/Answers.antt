@@ -1,0 +1,47 @@
+use Rattle.std.proofs.Common.{◌≡◌, ◌+◌, ◌<◌, ◌∷◌, [], ◌++◌, length, take, drop, set, refl, ap, ◌∙◌, arith}
+use Rattle.std.proofs.lemmas.Bool.Decides.{nat_tests}
+use Rattle.std.proofs.Math.ListN.{length-set}
+use lib.Seq.{take_at}
+use Rattle.seccompiler.specs.Code.{jump_equal}
+use Rattle.seccompiler.specs.Policy.{Chain}
+use Rattle.seccompiler.specs.Layout.{chain_length, rules_length}
+use Rattle.seccompiler.proofs.Parts.{framed, length-part}
+use Rattle.seccompiler.proofs.linear.OneChain.{chain_without, chain_with}
+use Rattle.seccompiler.proofs.linear.write_chain.Goals as goal
+
+-- a chain that has rules is two instructions longer than they are
+some_length : (chain : Chain) → 0 < length chain → chain_length chain ≡ 2 + rules_length chain
+some_length [] some = absurd (omega arith)
+some_length (q ∷ chain) some = refl
+
+pub returns-then-is_empty-clause-code : goal.returns-then-is_empty-clause-code
+returns-then-is_empty-clause-code c =
+    let none : length c.args.chain.now ≡ 0 = grind (arith, nat_tests) in
+    chain_without c.args.number c.args.mismatch c.args.matched (omega arith) (omega arith) (omega arith) c.args.chain.now _ none
+    (take_at c.copy_from_slice.new.self (drop 5 c.args.part.now) 5 (ap length c.copy_from_slice.ensures.after)
+    ∙ cc (
+      c.copy_from_slice.ensures.after,
+      c.jump_if_equal.ensures.instruction,
+      c.jump_over.ensures.instruction,
+      c.jump_over-then-is_empty.ensures.instruction,
+      c.return_word.ensures.instruction,
+      c.return_word-then-is_empty.ensures.instruction,
+    ))
+
+pub returns-clause-code : goal.returns-clause-code
+returns-clause-code c =
+    let some : 0 < length c.args.chain.now = grind (arith, nat_tests) in
+    let rules = take c.write_rules-end.result c.write_rules-end.new.part in
+    let whole = some_length c.args.chain.now some in
+    let first = set c.args.part.now 0 c.jump_if_equal-2.result in
+    let same : length first ≡ length c.args.part.now = length-set c.args.part.now 0 c.jump_if_equal-2.result in
+    let lent = length-part 1 (length first) first (omega (arith, same, c.requires.room)) (omega arith) in
+    let long : length c.write_rules-end.new.part + 1 ≡ length c.args.part.now =
+    omega (arith, c.write_rules-end.auto.part, lent, same, c.requires.room, whole) in
+    let written = framed c.write_rules-end.result c.args.part.now c.write_rules-end.new.part
+    c.jump_if_equal-2.result c.return_word-2.result long
+    (omega (arith, long, c.requires.room, whole, c.write_rules-end.ensures.length)) in
+    chain_with c.args.number c.args.mismatch c.args.matched (omega arith) (omega arith)
+    (omega arith) c.args.chain.now rules _ some c.write_rules-end.ensures.code
+    (written ∙ ap (λ x. x ∷ (rules ++ c.return_word-2.result ∷ [])) c.jump_if_equal-2.ensures.instruction
+    ∙ ap (λ x. jump_equal c.args.number 0 1 ∷ (rules ++ x ∷ [])) c.return_word-2.ensures.instruction)

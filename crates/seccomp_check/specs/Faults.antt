@@ -1,6 +1,6 @@
 -- The faults of a policy that have a place: where they are, and what is wrong there.
-use Rattle.std.specs.Prelude.{◌≡◌, ◌≢◌, ◌≤◌, ◌==◌, if◌then◌else◌, ℕ, suc, List, [], ◌∷◌, ◌++◌, Contains, Option, Some, None, IfSome, false}
-use Rattle.std.specs.Prelude.{option_and_then, codes, decimal, string_bytes, ⊤}
+use Rattle.std.specs.Prelude.{◌≡◌, ◌≢◌, ◌==◌, if◌then◌else◌, ℕ, suc, List, [], ◌∷◌, ◌++◌, Contains, Option, Some, None, IfSome, false}
+use Rattle.std.specs.Prelude.{length, option_and_then, codes, decimal, string_bytes, ⊤}
 use Rattle.serde_json.specs.Data.{Data, array, object, string, Items, no_items, item}
 use Rattle.serde_json.specs.Find.{get, at}
 use Rattle.serde_json.specs.Read.{read}
@@ -10,8 +10,8 @@ use Rattle.seccompiler.specs.JsonAnswers.{HasPolicy}
 use Rattle.seccompiler.specs.JsonShape.{IsObject, Has, Lacks, IsWhole, IsOneAction}
 use Rattle.seccompiler.specs.Policy.{Filter}
 use Rattle.seccompiler.specs.Compiled.{IsTooLarge}
-use Rattle.seccompiler.specs.Machine.{greatest_length}
-use Rattle.seccompiler.specs.Tree.{IsTreeLength, IsTreeTooLarge}
+use Rattle.seccompiler.specs.declared.bpf.sock_filter.{sock_filter}
+use Rattle.seccomp_tree.specs.Layouts.{IsTreeCompiled, IsTreeTooLarge}
 use Rattle.seccomp_check.specs.declared.fault.Cause.{Cause}
 use Rattle.seccomp_check.specs.declared.fault.Cause.TheVariants as cause
 use Rattle.seccomp_check.specs.declared.fault.Expected.{Expected}
@@ -92,10 +92,11 @@ abbrev pub OfObject : Part → (Kind → Type 0) → Type 0
 OfObject (parts.Object kind) P = P kind
 OfObject part P = ⊥
 
--- In the tree layout the filter's program has this many instructions, which fit; or, where no number is given, more than fit.
+-- In the tree layout a program of this many instructions is compiled for the filter; or, where no number is given, it is too
+-- large for one.
 abbrev pub FitsAsTree : Filter → Option ℕ → Type 0
-FitsAsTree f (Some n) = IsTreeLength f n × (n ≤ greatest_length)
-FitsAsTree f None = (n : ℕ) × IsTreeTooLarge f n
+FitsAsTree f (Some n) = (p : List sock_filter) × IsTreeCompiled f p × (length p ≡ n)
+FitsAsTree f None = IsTreeTooLarge f
 
 -- The problem is there, and it is one of the part that stands there: what may stand there is what this part has to be,
 -- and the names that are told are those that this part may have, has to have, or has to have one of. A name that is

@@ -11,6 +11,7 @@ ghost use Rattle.seccomp_check.specs.declared.part.Part.TheVariants as parts;
 ghost use Rattle.seccomp_check.specs.Faults.{FitsAsTree, Tells};
 
 use crate::fault::{Finding, Problem, refuse, under_key};
+use seccomp_tree::{FilterError, to_tree_bpf};
 use seccompiler::json::{JsonCompiler, JsonFilter, JsonFilterMap, JsonFrontendError, read_filters};
 use seccompiler::{BackendError, SeccompFilter, TargetArch};
 use serde_json::Value;
@@ -18,12 +19,12 @@ use serde_json::value::Map;
 use std::alloc::Global;
 
 // The length of the policy's program in the tree layout, where it fits.
-fn tree_length(alloc: Global, policy: &SeccompFilter) -> Result<Option<usize>, BackendError>
+fn tree_length(alloc: Global, policy: &SeccompFilter) -> Result<Option<usize>, FilterError>
     ensures { IfOk result (λ tree. FitsAsTree policy.now tree) }
 {
-    match policy.to_tree_bpf(alloc) {
+    match to_tree_bpf(alloc, policy) {
         Ok(program) => Ok(Some(program.len())),
-        Err(BackendError::FilterTooLarge(_)) => Ok(None),
+        Err(FilterError::TreeTooLarge) => Ok(None),
         Err(error) => Err(error),
     }
 }

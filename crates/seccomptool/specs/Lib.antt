@@ -3,8 +3,6 @@
 -- What is promised, in reading order: which words are which command, what goes wrong, and what each engine answers and
 -- writes, in the order of the commands; and what each command does.
 pub mod Numbers
-pub mod CommandLine
-pub mod Words
 pub mod RunFaults
 pub mod Errors
 pub mod Policies
@@ -17,7 +15,6 @@ pub mod Compat
 pub mod Lint
 pub mod Notes
 pub mod Check
-pub mod Counts
 pub mod Codes
 pub mod Reasons
 pub mod ExplainLines
@@ -34,12 +31,7 @@ pub mod Verify
 pub mod Imports
 pub mod CheckProfile
 pub mod Kinds
-pub mod Commands
-pub mod Answers
 -- Between layers: what the private steps of the engines promise each other.
-pub mod WordsParts
-pub mod ProgramParts
-pub mod CountsParts
 pub mod ProfileParts
 pub mod CheckProfileParts
 pub mod CompileParts

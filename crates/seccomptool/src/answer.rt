@@ -1,10 +1,9 @@
 // What the program answers to the words that it is called with.
 
-ghost use Rattle.std.specs.Prelude.{◌≡◌, ◌≢◌, ◌⊎◌, ◌≤◌, map, string_bytes};
+ghost use Rattle.std.specs.Prelude.{◌≡◌, ◌≤◌, ◌⊎◌};
 ghost use Rattle.std.specs.Process.{exit_status};
 ghost use Rattle.clap.specs.Words.{kind_of};
-ghost use Rattle.seccomptool.specs.Answers.{IsAnswered, IsCarriedOut, IsShown, MayFail};
-ghost use Rattle.seccomptool.specs.declared.findings.Verdict.TheVariants.{Different, Undecided};
+ghost use Rattle.clap.specs.declared.error.kind.ErrorKind.TheVariants.{DisplayHelp, DisplayVersion};
 
 use crate::each::carry_out_each;
 use crate::progress::Progress;
@@ -24,14 +23,6 @@ pub(crate) fn answer<G: Progress>(
     progress: &mut G,
 ) -> ExitCode
     ensures ended { exit_status result ≤ 3 }
-
-    // Status 0 comes only where the words ask for commands and each of them is carried out, and finds nothing that
-    // counts; or where they ask for help or the version.
-    ensures answered { exit_status result ≡ 0 → IsAnswered (map string_bytes words.now) }
-
-    // Status 1 comes of a comparison only where it finds a difference, and status 3 only where a command is undecided.
-    ensures different { exit_status result ≡ 1 → IsCarriedOut (map string_bytes words.now) Different ⊎ MayFail (map string_bytes words.now) }
-    ensures undecided { exit_status result ≡ 3 → IsCarriedOut (map string_bytes words.now) Undecided }
 {
     match read(rt.alloc(), words) {
         Ok(asked) => carry_out_each(rt, asked, to_terminal, progress),
@@ -43,7 +34,7 @@ pub(crate) fn answer<G: Progress>(
 // isn't; 2 where the words are no command, or memory runs out before one is known.
 fn misused(rt: &(impl Print + Eprint), error: &clap::Error) -> ExitCode
     ensures ended { exit_status result ≤ 2 }
-    ensures shown { exit_status result ≤ 1 → IsShown (kind_of error.now) }
+    ensures shown { exit_status result ≤ 1 → (kind_of error.now ≡ DisplayHelp) ⊎ (kind_of error.now ≡ DisplayVersion) }
 {
     match error.kind() {
         ErrorKind::OutOfMemory => {
@@ -73,9 +64,7 @@ fn printed(rt: &(impl Print + Eprint), error: &clap::Error) -> ExitCode
 }
 
 // Tells that the words can't be read: for want of memory, or as one of them is no text.
-pub(crate) fn unread(rt: &impl Eprint, error: &io::Error) -> ExitCode
-    ensures { exit_status result ≡ 2 }
-{
+pub(crate) fn unread(rt: &impl Eprint, error: &io::Error) -> ExitCode {
     if error.kind() == io::ErrorKind::OutOfMemory {
         let _ = eprintln!(rt; "seccomptool: Out of memory.");
     } else {

@@ -2,8 +2,7 @@
 
 ghost use Rattle.std.specs.Prelude.{◌≡◌, ◌≢◌, [], ◌∷◌, length, IfOk, IfErr, IfSome, map, string_bytes, string_cmp};
 ghost use Rattle.std.specs.BTreeMap as tree;
-ghost use Rattle.seccomptool.specs.Chosen.{HoldsOnly, IsChosen, IsNoChoice, IsUnchosen};
-ghost use Rattle.seccomptool.specs.Words.{text_of};
+ghost use Rattle.seccomptool.specs.Chosen.{HoldsOnly, IsChosen, IsNoChoice, IsUnchosen, text_of};
 
 use crate::error::ToolError;
 use seccomp_command_line::names::push_readable;

@@ -1,13 +1,5 @@
 // How many warnings a policy has, as a note.
 
-ghost use Rattle.std.specs.Prelude.{◌≡◌, ◌≢◌, IfOk, false, string_cmp};
-ghost use Rattle.std.specs.List.Sorted.{IsStrictlySortedBy};
-ghost use Rattle.std.specs.Map.{keys_of};
-ghost use Rattle.seccompiler.specs.declared.json.error.JsonFrontendError.TheVariants as json;
-ghost use Rattle.seccomp_warnings.specs.Reports.{AreFaultless};
-ghost use Rattle.seccomptool.specs.Counts.{AreBothCounted, AreCounted, IsCountNoted, count_text};
-ghost use Rattle.seccomptool.specs.CountsParts.{IsCountOf, IsFaultlessText, IsTextCount};
-
 use crate::notes::note;
 use itoa::Buffer;
 use seccomp_warnings::report_of;
@@ -24,9 +16,7 @@ pub(crate) fn both_counted(
     new_path: &str,
     old: &[u8],
     new: &[u8],
-) -> Result<Vec<u8>, AllocError>
-    ensures { IsFaultlessText arch old.now → IsFaultlessText arch new.now → IfOk result (λ notes. AreBothCounted quiet arch old_path.now new_path.now old.now new.now notes.items) }
-{
+) -> Result<Vec<u8>, AllocError> {
     let mut notes = counted(alloc, quiet, arch, old_path, old)?;
     let of_new = counted(alloc, quiet, arch, new_path, new)?;
     notes.extend_from_slice(&of_new)?;
@@ -41,9 +31,7 @@ pub(crate) fn counted(
     arch: TargetArch,
     path: &str,
     text: &[u8],
-) -> Result<Vec<u8>, AllocError>
-    ensures { IsFaultlessText arch text.now → IfOk result (λ notes. AreCounted quiet arch path.now text.now notes.items) }
-{
+) -> Result<Vec<u8>, AllocError> {
     if quiet {
         return Ok(Vec::new(alloc));
     }
@@ -54,9 +42,7 @@ pub(crate) fn counted(
 }
 
 // The notes on the policy of a path that has so many warnings.
-fn count_note(alloc: Global, path: &str, count: usize) -> Result<Vec<u8>, AllocError>
-    ensures { IfOk result (λ notes. IsCountNoted path.now count notes.items) }
-{
+fn count_note(alloc: Global, path: &str, count: usize) -> Result<Vec<u8>, AllocError> {
     if count == 0 {
         return Ok(Vec::new(alloc));
     }
@@ -65,9 +51,7 @@ fn count_note(alloc: Global, path: &str, count: usize) -> Result<Vec<u8>, AllocE
 }
 
 // That there are so many warnings, one or more.
-fn count_told(alloc: Global, count: usize) -> Result<Vec<u8>, AllocError>
-    ensures { IfOk result (λ text. text.items ≡ count_text count) }
-{
+fn count_told(alloc: Global, count: usize) -> Result<Vec<u8>, AllocError> {
     let mut text = Vec::new(alloc);
     if count == 1 {
         text.extend_from_slice(b"1 warning; seccomptool check tells it")?;
@@ -79,9 +63,7 @@ fn count_told(alloc: Global, count: usize) -> Result<Vec<u8>, AllocError>
 }
 
 // How many warnings all filters of a policy's text have, where nothing is at fault in it.
-fn count_in(alloc: Global, arch: TargetArch, text: &[u8]) -> Result<Option<usize>, AllocError>
-    ensures { IsFaultlessText arch text.now → IfOk result (IsTextCount arch text.now) }
-{
+fn count_in(alloc: Global, arch: TargetArch, text: &[u8]) -> Result<Option<usize>, AllocError> {
     match filters_of(alloc, text) {
         Ok(filters) => count_of_all(alloc, arch, &filters),
         Err(refusal) => no_count(refusal),
@@ -93,10 +75,7 @@ fn count_of_all(
     alloc: Global,
     arch: TargetArch,
     filters: &JsonFilterMap,
-) -> Result<Option<usize>, AllocError>
-    ensures count { AreFaultless arch filters.now.0.entries → IfOk result (IsCountOf arch filters.now.0.entries) }
-    ensures ordered { IsStrictlySortedBy string_cmp (keys_of filters.now.0.entries) }
-{
+) -> Result<Option<usize>, AllocError> {
     match report_of(alloc, arch, b"", filters, &[]) {
         Ok(report) => Ok(Some(report.count)),
         Err(refusal) => no_count(refusal),
@@ -104,9 +83,7 @@ fn count_of_all(
 }
 
 // That there is no number where something is at fault.
-fn no_count(refusal: JsonFrontendError) -> Result<Option<usize>, AllocError>
-    ensures { IfOk result (λ found. refusal ≢ json.OutOfMemory) }
-{
+fn no_count(refusal: JsonFrontendError) -> Result<Option<usize>, AllocError> {
     if is_memory(&refusal) {
         return Err(AllocError);
     }
@@ -114,9 +91,7 @@ fn no_count(refusal: JsonFrontendError) -> Result<Option<usize>, AllocError>
 }
 
 // Whether memory ran out.
-fn is_memory(refusal: &JsonFrontendError) -> bool
-    ensures { result ≡ false → refusal.now ≢ json.OutOfMemory }
-{
+fn is_memory(refusal: &JsonFrontendError) -> bool {
     match refusal {
         JsonFrontendError::OutOfMemory => true,
         _ => false,

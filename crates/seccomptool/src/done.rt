@@ -1,9 +1,5 @@
 // What a command gives where it is carried out.
 
-ghost use Rattle.std.specs.Prelude.{◌≡◌, [], IfOk};
-ghost use Rattle.seccomptool.specs.Commands.{found_of, plain_of};
-ghost use Rattle.seccomptool.specs.declared.findings.Verdict.TheVariants as verdict;
-
 use crate::error::ToolError;
 use crate::findings::Verdict;
 use std::alloc::Global;
@@ -18,11 +14,7 @@ pub struct Done {
 }
 
 // What a command gives that finds nothing, and has nothing to tell.
-pub(crate) fn plain(alloc: Global, answer: Result<(), ToolError>) -> Result<Done, ToolError>
-    ensures plain { plain_of result ≡ answer }
-    ensures same { IfOk result (λ done. done.verdict ≡ verdict.Same) }
-    ensures notes { IfOk result (λ done. done.notes.items ≡ []) }
-{
+pub(crate) fn plain(alloc: Global, answer: Result<(), ToolError>) -> Result<Done, ToolError> {
     match answer {
         Ok(()) => Ok(Done {
             verdict: Verdict::Same,
@@ -33,10 +25,7 @@ pub(crate) fn plain(alloc: Global, answer: Result<(), ToolError>) -> Result<Done
 }
 
 // What a command gives that finds this, and has nothing to tell.
-pub(crate) fn found(alloc: Global, answer: Result<Verdict, ToolError>) -> Result<Done, ToolError>
-    ensures found { found_of result ≡ answer }
-    ensures notes { IfOk result (λ done. done.notes.items ≡ []) }
-{
+pub(crate) fn found(alloc: Global, answer: Result<Verdict, ToolError>) -> Result<Done, ToolError> {
     match answer {
         Ok(verdict) => Ok(Done {
             verdict,

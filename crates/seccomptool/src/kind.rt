@@ -5,7 +5,7 @@ ghost use Rattle.serde_json.specs.View.{view};
 ghost use Rattle.seccomptool.specs.Kinds as spec;
 ghost use Rattle.seccompiler.specs.declared.backend.TargetArch.{TargetArch};
 ghost use Rattle.seccomptool.specs.Kinds.{IsOfProfile, IsPolicyText, IsTakenForProfile, NamesDefault, StandsIn};
-ghost use Rattle.seccomptool.specs.Words.{text_of};
+ghost use Rattle.seccomptool.specs.Chosen.{text_of};
 
 use seccomp_oci::Container;
 use serde_json::Value;

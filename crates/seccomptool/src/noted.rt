@@ -1,15 +1,5 @@
 // `compile` and `diff`, with notes of how many warnings their policies have; and `diff` of profiles that are given in their place.
 
-ghost use Rattle.std.specs.Prelude.{◌≡◌, IfErr, IfOk, IfSome, List, Option, Some, ℕ};
-ghost use Rattle.seccompiler.specs.Architecture.{arch_text};
-ghost use Rattle.seccomp_compare.specs.declared.Relation as spec;
-ghost use Rattle.seccomptool.specs.Commands.{AnswersCompileAsked, AnswersCompileNoted, AnswersDiffByKind, AnswersDiffNoted, AnswersFound};
-ghost use Rattle.seccomptool.specs.Diff.{AnswersDiff};
-ghost use Rattle.seccomptool.specs.DiffProfiles.{AnswersDiffProfiles};
-ghost use Rattle.seccomptool.specs.Errors.{KeepsOutput};
-ghost use Rattle.seccomptool.specs.Kinds as kinds;
-ghost use Rattle.seccomptool.specs.Words.{text_of};
-
 use crate::chosen::chosen_name;
 use crate::compile::compile;
 use crate::compile::format::ProgramFormat;
@@ -38,10 +28,7 @@ pub(crate) fn compile_noted<P: Read + Drop, W: Write>(
     path: &str,
     policy: P,
     out: &mut W,
-) -> Result<Done, ToolError>
-    ensures answers { AnswersCompileNoted format arch (text_of filter.entry) layout quiet path.now (P.remaining policy) result (W.contents out.old) (W.contents out.new) }
-    ensures unwritten { IfErr result (λ e. KeepsOutput e out.old out.new) }
-{
+) -> Result<Done, ToolError> {
     let text = policy_text(alloc, policy)?;
     let notes = counted(alloc, quiet, arch, path, text.as_slice())?;
     compile_asked(alloc, arch, filter, layout, format, text.as_slice(), out)?;
@@ -60,10 +47,7 @@ fn compile_asked<W: Write>(
     format: ProgramFormat,
     text: &[u8],
     out: &mut W,
-) -> Result<(), ToolError>
-    ensures answers { AnswersCompileAsked format arch (text_of filter.entry) layout (Some text.now) result (W.contents out.old) (W.contents out.new) }
-    ensures unwritten { IfErr result (λ e. KeepsOutput e out.old out.new) }
-{
+) -> Result<(), ToolError> {
     let name = chosen_name(alloc, text, filter)?;
     compile(alloc, format, arch.name(), name.as_str(), layout, text, out)
 }
@@ -80,10 +64,7 @@ pub(crate) fn diff_noted<O: Read + Drop, N: Read + Drop, W: Write, G: Progress>(
     new: N,
     out: &mut W,
     progress: &mut G,
-) -> Result<Done, ToolError>
-    ensures answers { AnswersDiffByKind terms.target (text_of filter.entry) terms.relation quiet old_path.now new_path.now (O.remaining old) (N.remaining new) result (W.contents out.old) (W.contents out.new) }
-    ensures unwritten { IfErr result (λ e. KeepsOutput e out.old out.new) }
-{
+) -> Result<Done, ToolError> {
     let text = policy_text(alloc, old)?;
     let old = text.as_slice();
     if is_taken_for_profile(alloc, old, filter)? {
@@ -102,10 +83,7 @@ fn diff_plain<N: Read + Drop, W: Write, G: Progress>(
     new: N,
     out: &mut W,
     progress: &mut G,
-) -> Result<Done, ToolError>
-    ensures answers { AnswersFound (λ found. AnswersDiffProfiles terms.target kinds.plain_container terms.relation (Some old.now) (N.remaining new) found (W.contents out.old) (W.contents out.new)) result }
-    ensures unwritten { IfErr result (λ e. KeepsOutput e out.old out.new) }
-{
+) -> Result<Done, ToolError> {
     let container = plain_container(alloc);
     found(
         alloc,
@@ -136,10 +114,7 @@ fn diff_policies<N: Read + Drop, W: Write, G: Progress>(
     new: N,
     out: &mut W,
     progress: &mut G,
-) -> Result<Done, ToolError>
-    ensures answers { AnswersDiffNoted terms.target (text_of filter.entry) terms.relation quiet old_path.now new_path.now (Some old.now) (N.remaining new) result (W.contents out.old) (W.contents out.new) }
-    ensures unwritten { IfErr result (λ e. KeepsOutput e out.old out.new) }
-{
+) -> Result<Done, ToolError> {
     let arch = terms.target;
     let new_text = text_of_new(alloc, arch, old, new)?;
     let to = new_text.as_slice();
@@ -164,10 +139,7 @@ fn text_of_new<N: Read + Drop>(
     arch: TargetArch,
     old: &[u8],
     new: N,
-) -> Result<Vec<u8>, ToolError>
-    ensures text { IfOk result (λ text. IfSome (N.remaining new) (λ known. text.items ≡ known)) }
-    ensures refused { (asked before after : Option (List ℕ)) (relation : spec.Relation) → IfErr result (λ e. AnswersDiff (arch_text arch) asked relation (Some old.now) (N.remaining new) (Err e) before after) }
-{
+) -> Result<Vec<u8>, ToolError> {
     match policy_text(alloc, new) {
         Ok(text) => Ok(text),
         Err(refusal) => {

@@ -1,10 +1,5 @@
 // A command, carried out on what is opened for it.
 
-ghost use Rattle.std.specs.Prelude.{IfErr, Some};
-ghost use Rattle.seccomptool.specs.Commands.{AnswersCommand, AnswersExplainProfileOn, AnswersExplained, AnswersExplainedByKind, AnswersExplainedOn, AnswersRunOn, AnswersShown, AnswersStatsByKind};
-ghost use Rattle.seccomptool.specs.Errors.{KeepsOutput};
-ghost use Rattle.seccomptool.specs.Words.{text_of};
-
 use crate::check::given::check_given;
 use crate::check::profile::check_profile;
 use crate::chosen::chosen_name;
@@ -59,11 +54,7 @@ pub fn perform<P: Read + Drop, R: Read + Drop, W: Write, G: Progress>(
     records: R,
     out: &mut W,
     progress: &mut G,
-) -> Result<Done, ToolError>
-    // When each answer comes, and what is written.
-    ensures answers { AnswersCommand command.entry (P.remaining policy) (R.remaining records) result (W.contents out.old) (W.contents out.new) }
-    ensures unwritten { IfErr result (λ e. KeepsOutput e out.old out.new) }
-{
+) -> Result<Done, ToolError> {
     match command {
         Command::Compile {
             arch,
@@ -204,10 +195,7 @@ fn show_asked<P: Read + Drop, W: Write>(
     shown: Shown<'_>,
     given: P,
     out: &mut W,
-) -> Result<(), ToolError>
-    ensures answers { AnswersShown shown.entry arch layout (P.remaining given) result }
-    ensures unwritten { IfErr result (λ e. KeepsOutput e out.old out.new) }
-{
+) -> Result<(), ToolError> {
     match shown {
         Shown::Policy(_) => show(alloc, arch.name(), layout, given, out),
         Shown::Program(_) => show_program(alloc, arch, given, out),
@@ -224,10 +212,7 @@ fn explain_asked<P: Read + Drop, R: Read + Drop, W: Write>(
     policy: P,
     records: R,
     out: &mut W,
-) -> Result<(), ToolError>
-    ensures answers { AnswersExplainedOn asked.entry arch (text_of filter.entry) format (P.remaining policy) (R.remaining records) result (W.contents out.old) (W.contents out.new) }
-    ensures unwritten { IfErr result (λ e. KeepsOutput e out.old out.new) }
-{
+) -> Result<(), ToolError> {
     match asked {
         Records::In(_) => explain_records(alloc, arch, filter, format, policy, records, out),
         Records::Call { call, arguments } => {
@@ -246,10 +231,7 @@ fn explain_records<P: Read + Drop, R: Read + Drop, W: Write>(
     given: P,
     records: R,
     out: &mut W,
-) -> Result<(), ToolError>
-    ensures answers { AnswersExplainedByKind arch (text_of filter.entry) format (P.remaining given) (R.remaining records) result (W.contents out.old) (W.contents out.new) }
-    ensures unwritten { IfErr result (λ e. KeepsOutput e out.old out.new) }
-{
+) -> Result<(), ToolError> {
     let text = policy_text(alloc, given)?;
     let text = text.as_slice();
     if is_taken_for_profile(alloc, text, filter)? {
@@ -268,10 +250,7 @@ fn explain_filter<R: Read + Drop, W: Write>(
     text: &[u8],
     records: R,
     out: &mut W,
-) -> Result<(), ToolError>
-    ensures answers { AnswersExplained arch (text_of filter.entry) format (Some text.now) (R.remaining records) result (W.contents out.old) (W.contents out.new) }
-    ensures unwritten { IfErr result (λ e. KeepsOutput e out.old out.new) }
-{
+) -> Result<(), ToolError> {
     let name = chosen_name(alloc, text, filter)?;
     explain(
         alloc,
@@ -290,10 +269,7 @@ fn stats_by_kind<P: Read + Drop, W: Write>(
     arch: TargetArch,
     given: P,
     out: &mut W,
-) -> Result<(), ToolError>
-    ensures answers { AnswersStatsByKind arch (P.remaining given) result (W.contents out.old) (W.contents out.new) }
-    ensures unwritten { IfErr result (λ e. KeepsOutput e out.old out.new) }
-{
+) -> Result<(), ToolError> {
     let text = policy_text(alloc, given)?;
     let text = text.as_slice();
     if is_taken_for_profile(alloc, text, None)? {
@@ -313,10 +289,7 @@ fn explain_profile_asked<P: Read + Drop, R: Read + Drop, W: Write>(
     profile: P,
     records: R,
     out: &mut W,
-) -> Result<(), ToolError>
-    ensures answers { AnswersExplainProfileOn asked.entry format arch container.now (P.remaining profile) (R.remaining records) result (W.contents out.old) (W.contents out.new) }
-    ensures unwritten { IfErr result (λ e. KeepsOutput e out.old out.new) }
-{
+) -> Result<(), ToolError> {
     match asked {
         Records::In(_) => explain_profile(alloc, format, arch, container, profile, records, out),
         Records::Call { call, arguments } => {
@@ -342,10 +315,7 @@ fn run_asked<P: Read + Drop, R: Read + Drop, W: Write>(
     program: P,
     records: R,
     out: &mut W,
-) -> Result<(), ToolError>
-    ensures answers { AnswersRunOn asked.entry arch (P.remaining program) (R.remaining records) result (W.contents out.old) (W.contents out.new) }
-    ensures unwritten { IfErr result (λ e. KeepsOutput e out.old out.new) }
-{
+) -> Result<(), ToolError> {
     match asked {
         Records::In(_) => run(alloc, program, records, out),
         Records::Call { call, arguments } => {

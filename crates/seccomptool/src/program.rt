@@ -1,11 +1,5 @@
 // What `clap` is told of the command line.
 
-ghost use Rattle.std.specs.Prelude.{◌≡◌, IfOk, false};
-ghost use Rattle.clap.specs.Words.{App, Rule, app_of, new_app, rule_of, with_rule, with_subcommand};
-ghost use Rattle.clap.specs.declared.builder.command.Command.TheViews.{out-Command};
-ghost use Rattle.seccomptool.specs.CommandLine.{check_app, compile_app, deciding_app, diff_app, explain_app, import_app, policy_app, program_app, record_app, run_app, show_app, stats_app, top_app, verify_app};
-ghost use Rattle.seccomptool.specs.ProgramParts.{Makes};
-
 pub mod names;
 mod options;
 
@@ -36,9 +30,7 @@ const IMPORT: &str = "Print a container runtime's seccomp profile as a policy or
 /// The subcommands and their arguments, with the names that the options take.
 ///
 /// The arguments that it reads are those behind the program's own name.
-pub(crate) fn program<'a>(alloc: Global, names: Names<'a>) -> Result<Command<'a>, AllocError>
-    ensures app { IfOk result (λ c. app_of c ≡ program_app names.entry) }
-{
+pub(crate) fn program<'a>(alloc: Global, names: Names<'a>) -> Result<Command<'a>, AllocError> {
     let archs = names.archs;
     let command = deciding(alloc, names);
     let command = beside(command, stats(alloc, archs));
@@ -50,9 +42,7 @@ pub(crate) fn program<'a>(alloc: Global, names: Names<'a>) -> Result<Command<'a>
 }
 
 // The program with the commands that are of what a policy decides.
-fn deciding<'a>(alloc: Global, names: Names<'a>) -> Result<Command<'a>, AllocError>
-    ensures { IfOk result (λ c. app_of c ≡ deciding_app names.entry) }
-{
+fn deciding<'a>(alloc: Global, names: Names<'a>) -> Result<Command<'a>, AllocError> {
     let archs = names.archs;
     let command = top(alloc);
     let command = beside(
@@ -65,9 +55,7 @@ fn deciding<'a>(alloc: Global, names: Names<'a>) -> Result<Command<'a>, AllocErr
     beside(command, run(alloc, archs))
 }
 
-fn top<'a>(alloc: Global) -> Result<Command<'a>, AllocError>
-    ensures { IfOk result (λ c. app_of c ≡ top_app) }
-{
+fn top<'a>(alloc: Global) -> Result<Command<'a>, AllocError> {
     let named = Command::new(alloc, "seccomptool").bin_name("seccomptool")?;
     Ok(
         named
@@ -81,9 +69,7 @@ fn top<'a>(alloc: Global) -> Result<Command<'a>, AllocError>
 }
 
 // A command of this name, without arguments.
-fn begun<'a>(alloc: Global, name: &'a str, about: &'a str) -> Result<Command<'a>, AllocError>
-    ensures { Makes (new_app name.entry.now) result }
-{
+fn begun<'a>(alloc: Global, name: &'a str, about: &'a str) -> Result<Command<'a>, AllocError> {
     Ok(Command::new(alloc, name).about(about))
 }
 
@@ -91,9 +77,7 @@ fn begun<'a>(alloc: Global, name: &'a str, about: &'a str) -> Result<Command<'a>
 fn with<'a>(
     command: Result<Command<'a>, AllocError>,
     arg: Arg<'a>,
-) -> Result<Command<'a>, AllocError>
-    ensures { (app : App) (rule : Rule) → Makes app command.entry → rule_of arg.entry ≡ rule → arg.entry.global ≡ false → Makes (with_rule app rule) result }
-{
+) -> Result<Command<'a>, AllocError> {
     let command = command?;
     command.arg(arg)
 }
@@ -102,9 +86,7 @@ fn with<'a>(
 fn beside<'a>(
     command: Result<Command<'a>, AllocError>,
     subcommand: Result<Command<'a>, AllocError>,
-) -> Result<Command<'a>, AllocError>
-    ensures { (app inner : App) → IfOk command.entry (λ c. app_of c ≡ app) → Makes inner subcommand.entry → IfOk result (λ c. app_of c ≡ with_subcommand app inner.top) }
-{
+) -> Result<Command<'a>, AllocError> {
     let command = command?;
     command.subcommand(subcommand?)
 }
@@ -114,10 +96,7 @@ fn compile<'a>(
     archs: &'a [&'a str],
     layouts: &'a [&'a str],
     formats: &'a [&'a str],
-) -> Result<Command<'a>, AllocError>
-    ensures app { IfOk result (λ c. app_of c ≡ compile_app archs.entry layouts.entry formats.entry) }
-    ensures local { IfOk result (λ c. (out-Command c).has_globals ≡ false) }
-{
+) -> Result<Command<'a>, AllocError> {
     let command = begun(alloc, "compile", "Write the program of a filter");
     let command = with(command, arch(alloc, archs));
     let command = with(command, filter(alloc));
@@ -132,10 +111,7 @@ fn show<'a>(
     alloc: Global,
     archs: &'a [&'a str],
     layouts: &'a [&'a str],
-) -> Result<Command<'a>, AllocError>
-    ensures app { IfOk result (λ c. app_of c ≡ show_app archs.entry layouts.entry) }
-    ensures local { IfOk result (λ c. (out-Command c).has_globals ≡ false) }
-{
+) -> Result<Command<'a>, AllocError> {
     let command = begun(
         alloc,
         "show",
@@ -151,10 +127,7 @@ fn check<'a>(
     alloc: Global,
     archs: &'a [&'a str],
     codes: &'a [&'a str],
-) -> Result<Command<'a>, AllocError>
-    ensures app { IfOk result (λ c. app_of c ≡ check_app archs.entry codes.entry) }
-    ensures local { IfOk result (λ c. (out-Command c).has_globals ≡ false) }
-{
+) -> Result<Command<'a>, AllocError> {
     let command = begun(
         alloc,
         "check",
@@ -176,10 +149,7 @@ fn of_policy<'a>(
     name: &'a str,
     about: &'a str,
     archs: &'a [&'a str],
-) -> Result<Command<'a>, AllocError>
-    ensures app { IfOk result (λ c. app_of c ≡ policy_app name.entry.now archs.entry) }
-    ensures local { IfOk result (λ c. (out-Command c).has_globals ≡ false) }
-{
+) -> Result<Command<'a>, AllocError> {
     let command = begun(alloc, name, about);
     let command = with(command, arch(alloc, archs));
     with(command, policy(alloc))
@@ -189,10 +159,7 @@ fn explain<'a>(
     alloc: Global,
     archs: &'a [&'a str],
     formats: &'a [&'a str],
-) -> Result<Command<'a>, AllocError>
-    ensures app { IfOk result (λ c. app_of c ≡ explain_app archs.entry formats.entry) }
-    ensures local { IfOk result (λ c. (out-Command c).has_globals ≡ false) }
-{
+) -> Result<Command<'a>, AllocError> {
     let command = begun(
         alloc,
         "explain",
@@ -210,10 +177,7 @@ fn explain<'a>(
     with(command, arguments(alloc))
 }
 
-fn run<'a>(alloc: Global, archs: &'a [&'a str]) -> Result<Command<'a>, AllocError>
-    ensures app { IfOk result (λ c. app_of c ≡ run_app archs.entry) }
-    ensures local { IfOk result (λ c. (out-Command c).has_globals ≡ false) }
-{
+fn run<'a>(alloc: Global, archs: &'a [&'a str]) -> Result<Command<'a>, AllocError> {
     let command = begun(alloc, "run", "Print what a program returns for calls");
     let command = with(command, arch(alloc, archs));
     let command = with(command, records(alloc));
@@ -222,10 +186,7 @@ fn run<'a>(alloc: Global, archs: &'a [&'a str]) -> Result<Command<'a>, AllocErro
     with(command, arguments(alloc))
 }
 
-fn stats<'a>(alloc: Global, archs: &'a [&'a str]) -> Result<Command<'a>, AllocError>
-    ensures app { IfOk result (λ c. app_of c ≡ stats_app archs.entry) }
-    ensures local { IfOk result (λ c. (out-Command c).has_globals ≡ false) }
-{
+fn stats<'a>(alloc: Global, archs: &'a [&'a str]) -> Result<Command<'a>, AllocError> {
     let command = begun(
         alloc,
         "stats",
@@ -238,10 +199,7 @@ fn stats<'a>(alloc: Global, archs: &'a [&'a str]) -> Result<Command<'a>, AllocEr
     with(command, policy(alloc))
 }
 
-fn record<'a>(alloc: Global, archs: &'a [&'a str]) -> Result<Command<'a>, AllocError>
-    ensures app { IfOk result (λ c. app_of c ≡ record_app archs.entry) }
-    ensures local { IfOk result (λ c. (out-Command c).has_globals ≡ false) }
-{
+fn record<'a>(alloc: Global, archs: &'a [&'a str]) -> Result<Command<'a>, AllocError> {
     let command = begun(
         alloc,
         "record",
@@ -252,10 +210,7 @@ fn record<'a>(alloc: Global, archs: &'a [&'a str]) -> Result<Command<'a>, AllocE
     with(command, arguments(alloc))
 }
 
-fn diff<'a>(alloc: Global, archs: &'a [&'a str]) -> Result<Command<'a>, AllocError>
-    ensures app { IfOk result (λ c. app_of c ≡ diff_app archs.entry) }
-    ensures local { IfOk result (λ c. (out-Command c).has_globals ≡ false) }
-{
+fn diff<'a>(alloc: Global, archs: &'a [&'a str]) -> Result<Command<'a>, AllocError> {
     let command = begun(
         alloc,
         "diff",
@@ -277,10 +232,7 @@ fn import<'a>(
     alloc: Global,
     archs: &'a [&'a str],
     formats: &'a [&'a str],
-) -> Result<Command<'a>, AllocError>
-    ensures app { IfOk result (λ c. app_of c ≡ import_app archs.entry formats.entry) }
-    ensures local { IfOk result (λ c. (out-Command c).has_globals ≡ false) }
-{
+) -> Result<Command<'a>, AllocError> {
     let command = begun(alloc, "import", IMPORT);
     let command = with(command, arch(alloc, archs));
     let command = with(command, cap(alloc));
@@ -290,10 +242,7 @@ fn import<'a>(
     with(command, profile(alloc))
 }
 
-fn verify<'a>(alloc: Global, archs: &'a [&'a str]) -> Result<Command<'a>, AllocError>
-    ensures app { IfOk result (λ c. app_of c ≡ verify_app archs.entry) }
-    ensures local { IfOk result (λ c. (out-Command c).has_globals ≡ false) }
-{
+fn verify<'a>(alloc: Global, archs: &'a [&'a str]) -> Result<Command<'a>, AllocError> {
     let command = begun(
         alloc,
         "verify",

@@ -1,8 +1,5 @@
 // The words that the program is called with.
 
-ghost use Rattle.std.specs.Prelude.{◌≡◌, IfOk, IfErr, map, string_bytes};
-ghost use Rattle.seccomptool.specs.Words.{Choices, Means, IsFault, IsOwn};
-
 mod arguments;
 mod checks;
 mod codes;
@@ -325,11 +322,7 @@ pub enum Records<'a> {
 /// `check`, `diff`, `explain` or `stats` is given `--cap` or `--kernel` without `--oci`, or both `--oci` and `--filter`, and where
 /// two files would both be read from standard input: policy and records, program and records, policy and program, or both policies
 /// or profiles of `diff`. `OutOfMemory` may come in place of any.
-pub(crate) fn read<'a>(alloc: Global, words: &'a [String]) -> Result<Asked<'a>, clap::Error>
-    // With the names that the options take.
-    ensures { (choices : Choices) × IfOk result (Means choices (map string_bytes words.now))
-        × IfErr result (IsFault choices (map string_bytes words.now)) }
-{
+pub(crate) fn read<'a>(alloc: Global, words: &'a [String]) -> Result<Asked<'a>, clap::Error> {
     let mut program = program(alloc, all_names())?;
     let matches = match program.try_get_matches_from_mut(words) {
         Ok(matches) => matches,
@@ -345,9 +338,7 @@ pub(crate) fn read<'a>(alloc: Global, words: &'a [String]) -> Result<Asked<'a>, 
 }
 
 // The error of words that clap takes and that are no command.
-fn misused(program: &mut clap::Command<'_>, message: &str) -> clap::Error
-    ensures { IsOwn result }
-{
+fn misused(program: &mut clap::Command<'_>, message: &str) -> clap::Error {
     match program.error(ErrorKind::ValueValidation, message) {
         Ok(error) => error,
         Err(error) => clap::Error::from(error),

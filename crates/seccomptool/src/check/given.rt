@@ -1,11 +1,5 @@
 // The warnings of what is given, a policy or a profile.
 
-ghost use Rattle.std.specs.Prelude.{IfErr, Some};
-ghost use Rattle.seccompiler.specs.Architecture.{arch_text};
-ghost use Rattle.seccomptool.specs.Check.{AnswersCheck};
-ghost use Rattle.seccomptool.specs.Commands.{AnswersCheckByKind, AnswersFound};
-ghost use Rattle.seccomptool.specs.Errors.{KeepsOutput};
-
 use crate::check::check;
 use crate::check::profile::check_profile;
 use crate::done::{Done, found};
@@ -27,10 +21,7 @@ pub(crate) fn check_given<R: Read + Drop, W: Write>(
     path: &str,
     given: R,
     out: &mut W,
-) -> Result<Done, ToolError>
-    ensures answers { AnswersCheckByKind arch denied allowed.now path.now (R.remaining given) result (W.contents out.old) (W.contents out.new) }
-    ensures unwritten { IfErr result (λ e. KeepsOutput e out.old out.new) }
-{
+) -> Result<Done, ToolError> {
     let text = policy_text(alloc, given)?;
     let text = text.as_slice();
     if is_taken_for_profile(alloc, text, None)? {
@@ -49,10 +40,7 @@ fn check_policy<W: Write>(
     path: &str,
     text: &[u8],
     out: &mut W,
-) -> Result<Done, ToolError>
-    ensures answers { AnswersFound (λ found. AnswersCheck (arch_text arch) denied allowed.now path.now (Some text.now) found (W.contents out.old) (W.contents out.new)) result }
-    ensures unwritten { IfErr result (λ e. KeepsOutput e out.old out.new) }
-{
+) -> Result<Done, ToolError> {
     found(
         alloc,
         check(alloc, arch.name(), denied, allowed, path, text, out),

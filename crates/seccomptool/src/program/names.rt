@@ -1,7 +1,5 @@
 // The names that the options take.
 
-ghost use Rattle.seccomptool.specs.CommandLine.{AreNames};
-
 static ARCHITECTURES: [&str; 5] = ["x86_64", "aarch64", "riscv64", "amd64", "arm64"];
 
 static LAYOUTS: [&str; 2] = ["linear", "tree"];
@@ -48,9 +46,7 @@ pub struct Names<'a> {
 }
 
 /// The names that the options take.
-pub(crate) fn all_names() -> Names<'static>
-    ensures { AreNames result }
-{
+pub(crate) fn all_names() -> Names<'static> {
     Names {
         archs: ARCHITECTURES.as_slice(),
         layouts: LAYOUTS.as_slice(),

@@ -1,19 +1,12 @@
 // The options and arguments of the commands, as `clap` is told of them.
 
-ghost use Rattle.std.specs.Prelude.{◌≡◌, false};
-ghost use Rattle.clap.specs.Words.{rule_of};
-ghost use Rattle.seccomptool.specs.CommandLine.{all_rule, allow_rule, arch_rule, arguments_rule, at_most_rule, call_rule, cap_rule, deny_warnings_rule, filter_rule, format_rule, given_call_rule, given_policy_rule, import_format_rule, kernel_rule, layout_rule, line_format_rule, list_rule, most_rule, new_policy_rule, oci_rule, old_rule, output_rule, policies_rule, policy_rule, profile_rule, program_rule, quiet_rule, records_rule, shown_policy_rule, shown_program_rule, strict_rule};
-
 mod kinds;
 
 use crate::program::options::kinds::{choice, flag, given, input, place, value};
 use clap::{Arg, ArgAction};
 use std::alloc::Global;
 
-pub(super) fn arch<'a>(alloc: Global, archs: &'a [&'a str]) -> Arg<'a>
-    ensures rule { rule_of result ≡ arch_rule archs.entry }
-    ensures local { result.global ≡ false }
-{
+pub(super) fn arch<'a>(alloc: Global, archs: &'a [&'a str]) -> Arg<'a> {
     Arg::new(alloc, "arch")
         .short('a')
         .long("arch")
@@ -23,10 +16,7 @@ pub(super) fn arch<'a>(alloc: Global, archs: &'a [&'a str]) -> Arg<'a>
         .help("The architecture")
 }
 
-pub(super) fn filter<'a>(alloc: Global) -> Arg<'a>
-    ensures rule { rule_of result ≡ filter_rule }
-    ensures local { result.global ≡ false }
-{
+pub(super) fn filter<'a>(alloc: Global) -> Arg<'a> {
     Arg::new(alloc, "filter")
         .short('f')
         .long("filter")
@@ -34,10 +24,7 @@ pub(super) fn filter<'a>(alloc: Global) -> Arg<'a>
         .help("The filter's name; it may be left out where the policy has one filter")
 }
 
-pub(super) fn compared_filter<'a>(alloc: Global) -> Arg<'a>
-    ensures rule { rule_of result ≡ filter_rule }
-    ensures local { result.global ≡ false }
-{
+pub(super) fn compared_filter<'a>(alloc: Global) -> Arg<'a> {
     Arg::new(alloc, "filter")
         .short('f')
         .long("filter")
@@ -45,10 +32,7 @@ pub(super) fn compared_filter<'a>(alloc: Global) -> Arg<'a>
         .help("The name of the filter that is compared; all filters where it isn't given")
 }
 
-pub(super) fn layout<'a>(alloc: Global, layouts: &'a [&'a str]) -> Arg<'a>
-    ensures rule { rule_of result ≡ layout_rule layouts.entry }
-    ensures local { result.global ≡ false }
-{
+pub(super) fn layout<'a>(alloc: Global, layouts: &'a [&'a str]) -> Arg<'a> {
     choice(
         alloc,
         "layout",
@@ -59,10 +43,7 @@ pub(super) fn layout<'a>(alloc: Global, layouts: &'a [&'a str]) -> Arg<'a>
     )
 }
 
-pub(super) fn format<'a>(alloc: Global, formats: &'a [&'a str]) -> Arg<'a>
-    ensures rule { rule_of result ≡ format_rule formats.entry }
-    ensures local { result.global ≡ false }
-{
+pub(super) fn format<'a>(alloc: Global, formats: &'a [&'a str]) -> Arg<'a> {
     choice(
         alloc,
         "format",
@@ -73,10 +54,7 @@ pub(super) fn format<'a>(alloc: Global, formats: &'a [&'a str]) -> Arg<'a>
     )
 }
 
-pub(super) fn line_format<'a>(alloc: Global, formats: &'a [&'a str]) -> Arg<'a>
-    ensures rule { rule_of result ≡ line_format_rule formats.entry }
-    ensures local { result.global ≡ false }
-{
+pub(super) fn line_format<'a>(alloc: Global, formats: &'a [&'a str]) -> Arg<'a> {
     choice(
         alloc,
         "format",
@@ -87,10 +65,7 @@ pub(super) fn line_format<'a>(alloc: Global, formats: &'a [&'a str]) -> Arg<'a>
     )
 }
 
-pub(super) fn import_format<'a>(alloc: Global, formats: &'a [&'a str]) -> Arg<'a>
-    ensures rule { rule_of result ≡ import_format_rule formats.entry }
-    ensures local { result.global ≡ false }
-{
+pub(super) fn import_format<'a>(alloc: Global, formats: &'a [&'a str]) -> Arg<'a> {
     choice(
         alloc,
         "format",
@@ -101,10 +76,7 @@ pub(super) fn import_format<'a>(alloc: Global, formats: &'a [&'a str]) -> Arg<'a
     )
 }
 
-pub(super) fn quiet<'a>(alloc: Global) -> Arg<'a>
-    ensures rule { rule_of result ≡ quiet_rule }
-    ensures local { result.global ≡ false }
-{
+pub(super) fn quiet<'a>(alloc: Global) -> Arg<'a> {
     Arg::new(alloc, "quiet")
         .short('q')
         .long("quiet")
@@ -112,10 +84,7 @@ pub(super) fn quiet<'a>(alloc: Global) -> Arg<'a>
         .help("Don't print how many warnings there are")
 }
 
-pub(super) fn output<'a>(alloc: Global) -> Arg<'a>
-    ensures rule { rule_of result ≡ output_rule }
-    ensures local { result.global ≡ false }
-{
+pub(super) fn output<'a>(alloc: Global) -> Arg<'a> {
     Arg::new(alloc, "output")
         .short('o')
         .long("output")
@@ -123,10 +92,7 @@ pub(super) fn output<'a>(alloc: Global) -> Arg<'a>
         .help("Where the program goes, in place of standard output")
 }
 
-pub(super) fn records<'a>(alloc: Global) -> Arg<'a>
-    ensures rule { rule_of result ≡ records_rule }
-    ensures local { result.global ≡ false }
-{
+pub(super) fn records<'a>(alloc: Global) -> Arg<'a> {
     value(
         alloc,
         "records",
@@ -135,10 +101,7 @@ pub(super) fn records<'a>(alloc: Global) -> Arg<'a>
     )
 }
 
-pub(super) fn at_most<'a>(alloc: Global) -> Arg<'a>
-    ensures rule { rule_of result ≡ at_most_rule }
-    ensures local { result.global ≡ false }
-{
+pub(super) fn at_most<'a>(alloc: Global) -> Arg<'a> {
     flag(
         alloc,
         "at-most",
@@ -146,10 +109,7 @@ pub(super) fn at_most<'a>(alloc: Global) -> Arg<'a>
     )
 }
 
-pub(super) fn all<'a>(alloc: Global) -> Arg<'a>
-    ensures rule { rule_of result ≡ all_rule }
-    ensures local { result.global ≡ false }
-{
+pub(super) fn all<'a>(alloc: Global) -> Arg<'a> {
     flag(
         alloc,
         "all",
@@ -157,10 +117,7 @@ pub(super) fn all<'a>(alloc: Global) -> Arg<'a>
     )
 }
 
-pub(super) fn deny_warnings<'a>(alloc: Global) -> Arg<'a>
-    ensures rule { rule_of result ≡ deny_warnings_rule }
-    ensures local { result.global ≡ false }
-{
+pub(super) fn deny_warnings<'a>(alloc: Global) -> Arg<'a> {
     flag(
         alloc,
         "deny-warnings",
@@ -168,10 +125,7 @@ pub(super) fn deny_warnings<'a>(alloc: Global) -> Arg<'a>
     )
 }
 
-pub(super) fn allow<'a>(alloc: Global, codes: &'a [&'a str]) -> Arg<'a>
-    ensures rule { rule_of result ≡ allow_rule codes.entry }
-    ensures local { result.global ≡ false }
-{
+pub(super) fn allow<'a>(alloc: Global, codes: &'a [&'a str]) -> Arg<'a> {
     Arg::new(alloc, "allow")
         .long("allow")
         .value_name("CODE")
@@ -180,10 +134,7 @@ pub(super) fn allow<'a>(alloc: Global, codes: &'a [&'a str]) -> Arg<'a>
         .help("Don't print the warnings of this code")
 }
 
-pub(super) fn list<'a>(alloc: Global) -> Arg<'a>
-    ensures rule { rule_of result ≡ list_rule }
-    ensures local { result.global ≡ false }
-{
+pub(super) fn list<'a>(alloc: Global) -> Arg<'a> {
     flag(
         alloc,
         "list",
@@ -191,10 +142,7 @@ pub(super) fn list<'a>(alloc: Global) -> Arg<'a>
     )
 }
 
-pub(super) fn most<'a>(alloc: Global) -> Arg<'a>
-    ensures rule { rule_of result ≡ most_rule }
-    ensures local { result.global ≡ false }
-{
+pub(super) fn most<'a>(alloc: Global) -> Arg<'a> {
     Arg::new(alloc, "most")
         .long("most")
         .value_name("N")
@@ -202,10 +150,7 @@ pub(super) fn most<'a>(alloc: Global) -> Arg<'a>
         .help("How many sets of arguments are looked at, at most, for each call")
 }
 
-pub(super) fn oci<'a>(alloc: Global) -> Arg<'a>
-    ensures rule { rule_of result ≡ oci_rule }
-    ensures local { result.global ≡ false }
-{
+pub(super) fn oci<'a>(alloc: Global) -> Arg<'a> {
     flag(
         alloc,
         "oci",
@@ -213,10 +158,7 @@ pub(super) fn oci<'a>(alloc: Global) -> Arg<'a>
     )
 }
 
-pub(super) fn policies_oci<'a>(alloc: Global) -> Arg<'a>
-    ensures rule { rule_of result ≡ oci_rule }
-    ensures local { result.global ≡ false }
-{
+pub(super) fn policies_oci<'a>(alloc: Global) -> Arg<'a> {
     flag(
         alloc,
         "oci",
@@ -224,10 +166,7 @@ pub(super) fn policies_oci<'a>(alloc: Global) -> Arg<'a>
     )
 }
 
-pub(super) fn cap<'a>(alloc: Global) -> Arg<'a>
-    ensures rule { rule_of result ≡ cap_rule }
-    ensures local { result.global ≡ false }
-{
+pub(super) fn cap<'a>(alloc: Global) -> Arg<'a> {
     Arg::new(alloc, "cap")
         .long("cap")
         .value_name("CAP")
@@ -235,10 +174,7 @@ pub(super) fn cap<'a>(alloc: Global) -> Arg<'a>
         .help("A capability that the container has, as CAP_SYS_ADMIN")
 }
 
-pub(super) fn kernel<'a>(alloc: Global) -> Arg<'a>
-    ensures rule { rule_of result ≡ kernel_rule }
-    ensures local { result.global ≡ false }
-{
+pub(super) fn kernel<'a>(alloc: Global) -> Arg<'a> {
     value(
         alloc,
         "kernel",
@@ -247,10 +183,7 @@ pub(super) fn kernel<'a>(alloc: Global) -> Arg<'a>
     )
 }
 
-pub(super) fn strict<'a>(alloc: Global) -> Arg<'a>
-    ensures rule { rule_of result ≡ strict_rule }
-    ensures local { result.global ≡ false }
-{
+pub(super) fn strict<'a>(alloc: Global) -> Arg<'a> {
     flag(
         alloc,
         "strict",
@@ -258,10 +191,7 @@ pub(super) fn strict<'a>(alloc: Global) -> Arg<'a>
     )
 }
 
-pub(super) fn profile<'a>(alloc: Global) -> Arg<'a>
-    ensures rule { rule_of result ≡ profile_rule }
-    ensures local { result.global ≡ false }
-{
+pub(super) fn profile<'a>(alloc: Global) -> Arg<'a> {
     input(
         alloc,
         "profile",
@@ -270,10 +200,7 @@ pub(super) fn profile<'a>(alloc: Global) -> Arg<'a>
     )
 }
 
-pub(super) fn old<'a>(alloc: Global) -> Arg<'a>
-    ensures rule { rule_of result ≡ old_rule }
-    ensures local { result.global ≡ false }
-{
+pub(super) fn old<'a>(alloc: Global) -> Arg<'a> {
     given(
         alloc,
         "old",
@@ -282,10 +209,7 @@ pub(super) fn old<'a>(alloc: Global) -> Arg<'a>
     )
 }
 
-pub(super) fn new_policy<'a>(alloc: Global) -> Arg<'a>
-    ensures rule { rule_of result ≡ new_policy_rule }
-    ensures local { result.global ≡ false }
-{
+pub(super) fn new_policy<'a>(alloc: Global) -> Arg<'a> {
     given(
         alloc,
         "new",
@@ -294,10 +218,7 @@ pub(super) fn new_policy<'a>(alloc: Global) -> Arg<'a>
     )
 }
 
-pub(super) fn policy<'a>(alloc: Global) -> Arg<'a>
-    ensures rule { rule_of result ≡ policy_rule }
-    ensures local { result.global ≡ false }
-{
+pub(super) fn policy<'a>(alloc: Global) -> Arg<'a> {
     input(
         alloc,
         "policy",
@@ -306,19 +227,13 @@ pub(super) fn policy<'a>(alloc: Global) -> Arg<'a>
     )
 }
 
-pub(super) fn policies<'a>(alloc: Global) -> Arg<'a>
-    ensures rule { rule_of result ≡ policies_rule }
-    ensures local { result.global ≡ false }
-{
+pub(super) fn policies<'a>(alloc: Global) -> Arg<'a> {
     policy(alloc)
         .num_args(1..)
         .help("The policies' files, or - for standard input")
 }
 
-pub(super) fn shown_policy<'a>(alloc: Global) -> Arg<'a>
-    ensures rule { rule_of result ≡ shown_policy_rule }
-    ensures local { result.global ≡ false }
-{
+pub(super) fn shown_policy<'a>(alloc: Global) -> Arg<'a> {
     place(
         alloc,
         "policy",
@@ -327,10 +242,7 @@ pub(super) fn shown_policy<'a>(alloc: Global) -> Arg<'a>
     )
 }
 
-pub(super) fn shown_program<'a>(alloc: Global) -> Arg<'a>
-    ensures rule { rule_of result ≡ shown_program_rule }
-    ensures local { result.global ≡ false }
-{
+pub(super) fn shown_program<'a>(alloc: Global) -> Arg<'a> {
     value(
         alloc,
         "program",
@@ -339,10 +251,7 @@ pub(super) fn shown_program<'a>(alloc: Global) -> Arg<'a>
     )
 }
 
-pub(super) fn given_policy<'a>(alloc: Global) -> Arg<'a>
-    ensures rule { rule_of result ≡ given_policy_rule }
-    ensures local { result.global ≡ false }
-{
+pub(super) fn given_policy<'a>(alloc: Global) -> Arg<'a> {
     given(
         alloc,
         "policy",
@@ -351,10 +260,7 @@ pub(super) fn given_policy<'a>(alloc: Global) -> Arg<'a>
     )
 }
 
-pub(super) fn program_file<'a>(alloc: Global) -> Arg<'a>
-    ensures rule { rule_of result ≡ program_rule }
-    ensures local { result.global ≡ false }
-{
+pub(super) fn program_file<'a>(alloc: Global) -> Arg<'a> {
     given(
         alloc,
         "program",
@@ -363,24 +269,15 @@ pub(super) fn program_file<'a>(alloc: Global) -> Arg<'a>
     )
 }
 
-pub(super) fn call<'a>(alloc: Global) -> Arg<'a>
-    ensures rule { rule_of result ≡ call_rule }
-    ensures local { result.global ≡ false }
-{
+pub(super) fn call<'a>(alloc: Global) -> Arg<'a> {
     place(alloc, "call", "CALL", "The call's name or number")
 }
 
-pub(super) fn given_call<'a>(alloc: Global) -> Arg<'a>
-    ensures rule { rule_of result ≡ given_call_rule }
-    ensures local { result.global ≡ false }
-{
+pub(super) fn given_call<'a>(alloc: Global) -> Arg<'a> {
     given(alloc, "call", "CALL", "The call's name or number")
 }
 
-pub(super) fn arguments<'a>(alloc: Global) -> Arg<'a>
-    ensures rule { rule_of result ≡ arguments_rule }
-    ensures local { result.global ≡ false }
-{
+pub(super) fn arguments<'a>(alloc: Global) -> Arg<'a> {
     Arg::new(alloc, "arguments")
         .value_name("ARG")
         .num_args(0..=6)

@@ -1,15 +1,9 @@
 // The arguments of a call as words write them.
 
-ghost use Rattle.std.specs.Prelude.{◌≡◌, ◌+◌, ◌^◌, ◌<◌, ◌≤◌, ℕ, List, IfSome, IfNone, map};
-ghost use Rattle.seccomptool.specs.Words.{AreArguments, IsArgument};
-
 use crate::numbers::read_number;
 
 // The arguments that these texts write, with zeros behind them.
-pub(crate) fn read_arguments(texts: &[&str]) -> Option<[u64; 6]>
-    ensures read { IfSome result (AreArguments (map (λ t. t.now) texts.now)) }
-    ensures unread { IfNone result ((arguments : List ℕ) → AreArguments (map (λ t. t.now) texts.now) arguments → ⊥) }
-{
+pub(crate) fn read_arguments(texts: &[&str]) -> Option<[u64; 6]> {
     if texts.len() > 6 {
         return None;
     }
@@ -21,10 +15,7 @@ pub(crate) fn read_arguments(texts: &[&str]) -> Option<[u64; 6]>
 }
 
 // The argument that a text writes.
-fn read_argument(text: &str) -> Option<u64>
-    ensures read { IfSome result (IsArgument text.now) }
-    ensures unread { IfNone result ((n : ℕ) → IsArgument text.now n → ⊥) }
-{
+fn read_argument(text: &str) -> Option<u64> {
     match text.strip_prefix("-") {
         Some(digits) => negated(read_number(digits)?),
         None => read_number(text),
@@ -32,10 +23,7 @@ fn read_argument(text: &str) -> Option<u64>
 }
 
 // The two's complement of a number from 1 to 2^63.
-fn negated(number: u64) -> Option<u64>
-    ensures read { IfSome result (λ n. (0 < number) × (number ≤ 2 ^ 63) × (n + number ≡ 2 ^ 64)) }
-    ensures unread { IfNone result (0 < number → number ≤ 2 ^ 63 → ⊥) }
-{
+fn negated(number: u64) -> Option<u64> {
     if number == 0 || number > 1 << 63 {
         return None;
     }

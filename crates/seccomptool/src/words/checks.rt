@@ -1,11 +1,5 @@
 // The checks that clap's matches ask for, of policies or of profiles.
 
-ghost use Rattle.std.specs.Prelude.{IfNone, IfOk, IfSome, codes};
-ghost use Rattle.clap.specs.Words.{found_of, rows_of};
-ghost use Rattle.seccomptool.specs.Words.{IsAsked, IsListed};
-ghost use Rattle.seccomptool.specs.WordsParts.{AreChecks, AreProfileChecks};
-ghost use Rattle.seccomptool.specs.declared.words.Asked.{Asked};
-
 use super::Asked;
 use super::container::container_in;
 use super::matches::codes_in;
@@ -18,10 +12,7 @@ use std::alloc::{AllocError, Global};
 pub(super) fn checks_in<'a>(
     alloc: Global,
     found: &ArgMatches<'a>,
-) -> Result<Option<Asked<'a>>, AllocError>
-    ensures some { IfOk result (λ o. IfSome o (IsAsked (codes "check") (rows_of (found_of found.now)))) }
-    ensures none { IfOk result (λ o. IfNone o ((asked : Asked) → IsAsked (codes "check") (rows_of (found_of found.now)) asked → ⊥)) }
-{
+) -> Result<Option<Asked<'a>>, AllocError> {
     if let Some(command) = codes_in(found) {
         return Ok(Some(Asked::One(command)));
     }
@@ -35,11 +26,7 @@ pub(super) fn checks_in<'a>(
 fn policy_checks_in<'a>(
     alloc: Global,
     found: &ArgMatches<'a>,
-) -> Result<Option<Asked<'a>>, AllocError>
-    requires { IsListed (rows_of (found_of found.now)) → ⊥ }
-    ensures some { IfOk result (λ o. IfSome o (AreChecks (rows_of (found_of found.now)))) }
-    ensures none { IfOk result (λ o. IfNone o ((asked : Asked) → AreChecks (rows_of (found_of found.now)) asked → ⊥)) }
-{
+) -> Result<Option<Asked<'a>>, AllocError> {
     if !is_no_profile(found) {
         return Ok(None);
     }
@@ -62,11 +49,7 @@ fn policy_checks_in<'a>(
 fn profile_checks_in<'a>(
     alloc: Global,
     found: &ArgMatches<'a>,
-) -> Result<Option<Asked<'a>>, AllocError>
-    requires { IsListed (rows_of (found_of found.now)) → ⊥ }
-    ensures some { IfOk result (λ o. IfSome o (AreProfileChecks (rows_of (found_of found.now)))) }
-    ensures none { IfOk result (λ o. IfNone o ((asked : Asked) → AreProfileChecks (rows_of (found_of found.now)) asked → ⊥)) }
-{
+) -> Result<Option<Asked<'a>>, AllocError> {
     if !is_profile(found) {
         return Ok(None);
     }

@@ -1,11 +1,5 @@
 // The container that arguments describe.
 
-ghost use Rattle.std.specs.Prelude.{◌≡◌, IfNone, IfOk, IfSome, Option, codes, map, string_bytes};
-ghost use Rattle.clap.specs.Words.{found_of, rows_of};
-ghost use Rattle.seccomp_oci.specs.Types as oci;
-ghost use Rattle.seccomp_oci.specs.declared.types.Kernel.{Kernel as KernelOf};
-ghost use Rattle.seccomptool.specs.Words.{IsGivenKernel, given_caps};
-
 use super::values::text_in;
 use clap::ArgMatches;
 use seccomp_oci::{Container, Kernel, kernel_of};
@@ -15,11 +9,7 @@ use std::alloc::{AllocError, Global};
 pub(super) fn container_in(
     alloc: Global,
     found: &ArgMatches<'_>,
-) -> Result<Option<Container>, AllocError>
-    ensures caps { IfOk result (λ o. IfSome o (λ c. c.caps ≡ given_caps (rows_of (found_of found.now)))) }
-    ensures kernel { IfOk result (λ o. IfSome o (λ c. IsGivenKernel (rows_of (found_of found.now)) c.kernel)) }
-    ensures none { IfOk result (λ o. IfNone o ((k : Option KernelOf) → IsGivenKernel (rows_of (found_of found.now)) k → ⊥)) }
-{
+) -> Result<Option<Container>, AllocError> {
     let Some(kernel) = kernel_in(found) else {
         return Ok(None);
     };
@@ -28,10 +18,7 @@ pub(super) fn container_in(
 }
 
 // The version that `--kernel` names, if it is given; none where that is no version.
-pub(super) fn kernel_in(found: &ArgMatches<'_>) -> Option<Option<Kernel>>
-    ensures some { IfSome result (IsGivenKernel (rows_of (found_of found.now))) }
-    ensures none { IfNone result ((k : Option KernelOf) → IsGivenKernel (rows_of (found_of found.now)) k → ⊥) }
-{
+pub(super) fn kernel_in(found: &ArgMatches<'_>) -> Option<Option<Kernel>> {
     let Some(text) = text_in(found, "kernel") else {
         return Some(None);
     };
@@ -42,9 +29,7 @@ pub(super) fn kernel_in(found: &ArgMatches<'_>) -> Option<Option<Kernel>>
 }
 
 // The capabilities that `--cap` names.
-fn caps_in(alloc: Global, found: &ArgMatches<'_>) -> Result<Vec<String>, AllocError>
-    ensures { IfOk result (λ caps. map string_bytes caps.items ≡ given_caps (rows_of (found_of found.now))) }
-{
+fn caps_in(alloc: Global, found: &ArgMatches<'_>) -> Result<Vec<String>, AllocError> {
     match found.get_strs("cap") {
         None => Ok(Vec::new(alloc)),
         Some(texts) => owned(alloc, texts),
@@ -52,9 +37,7 @@ fn caps_in(alloc: Global, found: &ArgMatches<'_>) -> Result<Vec<String>, AllocEr
 }
 
 // These texts, in their order.
-fn owned(alloc: Global, texts: &[&str]) -> Result<Vec<String>, AllocError>
-    ensures { IfOk result (λ all. map string_bytes all.items ≡ map (λ t. t.now) texts.now) }
-{
+fn owned(alloc: Global, texts: &[&str]) -> Result<Vec<String>, AllocError> {
     let mut all = Vec::with_capacity(alloc, texts.len())?;
     for text in texts {
         all.push(String::from_str(alloc, text)?)?;

@@ -1,11 +1,5 @@
 // The command that clap's matches are.
 
-ghost use Rattle.std.specs.Prelude.{IfOk, IfSome, IfNone, codes};
-ghost use Rattle.clap.specs.Words.{found_of, rows_of};
-ghost use Rattle.seccomptool.specs.Words.{IsAsked, IsCommand};
-ghost use Rattle.seccomptool.specs.declared.words.Asked.{Asked};
-ghost use Rattle.seccomptool.specs.declared.words.Command.{Command};
-
 use super::checks::checks_in;
 use super::profiles::{is_no_profile, misuse_of_profile, of_profiles_in};
 use super::values::{
@@ -21,10 +15,7 @@ pub(crate) fn asked_in<'a>(
     alloc: Global,
     name: &str,
     found: &ArgMatches<'a>,
-) -> Result<Option<Asked<'a>>, AllocError>
-    ensures some { IfOk result (λ o. IfSome o (IsAsked name.now (rows_of (found_of found.now)))) }
-    ensures none { IfOk result (λ o. IfNone o ((asked : Asked) → IsAsked name.now (rows_of (found_of found.now)) asked → ⊥)) }
-{
+) -> Result<Option<Asked<'a>>, AllocError> {
     if name == "check" {
         return checks_in(alloc, found);
     }
@@ -35,10 +26,7 @@ pub(crate) fn asked_in<'a>(
 }
 
 // The command that the matches of the subcommand of this name are, the check of policies and what is done with profiles aside.
-pub(crate) fn command_in<'a>(name: &str, found: &ArgMatches<'a>) -> Option<Command<'a>>
-    ensures some { IfSome result (IsCommand name.now (rows_of (found_of found.now))) }
-    ensures none { IfNone result ((c : Command) → IsCommand name.now (rows_of (found_of found.now)) c → ⊥) }
-{
+pub(crate) fn command_in<'a>(name: &str, found: &ArgMatches<'a>) -> Option<Command<'a>> {
     match name {
         "compile" => compile_in(found),
         "show" => show_in(found),
@@ -92,10 +80,7 @@ fn misuse_of_comparison(found: &ArgMatches<'_>, both: &'static str) -> &'static 
 }
 
 // The command that the matches of `compile` are.
-fn compile_in<'a>(found: &ArgMatches<'a>) -> Option<Command<'a>>
-    ensures some { IfSome result (IsCommand (codes "compile") (rows_of (found_of found.now))) }
-    ensures none { IfNone result ((c : Command) → IsCommand (codes "compile") (rows_of (found_of found.now)) c → ⊥) }
-{
+fn compile_in<'a>(found: &ArgMatches<'a>) -> Option<Command<'a>> {
     let Some(arch) = arch_in(found) else {
         return None;
     };
@@ -120,10 +105,7 @@ fn compile_in<'a>(found: &ArgMatches<'a>) -> Option<Command<'a>>
 }
 
 // The command that the matches of `show` are.
-fn show_in<'a>(found: &ArgMatches<'a>) -> Option<Command<'a>>
-    ensures some { IfSome result (IsCommand (codes "show") (rows_of (found_of found.now))) }
-    ensures none { IfNone result ((c : Command) → IsCommand (codes "show") (rows_of (found_of found.now)) c → ⊥) }
-{
+fn show_in<'a>(found: &ArgMatches<'a>) -> Option<Command<'a>> {
     let Some(arch) = arch_in(found) else {
         return None;
     };
@@ -141,10 +123,7 @@ fn show_in<'a>(found: &ArgMatches<'a>) -> Option<Command<'a>>
 }
 
 // The command that the matches of `check` are where they ask for the codes.
-pub(super) fn codes_in<'a>(found: &ArgMatches<'a>) -> Option<Command<'a>>
-    ensures some { IfSome result (IsCommand (codes "check") (rows_of (found_of found.now))) }
-    ensures none { IfNone result ((c : Command) → IsCommand (codes "check") (rows_of (found_of found.now)) c → ⊥) }
-{
+pub(super) fn codes_in<'a>(found: &ArgMatches<'a>) -> Option<Command<'a>> {
     if is_listed(found) {
         Some(Command::Codes)
     } else {
@@ -153,10 +132,7 @@ pub(super) fn codes_in<'a>(found: &ArgMatches<'a>) -> Option<Command<'a>>
 }
 
 // The command that the matches of `explain` are.
-fn explain_in<'a>(found: &ArgMatches<'a>) -> Option<Command<'a>>
-    ensures some { IfSome result (IsCommand (codes "explain") (rows_of (found_of found.now))) }
-    ensures none { IfNone result ((c : Command) → IsCommand (codes "explain") (rows_of (found_of found.now)) c → ⊥) }
-{
+fn explain_in<'a>(found: &ArgMatches<'a>) -> Option<Command<'a>> {
     if !is_no_profile(found) {
         return None;
     }
@@ -182,10 +158,7 @@ fn explain_in<'a>(found: &ArgMatches<'a>) -> Option<Command<'a>>
 }
 
 // The command that the matches of `run` are.
-fn run_in<'a>(found: &ArgMatches<'a>) -> Option<Command<'a>>
-    ensures some { IfSome result (IsCommand (codes "run") (rows_of (found_of found.now))) }
-    ensures none { IfNone result ((c : Command) → IsCommand (codes "run") (rows_of (found_of found.now)) c → ⊥) }
-{
+fn run_in<'a>(found: &ArgMatches<'a>) -> Option<Command<'a>> {
     let Some(arch) = arch_in(found) else {
         return None;
     };
@@ -203,10 +176,7 @@ fn run_in<'a>(found: &ArgMatches<'a>) -> Option<Command<'a>>
 }
 
 // The command that the matches of `stats` are.
-fn stats_in<'a>(found: &ArgMatches<'a>) -> Option<Command<'a>>
-    ensures some { IfSome result (IsCommand (codes "stats") (rows_of (found_of found.now))) }
-    ensures none { IfNone result ((c : Command) → IsCommand (codes "stats") (rows_of (found_of found.now)) c → ⊥) }
-{
+fn stats_in<'a>(found: &ArgMatches<'a>) -> Option<Command<'a>> {
     if !is_no_profile(found) {
         return None;
     }
@@ -220,10 +190,7 @@ fn stats_in<'a>(found: &ArgMatches<'a>) -> Option<Command<'a>>
 }
 
 // The command that the matches of `record` are.
-fn record_in<'a>(found: &ArgMatches<'a>) -> Option<Command<'a>>
-    ensures some { IfSome result (IsCommand (codes "record") (rows_of (found_of found.now))) }
-    ensures none { IfNone result ((c : Command) → IsCommand (codes "record") (rows_of (found_of found.now)) c → ⊥) }
-{
+fn record_in<'a>(found: &ArgMatches<'a>) -> Option<Command<'a>> {
     let Some(arch) = arch_in(found) else {
         return None;
     };
@@ -241,10 +208,7 @@ fn record_in<'a>(found: &ArgMatches<'a>) -> Option<Command<'a>>
 }
 
 // The command that the matches of `diff` are.
-fn diff_in<'a>(found: &ArgMatches<'a>) -> Option<Command<'a>>
-    ensures some { IfSome result (IsCommand (codes "diff") (rows_of (found_of found.now))) }
-    ensures none { IfNone result ((c : Command) → IsCommand (codes "diff") (rows_of (found_of found.now)) c → ⊥) }
-{
+fn diff_in<'a>(found: &ArgMatches<'a>) -> Option<Command<'a>> {
     if !is_no_profile(found) {
         return None;
     }
@@ -269,10 +233,7 @@ fn diff_in<'a>(found: &ArgMatches<'a>) -> Option<Command<'a>>
 }
 
 // The command that the matches of `verify` are.
-fn verify_in<'a>(found: &ArgMatches<'a>) -> Option<Command<'a>>
-    ensures some { IfSome result (IsCommand (codes "verify") (rows_of (found_of found.now))) }
-    ensures none { IfNone result ((c : Command) → IsCommand (codes "verify") (rows_of (found_of found.now)) c → ⊥) }
-{
+fn verify_in<'a>(found: &ArgMatches<'a>) -> Option<Command<'a>> {
     let Some(arch) = arch_in(found) else {
         return None;
     };
@@ -300,10 +261,7 @@ fn verify_in<'a>(found: &ArgMatches<'a>) -> Option<Command<'a>>
 }
 
 // The command that the matches of `compat` are.
-fn compat_in<'a>(found: &ArgMatches<'a>) -> Option<Command<'a>>
-    ensures some { IfSome result (IsCommand (codes "compat") (rows_of (found_of found.now))) }
-    ensures none { IfNone result ((c : Command) → IsCommand (codes "compat") (rows_of (found_of found.now)) c → ⊥) }
-{
+fn compat_in<'a>(found: &ArgMatches<'a>) -> Option<Command<'a>> {
     let Some(arch) = arch_in(found) else {
         return None;
     };

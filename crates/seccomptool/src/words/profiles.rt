@@ -1,11 +1,5 @@
 // What is done with profiles of container runtimes, in clap's matches.
 
-ghost use Rattle.std.specs.Prelude.{◌≡◌, ◌↔◌, IfNone, IfOk, IfSome, IsTrue, None, Some, codes, false};
-ghost use Rattle.clap.specs.Words.{first_of, found_of, rows_of};
-ghost use Rattle.seccomptool.specs.Words.{IsNoProfile};
-ghost use Rattle.seccomptool.specs.WordsParts.{IsOfProfiles};
-ghost use Rattle.seccomptool.specs.declared.words.Asked.{Asked};
-
 use super::Asked;
 use super::container::{container_in, kernel_in};
 use super::values::{
@@ -20,10 +14,7 @@ pub(super) fn of_profiles_in<'a>(
     alloc: Global,
     name: &str,
     found: &ArgMatches<'a>,
-) -> Result<Option<Asked<'a>>, AllocError>
-    ensures some { IfOk result (λ o. IfSome o (IsOfProfiles name.now (rows_of (found_of found.now)))) }
-    ensures none { IfOk result (λ o. IfNone o ((asked : Asked) → IsOfProfiles name.now (rows_of (found_of found.now)) asked → ⊥)) }
-{
+) -> Result<Option<Asked<'a>>, AllocError> {
     match name {
         "explain" => explain_profile_in(alloc, found),
         "diff" => diff_profiles_in(alloc, found),
@@ -37,10 +28,7 @@ pub(super) fn of_profiles_in<'a>(
 fn explain_profile_in<'a>(
     alloc: Global,
     found: &ArgMatches<'a>,
-) -> Result<Option<Asked<'a>>, AllocError>
-    ensures some { IfOk result (λ o. IfSome o (IsOfProfiles (codes "explain") (rows_of (found_of found.now)))) }
-    ensures none { IfOk result (λ o. IfNone o ((asked : Asked) → IsOfProfiles (codes "explain") (rows_of (found_of found.now)) asked → ⊥)) }
-{
+) -> Result<Option<Asked<'a>>, AllocError> {
     if !is_profile(found) {
         return Ok(None);
     }
@@ -72,10 +60,7 @@ fn explain_profile_in<'a>(
 fn diff_profiles_in<'a>(
     alloc: Global,
     found: &ArgMatches<'a>,
-) -> Result<Option<Asked<'a>>, AllocError>
-    ensures some { IfOk result (λ o. IfSome o (IsOfProfiles (codes "diff") (rows_of (found_of found.now)))) }
-    ensures none { IfOk result (λ o. IfNone o ((asked : Asked) → IsOfProfiles (codes "diff") (rows_of (found_of found.now)) asked → ⊥)) }
-{
+) -> Result<Option<Asked<'a>>, AllocError> {
     if !is_profile(found) {
         return Ok(None);
     }
@@ -105,10 +90,7 @@ fn diff_profiles_in<'a>(
 fn stats_profile_in<'a>(
     alloc: Global,
     found: &ArgMatches<'a>,
-) -> Result<Option<Asked<'a>>, AllocError>
-    ensures some { IfOk result (λ o. IfSome o (IsOfProfiles (codes "stats") (rows_of (found_of found.now)))) }
-    ensures none { IfOk result (λ o. IfNone o ((asked : Asked) → IsOfProfiles (codes "stats") (rows_of (found_of found.now)) asked → ⊥)) }
-{
+) -> Result<Option<Asked<'a>>, AllocError> {
     if !is_profile(found) {
         return Ok(None);
     }
@@ -129,10 +111,7 @@ fn stats_profile_in<'a>(
 }
 
 // What the matches of `import` ask for.
-fn import_in<'a>(alloc: Global, found: &ArgMatches<'a>) -> Result<Option<Asked<'a>>, AllocError>
-    ensures some { IfOk result (λ o. IfSome o (IsOfProfiles (codes "import") (rows_of (found_of found.now)))) }
-    ensures none { IfOk result (λ o. IfNone o ((asked : Asked) → IsOfProfiles (codes "import") (rows_of (found_of found.now)) asked → ⊥)) }
-{
+fn import_in<'a>(alloc: Global, found: &ArgMatches<'a>) -> Result<Option<Asked<'a>>, AllocError> {
     let Some(arch) = arch_in(found) else {
         return Ok(None);
     };
@@ -155,30 +134,22 @@ fn import_in<'a>(alloc: Global, found: &ArgMatches<'a>) -> Result<Option<Asked<'
 }
 
 // Whether a profile is given: `--oci` is, and `--filter` isn't.
-pub(super) fn is_profile(found: &ArgMatches<'_>) -> bool
-    ensures { IsTrue result ↔ ((first_of (codes "oci") (rows_of (found_of found.now)) ≡ Some (codes "true")) × (first_of (codes "filter") (rows_of (found_of found.now)) ≡ None)) }
-{
+pub(super) fn is_profile(found: &ArgMatches<'_>) -> bool {
     is_oci(found) && text_in(found, "filter").is_none()
 }
 
 // Whether a policy is given, and nothing is said of a container.
-pub(super) fn is_no_profile(found: &ArgMatches<'_>) -> bool
-    ensures { IsTrue result ↔ IsNoProfile (rows_of (found_of found.now)) }
-{
+pub(super) fn is_no_profile(found: &ArgMatches<'_>) -> bool {
     !is_oci(found) && !names_container(found)
 }
 
 // Whether `--oci` is given.
-fn is_oci(found: &ArgMatches<'_>) -> bool
-    ensures { IsTrue result ↔ (first_of (codes "oci") (rows_of (found_of found.now)) ≡ Some (codes "true")) }
-{
+fn is_oci(found: &ArgMatches<'_>) -> bool {
     matches!(text_in(found, "oci"), Some("true"))
 }
 
 // Whether `--cap` or `--kernel` is given.
-fn names_container(found: &ArgMatches<'_>) -> bool
-    ensures { (result ≡ false) ↔ ((first_of (codes "cap") (rows_of (found_of found.now)) ≡ None) × (first_of (codes "kernel") (rows_of (found_of found.now)) ≡ None)) }
-{
+fn names_container(found: &ArgMatches<'_>) -> bool {
     text_in(found, "cap").is_some() || text_in(found, "kernel").is_some()
 }
 

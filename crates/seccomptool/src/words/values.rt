@@ -1,20 +1,5 @@
 // The values of options and arguments, in clap's matches.
 
-ghost use Rattle.std.specs.Prelude.{◌≡◌, ◌↔◌, ℕ, List, [], IfOk, IsTrue, IfSome, IfNone, Some, codes, map, unwrap_or};
-ghost use Rattle.clap.specs.Words.{first_of, found_of, rows_of};
-ghost use Rattle.seccompiler.specs.declared.backend.TargetArch.{TargetArch};
-ghost use Rattle.seccompiler.specs.declared.layout.Layout.{Layout};
-ghost use Rattle.seccomptool.specs.Numbers.{IsNumber};
-ghost use Rattle.seccomptool.specs.Words.{AreArguments, AreRecords, AreShown, IsArch, IsDenied, IsMost, IsQuiet, IsRelation, IsListed, IsScope, IsStrict, format_text, given_arguments, given_codes, given_policies, import_format_text, layout_text, line_format_text, text_of};
-ghost use Rattle.seccomptool.specs.WordsParts.{AreCompared};
-ghost use Rattle.seccomp_warnings.specs.Codes.{code_text};
-ghost use Rattle.seccomp_warnings.specs.declared.code.Code.{Code as CodeOf};
-ghost use Rattle.seccomptool.specs.declared.compile.format.ProgramFormat.{ProgramFormat};
-ghost use Rattle.seccomptool.specs.declared.explain.format.LineFormat.{LineFormat};
-ghost use Rattle.seccomptool.specs.declared.import.format.ImportFormat.{ImportFormat};
-ghost use Rattle.seccomptool.specs.declared.words.Records.{Records};
-ghost use Rattle.seccomptool.specs.declared.words.Shown.{Shown};
-
 use super::arguments::read_arguments;
 use super::codes::read_codes;
 use super::{Records, Shown};
@@ -30,17 +15,12 @@ use seccompiler::{Layout, TargetArch};
 use std::alloc::{AllocError, Global};
 
 // The value of an argument of this name.
-pub(super) fn text_in<'a>(found: &ArgMatches<'a>, id: &str) -> Option<&'a str>
-    ensures { first_of id.now (rows_of (found_of found.now)) ≡ text_of result }
-{
+pub(super) fn text_in<'a>(found: &ArgMatches<'a>, id: &str) -> Option<&'a str> {
     found.get_str(id)
 }
 
 // The architecture that `--arch` names.
-pub(super) fn arch_in(found: &ArgMatches<'_>) -> Option<TargetArch>
-    ensures some { IfSome result (IsArch (rows_of (found_of found.now))) }
-    ensures none { IfNone result ((arch : TargetArch) → IsArch (rows_of (found_of found.now)) arch → ⊥) }
-{
+pub(super) fn arch_in(found: &ArgMatches<'_>) -> Option<TargetArch> {
     match text_in(found, "arch") {
         Some("x86_64") => Some(TargetArch::x86_64),
         Some("amd64") => Some(TargetArch::x86_64),
@@ -52,10 +32,7 @@ pub(super) fn arch_in(found: &ArgMatches<'_>) -> Option<TargetArch>
 }
 
 // The layout that `--layout` names.
-pub(super) fn layout_in(found: &ArgMatches<'_>) -> Option<Layout>
-    ensures some { IfSome result (λ layout. first_of (codes "layout") (rows_of (found_of found.now)) ≡ Some (layout_text layout)) }
-    ensures none { IfNone result ((layout : Layout) → first_of (codes "layout") (rows_of (found_of found.now)) ≡ Some (layout_text layout) → ⊥) }
-{
+pub(super) fn layout_in(found: &ArgMatches<'_>) -> Option<Layout> {
     match text_in(found, "layout") {
         Some("linear") => Some(Layout::Linear),
         Some("tree") => Some(Layout::Tree),
@@ -64,10 +41,7 @@ pub(super) fn layout_in(found: &ArgMatches<'_>) -> Option<Layout>
 }
 
 // The format that `--format` names.
-pub(super) fn format_in(found: &ArgMatches<'_>) -> Option<ProgramFormat>
-    ensures some { IfSome result (λ format. first_of (codes "format") (rows_of (found_of found.now)) ≡ Some (format_text format)) }
-    ensures none { IfNone result ((format : ProgramFormat) → first_of (codes "format") (rows_of (found_of found.now)) ≡ Some (format_text format) → ⊥) }
-{
+pub(super) fn format_in(found: &ArgMatches<'_>) -> Option<ProgramFormat> {
     match text_in(found, "format") {
         Some("raw") => Some(ProgramFormat::Raw),
         Some("listing") => Some(ProgramFormat::Listing),
@@ -77,10 +51,7 @@ pub(super) fn format_in(found: &ArgMatches<'_>) -> Option<ProgramFormat>
 }
 
 // The form of lines that `--format` of `explain` names.
-pub(super) fn line_format_in(found: &ArgMatches<'_>) -> Option<LineFormat>
-    ensures some { IfSome result (λ format. first_of (codes "format") (rows_of (found_of found.now)) ≡ Some (line_format_text format)) }
-    ensures none { IfNone result ((format : LineFormat) → first_of (codes "format") (rows_of (found_of found.now)) ≡ Some (line_format_text format) → ⊥) }
-{
+pub(super) fn line_format_in(found: &ArgMatches<'_>) -> Option<LineFormat> {
     match text_in(found, "format") {
         Some("path") => Some(LineFormat::Path),
         Some("word") => Some(LineFormat::Word),
@@ -89,10 +60,7 @@ pub(super) fn line_format_in(found: &ArgMatches<'_>) -> Option<LineFormat>
 }
 
 // What `--format` of `import` names.
-pub(super) fn import_format_in(found: &ArgMatches<'_>) -> Option<ImportFormat>
-    ensures some { IfSome result (λ format. first_of (codes "format") (rows_of (found_of found.now)) ≡ Some (import_format_text format)) }
-    ensures none { IfNone result ((format : ImportFormat) → first_of (codes "format") (rows_of (found_of found.now)) ≡ Some (import_format_text format) → ⊥) }
-{
+pub(super) fn import_format_in(found: &ArgMatches<'_>) -> Option<ImportFormat> {
     match text_in(found, "format") {
         Some("policy") => Some(ImportFormat::Policy),
         Some("raw") => Some(ImportFormat::Raw),
@@ -101,9 +69,7 @@ pub(super) fn import_format_in(found: &ArgMatches<'_>) -> Option<ImportFormat>
 }
 
 // Whether the number of warnings is left out.
-pub(super) fn is_quiet(found: &ArgMatches<'_>) -> bool
-    ensures { IsQuiet (rows_of (found_of found.now)) result }
-{
+pub(super) fn is_quiet(found: &ArgMatches<'_>) -> bool {
     match text_in(found, "quiet") {
         Some("true") => true,
         _ => false,
@@ -111,9 +77,7 @@ pub(super) fn is_quiet(found: &ArgMatches<'_>) -> bool
 }
 
 // Whether the codes are asked for.
-pub(super) fn is_listed(found: &ArgMatches<'_>) -> bool
-    ensures { IsTrue result ↔ IsListed (rows_of (found_of found.now)) }
-{
+pub(super) fn is_listed(found: &ArgMatches<'_>) -> bool {
     matches!(text_in(found, "list"), Some("true"))
 }
 
@@ -121,10 +85,7 @@ pub(super) fn is_listed(found: &ArgMatches<'_>) -> bool
 pub(super) fn allowed_in(
     alloc: Global,
     found: &ArgMatches<'_>,
-) -> Result<Option<Vec<Code>>, AllocError>
-    ensures some { IfOk result (λ o. IfSome o (λ allowed. map code_text allowed.items ≡ given_codes (rows_of (found_of found.now)))) }
-    ensures none { IfOk result (λ o. IfNone o ((allowed : List CodeOf) → map code_text allowed ≡ given_codes (rows_of (found_of found.now)) → ⊥)) }
-{
+) -> Result<Option<Vec<Code>>, AllocError> {
     match found.get_strs("allow") {
         Some(texts) => read_codes(alloc, texts),
         None => read_codes(alloc, &[]),
@@ -132,9 +93,7 @@ pub(super) fn allowed_in(
 }
 
 // Whether names that the architecture hasn't are rejected.
-pub(super) fn is_strict(found: &ArgMatches<'_>) -> bool
-    ensures { IsStrict (rows_of (found_of found.now)) result }
-{
+pub(super) fn is_strict(found: &ArgMatches<'_>) -> bool {
     match text_in(found, "strict") {
         Some("true") => true,
         _ => false,
@@ -142,9 +101,7 @@ pub(super) fn is_strict(found: &ArgMatches<'_>) -> bool
 }
 
 // Whether warnings are denied.
-pub(super) fn denied_in(found: &ArgMatches<'_>) -> bool
-    ensures { IsDenied (rows_of (found_of found.now)) result }
-{
+pub(super) fn denied_in(found: &ArgMatches<'_>) -> bool {
     match text_in(found, "deny-warnings") {
         Some("true") => true,
         _ => false,
@@ -155,9 +112,7 @@ pub(super) fn denied_in(found: &ArgMatches<'_>) -> bool
 pub(super) fn policies_in<'a>(
     alloc: Global,
     found: &ArgMatches<'a>,
-) -> Result<Vec<&'a str>, AllocError>
-    ensures { IfOk result (λ policies. map (λ p. p.now) policies.items ≡ given_policies (rows_of (found_of found.now))) }
-{
+) -> Result<Vec<&'a str>, AllocError> {
     let mut policies = Vec::new(alloc);
     let Some(paths) = found.get_strs("policy") else {
         policies.push("-")?;
@@ -168,10 +123,7 @@ pub(super) fn policies_in<'a>(
 }
 
 // What `show` is to print: a policy or a program, and not both.
-pub(super) fn shown_in<'a>(found: &ArgMatches<'a>) -> Option<Shown<'a>>
-    ensures some { IfSome result (AreShown (rows_of (found_of found.now))) }
-    ensures none { IfNone result ((shown : Shown) → AreShown (rows_of (found_of found.now)) shown → ⊥) }
-{
+pub(super) fn shown_in<'a>(found: &ArgMatches<'a>) -> Option<Shown<'a>> {
     let Some(program) = text_in(found, "program") else {
         return Some(Shown::Policy(policy_in(found)));
     };
@@ -182,9 +134,7 @@ pub(super) fn shown_in<'a>(found: &ArgMatches<'a>) -> Option<Shown<'a>>
 }
 
 // The path of the policy, `-` where none is given.
-fn policy_in<'a>(found: &ArgMatches<'a>) -> &'a str
-    ensures { result.now ≡ unwrap_or (first_of (codes "policy") (rows_of (found_of found.now))) (codes "-") }
-{
+fn policy_in<'a>(found: &ArgMatches<'a>) -> &'a str {
     match text_in(found, "policy") {
         Some(path) => path,
         None => "-",
@@ -192,9 +142,7 @@ fn policy_in<'a>(found: &ArgMatches<'a>) -> &'a str
 }
 
 // The calls that count.
-pub(super) fn scope_in(found: &ArgMatches<'_>) -> Scope
-    ensures { IsScope (rows_of (found_of found.now)) result }
-{
+pub(super) fn scope_in(found: &ArgMatches<'_>) -> Scope {
     match text_in(found, "all") {
         Some("true") => Scope::All,
         _ => Scope::Named,
@@ -202,9 +150,7 @@ pub(super) fn scope_in(found: &ArgMatches<'_>) -> Scope
 }
 
 // The relation that is asked for.
-pub(super) fn relation_in(found: &ArgMatches<'_>) -> Relation
-    ensures { IsRelation (rows_of (found_of found.now)) result }
-{
+pub(super) fn relation_in(found: &ArgMatches<'_>) -> Relation {
     match text_in(found, "at-most") {
         Some("true") => Relation::AtMostAsPermissive,
         _ => Relation::Alike,
@@ -212,17 +158,12 @@ pub(super) fn relation_in(found: &ArgMatches<'_>) -> Relation
 }
 
 // The number of sets that `--most` gives.
-pub(super) fn most_in(found: &ArgMatches<'_>) -> Option<usize>
-    ensures some { IfSome result (IsMost (rows_of (found_of found.now))) }
-    ensures none { IfNone result ((most : ℕ) → IsMost (rows_of (found_of found.now)) most → ⊥) }
-{
+pub(super) fn most_in(found: &ArgMatches<'_>) -> Option<usize> {
     sets_in(most_text(found))
 }
 
 // The value of `--most`.
-fn most_text<'a>(found: &ArgMatches<'a>) -> &'a str
-    ensures { result.now ≡ unwrap_or (first_of (codes "most") (rows_of (found_of found.now))) [] }
-{
+fn most_text<'a>(found: &ArgMatches<'a>) -> &'a str {
     match text_in(found, "most") {
         Some(text) => text,
         None => "",
@@ -230,10 +171,7 @@ fn most_text<'a>(found: &ArgMatches<'a>) -> &'a str
 }
 
 // The number that a text writes.
-fn sets_in(text: &str) -> Option<usize>
-    ensures some { IfSome result (IsNumber text.now) }
-    ensures none { IfNone result ((most : ℕ) → IsNumber text.now most → ⊥) }
-{
+fn sets_in(text: &str) -> Option<usize> {
     let Some(most) = read_number(text) else {
         return None;
     };
@@ -241,10 +179,7 @@ fn sets_in(text: &str) -> Option<usize>
 }
 
 // The old and the new path, not both `-`.
-pub(super) fn compared_in<'a>(found: &ArgMatches<'a>) -> Option<(&'a str, &'a str)>
-    ensures some { IfSome result (λ paths. AreCompared (rows_of (found_of found.now)) paths.0.now paths.1.now) }
-    ensures none { IfNone result ((old new : List ℕ) → AreCompared (rows_of (found_of found.now)) old new → ⊥) }
-{
+pub(super) fn compared_in<'a>(found: &ArgMatches<'a>) -> Option<(&'a str, &'a str)> {
     let Some(old) = text_in(found, "old") else {
         return None;
     };
@@ -258,10 +193,7 @@ pub(super) fn compared_in<'a>(found: &ArgMatches<'a>) -> Option<(&'a str, &'a st
 }
 
 // The arguments that the values of ARG write.
-pub(super) fn arguments_in(found: &ArgMatches<'_>) -> Option<[u64; 6]>
-    ensures some { IfSome result (AreArguments (given_arguments (rows_of (found_of found.now)))) }
-    ensures none { IfNone result ((arguments : List ℕ) → AreArguments (given_arguments (rows_of (found_of found.now))) arguments → ⊥) }
-{
+pub(super) fn arguments_in(found: &ArgMatches<'_>) -> Option<[u64; 6]> {
     match found.get_strs("arguments") {
         Some(texts) => read_arguments(texts),
         None => read_arguments(&[]),
@@ -269,10 +201,7 @@ pub(super) fn arguments_in(found: &ArgMatches<'_>) -> Option<[u64; 6]>
 }
 
 // The records that are asked about, beside a policy or a program.
-pub(super) fn records_in<'a>(found: &ArgMatches<'a>, policy: &str) -> Option<Records<'a>>
-    ensures some { IfSome result (AreRecords (rows_of (found_of found.now)) policy.now) }
-    ensures none { IfNone result ((records : Records) → AreRecords (rows_of (found_of found.now)) policy.now records → ⊥) }
-{
+pub(super) fn records_in<'a>(found: &ArgMatches<'a>, policy: &str) -> Option<Records<'a>> {
     let Some(call) = text_in(found, "call") else {
         let path = path_in(found);
         if path == "-" && policy == "-" {
@@ -290,9 +219,7 @@ pub(super) fn records_in<'a>(found: &ArgMatches<'a>, policy: &str) -> Option<Rec
 }
 
 // The path of the records.
-fn path_in<'a>(found: &ArgMatches<'a>) -> &'a str
-    ensures { result.now ≡ unwrap_or (first_of (codes "records") (rows_of (found_of found.now))) (codes "-") }
-{
+fn path_in<'a>(found: &ArgMatches<'a>) -> &'a str {
     match text_in(found, "records") {
         Some(path) => path,
         None => "-",

@@ -1,17 +1,10 @@
 // Options and arguments of one kind.
 
-ghost use Rattle.std.specs.Prelude.{◌≡◌, false};
-ghost use Rattle.clap.specs.Words.{rule_of};
-ghost use Rattle.seccomptool.specs.ProgramParts.{choice_rule, flag_rule, given_rule, input_rule, place_rule, value_rule};
-
 use clap::{Arg, ArgAction};
 use std::alloc::Global;
 
 // An option that takes no value.
-pub(super) fn flag<'a>(alloc: Global, name: &'a str, help: &'a str) -> Arg<'a>
-    ensures rule { rule_of result ≡ flag_rule name.entry.now }
-    ensures local { result.global ≡ false }
-{
+pub(super) fn flag<'a>(alloc: Global, name: &'a str, help: &'a str) -> Arg<'a> {
     Arg::new(alloc, name)
         .long(name)
         .action(ArgAction::SetTrue)
@@ -19,10 +12,12 @@ pub(super) fn flag<'a>(alloc: Global, name: &'a str, help: &'a str) -> Arg<'a>
 }
 
 // An option that takes a value.
-pub(super) fn value<'a>(alloc: Global, name: &'a str, value_name: &'a str, help: &'a str) -> Arg<'a>
-    ensures rule { rule_of result ≡ value_rule name.entry.now }
-    ensures local { result.global ≡ false }
-{
+pub(super) fn value<'a>(
+    alloc: Global,
+    name: &'a str,
+    value_name: &'a str,
+    help: &'a str,
+) -> Arg<'a> {
     Arg::new(alloc, name)
         .long(name)
         .value_name(value_name)
@@ -37,10 +32,7 @@ pub(super) fn choice<'a>(
     values: &'a [&'a str],
     otherwise: &'a str,
     help: &'a str,
-) -> Arg<'a>
-    ensures rule { rule_of result ≡ choice_rule name.entry.now values.entry otherwise.entry.now }
-    ensures local { result.global ≡ false }
-{
+) -> Arg<'a> {
     Arg::new(alloc, name)
         .long(name)
         .value_name(value_name)
@@ -50,18 +42,22 @@ pub(super) fn choice<'a>(
 }
 
 // An argument, which may be left out.
-pub(super) fn place<'a>(alloc: Global, name: &'a str, value_name: &'a str, help: &'a str) -> Arg<'a>
-    ensures rule { rule_of result ≡ place_rule name.entry.now }
-    ensures local { result.global ≡ false }
-{
+pub(super) fn place<'a>(
+    alloc: Global,
+    name: &'a str,
+    value_name: &'a str,
+    help: &'a str,
+) -> Arg<'a> {
     Arg::new(alloc, name).value_name(value_name).help(help)
 }
 
 // An argument, which has to be given.
-pub(super) fn given<'a>(alloc: Global, name: &'a str, value_name: &'a str, help: &'a str) -> Arg<'a>
-    ensures rule { rule_of result ≡ given_rule name.entry.now }
-    ensures local { result.global ≡ false }
-{
+pub(super) fn given<'a>(
+    alloc: Global,
+    name: &'a str,
+    value_name: &'a str,
+    help: &'a str,
+) -> Arg<'a> {
     Arg::new(alloc, name)
         .value_name(value_name)
         .required(true)
@@ -69,10 +65,12 @@ pub(super) fn given<'a>(alloc: Global, name: &'a str, value_name: &'a str, help:
 }
 
 // The file that is read, which is standard input where it isn't given.
-pub(super) fn input<'a>(alloc: Global, name: &'a str, value_name: &'a str, help: &'a str) -> Arg<'a>
-    ensures rule { rule_of result ≡ input_rule name.entry.now }
-    ensures local { result.global ≡ false }
-{
+pub(super) fn input<'a>(
+    alloc: Global,
+    name: &'a str,
+    value_name: &'a str,
+    help: &'a str,
+) -> Arg<'a> {
     Arg::new(alloc, name)
         .value_name(value_name)
         .default_value("-")

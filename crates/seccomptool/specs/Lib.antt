@@ -17,13 +17,11 @@ pub mod Notes
 pub mod Check
 pub mod Codes
 pub mod Reasons
-pub mod ExplainLines
 pub mod Explain
-pub mod ExplainProfiles
 pub mod Record
 pub mod Findings
+pub mod Rulings
 pub mod Diff
-pub mod DiffProfiles
 pub mod StatsProfile
 pub mod Run
 pub mod ShowProgram
@@ -38,10 +36,5 @@ pub mod CompileParts
 pub mod ShowParts
 pub mod StatsParts
 pub mod CompatParts
-pub mod ExplainSteps
-pub mod ExplainProfileParts
-pub mod FindingsParts
 pub mod DiffParts
-pub mod DiffProfilesParts
 pub mod RunParts
-pub mod VerifyParts

@@ -2,32 +2,37 @@
 
 use crate::check::given::check_given;
 use crate::check::profile::check_profile;
-use crate::chosen::chosen_name;
 use crate::codes::codes;
 use crate::compat::compat;
-use crate::diff::profiles::diff_profiles;
+use crate::diff::diff_of;
+use crate::diff::lines::diff_lines;
 use crate::done::{Done, found, plain};
 use crate::error::ToolError;
-use crate::explain::explain;
+use crate::explain::explain_of;
 use crate::explain::format::LineFormat;
-use crate::explain::profile::explain_profile;
-use crate::findings::Terms;
+use crate::explain::lines::explained_lines;
+use crate::findings::{Terms, Verdict};
 use crate::import::import;
 use crate::kind::{is_taken_for_profile, plain_container};
-use crate::noted::{compile_noted, diff_noted};
+use crate::noted::{compile_noted, diff_noted, text_of_new};
 use crate::policy::policy_text;
 use crate::progress::Progress;
 use crate::record::{called_record, record};
+use crate::run::program::program_text;
 use crate::run::run;
+use crate::send::send;
 use crate::show::{show, show_program};
 use crate::stats::profile::stats_profile;
 use crate::stats::stats;
-use crate::verify::verify;
+use crate::subject::Subject;
+use crate::verify::lines::verified_lines;
+use crate::verify::scope::Scope;
+use crate::verify::verify_of;
 use crate::words::{Command, Records, Shown};
 use seccomp_oci::Container;
 use seccompiler::{Layout, TargetArch};
 use std::alloc::Global;
-use std::io::{Read, Write};
+use std::io::{ErrorKind, Read, Write};
 
 /// Carries out a command on its policy or profile, or `run` and `show` on their program, and `explain` and `run` on their records,
 /// those of a call aside; `diff` on the old policy or profile and, in place of records, the new one, and `verify` on the policy
@@ -87,7 +92,9 @@ pub fn perform<P: Read + Drop, R: Read + Drop, W: Write, G: Progress>(
             ..
         } => plain(
             alloc,
-            explain_asked(alloc, arch, filter, format, asked, policy, records, out),
+            explain_asked(
+                alloc, arch, None, filter, format, asked, policy, records, out,
+            ),
         ),
         Command::Run {
             arch,
@@ -119,27 +126,27 @@ pub fn perform<P: Read + Drop, R: Read + Drop, W: Write, G: Progress>(
             )
         }
         Command::Verify {
-            arch,
+            arch: target,
             filter,
             relation,
             scope,
             most,
             ..
-        } => found(
-            alloc,
-            verify(
-                alloc,
-                arch.name(),
-                filter,
+        } => {
+            let terms = Terms {
+                target,
                 relation,
-                scope,
                 most,
-                policy,
-                records,
-                out,
-                progress,
-            ),
-        ),
+            };
+            let policy = policy_text(alloc, policy)?;
+            let program = program_text(alloc, records)?;
+            found(
+                alloc,
+                verify_told(
+                    alloc, terms, filter, scope, &policy, &program, out, progress,
+                ),
+            )
+        }
         Command::Compat { arch, .. } => plain(alloc, compat(alloc, arch.name(), policy, out)),
         Command::Import {
             arch,
@@ -149,17 +156,25 @@ pub fn perform<P: Read + Drop, R: Read + Drop, W: Write, G: Progress>(
             profile,
         } => import(alloc, arch, container, strict, format, profile, policy, out),
         Command::DiffProfiles {
-            arch,
+            arch: target,
             container,
             relation,
             most,
             ..
-        } => found(
-            alloc,
-            diff_profiles(
-                alloc, arch, container, relation, most, policy, records, out, progress,
-            ),
-        ),
+        } => {
+            let terms = Terms {
+                target,
+                relation,
+                most,
+            };
+            let old = policy_text(alloc, policy)?;
+            let new = text_of_new(alloc, records)?;
+            let subject = Subject::Profile(container);
+            found(
+                alloc,
+                diff_told(alloc, terms, subject, None, &old, &new, out, progress),
+            )
+        }
         Command::ExplainProfile {
             arch,
             container,
@@ -168,7 +183,17 @@ pub fn perform<P: Read + Drop, R: Read + Drop, W: Write, G: Progress>(
             ..
         } => plain(
             alloc,
-            explain_profile_asked(alloc, arch, container, format, asked, policy, records, out),
+            explain_asked(
+                alloc,
+                arch,
+                Some(container),
+                None,
+                format,
+                asked,
+                policy,
+                records,
+                out,
+            ),
         ),
         Command::StatsProfile {
             arch,
@@ -202,65 +227,131 @@ fn show_asked<P: Read + Drop, W: Write>(
     }
 }
 
-// Explains what the filter that is asked for, or a profile, decides on the records that are asked about.
+// Explains what a policy's filter or a profile decides on the records that are asked about. Where no container is given, the text
+// says which of both it is.
 fn explain_asked<P: Read + Drop, R: Read + Drop, W: Write>(
     alloc: Global,
     arch: TargetArch,
+    container: Option<&Container>,
     filter: Option<&str>,
     format: LineFormat,
     asked: Records<'_>,
-    policy: P,
-    records: R,
-    out: &mut W,
-) -> Result<(), ToolError> {
-    match asked {
-        Records::In(_) => explain_records(alloc, arch, filter, format, policy, records, out),
-        Records::Call { call, arguments } => {
-            let record = called_record(alloc, arch, call, &arguments)?;
-            explain_records(alloc, arch, filter, format, policy, record.as_slice(), out)
-        }
-    }
-}
-
-// Explains what the filter that is asked for decides on records; or a profile, where no filter is and the text is taken for one's.
-fn explain_records<P: Read + Drop, R: Read + Drop, W: Write>(
-    alloc: Global,
-    arch: TargetArch,
-    filter: Option<&str>,
-    format: LineFormat,
     given: P,
     records: R,
     out: &mut W,
 ) -> Result<(), ToolError> {
+    let record = called(alloc, arch, asked)?;
     let text = policy_text(alloc, given)?;
-    let text = text.as_slice();
-    if is_taken_for_profile(alloc, text, filter)? {
-        let container = plain_container(alloc);
-        return explain_profile(alloc, format, arch, &container, text, records, out);
+    let bytes = match record {
+        Some(record) => record,
+        None => records_text(alloc, records)?,
+    };
+    match container {
+        Some(container) => {
+            let subject = Subject::Profile(container);
+            explain_told(alloc, arch, subject, None, format, &text, &bytes, out)
+        }
+        None if is_taken_for_profile(alloc, &text, filter)? => {
+            let container = plain_container(alloc);
+            let subject = Subject::Profile(&container);
+            explain_told(alloc, arch, subject, None, format, &text, &bytes, out)
+        }
+        None => explain_told(
+            alloc,
+            arch,
+            Subject::Policy,
+            filter,
+            format,
+            &text,
+            &bytes,
+            out,
+        ),
     }
-    explain_filter(alloc, arch, filter, format, text, records, out)
 }
 
-// Explains what the filter that is asked for decides on records, of a policy's text.
-fn explain_filter<R: Read + Drop, W: Write>(
+// The record of the call that is asked about, if one is.
+fn called(
     alloc: Global,
     arch: TargetArch,
+    asked: Records<'_>,
+) -> Result<Option<Vec<u8>>, ToolError> {
+    match asked {
+        Records::In(_) => Ok(None),
+        Records::Call { call, arguments } => {
+            Ok(Some(called_record(alloc, arch, call, &arguments)?))
+        }
+    }
+}
+
+// All bytes of records.
+fn records_text<R: Read + Drop>(alloc: Global, mut records: R) -> Result<Vec<u8>, ToolError> {
+    let mut bytes = Vec::new(alloc);
+    match records.read_to_end(&mut bytes) {
+        Ok(_) => Ok(bytes),
+        Err(error) if error.kind() == ErrorKind::OutOfMemory => Err(ToolError::OutOfMemory),
+        Err(error) => Err(ToolError::Read(error)),
+    }
+}
+
+// Writes what a text decides on records, of which the last one may be cut.
+fn explain_told<W: Write>(
+    alloc: Global,
+    arch: TargetArch,
+    subject: Subject<'_>,
     filter: Option<&str>,
     format: LineFormat,
     text: &[u8],
-    records: R,
+    bytes: &[u8],
     out: &mut W,
 ) -> Result<(), ToolError> {
-    let name = chosen_name(alloc, text, filter)?;
-    explain(
-        alloc,
-        format,
-        arch.name(),
-        text,
-        name.as_str(),
-        records,
-        out,
-    )
+    let (records, rest) = bytes.as_chunks::<64>();
+    let explanation = explain_of(alloc, arch, subject, filter, text, records)?;
+    let text = explained_lines(alloc, arch, format, &explanation)?;
+    send(out, &text)?;
+    match rest.len() {
+        0 => Ok(()),
+        rest => Err(ToolError::ShortRecord(rest)),
+    }
+}
+
+// Writes what is found of two texts.
+pub(crate) fn diff_told<W: Write, G: Progress>(
+    alloc: Global,
+    terms: Terms,
+    subject: Subject<'_>,
+    filter: Option<&str>,
+    old: &[u8],
+    new: &[u8],
+    out: &mut W,
+    progress: &mut G,
+) -> Result<Verdict, ToolError> {
+    progress.begin();
+    let found = diff_of(alloc, terms, subject, filter, old, new, progress);
+    progress.end();
+    let found = found?;
+    let text = diff_lines(alloc, terms, &found)?;
+    send(out, &text)?;
+    Ok(found.verdict())
+}
+
+// Writes what is found of a program and of a policy's filter.
+fn verify_told<W: Write, G: Progress>(
+    alloc: Global,
+    terms: Terms,
+    filter: Option<&str>,
+    scope: Scope,
+    policy: &[u8],
+    program: &[u8],
+    out: &mut W,
+    progress: &mut G,
+) -> Result<Verdict, ToolError> {
+    progress.begin();
+    let found = verify_of(alloc, terms, filter, policy, program, progress);
+    progress.end();
+    let found = found?;
+    let text = verified_lines(alloc, terms, &found)?;
+    send(out, &text)?;
+    Ok(found.verdict(scope))
 }
 
 // Tells how long the programs of a policy are, or that of a profile, where the text is taken for one's.
@@ -277,34 +368,6 @@ fn stats_by_kind<P: Read + Drop, W: Write>(
         return stats_profile(alloc, arch, &container, text, out);
     }
     stats(alloc, arch.name(), text, out)
-}
-
-// Explains what a profile decides on the records that are asked about.
-fn explain_profile_asked<P: Read + Drop, R: Read + Drop, W: Write>(
-    alloc: Global,
-    arch: TargetArch,
-    container: &Container,
-    format: LineFormat,
-    asked: Records<'_>,
-    profile: P,
-    records: R,
-    out: &mut W,
-) -> Result<(), ToolError> {
-    match asked {
-        Records::In(_) => explain_profile(alloc, format, arch, container, profile, records, out),
-        Records::Call { call, arguments } => {
-            let record = called_record(alloc, arch, call, &arguments)?;
-            explain_profile(
-                alloc,
-                format,
-                arch,
-                container,
-                profile,
-                record.as_slice(),
-                out,
-            )
-        }
-    }
 }
 
 // Runs a program on the records that are asked about.

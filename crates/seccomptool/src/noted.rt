@@ -1,56 +1,17 @@
-// `compile` and `diff`, with notes of how many warnings their policies have; and `diff` of profiles that are given in their place.
+// `diff`, with notes of how many warnings its policies have; and `diff` of profiles that are given in their place.
 
-use crate::chosen::chosen_name;
-use crate::compile::compile;
-use crate::compile::format::ProgramFormat;
-use crate::counts::{both_counted, counted};
+use crate::counts::both_counted;
 use crate::diff::profiles::diff_profiles;
 use crate::diff::{diff, of_new_policy};
 use crate::done::{Done, found};
 use crate::error::ToolError;
-use crate::findings::{Terms, Verdict};
+use crate::findings::Terms;
 use crate::kind::{is_taken_for_profile, plain_container};
 use crate::policy::{filters, policy_text};
 use crate::progress::Progress;
-use seccompiler::{Layout, TargetArch};
+use seccompiler::TargetArch;
 use std::alloc::Global;
 use std::io::{Read, Write};
-
-// Writes the program of the filter that is asked for. How many warnings the policy of this path has is noted, unless it is to be
-// quiet. That is found out in front, since nothing is written where memory runs out.
-pub(crate) fn compile_noted<P: Read + Drop, W: Write>(
-    alloc: Global,
-    arch: TargetArch,
-    filter: Option<&str>,
-    layout: Layout,
-    format: ProgramFormat,
-    quiet: bool,
-    path: &str,
-    policy: P,
-    out: &mut W,
-) -> Result<Done, ToolError> {
-    let text = policy_text(alloc, policy)?;
-    let notes = counted(alloc, quiet, arch, path, text.as_slice())?;
-    compile_asked(alloc, arch, filter, layout, format, text.as_slice(), out)?;
-    Ok(Done {
-        verdict: Verdict::Same,
-        notes,
-    })
-}
-
-// Writes the program of the filter that is asked for, of a policy's text.
-fn compile_asked<W: Write>(
-    alloc: Global,
-    arch: TargetArch,
-    filter: Option<&str>,
-    layout: Layout,
-    format: ProgramFormat,
-    text: &[u8],
-    out: &mut W,
-) -> Result<(), ToolError> {
-    let name = chosen_name(alloc, text, filter)?;
-    compile(alloc, format, arch.name(), name.as_str(), layout, text, out)
-}
 
 // Reports on what a new policy or profile decides otherwise than an old one, whose text says which they are.
 pub(crate) fn diff_noted<O: Read + Drop, N: Read + Drop, W: Write, G: Progress>(

@@ -1,10 +1,6 @@
 // A command, carried out on what is opened for it.
 
-use crate::check::given::check_given;
-use crate::check::profile::check_profile;
 use crate::chosen::chosen_name;
-use crate::codes::codes;
-use crate::compat::compat;
 use crate::diff::profiles::diff_profiles;
 use crate::done::{Done, found, plain};
 use crate::error::ToolError;
@@ -12,20 +8,22 @@ use crate::explain::explain;
 use crate::explain::format::LineFormat;
 use crate::explain::profile::explain_profile;
 use crate::findings::Terms;
-use crate::import::import;
 use crate::kind::{is_taken_for_profile, plain_container};
-use crate::noted::{compile_noted, diff_noted};
+use crate::made::{
+    Made, check_made, codes_made, compat_made, compile_made, import_made, profile_check_made,
+    profile_stats_made, record_made, run_made, show_made, stats_made,
+};
+use crate::noted::diff_noted;
 use crate::policy::policy_text;
 use crate::progress::Progress;
-use crate::record::{called_record, record};
-use crate::run::run;
-use crate::show::{show, show_program};
-use crate::stats::profile::stats_profile;
-use crate::stats::stats;
+use crate::record::called_record;
+use crate::run::program::{bytes_in, program_of};
+use crate::send::send;
 use crate::verify::verify;
 use crate::words::{Command, Records, Shown};
+use seccomp_command_line::streams::read_whole;
 use seccomp_oci::Container;
-use seccompiler::{Layout, TargetArch};
+use seccompiler::TargetArch;
 use std::alloc::Global;
 use std::io::{Read, Write};
 
@@ -64,21 +62,29 @@ pub fn perform<P: Read + Drop, R: Read + Drop, W: Write, G: Progress>(
             quiet,
             policy: path,
             ..
-        } => compile_noted(
-            alloc, arch, filter, layout, format, quiet, path, policy, out,
-        ),
+        } => {
+            let text = policy_text(alloc, policy)?;
+            let made = compile_made(alloc, arch, filter, layout, format, quiet, path, &text)?;
+            written(out, made)
+        }
         Command::Show {
             arch,
             layout,
             shown,
-        } => plain(alloc, show_asked(alloc, arch, layout, shown, policy, out)),
+        } => {
+            let text = given_in(alloc, shown, policy)?;
+            written(out, show_made(alloc, arch, layout, shown, &text)?)
+        }
         Command::Check {
             arch,
             denied,
             allowed,
             policy: path,
-        } => check_given(alloc, arch, denied, allowed, path, policy, out),
-        Command::Codes => plain(alloc, codes(alloc, out)),
+        } => {
+            let text = policy_text(alloc, policy)?;
+            written(out, check_made(alloc, arch, denied, allowed, path, &text)?)
+        }
+        Command::Codes => written(out, codes_made(alloc)?),
         Command::Explain {
             arch,
             filter,
@@ -93,13 +99,16 @@ pub fn perform<P: Read + Drop, R: Read + Drop, W: Write, G: Progress>(
             arch,
             records: asked,
             ..
-        } => plain(alloc, run_asked(alloc, arch, asked, policy, records, out)),
-        Command::Stats { arch, .. } => plain(alloc, stats_by_kind(alloc, arch, policy, out)),
+        } => run_asked(alloc, arch, asked, policy, records, out),
+        Command::Stats { arch, .. } => {
+            let text = policy_text(alloc, policy)?;
+            written(out, stats_made(alloc, arch, &text)?)
+        }
         Command::Record {
             arch,
             call,
             arguments,
-        } => plain(alloc, record(alloc, arch.name(), call, arguments, out)),
+        } => written(out, record_made(alloc, arch, call, &arguments)?),
         Command::Diff {
             arch: target,
             filter,
@@ -140,14 +149,21 @@ pub fn perform<P: Read + Drop, R: Read + Drop, W: Write, G: Progress>(
                 progress,
             ),
         ),
-        Command::Compat { arch, .. } => plain(alloc, compat(alloc, arch.name(), policy, out)),
+        Command::Compat { arch, .. } => {
+            let text = policy_text(alloc, policy)?;
+            written(out, compat_made(alloc, arch, &text)?)
+        }
         Command::Import {
             arch,
             container,
             strict,
             format,
             profile,
-        } => import(alloc, arch, container, strict, format, profile, policy, out),
+        } => {
+            let text = policy_text(alloc, policy)?;
+            let made = import_made(alloc, arch, container, strict, format, profile, &text)?;
+            written(out, made)
+        }
         Command::DiffProfiles {
             arch,
             container,
@@ -174,32 +190,46 @@ pub fn perform<P: Read + Drop, R: Read + Drop, W: Write, G: Progress>(
             arch,
             container,
             ..
-        } => plain(alloc, stats_profile(alloc, arch, container, policy, out)),
+        } => {
+            let text = policy_text(alloc, policy)?;
+            written(out, profile_stats_made(alloc, arch, container, &text)?)
+        }
         Command::CheckProfile {
             arch,
             container,
             denied,
             allowed,
             profile,
-        } => check_profile(
-            alloc, arch, container, denied, allowed, profile, policy, out,
-        ),
+        } => {
+            let text = policy_text(alloc, policy)?;
+            let made =
+                profile_check_made(alloc, arch, container, denied, allowed, profile, &text)?;
+            written(out, made)
+        }
     }
 }
 
-// Prints the programs of a policy, or a program.
-fn show_asked<P: Read + Drop, W: Write>(
+// All that is given of a policy or a program.
+fn given_in<P: Read + Drop>(
     alloc: Global,
-    arch: TargetArch,
-    layout: Layout,
     shown: Shown<'_>,
     given: P,
-    out: &mut W,
-) -> Result<(), ToolError> {
+) -> Result<Vec<u8>, ToolError> {
     match shown {
-        Shown::Policy(_) => show(alloc, arch.name(), layout, given, out),
-        Shown::Program(_) => show_program(alloc, arch, given, out),
+        Shown::Policy(_) => policy_text(alloc, given),
+        Shown::Program(_) => bytes_in(alloc, given),
     }
+}
+
+// Writes what a command makes.
+fn written<W: Write>(out: &mut W, made: Made) -> Result<Done, ToolError> {
+    let Made {
+        text,
+        verdict,
+        notes,
+    } = made;
+    send(out, &text)?;
+    Ok(Done { verdict, notes })
 }
 
 // Explains what the filter that is asked for, or a profile, decides on the records that are asked about.
@@ -263,22 +293,6 @@ fn explain_filter<R: Read + Drop, W: Write>(
     )
 }
 
-// Tells how long the programs of a policy are, or that of a profile, where the text is taken for one's.
-fn stats_by_kind<P: Read + Drop, W: Write>(
-    alloc: Global,
-    arch: TargetArch,
-    given: P,
-    out: &mut W,
-) -> Result<(), ToolError> {
-    let text = policy_text(alloc, given)?;
-    let text = text.as_slice();
-    if is_taken_for_profile(alloc, text, None)? {
-        let container = plain_container(alloc);
-        return stats_profile(alloc, arch, &container, text, out);
-    }
-    stats(alloc, arch.name(), text, out)
-}
-
 // Explains what a profile decides on the records that are asked about.
 fn explain_profile_asked<P: Read + Drop, R: Read + Drop, W: Write>(
     alloc: Global,
@@ -307,7 +321,7 @@ fn explain_profile_asked<P: Read + Drop, R: Read + Drop, W: Write>(
     }
 }
 
-// Runs a program on the records that are asked about.
+// Runs a program on the records that are asked about. A fault of the program comes before one of the records.
 fn run_asked<P: Read + Drop, R: Read + Drop, W: Write>(
     alloc: Global,
     arch: TargetArch,
@@ -315,12 +329,33 @@ fn run_asked<P: Read + Drop, R: Read + Drop, W: Write>(
     program: P,
     records: R,
     out: &mut W,
-) -> Result<(), ToolError> {
+) -> Result<Done, ToolError> {
     match asked {
-        Records::In(_) => run(alloc, program, records, out),
+        Records::In(_) => {
+            let program = bytes_in(alloc, program)?;
+            run_on(alloc, &program, records, out)
+        }
         Records::Call { call, arguments } => {
             let record = called_record(alloc, arch, call, &arguments)?;
-            run(alloc, program, record.as_slice(), out)
+            let program = bytes_in(alloc, program)?;
+            run_on(alloc, &program, record.as_slice(), out)
         }
+    }
+}
+
+// Runs a program on records.
+fn run_on<R: Read + Drop, W: Write>(
+    alloc: Global,
+    program: &[u8],
+    records: R,
+    out: &mut W,
+) -> Result<Done, ToolError> {
+    program_of(alloc, program)?;
+    let bytes = read_whole(alloc, records)?;
+    let (records, rest) = bytes.as_slice().as_chunks::<64>();
+    let done = written(out, run_made(alloc, program, records)?)?;
+    match rest.len() {
+        0 => Ok(done),
+        rest => Err(ToolError::ShortRecord(rest)),
     }
 }

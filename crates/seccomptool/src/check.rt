@@ -1,6 +1,5 @@
 // The first fault of a policy, or else its warnings.
 
-pub mod given;
 pub mod profile;
 
 ghost use Rattle.std.specs.Prelude.{◌≡◌, IfErr};

@@ -22,7 +22,6 @@ IsProgramFault bytes (fault.Short rest) = (length bytes % 8 ≡ rest) × (0 < re
 IsProgramFault bytes (fault.Length count) = (length bytes ≡ count * 8) × ((count ≡ 0) ⊎ (greatest_length < count))
 IsProgramFault bytes (fault.Unfit place amiss) =
     (program : List sock_filter) × IsProgramOf bytes program × (length program ≤ greatest_length) × IsUnfitAt program place amiss
-IsProgramFault bytes (fault.Read e) = ⊥
 
 -- Why a program isn't run: its first fault, or want of memory.
 abbrev pub IsRefusedProgram : List ℕ → ToolError → Type 0

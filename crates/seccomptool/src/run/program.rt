@@ -1,6 +1,6 @@
 // The program that bytes are.
 
-ghost use Rattle.std.specs.Prelude.{◌≡◌, ◌≤◌, length, map, All, IfOk, IfErr, IfSome};
+ghost use Rattle.std.specs.Prelude.{◌≡◌, ◌≤◌, length, map, All, IfOk, IfErr};
 ghost use Rattle.std.specs.List.{concat};
 ghost use Rattle.seccompiler.specs.Machine.{IsChecked, IsInRange};
 ghost use Rattle.seccomptool.specs.Compile.{instruction_bytes};
@@ -12,7 +12,6 @@ use crate::run::unfit::refuse_unfit;
 use seccompiler::bpf::BPF_MAX_LEN;
 use seccompiler::{BpfProgram, sock_filter};
 use std::alloc::{AllocError, Global};
-use std::io::{ErrorKind, Read};
 
 /// The program of these bytes, which may be run.
 ///
@@ -30,18 +29,6 @@ pub(crate) fn program_of(alloc: Global, bytes: &[u8]) -> Result<BpfProgram, Tool
     let program = instructions(alloc, cut(bytes)?)?;
     refuse_unfit(&program)?;
     Ok(program)
-}
-
-/// All bytes that the reader of a program gives.
-pub(crate) fn bytes_in<P: Read + Drop>(alloc: Global, mut program: P) -> Result<Vec<u8>, ToolError>
-    ensures { IfOk result (λ bytes. IfSome (P.remaining program) (λ known. bytes.items ≡ known)) }
-{
-    let mut bytes = Vec::new(alloc);
-    match program.read_to_end(&mut bytes) {
-        Ok(_) => Ok(bytes),
-        Err(error) if error.kind() == ErrorKind::OutOfMemory => Err(ToolError::OutOfMemory),
-        Err(error) => Err(ToolError::Program(ProgramFault::Read(error))),
-    }
 }
 
 // Bytes, cut into as many instructions as a program may have.

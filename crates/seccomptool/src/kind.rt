@@ -4,24 +4,37 @@ ghost use Rattle.std.specs.Prelude.{◌≡◌, ◌↔◌, IfOk, IsTrue, codes};
 ghost use Rattle.serde_json.specs.View.{view};
 ghost use Rattle.seccomptool.specs.Kinds as spec;
 ghost use Rattle.seccompiler.specs.declared.backend.TargetArch.{TargetArch};
-ghost use Rattle.seccomptool.specs.Kinds.{IsOfProfile, IsPolicyText, IsTakenForProfile, NamesDefault, StandsIn};
-ghost use Rattle.seccomptool.specs.Chosen.{text_of};
+ghost use Rattle.seccomptool.specs.Kinds.{IsOfProfile, IsPolicyText, NamesDefault, StandsIn};
 
 use seccomp_oci::Container;
 use serde_json::Value;
 use std::alloc::{AllocError, Global};
 
-// Whether a text is taken for a profile, where this filter is asked for, or none.
-pub(crate) fn is_taken_for_profile(
+/// What a text is.
+#[derive(Clone, Copy)]
+pub enum Subject<'a> {
+    /// A policy.
+    Policy,
+    /// A profile, in this container.
+    Profile(&'a Container),
+}
+
+// What a text is, where this container is given, or none, and this filter is asked for, or none: a profile in the container that
+// is given; or one in a plain container, where the text is taken for a profile's and no filter is asked for; or else a policy.
+pub(crate) fn subject_of<'a>(
     alloc: Global,
+    given: Option<&'a Container>,
+    plain: &'a Container,
+    filter: Option<&str>,
     text: &[u8],
-    asked: Option<&str>,
-) -> Result<bool, AllocError>
-    ensures { IfOk result (λ is. IsTrue is ↔ IsTakenForProfile (text_of asked.entry) text.now) }
-{
-    match asked {
-        Some(_) => Ok(false),
-        None => is_of_profile(alloc, text),
+) -> Result<Subject<'a>, AllocError> {
+    match (given, filter) {
+        (Some(container), _) => Ok(Subject::Profile(container)),
+        (None, Some(_)) => Ok(Subject::Policy),
+        (None, None) => match is_of_profile(alloc, text)? {
+            true => Ok(Subject::Profile(plain)),
+            false => Ok(Subject::Policy),
+        },
     }
 }
 

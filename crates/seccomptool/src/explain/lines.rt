@@ -94,7 +94,9 @@ fn push_path(
 ) -> Result<(), AllocError> {
     match reason {
         Reason::NoMatch {
-            entries, nearest, ..
+            entries,
+            nearest,
+            ..
         } => push_miss(alloc, text, filter, entries, nearest),
         Reason::Entry { place, .. } => {
             push_entry(alloc, text, filter, place)?;

@@ -9,19 +9,9 @@ use Rattle.std.proofs.lemmas.Map.Text.{is_text}
 use Rattle.serde_json.specs.Data.{Data}
 use Rattle.serde_json.specs.Find.{get}
 use Rattle.seccompiler.specs.JsonFilters.{AreFound, AreAll, IsLeast}
-use Rattle.seccompiler.specs.JsonPrograms.{IsProgramOf}
 use Rattle.seccompiler.specs.JsonShape.{Under, Lacks, Has}
-use Rattle.seccompiler.specs.declared.backend.TargetArch.{TargetArch}
-use Rattle.seccompiler.specs.declared.bpf.sock_filter.{sock_filter}
-use Rattle.seccompiler.specs.declared.layout.Layout.TheVariants.{Linear}
 use Rattle.seccomp_command_line.proofs.ByName.{each_found, found_name, found_there, holds_below}
-use Rattle.seccomptool.specs.Compile.{HasProgram}
 use Rattle.seccomptool.specs.StatsParts.{IsFirst}
-
--- The program that is made of a value is its program in the layout of chains.
-pub has_program : (target : TargetArch) (value : Data) (program : List sock_filter) → IsProgramOf target value program
-    → HasProgram Linear target value program
-has_program target value program is = record { policy = is.policy; is_policy = is.is_policy; compiled = is.compiled }
 
 module _ {X : Type 0} (P : Data → X → Type 0) (find : List ℕ → Option X) (d : Data) (found : AreFound P find d) where
   -- ---- under one name

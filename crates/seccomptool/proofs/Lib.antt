@@ -5,4 +5,4 @@ pub mod Readings
 pub mod Faults
 pub mod Found
 pub mod JsonRefusals
-pub mod Warned
+pub mod Named

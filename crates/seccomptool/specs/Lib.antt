@@ -7,15 +7,13 @@ pub mod RunFaults
 pub mod Errors
 pub mod Policies
 pub mod Chosen
+pub mod Named
 pub mod Compile
-pub mod Show
 pub mod Ways
 pub mod Stats
 pub mod Compat
-pub mod Lint
 pub mod Notes
 pub mod Check
-pub mod Codes
 pub mod Reasons
 pub mod ExplainLines
 pub mod Explain
@@ -24,18 +22,12 @@ pub mod Record
 pub mod Findings
 pub mod Diff
 pub mod DiffProfiles
-pub mod StatsProfile
 pub mod Run
-pub mod ShowProgram
 pub mod Verify
 pub mod Imports
 pub mod CheckProfile
 pub mod Kinds
 -- Between layers: what the private steps of the engines promise each other.
-pub mod ProfileParts
-pub mod CheckProfileParts
-pub mod CompileParts
-pub mod ShowParts
 pub mod StatsParts
 pub mod CompatParts
 pub mod ExplainSteps

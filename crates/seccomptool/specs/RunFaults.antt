@@ -8,7 +8,7 @@ use Rattle.seccompiler.specs.Machine.{IsFine}
 use Rattle.seccomptool.specs.declared.run.fault.Amiss.{Amiss}
 use Rattle.seccomptool.specs.declared.run.fault.Amiss.TheVariants.{Operation, Load, Jump, End}
 use Rattle.seccomptool.specs.declared.run.fault.ProgramFault.{ProgramFault}
-use Rattle.seccomptool.specs.declared.run.fault.ProgramFault.TheVariants.{Read, Short, Length, Unfit}
+use Rattle.seccomptool.specs.declared.run.fault.ProgramFault.TheVariants.{Short, Length, Unfit}
 
 -- ---- what is amiss with an instruction
 
@@ -52,7 +52,6 @@ amiss_text End = codes "no return at the end"
 
 -- The text of a fault.
 abbrev pub fault_text : ProgramFault → List ℕ
-fault_text (Read e) = codes "Error reading input."
 fault_text (Short rest) = codes "The input ends inside an instruction, after " ++ decimal rest ++ codes " bytes of it."
 fault_text (Length count) = codes "expected 1 to 4096 instructions, found " ++ decimal count
 fault_text (Unfit place amiss) = codes "instruction " ++ decimal place ++ codes ": " ++ amiss_text amiss

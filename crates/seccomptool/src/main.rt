@@ -15,7 +15,7 @@ mod failure;
 mod findings;
 mod import;
 mod kind;
-mod lint;
+mod layouts;
 mod notes;
 mod numbers;
 mod output;

@@ -1,12 +1,12 @@
 // A command, carried out on what is opened for it.
 
-use crate::check::check;
-use crate::check::profile::check_profile;
+use crate::check::profile::{CheckedProfile, profile_checked};
+use crate::check::{checked, verdict_where};
 use crate::chosen::chosen_name;
-use crate::codes::codes;
-use crate::compat::compat;
-use crate::compile::compile;
+use crate::codes::codes_text;
+use crate::compat::{calls_text, widened_calls};
 use crate::compile::format::ProgramFormat;
+use crate::compile::{compiled, program_text};
 use crate::counts::{both_counted, counted};
 use crate::diff::diff;
 use crate::diff::profiles::diff_profiles;
@@ -17,16 +17,20 @@ use crate::explain::format::LineFormat;
 use crate::explain::profile::explain_profile;
 use crate::failure::{Failure, Place, place_of};
 use crate::findings::{Terms, Verdict};
-use crate::import::import;
+use crate::import::format::ImportFormat;
+use crate::import::profile_imported;
+use crate::import::text::{import_bytes, import_notes, profile_notes, unimported};
 use crate::kind::{Subject, plain_container, subject_of};
+use crate::notes::front_of;
 use crate::progress::Progress;
 use crate::readable::{LineFeeds, readable};
-use crate::record::{called_record, record};
-use crate::run::run;
+use crate::record::called_record;
+use crate::run::program::program_of;
+use crate::run::{returned, words_text};
 use crate::shell::writes_bytes;
-use crate::show::{show, show_program};
-use crate::stats::profile::stats_profile;
-use crate::stats::stats;
+use crate::show;
+use crate::show::programs_in;
+use crate::stats::{filters_text, profile_stats, profile_text, stats_of};
 use crate::verify::verify;
 use crate::words::{Call, Command, Inputs, Shown};
 use seccomp_oci::Container;
@@ -252,18 +256,9 @@ fn compile_made(
     path: &str,
     policy: &[u8],
 ) -> Result<Made, ToolError> {
+    let program = compiled(alloc, arch, layout, filter, policy)?;
+    let text = program_text(alloc, format, &program)?;
     let notes = counted(alloc, quiet, arch, path, policy)?;
-    let name = chosen_name(alloc, policy, filter)?;
-    let mut text = Vec::new(alloc);
-    compile(
-        alloc,
-        format,
-        arch.name(),
-        name.as_str(),
-        layout,
-        policy,
-        &mut text,
-    )?;
     Ok(Made {
         text,
         rest: 0,
@@ -279,11 +274,16 @@ fn show_made(
     shown: Shown,
     given: &[u8],
 ) -> Result<Made, ToolError> {
-    let mut text = Vec::new(alloc);
-    match shown {
-        Shown::Policy => show(alloc, arch.name(), layout, given, &mut text)?,
-        Shown::Program => show_program(alloc, arch, given, &mut text)?,
-    }
+    let text = match shown {
+        Shown::Policy => {
+            let programs = programs_in(alloc, arch, layout, given)?;
+            show::programs_text(alloc, &programs)?
+        }
+        Shown::Program => {
+            let program = program_of(alloc, given)?;
+            show::program_text(alloc, arch, &program)?
+        }
+    };
     Ok(Made::plain(alloc, text))
 }
 
@@ -297,29 +297,32 @@ fn check_made(
     given: &[u8],
 ) -> Result<Made, ToolError> {
     let plain = plain_container(alloc);
-    let mut text = Vec::new(alloc);
+    let front = front_of(alloc, path)?;
     match subject_of(alloc, container, &plain, None, given)? {
         Subject::Policy => {
-            let verdict = check(alloc, arch.name(), denied, allowed, path, given, &mut text)?;
-            Ok(Made::found(alloc, text, verdict))
+            let report = checked(alloc, arch, allowed, &front, given)?;
+            let verdict = verdict_where(denied, report.count);
+            Ok(Made::found(alloc, report.text, verdict))
         }
         Subject::Profile(container) => {
-            let done = check_profile(
-                alloc, arch, container, denied, allowed, path, given, &mut text,
-            )?;
+            let checked = match profile_checked(alloc, arch, container, allowed, &front, given) {
+                Ok(checked) => checked,
+                Err(error) => return Err(unimported(alloc, arch, error)),
+            };
+            let CheckedProfile { policy, report } = checked;
+            let notes = profile_notes(alloc, arch, path, &policy.left_out, &policy.flags)?;
             Ok(Made {
-                text,
+                text: report.text,
                 rest: 0,
-                verdict: done.verdict,
-                notes: done.notes,
+                verdict: verdict_where(denied, report.count),
+                notes,
             })
         }
     }
 }
 
 fn codes_made(alloc: Global) -> Result<Made, ToolError> {
-    let mut text = Vec::new(alloc);
-    codes(alloc, &mut text)?;
+    let text = codes_text(alloc)?;
     Ok(Made::plain(alloc, text))
 }
 
@@ -395,11 +398,13 @@ fn run_made(
     } else {
         records
     };
-    let mut text = Vec::new(alloc);
-    let rest = rest_of(run(alloc, program, records, &mut text))?;
+    let program = program_of(alloc, program)?;
+    let (records, rest) = records.as_chunks::<64>();
+    let words = returned(alloc, &program, records)?;
+    let text = words_text(alloc, &words)?;
     Ok(Made {
         text,
-        rest,
+        rest: rest.len(),
         verdict: Verdict::Same,
         notes: Vec::new(alloc),
     })
@@ -412,18 +417,22 @@ fn stats_made(
     given: &[u8],
 ) -> Result<Made, ToolError> {
     let plain = plain_container(alloc);
-    let mut text = Vec::new(alloc);
-    match subject_of(alloc, container, &plain, None, given)? {
-        Subject::Policy => stats(alloc, arch.name(), given, &mut text)?,
-        Subject::Profile(container) => stats_profile(alloc, arch, container, given, &mut text)?,
-    }
+    let text = match subject_of(alloc, container, &plain, None, given)? {
+        Subject::Policy => {
+            let all = stats_of(alloc, arch, given)?;
+            filters_text(alloc, &all)?
+        }
+        Subject::Profile(container) => {
+            let measure = profile_stats(alloc, arch, container, given)?;
+            profile_text(alloc, measure)?
+        }
+    };
     Ok(Made::plain(alloc, text))
 }
 
 fn record_made(alloc: Global, arch: TargetArch, call: Call<'_>) -> Result<Made, ToolError> {
-    let mut text = Vec::new(alloc);
-    record(alloc, arch.name(), call.name, call.arguments, &mut text)?;
-    Ok(Made::plain(alloc, text))
+    let record = called_record(alloc, arch, call.name, &call.arguments)?;
+    Ok(Made::plain(alloc, record))
 }
 
 fn diff_made<G: Progress>(
@@ -506,8 +515,8 @@ fn verify_made<G: Progress>(
 }
 
 fn compat_made(alloc: Global, arch: TargetArch, policy: &[u8]) -> Result<Made, ToolError> {
-    let mut text = Vec::new(alloc);
-    compat(alloc, arch.name(), policy, &mut text)?;
+    let all = widened_calls(alloc, arch, policy)?;
+    let text = calls_text(alloc, arch, &all)?;
     Ok(Made::plain(alloc, text))
 }
 
@@ -516,18 +525,20 @@ fn import_made(
     arch: TargetArch,
     container: &Container,
     strict: bool,
-    format: crate::import::format::ImportFormat,
+    format: ImportFormat,
     path: &str,
     profile: &[u8],
 ) -> Result<Made, ToolError> {
-    let mut text = Vec::new(alloc);
-    let done = import(
-        alloc, arch, container, strict, format, path, profile, &mut text,
-    )?;
+    let made = match profile_imported(alloc, arch, container, strict, format, profile) {
+        Ok(made) => made,
+        Err(error) => return Err(unimported(alloc, arch, error)),
+    };
+    let notes = import_notes(alloc, arch, path, &made)?;
+    let text = import_bytes(alloc, &made)?;
     Ok(Made {
         text,
         rest: 0,
-        verdict: done.verdict,
-        notes: done.notes,
+        verdict: Verdict::Same,
+        notes,
     })
 }

@@ -1,12 +1,10 @@
 // What is wrong with the bytes of a program.
 
-use std::{fmt, io};
+use std::fmt;
 
 /// Why a program isn't run, in the order in which the faults are reported.
 #[derive(Drop)]
 pub enum ProgramFault {
-    /// Its bytes can't be read.
-    Read(io::Error),
     /// Its bytes end inside an instruction, after so many bytes of it, from 1 to 7.
     Short(usize),
     /// It has so many instructions: none, or more than 4096.
@@ -38,7 +36,6 @@ impl fmt::Display for ProgramFault {
 
     fn fmt<W: fmt::Write>(&self, f: &mut fmt::Formatter<W>) -> fmt::Result {
         match self {
-            ProgramFault::Read(_) => f.write_str("Error reading input."),
             ProgramFault::Short(rest) => {
                 write!(
                     f,

@@ -1,0 +1,140 @@
+-- What it means that a command is carried out on the texts that it is given, and with which status it ends.
+use Rattle.std.specs.Prelude.{◌≡◌, ℕ, ◌/◌, Bool, List, length, Option, Some, None, option_map, string_bytes, ⊤}
+use Rattle.std.specs.Slice.{first_chunks}
+use Rattle.seccompiler.specs.declared.backend.TargetArch.{TargetArch}
+use Rattle.seccompiler.specs.declared.bpf.sock_filter.{sock_filter}
+use Rattle.seccompiler.specs.declared.layout.Layout.{Layout}
+use Rattle.seccompiler.specs.JsonAnswers.{OfValue}
+use Rattle.seccompiler.specs.Machine.{IsChecked}
+use Rattle.seccomp_oci.specs.Types.{Container}
+use Rattle.seccomp_warnings.specs.declared.code.Code.{Code}
+use Rattle.seccomp_warnings.specs.declared.report.Report.{Report}
+use Rattle.seccomptool.specs.declared.check.profile.CheckedProfile.{CheckedProfile}
+use Rattle.seccomptool.specs.declared.compile.NamedProgram.{NamedProgram}
+use Rattle.seccomptool.specs.declared.diff.Diff.{Diff}
+use Rattle.seccomptool.specs.declared.explain.Explanation.{Explanation}
+use Rattle.seccomptool.specs.declared.failure.Failure.{Failure}
+use Rattle.seccomptool.specs.declared.failure.Failure.TheVariants as failure
+use Rattle.seccomptool.specs.declared.findings.Terms.{Terms}
+use Rattle.seccomptool.specs.declared.findings.Verdict.{Verdict}
+use Rattle.seccomptool.specs.declared.findings.Verdict.TheVariants.{Same, Different, Undecided}
+use Rattle.seccomptool.specs.declared.import.Imported.{Imported}
+use Rattle.seccomptool.specs.declared.kind.Subject.{Subject}
+use Rattle.seccomptool.specs.declared.kind.Subject.TheVariants as subject
+use Rattle.seccomptool.specs.declared.stats.FilterStats.{FilterStats}
+use Rattle.seccomptool.specs.declared.stats.measure.Measure.{Measure}
+use Rattle.seccomptool.specs.declared.compat.FilterCalls.{FilterCalls}
+use Rattle.seccomptool.specs.declared.verify.Verification.{Verification}
+use Rattle.seccomptool.specs.declared.verify.scope.Scope.{Scope}
+use Rattle.seccomptool.specs.declared.words.Call.{Call}
+use Rattle.seccomptool.specs.declared.words.Command.{Command}
+use Rattle.seccomptool.specs.declared.words.Command.TheVariants.{Compile, Show, Check, Codes, Explain, Run, Stats, Record, Diff as DiffOf}
+use Rattle.seccomptool.specs.declared.words.Command.TheVariants.{Verify, Compat, Import}
+use Rattle.seccomptool.specs.declared.words.Shown.{Shown}
+use Rattle.seccomptool.specs.declared.words.Shown.TheVariants as shown
+use Rattle.seccomptool.specs.Check.{IsCheckOf, verdict_where}
+use Rattle.seccomptool.specs.CheckProfile.{IsProfileCheckOf}
+use Rattle.seccomptool.specs.Chosen.{IsChosen, text_of}
+use Rattle.seccomptool.specs.Compat.{AreCalls}
+use Rattle.seccomptool.specs.Compile.{ArePrograms, IsProgramUnder}
+use Rattle.seccomptool.specs.Diff.{IsDiff, verdict_all}
+use Rattle.seccomptool.specs.Explain.{IsExplanation}
+use Rattle.seccomptool.specs.Imports.{IsImportOf}
+use Rattle.seccomptool.specs.Kinds.{IsTakenAs}
+use Rattle.seccomptool.specs.Record.{IsRecordOf}
+use Rattle.seccomptool.specs.Run.{AreReturned, IsProgramOf}
+use Rattle.seccomptool.specs.Stats.{AreStats, IsProfileMeasure}
+use Rattle.seccomptool.specs.Verify.{IsVerification, verdict_in}
+
+-- ---- what each command answers
+
+-- The program of the filter that is asked for.
+abbrev pub IsCompiled : TargetArch → Layout → (asked : Option (List ℕ)) → (text : List ℕ) → Type 0
+IsCompiled arch layout asked text =
+    (made : NamedProgram) × IsChosen text asked (string_bytes made.name) × IsProgramUnder arch layout text made
+
+-- The programs of a policy, or a program.
+abbrev pub IsShown : TargetArch → Layout → Shown → (given : List ℕ) → Type 0
+IsShown arch layout shown.Policy text = (all : List NamedProgram) × OfValue text (λ d. ArePrograms layout arch d all)
+IsShown arch layout shown.Program bytes = (program : List sock_filter) × IsProgramOf bytes program × IsChecked program
+
+-- The warnings of a policy or a profile, and whether they count.
+abbrev pub IsCheckedAs : TargetArch → Subject → (denied : Bool) → (allowed : List Code) → (text : List ℕ) → Verdict → Type 0
+IsCheckedAs arch subject.Policy denied allowed text v =
+    (front : List ℕ) × (report : Report) × IsCheckOf arch allowed front text report × (v ≡ verdict_where denied report.count)
+IsCheckedAs arch (subject.Profile container) denied allowed text v = (front : List ℕ) × (checked : CheckedProfile)
+    × IsProfileCheckOf arch container.now allowed front text checked × (v ≡ verdict_where denied checked.report.count)
+
+-- The whole records of these bytes.
+abbrev pub records_in : List ℕ → List (List ℕ)
+records_in bytes = first_chunks 64 (length bytes / 64) bytes
+
+-- The records that are asked about: that of a call, or those of these bytes.
+abbrev pub AreAskedAbout : TargetArch → Option Call → (bytes : List ℕ) → (records : List (List ℕ)) → Type 0
+AreAskedAbout arch (Some call) bytes records =
+    (record_of : List ℕ) × IsRecordOf arch call.name.now call.arguments record_of × (records ≡ records_in record_of)
+AreAskedAbout arch None bytes records = records ≡ records_in bytes
+
+-- What a program returns for the records.
+abbrev pub IsRun : (program : List ℕ) → (records : List (List ℕ)) → Type 0
+IsRun bytes records =
+    (program : List sock_filter) × IsProgramOf bytes program × (words : List ℕ) × AreReturned program records words
+
+-- The numbers of the programs of a policy, or of that of a profile.
+abbrev pub IsMeasuredAs : TargetArch → Subject → (text : List ℕ) → Type 0
+IsMeasuredAs arch subject.Policy text = (all : List FilterStats) × OfValue text (λ d. AreStats arch d all)
+IsMeasuredAs arch (subject.Profile container) text = (measure : Measure) × IsProfileMeasure arch container.now text measure
+
+-- ---- a command
+
+-- The command is carried out on these texts, the first and the second that it reads: a value is made that is so, and this is its
+-- verdict. Where it takes policies and profiles, the container and the text say which is given.
+abbrev pub IsCarriedOut : Command → (first second : List ℕ) → Verdict → Type 0
+IsCarriedOut (Compile arch filter layout format quiet) text none v = IsCompiled arch layout (text_of filter) text × (v ≡ Same)
+IsCarriedOut (Show arch layout shown) given none v = IsShown arch layout shown given × (v ≡ Same)
+IsCarriedOut (Check arch container denied allowed) text none v =
+    (kind : Subject) × IsTakenAs container None text kind × IsCheckedAs arch kind denied allowed.items text v
+IsCarriedOut Codes none no v = v ≡ Same
+IsCarriedOut (Explain arch container filter format call) text bytes v = (kind : Subject) × IsTakenAs container (text_of filter) text kind
+    × (records : List (List ℕ)) × AreAskedAbout arch call bytes records
+    × (explanation : Explanation) × IsExplanation arch kind (text_of filter) text records explanation × (v ≡ Same)
+IsCarriedOut (Run arch call) program bytes v =
+    (records : List (List ℕ)) × AreAskedAbout arch call bytes records × IsRun program records × (v ≡ Same)
+IsCarriedOut (Stats arch container) text none v =
+    (kind : Subject) × IsTakenAs container None text kind × IsMeasuredAs arch kind text × (v ≡ Same)
+IsCarriedOut (Record arch call) none no v = (bytes : List ℕ) × IsRecordOf arch call.name.now call.arguments bytes × (v ≡ Same)
+IsCarriedOut (DiffOf terms container filter quiet) old new v = (kind : Subject) × IsTakenAs container (text_of filter) old kind
+    × (diff : Diff) × IsDiff terms.target terms.relation kind (text_of filter) old new diff × (v ≡ verdict_all diff.all.items)
+IsCarriedOut (Verify terms filter scope) policy program v = (found : Verification)
+    × IsVerification terms.target terms.relation (text_of filter) policy program found × (v ≡ verdict_in scope found)
+IsCarriedOut (Compat arch) text none v = (all : List FilterCalls) × OfValue text (λ d. AreCalls arch d all) × (v ≡ Same)
+IsCarriedOut (Import arch container strict format) text none v =
+    (made : Imported) × IsImportOf arch container strict text made × (v ≡ Same)
+
+-- It is carried out on some texts.
+abbrev pub IsPerformed : Command → Verdict → Type 0
+IsPerformed command v = (first : List ℕ) × (second : List ℕ) × IsCarriedOut command first second v
+
+-- What is written is as it was, where a command fails before the writing.
+abbrev pub KeepsOutput : {W : Type 0} → Failure → W → W → Type 0
+KeepsOutput (failure.Output e) old new = ⊤
+KeepsOutput (failure.ShortRecord rest) old new = ⊤
+KeepsOutput other old new = new ≡ old
+
+-- ---- statuses
+
+abbrev pub verdict_status : Verdict → ℕ
+verdict_status Same = 0
+verdict_status Different = 1
+verdict_status Undecided = 3
+
+-- The status of a command that fails.
+abbrev pub trouble : Command → ℕ
+trouble (DiffOf terms container filter quiet) = 2
+trouble (Verify terms filter scope) = 2
+trouble command = 1
+
+-- The command may end with this status: where that is a verdict's, and not that of a failure, it is carried out, and this is
+-- what it finds.
+abbrev pub EndsWith : Command → ℕ → Type 0
+EndsWith command status = (v : Verdict) → status ≡ verdict_status v → (status ≡ trouble command → ⊥) → IsPerformed command v

@@ -1,6 +1,6 @@
 -- What it means that a command is carried out on the texts that it is given, and with which status it ends.
-use Rattle.std.specs.Prelude.{◌≡◌, ℕ, ◌/◌, Bool, List, length, Option, Some, None, option_map, string_bytes, ⊤}
-use Rattle.std.specs.Slice.{first_chunks}
+use Rattle.std.specs.Prelude.{◌≡◌, ℕ, ◌/◌, Bool, List, length, Option, Some, None, string_bytes, ⊤}
+use Rattle.core.specs.Simd.{first_chunks}
 use Rattle.seccompiler.specs.declared.backend.TargetArch.{TargetArch}
 use Rattle.seccompiler.specs.declared.bpf.sock_filter.{sock_filter}
 use Rattle.seccompiler.specs.declared.layout.Layout.{Layout}
@@ -65,15 +65,25 @@ IsCheckedAs arch subject.Policy denied allowed text v =
 IsCheckedAs arch (subject.Profile container) denied allowed text v = (front : List ℕ) × (checked : CheckedProfile)
     × IsProfileCheckOf arch container.now allowed front text checked × (v ≡ verdict_where denied checked.report.count)
 
+-- The warnings of what is given.
+abbrev pub IsCheck : TargetArch → Option Container → (denied : Bool) → (allowed : List Code) → (text : List ℕ) → Verdict → Type 0
+IsCheck arch container denied allowed text v =
+    (kind : Subject) × IsTakenAs container None text kind × IsCheckedAs arch kind denied allowed text v
+
 -- The whole records of these bytes.
 abbrev pub records_in : List ℕ → List (List ℕ)
 records_in bytes = first_chunks 64 (length bytes / 64) bytes
 
--- The records that are asked about: that of a call, or those of these bytes.
-abbrev pub AreAskedAbout : TargetArch → Option Call → (bytes : List ℕ) → (records : List (List ℕ)) → Type 0
-AreAskedAbout arch (Some call) bytes records =
-    (record_of : List ℕ) × IsRecordOf arch call.name.now call.arguments record_of × (records ≡ records_in record_of)
-AreAskedAbout arch None bytes records = records ≡ records_in bytes
+-- P holds of the records that are asked about: that of a call, or those of these bytes.
+abbrev pub OnRecords : TargetArch → Option Call → (bytes : List ℕ) → (List (List ℕ) → Type 0) → Type 0
+OnRecords arch (Some call) bytes P =
+    (record_of : List ℕ) × IsRecordOf arch call.name.now call.arguments record_of × P (records_in record_of)
+OnRecords arch None bytes P = P (records_in bytes)
+
+-- What a policy's filter or a profile decides on the records, and why.
+abbrev pub IsExplained : TargetArch → Option Container → (asked : Option (List ℕ)) → (text : List ℕ) → (records : List (List ℕ)) → Type 0
+IsExplained arch container asked text records = (kind : Subject) × IsTakenAs container asked text kind
+    × (explanation : Explanation) × IsExplanation arch kind asked text records explanation
 
 -- What a program returns for the records.
 abbrev pub IsRun : (program : List ℕ) → (records : List (List ℕ)) → Type 0
@@ -85,6 +95,28 @@ abbrev pub IsMeasuredAs : TargetArch → Subject → (text : List ℕ) → Type 
 IsMeasuredAs arch subject.Policy text = (all : List FilterStats) × OfValue text (λ d. AreStats arch d all)
 IsMeasuredAs arch (subject.Profile container) text = (measure : Measure) × IsProfileMeasure arch container.now text measure
 
+-- The numbers of what is given.
+abbrev pub IsMeasured : TargetArch → Option Container → (text : List ℕ) → Type 0
+IsMeasured arch container text = (kind : Subject) × IsTakenAs container None text kind × IsMeasuredAs arch kind text
+
+-- On which calls what is given decides otherwise, and whether on any.
+abbrev pub IsCompared : Terms → Option Container → (asked : Option (List ℕ)) → (old new : List ℕ) → Verdict → Type 0
+IsCompared terms container asked old new v = (kind : Subject) × IsTakenAs container asked old kind
+    × (diff : Diff) × IsDiff terms.target terms.relation kind asked old new diff × (v ≡ verdict_all diff.all.items)
+
+-- On which calls a program decides otherwise than a filter, and whether on any that counts.
+abbrev pub IsVerified : Terms → (asked : Option (List ℕ)) → Scope → (policy program : List ℕ) → Verdict → Type 0
+IsVerified terms asked scope policy program v =
+    (found : Verification) × IsVerification terms.target terms.relation asked policy program found × (v ≡ verdict_in scope found)
+
+-- The calls that the Rust crate would decide otherwise.
+abbrev pub AreWidenedIn : TargetArch → (text : List ℕ) → Type 0
+AreWidenedIn arch text = (all : List FilterCalls) × OfValue text (λ d. AreCalls arch d all)
+
+-- What a profile is made into.
+abbrev pub IsImportedAs : TargetArch → Container → (strict : Bool) → (text : List ℕ) → Type 0
+IsImportedAs arch container strict text = (made : Imported) × IsImportOf arch container strict text made
+
 -- ---- a command
 
 -- The command is carried out on these texts, the first and the second that it reads: a value is made that is so, and this is its
@@ -92,24 +124,17 @@ IsMeasuredAs arch (subject.Profile container) text = (measure : Measure) × IsPr
 abbrev pub IsCarriedOut : Command → (first second : List ℕ) → Verdict → Type 0
 IsCarriedOut (Compile arch filter layout format quiet) text none v = IsCompiled arch layout (text_of filter) text × (v ≡ Same)
 IsCarriedOut (Show arch layout shown) given none v = IsShown arch layout shown given × (v ≡ Same)
-IsCarriedOut (Check arch container denied allowed) text none v =
-    (kind : Subject) × IsTakenAs container None text kind × IsCheckedAs arch kind denied allowed.items text v
+IsCarriedOut (Check arch container denied allowed) text none v = IsCheck arch container denied allowed.items text v
 IsCarriedOut Codes none no v = v ≡ Same
-IsCarriedOut (Explain arch container filter format call) text bytes v = (kind : Subject) × IsTakenAs container (text_of filter) text kind
-    × (records : List (List ℕ)) × AreAskedAbout arch call bytes records
-    × (explanation : Explanation) × IsExplanation arch kind (text_of filter) text records explanation × (v ≡ Same)
-IsCarriedOut (Run arch call) program bytes v =
-    (records : List (List ℕ)) × AreAskedAbout arch call bytes records × IsRun program records × (v ≡ Same)
-IsCarriedOut (Stats arch container) text none v =
-    (kind : Subject) × IsTakenAs container None text kind × IsMeasuredAs arch kind text × (v ≡ Same)
+IsCarriedOut (Explain arch container filter format call) text bytes v =
+    OnRecords arch call bytes (IsExplained arch container (text_of filter) text) × (v ≡ Same)
+IsCarriedOut (Run arch call) program bytes v = OnRecords arch call bytes (IsRun program) × (v ≡ Same)
+IsCarriedOut (Stats arch container) text none v = IsMeasured arch container text × (v ≡ Same)
 IsCarriedOut (Record arch call) none no v = (bytes : List ℕ) × IsRecordOf arch call.name.now call.arguments bytes × (v ≡ Same)
-IsCarriedOut (DiffOf terms container filter quiet) old new v = (kind : Subject) × IsTakenAs container (text_of filter) old kind
-    × (diff : Diff) × IsDiff terms.target terms.relation kind (text_of filter) old new diff × (v ≡ verdict_all diff.all.items)
-IsCarriedOut (Verify terms filter scope) policy program v = (found : Verification)
-    × IsVerification terms.target terms.relation (text_of filter) policy program found × (v ≡ verdict_in scope found)
-IsCarriedOut (Compat arch) text none v = (all : List FilterCalls) × OfValue text (λ d. AreCalls arch d all) × (v ≡ Same)
-IsCarriedOut (Import arch container strict format) text none v =
-    (made : Imported) × IsImportOf arch container strict text made × (v ≡ Same)
+IsCarriedOut (DiffOf terms container filter quiet) old new v = IsCompared terms container (text_of filter) old new v
+IsCarriedOut (Verify terms filter scope) policy program v = IsVerified terms (text_of filter) scope policy program v
+IsCarriedOut (Compat arch) text none v = AreWidenedIn arch text × (v ≡ Same)
+IsCarriedOut (Import arch container strict format) text none v = IsImportedAs arch container strict text × (v ≡ Same)
 
 -- It is carried out on some texts.
 abbrev pub IsPerformed : Command → Verdict → Type 0

@@ -6,12 +6,11 @@ ghost use Rattle.clap.specs.Words.{kind_of};
 ghost use Rattle.clap.specs.declared.error.kind.ErrorKind.TheVariants.{DisplayHelp, DisplayVersion};
 
 use crate::compile::format::ProgramFormat;
-use crate::done::Done;
 use crate::failure::{Failure, note, tell};
 use crate::findings::Verdict;
 use crate::import::format::ImportFormat;
 use crate::output::{is_same, write_whole};
-use crate::perform::perform;
+use crate::perform::{Done, perform};
 use crate::progress::Progress;
 use crate::readable::{LineFeeds, readable};
 use crate::source::open;

@@ -1,6 +1,7 @@
 -- What it means that a command is carried out on the texts that it is given, and with which status it ends.
-use Rattle.std.specs.Prelude.{◌≡◌, ℕ, ◌/◌, Bool, List, length, Option, Some, None, string_bytes, ⊤}
+use Rattle.std.specs.Prelude.{◌≡◌, ◌≤◌, ◌⊎◌, ℕ, ◌/◌, All, Bool, Contains, List, length, Option, Some, None, string_bytes, ⊤}
 use Rattle.core.specs.Simd.{first_chunks}
+use Rattle.std.specs.List.{AllZip}
 use Rattle.seccompiler.specs.declared.backend.TargetArch.{TargetArch}
 use Rattle.seccompiler.specs.declared.bpf.sock_filter.{sock_filter}
 use Rattle.seccompiler.specs.declared.layout.Layout.{Layout}
@@ -30,6 +31,7 @@ use Rattle.seccomptool.specs.declared.words.Call.{Call}
 use Rattle.seccomptool.specs.declared.words.Command.{Command}
 use Rattle.seccomptool.specs.declared.words.Command.TheVariants.{Compile, Show, Check, Codes, Explain, Run, Stats, Record, Diff as DiffOf}
 use Rattle.seccomptool.specs.declared.words.Command.TheVariants.{Verify, Compat, Import}
+use Rattle.seccomptool.specs.declared.words.Inputs.{Inputs}
 use Rattle.seccomptool.specs.declared.words.Shown.{Shown}
 use Rattle.seccomptool.specs.declared.words.Shown.TheVariants as shown
 use Rattle.seccomptool.specs.Check.{IsCheckOf, verdict_where}
@@ -140,11 +142,15 @@ IsCarriedOut (Import arch container strict format) text none v = IsImportedAs ar
 abbrev pub IsPerformed : Command → Verdict → Type 0
 IsPerformed command v = (first : List ℕ) × (second : List ℕ) × IsCarriedOut command first second v
 
--- What is written is as it was, where a command fails before the writing.
+-- The failure is one of writing, or one that is told behind what is written.
+abbrev pub IsOfWriting : Failure → Type 0
+IsOfWriting (failure.Output e) = ⊤
+IsOfWriting (failure.ShortRecord rest) = ⊤
+IsOfWriting other = ⊥
+
+-- What is written is as it was, where the failure isn't one of writing.
 abbrev pub KeepsOutput : {W : Type 0} → Failure → W → W → Type 0
-KeepsOutput (failure.Output e) old new = ⊤
-KeepsOutput (failure.ShortRecord rest) old new = ⊤
-KeepsOutput other old new = new ≡ old
+KeepsOutput f old new = (IsOfWriting f → ⊥) → new ≡ old
 
 -- ---- statuses
 
@@ -163,3 +169,11 @@ trouble command = 1
 -- what it finds.
 abbrev pub EndsWith : Command → ℕ → Type 0
 EndsWith command status = (v : Verdict) → status ≡ verdict_status v → (status ≡ trouble command → ⊥) → IsPerformed command v
+
+-- The command ends with statuses, one for each of these that it is carried out on, of which this is the greatest; it is 0 where
+-- there is none.
+pub record EndWith (command : Command) (inputs : List Inputs) (status : ℕ) : Type 0 where
+  pub statuses : List ℕ
+  pub each : AllZip (λ (one : Inputs) s. EndsWith command s) inputs statuses
+  pub most : All (λ s. s ≤ status) statuses
+  pub reached : (status ≡ 0) ⊎ Contains statuses status

@@ -2,10 +2,10 @@
 
 ghost use Rattle.std.specs.Prelude.{◌≡◌, IfErr, IfOk, IfSome};
 ghost use Rattle.seccompiler.specs.Reads.{Reads};
-ghost use Rattle.seccomptool.specs.Commands.{IsCarriedOut, KeepsOutput};
+ghost use Rattle.seccomptool.specs.Commands.{IsCarriedOut, IsOfWriting, KeepsOutput};
 
 use crate::error::ToolError;
-use crate::failure::{Failure, Place, place_of};
+use crate::failure::{Failure, Place, place_in};
 use crate::findings::Verdict;
 use crate::made::{
     Made, check_made, codes_made, compat_made, compile_made, diff_made, explain_made, import_made,
@@ -54,20 +54,34 @@ pub fn perform<P: Read + Drop, R: Read + Drop, W: Write, G: Progress>(
     };
     let second = match text_of(alloc, second) {
         Ok(text) => text,
-        Err(error) => return Err(unread(alloc, command, inputs, &first, error, progress)),
+        Err(error) => {
+            return match fault_before(alloc, command, inputs, &first, progress) {
+                Some(fault) => Err(Failure::Engine(fault)),
+                None => Err(Failure::Second(error)),
+            };
+        }
     };
-    let made = made_by(alloc, command, inputs, &first, &second, progress)?;
-    let text = shown(alloc, command, made.text)?;
-    match out.write_all(&text) {
-        Ok(()) => {}
-        Err(error) => return Err(Failure::Output(error)),
+    match ready(alloc, command, inputs, &first, &second, progress) {
+        Ok(made) => written(out, made),
+        Err(fault) => Err(Failure::Engine(fault)),
     }
-    match made.rest {
-        0 => Ok(Done {
-            verdict: made.verdict,
-            notes: made.notes,
-        }),
-        rest => Err(Failure::ShortRecord(rest)),
+}
+
+// Writes what is made.
+fn written<W: Write>(out: &mut W, made: Made) -> Result<Done, Failure>
+    ensures found { IfOk result (λ done. done.verdict ≡ made.entry.verdict) }
+    ensures cause { IfErr result IsOfWriting }
+{
+    let Made {
+        text,
+        rest,
+        verdict,
+        notes,
+    } = made;
+    match out.write_all(&text) {
+        Ok(()) if rest == 0 => Ok(Done { verdict, notes }),
+        Ok(()) => Err(Failure::ShortRecord(rest)),
+        Err(error) => Err(Failure::Output(error)),
     }
 }
 
@@ -82,25 +96,46 @@ fn text_of<R: Read + Drop>(alloc: Global, mut reader: R) -> io::Result<Vec<u8>>
     }
 }
 
-// Why a command fails whose second text can't be read: a fault of the first one comes before that.
-fn unread<G: Progress>(
+// The fault of the first text that comes before the second one can't be read.
+fn fault_before<G: Progress>(
     alloc: Global,
     command: &Command<'_>,
     inputs: Inputs<'_>,
     first: &[u8],
-    error: io::Error,
     progress: &mut G,
-) -> Failure {
+) -> Option<ToolError> {
     match made_by(alloc, command, inputs, first, b"", progress) {
-        Ok(_) => Failure::Second(error),
-        Err(fault) => {
-            let failure = Failure::Engine(fault);
-            match place_of(command, &failure) {
-                Place::Second => Failure::Second(error),
-                _ => failure,
-            }
-        }
+        Ok(_) => None,
+        Err(fault) => match place_in(command, &fault) {
+            Place::Second => None,
+            _ => Some(fault),
+        },
     }
+}
+
+// What a command makes of these texts, ready to be written.
+fn ready<G: Progress>(
+    alloc: Global,
+    command: &Command<'_>,
+    inputs: Inputs<'_>,
+    first: &[u8],
+    second: &[u8],
+    progress: &mut G,
+) -> Result<Made, ToolError>
+    ensures { IfOk result (λ made. IsCarriedOut command.now first.now second.now made.verdict) }
+{
+    let Made {
+        text,
+        rest,
+        verdict,
+        notes,
+    } = made_by(alloc, command, inputs, first, second, progress)?;
+    Ok(Made {
+        text: shown(alloc, command, text)?,
+        rest,
+        verdict,
+        notes,
+    })
 }
 
 // What is written of a text that a command makes.

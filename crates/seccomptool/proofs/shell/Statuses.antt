@@ -1,7 +1,8 @@
 -- For `carry_out` and `carry_out_each`: with which statuses commands end.
-use Rattle.std.proofs.Common.{◌≡◌, ◌∙◌, ℕ, ◌≤◌, List, [], ◌∷◌, ◌++◌, All, Contains, arith, inl, inr, refl, subst, sym}
+use Rattle.std.proofs.Common.{◌≡◌, ◌∙◌, ℕ, ◌+◌, ◌≤◌, ◌<◌, List, [], ◌∷◌, ◌++◌, All, Contains, arith, get_or, inl, inr, length, refl, subst, sym, take}
 use Rattle.std.specs.Prelude.{◌⊎◌}
 use Rattle.std.specs.List.{AllZip}
+use Rattle.std.proofs.lemmas.List.{take_more}
 use Rattle.std.proofs.lemmas.List.Elements.{All-nil, All-push, All-weaker, Contains-append_left, Contains-push}
 use Rattle.std.proofs.lemmas.Slice.Zip.{all_zipped_more}
 use Rattle.seccomptool.specs.Commands.{EndWith, EndsWith, IsPerformed, trouble, verdict_status}
@@ -61,3 +62,11 @@ module _ (command : Command) (inputs : List Inputs) (one : Inputs) (before own a
     most = most;
     reached = reached;
   }
+
+-- The next one of what a command is carried out on. The default is any.
+pub next_ended : (command : Command) (inputs : List Inputs) (at : ℕ) (default : Inputs) (before own after : ℕ) → at < length inputs
+    → EndWith command (take at inputs) before → EndsWith command own → before ≤ after → own ≤ after → (after ≡ before) ⊎ (after ≡ own)
+    → EndWith command (take (at + 1) inputs) after
+next_ended command inputs at default before own after room ended ends above covers either =
+    subst (λ some. EndWith command some after) (sym (take_more inputs at default room))
+    (one_more command (take at inputs) (get_or inputs at default) before own after ended ends above covers either)

@@ -80,9 +80,7 @@ fn room_text(
     text.extend_from_slice(b"; 4096 fit")?;
     if let Some(length) = other.1 {
         let layout = layout_text(other.0);
-        text.extend_from_slice(
-            format!(in alloc; "; {length} in the {layout} layout")?.as_bytes(),
-        )?;
+        text.extend_from_slice(format!(in alloc; "; {length} in the {layout} layout")?.as_bytes())?;
     }
     match String::from_utf8(text) {
         Ok(text) => Ok(text),

@@ -14,8 +14,8 @@ ghost use Rattle.seccomptool.specs.Stats.{AreStats, IsMeasureIn, IsMeasured, IsP
 use crate::error::ToolError;
 use crate::layouts::program_in;
 use crate::profile::compiled_of;
-use crate::stats::measure::measure_of;
 pub use crate::stats::measure::Measure;
+use crate::stats::measure::measure_of;
 pub(crate) use crate::stats::text::{filters_text, profile_text};
 use seccomp_oci::Container;
 use seccompiler::{BackendError, JsonCompiler, Layout, SeccompFilter, SyscallTable, TargetArch};

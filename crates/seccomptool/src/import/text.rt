@@ -102,7 +102,9 @@ fn names_told(
 // That no filter has the flags, with their number and their names.
 fn flags_told(alloc: Global, flags: &[Flag]) -> Result<Vec<u8>, AllocError> {
     let count = flags.len();
-    let front = format!(in alloc; "flags, which no filter has, left to whoever installs it ({count}): ")?;
+    let front = format!(in alloc;
+        "flags, which no filter has, left to whoever installs it ({count}): "
+    )?;
     let mut text = Vec::new(alloc);
     text.extend_from_slice(front.as_bytes())?;
     for (place, flag) in flags.iter().enumerate() {

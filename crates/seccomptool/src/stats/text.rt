@@ -51,6 +51,8 @@ fn push_measure(
         most,
         passing,
     } = measure;
-    let line = format!(in alloc; "{front}: {length} instructions, at most {most} steps, {passing} passing\n")?;
+    let line = format!(in alloc;
+        "{front}: {length} instructions, at most {most} steps, {passing} passing\n"
+    )?;
     text.extend_from_slice(line.as_bytes())
 }

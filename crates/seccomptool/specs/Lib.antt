@@ -15,13 +15,11 @@ pub mod Compat
 pub mod Notes
 pub mod Check
 pub mod Reasons
-pub mod ExplainLines
 pub mod Explain
-pub mod ExplainProfiles
 pub mod Record
 pub mod Findings
+pub mod Rulings
 pub mod Diff
-pub mod DiffProfiles
 pub mod Run
 pub mod Verify
 pub mod Imports
@@ -30,10 +28,5 @@ pub mod Kinds
 -- Between layers: what the private steps of the engines promise each other.
 pub mod StatsParts
 pub mod CompatParts
-pub mod ExplainSteps
-pub mod ExplainProfileParts
-pub mod FindingsParts
 pub mod DiffParts
-pub mod DiffProfilesParts
 pub mod RunParts
-pub mod VerifyParts

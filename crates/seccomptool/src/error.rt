@@ -127,6 +127,17 @@ impl From<AllocError> for ToolError {
     }
 }
 
+impl<T: Drop> From<AllocFailed<T>> for ToolError {
+    ghost use Rattle.std.specs.Prelude.{◌≡◌};
+    ghost use Rattle.seccomptool.specs.declared.error.ToolError.TheVariants.{OutOfMemory};
+
+    ghost from_gives = { λ _ error. error ≡ OutOfMemory };
+
+    fn from(_failed: AllocFailed<T>) -> ToolError {
+        ToolError::OutOfMemory
+    }
+}
+
 impl From<ProgramFault> for ToolError {
     ghost use Rattle.std.specs.Prelude.{◌≡◌};
     ghost use Rattle.seccomptool.specs.declared.error.ToolError.TheVariants.{Program};

@@ -2,19 +2,18 @@
 
 use crate::check::profile::{CheckedProfile, profile_checked};
 use crate::check::{checked, verdict_where};
-use crate::chosen::chosen_name;
 use crate::codes::codes_text;
 use crate::compat::{calls_text, widened_calls};
 use crate::compile::format::ProgramFormat;
 use crate::compile::{compiled, program_text};
 use crate::counts::{both_counted, counted};
-use crate::diff::diff;
-use crate::diff::profiles::diff_profiles;
+use crate::diff::diff_of;
+use crate::diff::lines::diff_lines;
 use crate::done::Done;
 use crate::error::ToolError;
-use crate::explain::explain;
+use crate::explain::explain_of;
 use crate::explain::format::LineFormat;
-use crate::explain::profile::explain_profile;
+use crate::explain::lines::explained_lines;
 use crate::failure::{Failure, Place, place_of};
 use crate::findings::{Terms, Verdict};
 use crate::import::format::ImportFormat;
@@ -31,7 +30,9 @@ use crate::shell::writes_bytes;
 use crate::show;
 use crate::show::programs_in;
 use crate::stats::{filters_text, profile_stats, profile_text, stats_of};
-use crate::verify::verify;
+use crate::verify::lines::verified_lines;
+use crate::verify::scope::Scope;
+use crate::verify::verify_of;
 use crate::words::{Call, Command, Inputs, Shown};
 use seccomp_oci::Container;
 use seccomp_warnings::Code;
@@ -326,15 +327,6 @@ fn codes_made(alloc: Global) -> Result<Made, ToolError> {
     Ok(Made::plain(alloc, text))
 }
 
-// How many bytes are left behind the records.
-fn rest_of(answer: Result<(), ToolError>) -> Result<usize, ToolError> {
-    match answer {
-        Ok(()) => Ok(0),
-        Err(ToolError::ShortRecord(rest)) => Ok(rest),
-        Err(error) => Err(error),
-    }
-}
-
 fn explain_made(
     alloc: Global,
     arch: TargetArch,
@@ -354,29 +346,14 @@ fn explain_made(
     } else {
         records
     };
+    let (records, rest) = records.as_chunks::<64>();
     let plain = plain_container(alloc);
-    let mut text = Vec::new(alloc);
-    let explained = match subject_of(alloc, container, &plain, filter, given)? {
-        Subject::Policy => {
-            let name = chosen_name(alloc, given, filter)?;
-            explain(
-                alloc,
-                format,
-                arch.name(),
-                given,
-                name.as_str(),
-                records,
-                &mut text,
-            )
-        }
-        Subject::Profile(container) => {
-            explain_profile(alloc, format, arch, container, given, records, &mut text)
-        }
-    };
-    let rest = rest_of(explained)?;
+    let subject = subject_of(alloc, container, &plain, filter, given)?;
+    let explanation = explain_of(alloc, arch, subject, filter, given, records)?;
+    let text = explained_lines(alloc, arch, format, &explanation)?;
     Ok(Made {
         text,
-        rest,
+        rest: rest.len(),
         verdict: Verdict::Same,
         notes: Vec::new(alloc),
     })
@@ -446,71 +423,43 @@ fn diff_made<G: Progress>(
     new: &[u8],
     progress: &mut G,
 ) -> Result<Made, ToolError> {
-    let Terms {
-        target,
-        relation,
-        most,
-    } = terms;
     let plain = plain_container(alloc);
-    let mut text = Vec::new(alloc);
-    match subject_of(alloc, container, &plain, filter, old)? {
+    let subject = subject_of(alloc, container, &plain, filter, old)?;
+    let notes = match subject {
         Subject::Policy => {
             let (first, second) = (inputs.first.unwrap_or("-"), inputs.second.unwrap_or("-"));
-            let notes = both_counted(alloc, quiet, target, first, second, old, new)?;
-            let verdict = diff(
-                alloc,
-                target.name(),
-                filter,
-                relation,
-                most,
-                old,
-                new,
-                &mut text,
-                progress,
-            )?;
-            Ok(Made {
-                text,
-                rest: 0,
-                verdict,
-                notes,
-            })
+            both_counted(alloc, quiet, terms.target, first, second, old, new)?
         }
-        Subject::Profile(container) => {
-            let verdict = diff_profiles(
-                alloc, target, container, relation, most, old, new, &mut text, progress,
-            )?;
-            Ok(Made::found(alloc, text, verdict))
-        }
-    }
+        Subject::Profile(_) => Vec::new(alloc),
+    };
+    progress.begin();
+    let found = diff_of(alloc, terms, subject, filter, old, new, progress);
+    progress.end();
+    let found = found?;
+    let text = diff_lines(alloc, terms, &found)?;
+    Ok(Made {
+        text,
+        rest: 0,
+        verdict: found.verdict(),
+        notes,
+    })
 }
 
 fn verify_made<G: Progress>(
     alloc: Global,
     terms: Terms,
     filter: Option<&str>,
-    scope: crate::verify::scope::Scope,
+    scope: Scope,
     policy: &[u8],
     program: &[u8],
     progress: &mut G,
 ) -> Result<Made, ToolError> {
-    let Terms {
-        target,
-        relation,
-        most,
-    } = terms;
-    let mut text = Vec::new(alloc);
-    let verdict = verify(
-        alloc,
-        target.name(),
-        filter,
-        relation,
-        scope,
-        most,
-        policy,
-        program,
-        &mut text,
-        progress,
-    )?;
+    progress.begin();
+    let found = verify_of(alloc, terms, filter, policy, program, progress);
+    progress.end();
+    let found = found?;
+    let text = verified_lines(alloc, terms, &found)?;
+    let verdict = found.verdict(scope);
     Ok(Made::found(alloc, text, verdict))
 }
 

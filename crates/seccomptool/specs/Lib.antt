@@ -25,7 +25,5 @@ pub mod CheckProfile
 pub mod Kinds
 pub mod Commands
 -- Between layers: what the private steps of the engines promise each other.
-pub mod StatsParts
-pub mod CompatParts
 pub mod DiffParts
 pub mod RunParts

@@ -1,4 +1,4 @@
 -- Lemmas for the functions of `stats`.
 pub mod TableNumbers
 pub mod PassingRecord
-pub mod Measured
+pub mod FilterNumbers

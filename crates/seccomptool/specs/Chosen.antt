@@ -26,21 +26,7 @@ abbrev pub IsChosen : List ℕ → Option (List ℕ) → List ℕ → Type 0
 IsChosen text (Some asked) name = name ≡ asked
 IsChosen text None name = OfValue text (λ d. HasOnlyName d name)
 
--- No name is asked for, and the error tells that the text has a fault, on whichever architecture, or that its value
--- hasn't one name. Want of memory may come in place of all.
-abbrev pub IsUnchosen : List ℕ → Option (List ℕ) → ToolError → Type 0
-IsUnchosen text None (Library e) = (arch : TargetArch) → TellsFirstFault arch text e
-IsUnchosen text None (Unchosen names) = OfValue text (λ d. (name : List ℕ) → HasOnlyName d name → ⊥)
-IsUnchosen text asked OutOfMemory = ⊤
-IsUnchosen text asked e = ⊥
-
 -- Between layers: the entries are one, under this name.
 abbrev pub HoldsOnly : List (String Global × JsonFilter) → String Global → Type 0
 HoldsOnly entries name =
     (key : String Global) × (filter : JsonFilter) × (entries ≡ (key, filter) ∷ []) × (string_bytes name ≡ string_bytes key)
-
--- Between layers: the error tells that the entries aren't one, or is want of memory.
-abbrev pub IsNoChoice : List (String Global × JsonFilter) → ToolError → Type 0
-IsNoChoice entries (Unchosen names) = length entries ≢ 1
-IsNoChoice entries OutOfMemory = ⊤
-IsNoChoice entries e = ⊥

@@ -45,7 +45,3 @@ ArePrograms layout target = AreNamed name_of (λ made value. HasProgram layout t
 pub record IsCompiledAs (layout : Layout) (filter : String Global × Filter) (made : NamedProgram) : Type 0 where
   pub name : made.name ≡ filter.0
   pub compiled : IsCompiledIn layout filter.1 made.program.items
-
--- The value has this name, and what stands under it is as P says.
-abbrev pub UnderName : List ℕ → (TargetArch → Data → Type 0) → TargetArch → Data → Type 0
-UnderName name P target d = Under d name (P target)

@@ -5,14 +5,12 @@
 pub mod Numbers
 pub mod RunFaults
 pub mod Errors
-pub mod Policies
 pub mod Chosen
 pub mod Named
 pub mod Compile
 pub mod Ways
 pub mod Stats
 pub mod Compat
-pub mod Notes
 pub mod Check
 pub mod Reasons
 pub mod Explain
@@ -25,8 +23,7 @@ pub mod Verify
 pub mod Imports
 pub mod CheckProfile
 pub mod Kinds
+pub mod Commands
 -- Between layers: what the private steps of the engines promise each other.
-pub mod StatsParts
-pub mod CompatParts
 pub mod DiffParts
 pub mod RunParts

@@ -29,20 +29,8 @@ pub(crate) enum Failure {
     Engine(ToolError),
 }
 
-impl From<ToolError> for Failure {
-    fn from(error: ToolError) -> Failure {
-        Failure::Engine(error)
-    }
-}
-
-impl From<AllocError> for Failure {
-    fn from(_error: AllocError) -> Failure {
-        Failure::Engine(ToolError::OutOfMemory)
-    }
-}
-
 /// Where a failure is.
-#[derive(Clone, Copy, PartialEq)]
+#[derive(Clone, Copy)]
 pub(crate) enum Place {
     /// Nowhere in what is read or written.
     Nowhere,
@@ -83,7 +71,7 @@ pub(crate) fn note(rt: &(impl Eprint + AllocGlobal), notes: &[u8]) {
 
 // Where a failure of a command is: faults that aren't of the words are of the first one that is read, those of two filters that
 // are compared aside, and those of a program that is verified.
-pub(crate) fn place_of(command: &Command<'_>, failure: &Failure) -> Place {
+fn place_of(command: &Command<'_>, failure: &Failure) -> Place {
     match failure {
         Failure::First(_) => Place::First,
         Failure::Second(_) => Place::Second,
@@ -96,7 +84,7 @@ pub(crate) fn place_of(command: &Command<'_>, failure: &Failure) -> Place {
 }
 
 // Where an error of a command is.
-fn place_in(command: &Command<'_>, error: &ToolError) -> Place {
+pub(crate) fn place_in(command: &Command<'_>, error: &ToolError) -> Place {
     match (error, command) {
         (ToolError::NewPolicy(_), _) => Place::Second,
         (ToolError::NewImport(_), _) => Place::Second,

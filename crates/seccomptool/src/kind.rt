@@ -1,10 +1,11 @@
 // Whether a text is a profile's or a policy's, where both may be given.
 
-ghost use Rattle.std.specs.Prelude.{◌≡◌, ◌↔◌, IfOk, IsTrue, codes};
+ghost use Rattle.std.specs.Prelude.{◌≡◌, ◌↔◌, IfOk, IsTrue, codes, option_map};
 ghost use Rattle.serde_json.specs.View.{view};
 ghost use Rattle.seccomptool.specs.Kinds as spec;
 ghost use Rattle.seccompiler.specs.declared.backend.TargetArch.{TargetArch};
-ghost use Rattle.seccomptool.specs.Kinds.{IsOfProfile, IsPolicyText, NamesDefault, StandsIn};
+ghost use Rattle.seccomptool.specs.Kinds.{IsOfProfile, IsPolicyText, IsTakenAs, NamesDefault, StandsIn};
+ghost use Rattle.seccomptool.specs.Chosen.{text_of};
 
 use seccomp_oci::Container;
 use serde_json::Value;
@@ -27,15 +28,17 @@ pub(crate) fn subject_of<'a>(
     plain: &'a Container,
     filter: Option<&str>,
     text: &[u8],
-) -> Result<Subject<'a>, AllocError> {
-    match (given, filter) {
-        (Some(container), _) => Ok(Subject::Profile(container)),
-        (None, Some(_)) => Ok(Subject::Policy),
-        (None, None) => match is_of_profile(alloc, text)? {
-            true => Ok(Subject::Profile(plain)),
-            false => Ok(Subject::Policy),
-        },
+) -> Result<Subject<'a>, AllocError>
+    requires { plain.entry.now ≡ spec.plain_container }
+    ensures { IfOk result (IsTakenAs (option_map (λ c. c.now) given.entry) (text_of filter.entry) text.now) }
+{
+    if let Some(container) = given {
+        return Ok(Subject::Profile(container));
     }
+    if filter.is_none() && is_of_profile(alloc, text)? {
+        return Ok(Subject::Profile(plain));
+    }
+    Ok(Subject::Policy)
 }
 
 // Whether a text is taken for a profile. Only one that has the key's bytes is parsed, since policies may be large.

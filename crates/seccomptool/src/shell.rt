@@ -1,17 +1,18 @@
 // What the program does with its arguments: opens what a command reads, and ends with a status.
 
-ghost use Rattle.std.specs.Prelude.{◌≡◌, ◌≤◌, ◌⊎◌};
+ghost use Rattle.std.specs.Prelude.{◌≡◌, ◌≤◌, ◌⊎◌, IfOk};
 ghost use Rattle.std.specs.Process.{exit_status};
 ghost use Rattle.clap.specs.Words.{kind_of};
 ghost use Rattle.clap.specs.declared.error.kind.ErrorKind.TheVariants.{DisplayHelp, DisplayVersion};
+ghost use Rattle.seccomptool.specs.Commands as spec;
+ghost use Rattle.seccomptool.specs.Commands.{EndWith, EndsWith, IsPerformed, verdict_status};
 
 use crate::compile::format::ProgramFormat;
-use crate::done::Done;
 use crate::failure::{Failure, note, tell};
 use crate::findings::Verdict;
 use crate::import::format::ImportFormat;
 use crate::output::{is_same, write_whole};
-use crate::perform::perform;
+use crate::perform::{Done, perform};
 use crate::progress::Progress;
 use crate::readable::{LineFeeds, readable};
 use crate::source::open;
@@ -92,7 +93,7 @@ pub(crate) fn unread(rt: &impl Eprint, error: &io::Error) -> ExitCode {
 }
 
 // Carries out a command on one after the other of what it is asked for: one that fails doesn't keep those behind it from being
-// carried out. The status is the greatest.
+// carried out. The status is the greatest of theirs.
 fn carry_out_each<G: Progress>(
     rt: &(impl Files + Input + Print + Eprint + AllocGlobal),
     asked: &Asked<'_>,
@@ -100,12 +101,19 @@ fn carry_out_each<G: Progress>(
     progress: &mut G,
 ) -> u8
     ensures ended { result ≤ 3 }
+    ensures each { EndWith asked.now.command asked.now.inputs.items result }
 {
     let mut status = 0;
     for inputs in &asked.inputs {
-        status = status.max(carry_out(rt, asked, *inputs, to_terminal, progress));
+        status = greater(status, carry_out(rt, asked, *inputs, to_terminal, progress));
     }
     status
+}
+
+fn greater(first: u8, second: u8) -> u8
+    ensures { (first ≤ result) × (second ≤ result) × ((result ≡ first) ⊎ (result ≡ second)) }
+{
+    if first < second { second } else { first }
 }
 
 // Carries out a command on the files and standard input that it names. Where standard output is a terminal, no bytes of programs
@@ -119,6 +127,7 @@ fn carry_out<G: Progress>(
     progress: &mut G,
 ) -> u8
     ensures ended { result ≤ 3 }
+    ensures performed { EndsWith asked.now.command result }
 {
     match carried_out(rt, asked, inputs, to_terminal, progress) {
         Ok(done) => {
@@ -138,7 +147,9 @@ fn carried_out<G: Progress>(
     inputs: Inputs<'_>,
     to_terminal: bool,
     progress: &mut G,
-) -> Result<Done, Failure> {
+) -> Result<Done, Failure>
+    ensures { IfOk result (λ done. IsPerformed asked.now.command done.verdict) }
+{
     let command = &asked.command;
     if to_terminal && asked.output.is_none() && writes_bytes(command) {
         return Err(Failure::Terminal);
@@ -196,7 +207,7 @@ pub(crate) fn writes_bytes(command: &Command<'_>) -> bool {
 
 // The status of what a command finds.
 fn status_of(verdict: Verdict) -> u8
-    ensures { result ≤ 3 }
+    ensures { result ≡ verdict_status verdict }
 {
     match verdict {
         Verdict::Same => 0,
@@ -207,7 +218,7 @@ fn status_of(verdict: Verdict) -> u8
 
 // The status of a command that fails.
 fn trouble(command: &Command<'_>) -> u8
-    ensures { result ≤ 2 }
+    ensures { result ≡ spec.trouble command.now }
 {
     match command {
         Command::Diff { .. } => 2,

@@ -29,11 +29,6 @@ pub enum Amiss {
 
 /// The fault's text.
 impl fmt::Display for ProgramFault {
-    ghost use Rattle.std.specs.Prelude.{Some};
-    ghost use Rattle.seccomptool.specs.RunFaults.{fault_text};
-
-    ghost output = { λ fault. Some (fault_text fault) };
-
     fn fmt<W: fmt::Write>(&self, f: &mut fmt::Formatter<W>) -> fmt::Result {
         match self {
             ProgramFault::Short(rest) => {
@@ -52,11 +47,6 @@ impl fmt::Display for ProgramFault {
 
 /// What is amiss, in English.
 impl fmt::Display for Amiss {
-    ghost use Rattle.std.specs.Prelude.{Some};
-    ghost use Rattle.seccomptool.specs.RunFaults.{amiss_text};
-
-    ghost output = { λ amiss. Some (amiss_text amiss) };
-
     fn fmt<W: fmt::Write>(&self, f: &mut fmt::Formatter<W>) -> fmt::Result {
         match self {
             Amiss::Operation(code) => write!(f, "unknown operation 0x{code:x}"),

@@ -7,7 +7,7 @@ use Rattle.seccomp_command_line.proofs.ByName.{by_text}
 use Rattle.seccomptool.specs.Stats.{HasStats, IsMeasured}
 use Rattle.seccomptool.specs.declared.stats.FilterStats.{FilterStats}
 use Rattle.seccomptool.proofs.Named.{are_named}
-use Rattle.seccomptool.proofs.stats.Measured.{has_stats}
+use Rattle.seccomptool.proofs.stats.FilterNumbers.{has_stats}
 use Rattle.seccomptool.proofs.stats.stats_of.Goals as goal
 
 pub returns : goal.returns

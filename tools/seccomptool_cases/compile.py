@@ -105,9 +105,9 @@ CASES = [
     writes("compile --format c logs.json", "", in_c(TREE)),
     writes("compile --format=c --layout=linear -", LOGS, in_c(LINEAR)),
     writes("compile --format c logs.json -o written.inc && cat written.inc && rm written.inc", "", in_c(TREE)),
-    # A listing is that of `seccompc list`, which leaves the bytes 80 and above of a name as they are.
+    # A listing is that of `seccompc list`, but that no name steers a terminal.
     writes("compile two-filters.json -f \"$(printf 'b\\302\\233')\" --format listing | head -n 1", "",
-           "filter 5 b\x9b\n"),
+           "filter 5 b\\xc2\\x9b\n"),
     writes("compile -f \"$(printf 'a\\n\\\\')\" names.json --format listing", "", listed(r"a\x0a\x5c", TREE)),
     writes(f"compile {EXAMPLE} --format listing --layout linear > listed.txt &&"
            f" ./seccompc list x86_64 < {EXAMPLE} | cmp - listed.txt; status=$?; rm listed.txt; (exit $status)", "", ""),

@@ -2,7 +2,5 @@
 -- and the file beside the folder lists them.
 pub mod Pairs
 pub mod Readings
-pub mod Faults
 pub mod Found
-pub mod JsonRefusals
-pub mod Warned
+pub mod Named

@@ -1,4 +1,2 @@
 -- Lemmas for the functions of `check`.
-pub mod Checked
-pub mod ProfileChecked
 pub mod SomeDeny

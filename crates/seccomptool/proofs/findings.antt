@@ -1,7 +1,9 @@
--- Lemmas for the functions of `findings` and of the modules below it.
+-- Lemmas for the functions of `findings`.
 pub mod Verdicts
 pub mod Names
-pub mod Pieces
 pub mod Found
 pub mod Covered
-pub mod OwnCalls
+pub mod Ending
+pub mod Returned
+pub mod Decided
+pub mod Programs

@@ -1,6 +1,3 @@
--- Lemmas for the functions of `verify` and of the modules below it.
-pub mod Answered
+-- Lemmas for the functions of `verify`.
 pub mod Names
 pub mod Others
-pub mod Pieces
-pub mod Told

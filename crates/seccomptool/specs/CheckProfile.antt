@@ -1,31 +1,19 @@
--- What `check` of a profile answers and writes: why the profile isn't imported; or else the warnings of the policy that it is imported
--- as, whose filters are installed together.
-use Rattle.std.specs.Prelude.{◌≡◌, ◌↔◌, ℕ, Bool, true, false, List, [], ◌∷◌, ◌++◌, map, Any, IsTrue, is_some, codes, string_bytes}
-use Rattle.std.specs.Prelude.{Option, Result, Ok, Err, IsErrAnd, String}
+-- What `check` gives of a profile: the warnings of the policy that it is imported as, whose filters are installed together.
+use Rattle.std.specs.Prelude.{◌≡◌, ◌↔◌, ℕ, Bool, true, false, List, [], ◌∷◌, ◌++◌, Any, IsTrue, is_some, codes, String}
 use Rattle.std.specs.BTreeMap.{get_by_text}
 use Rattle.std.specs.declared.alloc.Global.{Global}
-use Rattle.std.specs.declared.io.Error.{Error}
-use Rattle.serde_json.specs.Data.{Data}
 use Rattle.seccompiler.specs.declared.backend.TargetArch.{TargetArch}
 use Rattle.seccompiler.specs.declared.json.types.JsonFilterMap.{JsonFilterMap}
-use Rattle.seccompiler.specs.JsonAnswers.{IsValueOf}
-use Rattle.seccompiler.specs.JsonSteps.{AreFilters}
 use Rattle.seccompiler.specs.JsonTypes.{JsonFilter}
-use Rattle.seccompiler.specs.Reads.{Reads}
-use Rattle.seccomp_oci.specs.declared.import.Import.{Import}
 use Rattle.seccomp_oci.specs.Import.{IsImported}
 use Rattle.seccomp_oci.specs.Types.{Container}
 use Rattle.seccomp_warnings.specs.CallWarnings.{DeniesEach}
 use Rattle.seccomp_warnings.specs.Reports.{codes_for}
 use Rattle.seccomp_warnings.specs.declared.code.Code.{Code}
 use Rattle.seccomp_warnings.specs.declared.code.Code.TheVariants as code
-use Rattle.seccomptool.specs.Check.{WritesWarnings}
-use Rattle.seccomptool.specs.Imports.{AreNoted, IsImportable, IsUnimported}
-use Rattle.seccomptool.specs.Policies.{IsPolicyReadError}
-use Rattle.seccomptool.specs.declared.done.Done.{Done}
-use Rattle.seccomptool.specs.declared.error.ToolError.{ToolError}
-use Rattle.seccomptool.specs.declared.error.ToolError.TheVariants as error
-use Rattle.seccomptool.specs.declared.import.format.ImportFormat.TheVariants.{Policy}
+use Rattle.seccomp_warnings.specs.declared.report.Report.{Report}
+use Rattle.seccomptool.specs.Check.{IsTextReport}
+use Rattle.seccomptool.specs.declared.check.profile.CheckedProfile.{CheckedProfile}
 
 -- ---- the codes that aren't reported
 
@@ -57,32 +45,16 @@ abbrev pub left_out_of : (base denied : Bool) → (allowed : List Code) → (nam
 left_out_of base denied allowed =
     codes_for (codes "base") (allowed ++ codes_of_each denied ++ codes_of_base) (allowed ++ codes_of_each denied ++ codes_of_others base)
 
--- ---- the answer
+-- ---- the warnings
 
--- What is written grew by the warnings of the policy that the text's profile is imported as. The names that are left out are noted,
--- and so are the flags.
-pub record WritesProfileWarnings (target : TargetArch) (container : Container) (denied : Bool) (allowed : List Code) (path : List ℕ)
-    (done : Done) (old new : Option (List ℕ)) (text : List ℕ) : Type 0 where
-  pub imported : Import
-  pub is_imported : IsImported target container false text imported
-  pub noted : AreNoted target path (map string_bytes imported.left_out.items) imported.flags.items done.notes.items
-  pub value : Data
-  pub is_value : IsValueOf imported.text.items value
-  pub filters : JsonFilterMap
-  pub are : AreFilters value filters
+-- The report is that of the filters of a text, each line behind a front, without what isn't reported of a profile's filters.
+pub record IsProfileReport (target : TargetArch) (allowed : List Code) (front text : List ℕ) (report : Report) : Type 0 where
   pub denies : Bool
-  pub denies_is : IsTrue denies ↔ DenyClone3 filters
-  pub warned : WritesWarnings target denied (left_out_of (has_base filters) denies allowed) path done.verdict old new value
+  pub is : IsTextReport target (λ filters. left_out_of (has_base filters) denies allowed) front text report
+  pub denies_is : IsTrue denies ↔ DenyClone3 is.filters
 
--- The answer of `check` of a profile. It is Ok only where the warnings are written. An error is that the profile isn't read or isn't
--- imported, or that writing fails. Names that are left out are no error.
-pub data AnswersCheckProfile (target : TargetArch) (container : Container) (denied : Bool) (allowed : List Code) (path : List ℕ)
-    (known : Option (List ℕ)) (answer : Result Done ToolError) (old new : Option (List ℕ)) : Type 0 where
-  unread : IsErrAnd answer IsPolicyReadError → AnswersCheckProfile target container denied allowed path known answer old new
-  unimported : Reads known (λ text. IsErrAnd answer (IsUnimported Policy target container false text))
-      → AnswersCheckProfile target container denied allowed path known answer old new
-  unwritten : (e : Error) → answer ≡ Err (error.Write e) → Reads known (IsImportable Policy target container false)
-      → AnswersCheckProfile target container denied allowed path known answer old new
-  written : (done : Done) → answer ≡ Ok done
-      → Reads known (WritesProfileWarnings target container denied allowed path done old new)
-      → AnswersCheckProfile target container denied allowed path known answer old new
+-- The report is that of the policy that the text's profile is imported as.
+pub record IsProfileCheckOf (target : TargetArch) (container : Container) (allowed : List Code) (front text : List ℕ)
+    (checked : CheckedProfile) : Type 0 where
+  pub imported : IsImported target container false text checked.policy
+  pub report : IsProfileReport target allowed front checked.policy.text.items checked.report

@@ -1,278 +1,179 @@
--- What each command answers and writes.
-use Rattle.std.specs.Prelude.{◌≡◌, ℕ, Bool, true, false, List, [], Option, Some, None, Result, Ok, Err, IfOk, IsErrAnd, ⊤}
+-- What it means that a command is carried out on the texts that it is given, and with which status it ends.
+use Rattle.std.specs.Prelude.{◌≡◌, ◌≤◌, ◌⊎◌, ℕ, ◌/◌, All, Bool, Contains, List, length, Option, Some, None, string_bytes, ⊤}
+use Rattle.core.specs.Simd.{first_chunks}
+use Rattle.std.specs.List.{AllZip}
 use Rattle.seccompiler.specs.declared.backend.TargetArch.{TargetArch}
-use Rattle.seccomp_compare.specs.declared.Relation.{Relation}
+use Rattle.seccompiler.specs.declared.bpf.sock_filter.{sock_filter}
 use Rattle.seccompiler.specs.declared.layout.Layout.{Layout}
-use Rattle.seccompiler.specs.Architecture.{arch_text}
-use Rattle.seccompiler.specs.Reads.{Reads}
+use Rattle.seccompiler.specs.JsonAnswers.{OfValue}
+use Rattle.seccompiler.specs.Machine.{IsChecked}
 use Rattle.seccomp_oci.specs.Types.{Container}
-use Rattle.seccomptool.specs.declared.compile.format.ProgramFormat.{ProgramFormat}
-use Rattle.seccomptool.specs.declared.compile.format.ProgramFormat.TheVariants as program_format
-use Rattle.seccomptool.specs.declared.done.Done.{Done}
-use Rattle.seccomptool.specs.declared.error.ToolError.{ToolError}
-use Rattle.seccomptool.specs.declared.explain.format.LineFormat.{LineFormat}
+use Rattle.seccomp_warnings.specs.declared.code.Code.{Code}
+use Rattle.seccomp_warnings.specs.declared.report.Report.{Report}
+use Rattle.seccomptool.specs.declared.check.profile.CheckedProfile.{CheckedProfile}
+use Rattle.seccomptool.specs.declared.compile.NamedProgram.{NamedProgram}
+use Rattle.seccomptool.specs.declared.diff.Diff.{Diff}
+use Rattle.seccomptool.specs.declared.explain.Explanation.{Explanation}
+use Rattle.seccomptool.specs.declared.failure.Failure.{Failure}
+use Rattle.seccomptool.specs.declared.failure.Failure.TheVariants as failure
+use Rattle.seccomptool.specs.declared.findings.Terms.{Terms}
 use Rattle.seccomptool.specs.declared.findings.Verdict.{Verdict}
 use Rattle.seccomptool.specs.declared.findings.Verdict.TheVariants.{Same, Different, Undecided}
-use Rattle.seccomptool.specs.declared.import.format.ImportFormat.TheVariants as import_format
+use Rattle.seccomptool.specs.declared.import.Imported.{Imported}
+use Rattle.seccomptool.specs.declared.kind.Subject.{Subject}
+use Rattle.seccomptool.specs.declared.kind.Subject.TheVariants as subject
+use Rattle.seccomptool.specs.declared.stats.FilterStats.{FilterStats}
+use Rattle.seccomptool.specs.declared.stats.measure.Measure.{Measure}
+use Rattle.seccomptool.specs.declared.compat.FilterCalls.{FilterCalls}
+use Rattle.seccomptool.specs.declared.verify.Verification.{Verification}
+use Rattle.seccomptool.specs.declared.verify.scope.Scope.{Scope}
+use Rattle.seccomptool.specs.declared.words.Call.{Call}
 use Rattle.seccomptool.specs.declared.words.Command.{Command}
-use Rattle.seccomptool.specs.declared.words.Command.TheVariants.{Compile, Show, Check, Codes, Explain, Run, Stats, Record, Diff}
-use Rattle.seccomptool.specs.declared.words.Command.TheVariants.{Verify, Compat, Import, DiffProfiles, ExplainProfile, StatsProfile}
-use Rattle.seccomptool.specs.declared.words.Command.TheVariants.{CheckProfile}
-use Rattle.seccomptool.specs.declared.words.Records.{Records}
-use Rattle.seccomptool.specs.declared.words.Records.TheVariants as records
+use Rattle.seccomptool.specs.declared.words.Command.TheVariants.{Compile, Show, Check, Codes, Explain, Run, Stats, Record, Diff as DiffOf}
+use Rattle.seccomptool.specs.declared.words.Command.TheVariants.{Verify, Compat, Import}
+use Rattle.seccomptool.specs.declared.words.Inputs.{Inputs}
 use Rattle.seccomptool.specs.declared.words.Shown.{Shown}
 use Rattle.seccomptool.specs.declared.words.Shown.TheVariants as shown
-use Rattle.seccomp_warnings.specs.declared.code.Code.{Code}
-use Rattle.seccomptool.specs.Check.{AnswersCheck}
-use Rattle.seccomptool.specs.CheckProfile.{AnswersCheckProfile}
-use Rattle.seccomptool.specs.Chosen.{AnswersChosen}
-use Rattle.seccomptool.specs.Codes.{AnswersCodes}
-use Rattle.seccomptool.specs.Compile.{AnswersCompile}
-use Rattle.seccomptool.specs.Counts.{AreBothCounted, AreCounted}
-use Rattle.seccomptool.specs.Diff.{AnswersDiff}
-use Rattle.seccomptool.specs.DiffProfiles.{AnswersDiffProfiles}
-use Rattle.seccomptool.specs.Explain.{AnswersExplain}
-use Rattle.seccomptool.specs.ExplainProfiles.{AnswersExplainProfile}
-use Rattle.seccomptool.specs.Record.{AnswersRecord, IsRecordOf, IsUncalled}
-use Rattle.seccomptool.specs.Run.{AnswersRun}
-use Rattle.seccomptool.specs.Show.{AnswersShow}
-use Rattle.seccomptool.specs.ShowProgram.{AnswersShowProgram}
-use Rattle.seccomptool.specs.Stats.{AnswersStats}
-use Rattle.seccomptool.specs.StatsProfile.{AnswersStatsProfile}
-use Rattle.seccomptool.specs.Verify.{AnswersVerify}
-use Rattle.seccomptool.specs.Compat.{AnswersCompat}
-use Rattle.seccomptool.specs.Imports.{AnswersImport}
-use Rattle.seccomptool.specs.Kinds.{AnswersByKind, plain_container}
-use Rattle.seccomptool.specs.Words.{text_of}
+use Rattle.seccomptool.specs.Check.{IsCheckOf, verdict_where}
+use Rattle.seccomptool.specs.CheckProfile.{IsProfileCheckOf}
+use Rattle.seccomptool.specs.Chosen.{IsChosen, text_of}
+use Rattle.seccomptool.specs.Compat.{AreCalls}
+use Rattle.seccomptool.specs.Compile.{ArePrograms, IsProgramUnder}
+use Rattle.seccomptool.specs.Diff.{IsDiff, verdict_all}
+use Rattle.seccomptool.specs.Explain.{IsExplanation}
+use Rattle.seccomptool.specs.Imports.{IsImportOf}
+use Rattle.seccomptool.specs.Kinds.{IsTakenAs}
+use Rattle.seccomptool.specs.Record.{IsRecordOf}
+use Rattle.seccomptool.specs.Run.{AreReturned, IsProgramOf}
+use Rattle.seccomptool.specs.Stats.{AreStats, IsProfileMeasure}
+use Rattle.seccomptool.specs.Verify.{IsVerification, verdict_in}
 
--- The answer of `explain` on these records, for the filter that is asked for, or the policy's only one.
-abbrev pub AnswersExplained : TargetArch → Option (List ℕ) → LineFormat → (policy records : Option (List ℕ)) → Result ⊤ ToolError
-    → (old new : Option (List ℕ)) → Type 0
-AnswersExplained arch filter format policy records answer old new =
-    AnswersChosen policy filter (λ text name. AnswersExplain format (arch_text arch) (Some text) name records answer old new) answer
+-- ---- what each command answers
 
--- The answer of `explain` on these records, where a policy or a profile may be given: that of a profile is for a container of which
--- nothing is said.
-abbrev pub AnswersExplainedByKind : TargetArch → Option (List ℕ) → LineFormat → (given records : Option (List ℕ)) → Result ⊤ ToolError
-    → (old new : Option (List ℕ)) → Type 0
-AnswersExplainedByKind arch filter format given records answer old new = AnswersByKind given filter
-    (λ text. AnswersExplained arch filter format (Some text) records answer old new)
-    (λ text. AnswersExplainProfile format arch plain_container (Some text) records answer old new) answer
+-- The program of the filter that is asked for.
+abbrev pub IsCompiled : TargetArch → Layout → (asked : Option (List ℕ)) → (text : List ℕ) → Type 0
+IsCompiled arch layout asked text =
+    (made : NamedProgram) × IsChosen text asked (string_bytes made.name) × IsProgramUnder arch layout text made
 
--- The answer on one call: there is no such call; or it is as P says of the call's record.
-pub data AnswersCall (arch : TargetArch) (call : List ℕ) (arguments : List ℕ) (P : List ℕ → Type 0)
-    (answer : Result ⊤ ToolError) : Type 0 where
-  uncalled : IsErrAnd answer (IsUncalled arch call) → AnswersCall arch call arguments P answer
-  called : (record_of : List ℕ) → IsRecordOf arch call arguments record_of → P record_of → AnswersCall arch call arguments P answer
+-- The programs of a policy, or a program.
+abbrev pub IsShown : TargetArch → Layout → Shown → (given : List ℕ) → Type 0
+IsShown arch layout shown.Policy text = (all : List NamedProgram) × OfValue text (λ d. ArePrograms layout arch d all)
+IsShown arch layout shown.Program bytes = (program : List sock_filter) × IsProgramOf bytes program × IsChecked program
 
--- The answer of `explain` for the records that it is asked about: that of a call, or those of the file or input.
-abbrev pub AnswersExplainedOn : Records → TargetArch → Option (List ℕ) → LineFormat → (given records : Option (List ℕ))
-    → Result ⊤ ToolError → (old new : Option (List ℕ)) → Type 0
-AnswersExplainedOn (records.Call call arguments) arch filter format given known answer old new =
-    AnswersCall arch call.now arguments (λ bytes. AnswersExplainedByKind arch filter format given (Some bytes) answer old new) answer
-AnswersExplainedOn (records.In path) arch filter format given known answer old new =
-    AnswersExplainedByKind arch filter format given known answer old new
+-- The warnings of a policy or a profile, and whether they count.
+abbrev pub IsCheckedAs : TargetArch → Subject → (denied : Bool) → (allowed : List Code) → (text : List ℕ) → Verdict → Type 0
+IsCheckedAs arch subject.Policy denied allowed text v =
+    (front : List ℕ) × (report : Report) × IsCheckOf arch allowed front text report × (v ≡ verdict_where denied report.count)
+IsCheckedAs arch (subject.Profile container) denied allowed text v = (front : List ℕ) × (checked : CheckedProfile)
+    × IsProfileCheckOf arch container.now allowed front text checked × (v ≡ verdict_where denied checked.report.count)
 
--- The answer of `explain` of a profile for the records that it is asked about.
-abbrev pub AnswersExplainProfileOn : Records → LineFormat → TargetArch → Container → (profile records : Option (List ℕ))
-    → Result ⊤ ToolError → (old new : Option (List ℕ)) → Type 0
-AnswersExplainProfileOn (records.Call call arguments) format arch container profile known answer old new =
-    AnswersCall arch call.now arguments (λ bytes. AnswersExplainProfile format arch container profile (Some bytes) answer old new) answer
-AnswersExplainProfileOn (records.In path) format arch container profile known answer old new =
-    AnswersExplainProfile format arch container profile known answer old new
+-- The warnings of what is given.
+abbrev pub IsCheck : TargetArch → Option Container → (denied : Bool) → (allowed : List Code) → (text : List ℕ) → Verdict → Type 0
+IsCheck arch container denied allowed text v =
+    (kind : Subject) × IsTakenAs container None text kind × IsCheckedAs arch kind denied allowed text v
 
--- The answer of `stats`, where a policy or a profile may be given: that of a profile is for a container of which nothing is said.
-abbrev pub AnswersStatsByKind : TargetArch → (given : Option (List ℕ)) → Result ⊤ ToolError → (old new : Option (List ℕ)) → Type 0
-AnswersStatsByKind arch given answer old new = AnswersByKind given None
-    (λ text. AnswersStats (arch_text arch) (Some text) answer old new)
-    (λ text. AnswersStatsProfile arch plain_container (Some text) answer old new) answer
+-- The whole records of these bytes.
+abbrev pub records_in : List ℕ → List (List ℕ)
+records_in bytes = first_chunks 64 (length bytes / 64) bytes
 
--- The answer of `run` for the records that it is asked about: that of a call, or those of the file or input.
-abbrev pub AnswersRunOn : Records → TargetArch → (program records : Option (List ℕ)) → Result ⊤ ToolError → (old new : Option (List ℕ))
-    → Type 0
-AnswersRunOn (records.Call call arguments) arch program known answer old new =
-    AnswersCall arch call.now arguments (λ bytes. AnswersRun program (Some bytes) answer old new) answer
-AnswersRunOn (records.In path) arch program known answer old new = AnswersRun program known answer old new
+-- P holds of the records that are asked about: that of a call, or those of these bytes.
+abbrev pub OnRecords : TargetArch → Option Call → (bytes : List ℕ) → (List (List ℕ) → Type 0) → Type 0
+OnRecords arch (Some call) bytes P =
+    (record_of : List ℕ) × IsRecordOf arch call.name.now call.arguments record_of × P (records_in record_of)
+OnRecords arch None bytes P = P (records_in bytes)
 
--- The answer of `show` for what it is to print: the programs of a policy, or a program.
-abbrev pub AnswersShown : Shown → TargetArch → Layout → (given : Option (List ℕ)) → Result ⊤ ToolError → Type 0
-AnswersShown (shown.Policy path) arch layout policy answer = AnswersShow (arch_text arch) policy layout answer
-AnswersShown (shown.Program path) arch layout program answer = AnswersShowProgram program answer
+-- What a policy's filter or a profile decides on the records, and why.
+abbrev pub IsExplained : TargetArch → Option Container → (asked : Option (List ℕ)) → (text : List ℕ) → (records : List (List ℕ)) → Type 0
+IsExplained arch container asked text records = (kind : Subject) × IsTakenAs container asked text kind
+    × (explanation : Explanation) × IsExplanation arch kind asked text records explanation
 
--- An answer without what is found and noted.
-abbrev pub plain_of : Result Done ToolError → Result ⊤ ToolError
-plain_of (Ok done) = Ok tt
-plain_of (Err e) = Err e
+-- What a program returns for the records.
+abbrev pub IsRun : (program : List ℕ) → (records : List (List ℕ)) → Type 0
+IsRun bytes records =
+    (program : List sock_filter) × IsProgramOf bytes program × (words : List ℕ) × AreReturned program records words
 
--- An answer without what is noted.
-abbrev pub found_of : Result Done ToolError → Result Verdict ToolError
-found_of (Ok done) = Ok done.verdict
-found_of (Err e) = Err e
+-- The numbers of the programs of a policy, or of that of a profile.
+abbrev pub IsMeasuredAs : TargetArch → Subject → (text : List ℕ) → Type 0
+IsMeasuredAs arch subject.Policy text = (all : List FilterStats) × OfValue text (λ d. AreStats arch d all)
+IsMeasuredAs arch (subject.Profile container) text = (measure : Measure) × IsProfileMeasure arch container.now text measure
 
--- The answer of a command that has nothing to note: P holds of it.
-abbrev pub AnswersFound : (Result Verdict ToolError → Type 0) → Result Done ToolError → Type 0
-AnswersFound P answer = P (found_of answer) × IfOk answer (λ done. done.notes.items ≡ [])
+-- The numbers of what is given.
+abbrev pub IsMeasured : TargetArch → Option Container → (text : List ℕ) → Type 0
+IsMeasured arch container text = (kind : Subject) × IsTakenAs container None text kind × IsMeasuredAs arch kind text
 
--- The answer of `check`, where a policy or a profile may be given: that of a profile is for a container of which nothing is said. That
--- of a policy has nothing to note.
-abbrev pub AnswersCheckByKind : TargetArch → (denied : Bool) → List Code → (path : List ℕ) → (given : Option (List ℕ))
-    → Result Done ToolError → (old new : Option (List ℕ)) → Type 0
-AnswersCheckByKind arch denied allowed path given answer old new = AnswersByKind given None
-    (λ text. AnswersFound (λ found. AnswersCheck (arch_text arch) denied allowed path (Some text) found old new) answer)
-    (λ text. AnswersCheckProfile arch plain_container denied allowed path (Some text) answer old new) answer
+-- On which calls what is given decides otherwise, and whether on any.
+abbrev pub IsCompared : Terms → Option Container → (asked : Option (List ℕ)) → (old new : List ℕ) → Verdict → Type 0
+IsCompared terms container asked old new v = (kind : Subject) × IsTakenAs container asked old kind
+    × (diff : Diff) × IsDiff terms.target terms.relation kind asked old new diff × (v ≡ verdict_all diff.all.items)
 
--- The answer of a command that compares nothing and has nothing to note: P holds of it, and its verdict is `Same` where it is
--- carried out.
-pub record AnswersPlain (P : Result ⊤ ToolError → Type 0) (answer : Result Done ToolError) : Type 0 where
-  pub plain : P (plain_of answer)
-  pub same : IfOk answer (λ done. done.verdict ≡ Same)
-  pub notes : IfOk answer (λ done. done.notes.items ≡ [])
+-- On which calls a program decides otherwise than a filter, and whether on any that counts.
+abbrev pub IsVerified : Terms → (asked : Option (List ℕ)) → Scope → (policy program : List ℕ) → Verdict → Type 0
+IsVerified terms asked scope policy program v =
+    (found : Verification) × IsVerification terms.target terms.relation asked policy program found × (v ≡ verdict_in scope found)
 
--- The answer of `compile` for the filter that is asked for, or the policy's only one.
-abbrev pub AnswersCompileAsked : ProgramFormat → TargetArch → Option (List ℕ) → Layout → (policy : Option (List ℕ)) → Result ⊤ ToolError
-    → (old new : Option (List ℕ)) → Type 0
-AnswersCompileAsked format arch filter layout policy answer old new =
-    AnswersChosen policy filter (λ text name. AnswersCompile format (arch_text arch) (Some text) name layout answer old new) answer
+-- The calls that the Rust crate would decide otherwise.
+abbrev pub AreWidenedIn : TargetArch → (text : List ℕ) → Type 0
+AreWidenedIn arch text = (all : List FilterCalls) × OfValue text (λ d. AreCalls arch d all)
 
--- The answer of `compile` with its notes. Where it is carried out, the notes are those on the policy of the path, of the text whose
--- program is written.
-pub record AnswersCompileNoted (format : ProgramFormat) (arch : TargetArch) (filter : Option (List ℕ)) (layout : Layout) (quiet : Bool)
-    (path : List ℕ) (policy : Option (List ℕ)) (answer : Result Done ToolError) (old new : Option (List ℕ)) : Type 0 where
-  pub plain : AnswersCompileAsked format arch filter layout policy (plain_of answer) old new
-  pub same : IfOk answer (λ done. done.verdict ≡ Same)
-  pub noted : IfOk answer (λ done. Reads policy (λ text. AnswersCompileAsked format arch filter layout (Some text) (Ok tt) old new
-      × AreCounted quiet arch path text done.notes.items))
+-- What a profile is made into.
+abbrev pub IsImportedAs : TargetArch → Container → (strict : Bool) → (text : List ℕ) → Type 0
+IsImportedAs arch container strict text = (made : Imported) × IsImportOf arch container strict text made
 
--- The answer of `diff` with its notes. Where it is carried out, the notes are those on the policies of the two paths, of the texts
--- that are compared.
-pub record AnswersDiffNoted (arch : TargetArch) (filter : Option (List ℕ)) (relation : Relation) (quiet : Bool) (first second : List ℕ)
-    (policy records : Option (List ℕ)) (answer : Result Done ToolError) (old new : Option (List ℕ)) : Type 0 where
-  pub found : AnswersDiff (arch_text arch) filter relation policy records (found_of answer) old new
-  pub noted : IfOk answer (λ done. Reads policy (λ of_old. Reads records (λ of_new.
-      AnswersDiff (arch_text arch) filter relation (Some of_old) (Some of_new) (Ok done.verdict) old new
-      × AreBothCounted quiet arch first second of_old of_new done.notes.items)))
+-- ---- a command
 
--- The answer of `diff`, where policies or profiles may be given. The old one's text says which, and the new one's has to be of the
--- same kind. That of profiles is for a container of which nothing is said, and has nothing to note.
-abbrev pub AnswersDiffByKind : TargetArch → Option (List ℕ) → Relation → Bool → (first second : List ℕ)
-    → (known_old known_new : Option (List ℕ)) → Result Done ToolError → (old new : Option (List ℕ)) → Type 0
-AnswersDiffByKind arch filter relation quiet first second known_old known_new answer old new = AnswersByKind known_old filter
-    (λ text. AnswersDiffNoted arch filter relation quiet first second (Some text) known_new answer old new)
-    (λ text. AnswersFound (λ found. AnswersDiffProfiles arch plain_container relation (Some text) known_new found old new) answer) answer
+-- The command is carried out on these texts, the first and the second that it reads: a value is made that is so, and this is its
+-- verdict. Where it takes policies and profiles, the container and the text say which is given.
+abbrev pub IsCarriedOut : Command → (first second : List ℕ) → Verdict → Type 0
+IsCarriedOut (Compile arch filter layout format quiet) text none v = IsCompiled arch layout (text_of filter) text × (v ≡ Same)
+IsCarriedOut (Show arch layout shown) given none v = IsShown arch layout shown given × (v ≡ Same)
+IsCarriedOut (Check arch container denied allowed) text none v = IsCheck arch container denied allowed.items text v
+IsCarriedOut Codes none no v = v ≡ Same
+IsCarriedOut (Explain arch container filter format call) text bytes v =
+    OnRecords arch call bytes (IsExplained arch container (text_of filter) text) × (v ≡ Same)
+IsCarriedOut (Run arch call) program bytes v = OnRecords arch call bytes (IsRun program) × (v ≡ Same)
+IsCarriedOut (Stats arch container) text none v = IsMeasured arch container text × (v ≡ Same)
+IsCarriedOut (Record arch call) none no v = (bytes : List ℕ) × IsRecordOf arch call.name.now call.arguments bytes × (v ≡ Same)
+IsCarriedOut (DiffOf terms container filter quiet) old new v = IsCompared terms container (text_of filter) old new v
+IsCarriedOut (Verify terms filter scope) policy program v = IsVerified terms (text_of filter) scope policy program v
+IsCarriedOut (Compat arch) text none v = AreWidenedIn arch text × (v ≡ Same)
+IsCarriedOut (Import arch container strict format) text none v = IsImportedAs arch container strict text × (v ≡ Same)
 
--- The answer of a command, where its policy or profile, or the program that it runs or shows, has these bytes, and its records, its
--- new policy or profile or the program that it verifies those.
-abbrev pub AnswersCommand : Command → (policy records : Option (List ℕ)) → Result Done ToolError → (old new : Option (List ℕ)) → Type 0
-AnswersCommand (Compile arch filter layout format output quiet path) policy records answer old new =
-    AnswersCompileNoted format arch (text_of filter) layout quiet path.now policy answer old new
-AnswersCommand (Show arch layout shown) policy records answer old new =
-    AnswersPlain (λ plain. AnswersShown shown arch layout policy plain) answer
-AnswersCommand (Check arch denied allowed path) policy records answer old new =
-    AnswersCheckByKind arch denied allowed.now path.now policy answer old new
-AnswersCommand Codes policy records answer old new = AnswersPlain (λ plain. AnswersCodes plain old new) answer
-AnswersCommand (Explain arch filter format asked path) policy records answer old new =
-    AnswersPlain (λ plain. AnswersExplainedOn asked arch (text_of filter) format policy records plain old new) answer
-AnswersCommand (Run arch asked path) policy records answer old new =
-    AnswersPlain (λ plain. AnswersRunOn asked arch policy records plain old new) answer
-AnswersCommand (Stats arch path) policy records answer old new =
-    AnswersPlain (λ plain. AnswersStatsByKind arch policy plain old new) answer
-AnswersCommand (Record arch call arguments) policy records answer old new =
-    AnswersPlain (λ plain. AnswersRecord (arch_text arch) call.now arguments plain old new) answer
-AnswersCommand (Diff arch filter relation most quiet first second) policy records answer old new =
-    AnswersDiffByKind arch (text_of filter) relation quiet first.now second.now policy records answer old new
-AnswersCommand (Verify arch filter relation scope most path program) policy records answer old new =
-    AnswersFound (λ found. AnswersVerify (arch_text arch) (text_of filter) relation scope policy records found old new) answer
-AnswersCommand (Compat arch path) policy records answer old new =
-    AnswersPlain (λ plain. AnswersCompat (arch_text arch) policy plain old new) answer
-AnswersCommand (Import arch container strict format path) policy records answer old new =
-    AnswersImport format arch container.now strict path.now policy answer old new
-AnswersCommand (DiffProfiles arch container relation most first second) policy records answer old new =
-    AnswersFound (λ found. AnswersDiffProfiles arch container.now relation policy records found old new) answer
-AnswersCommand (ExplainProfile arch container format asked path) policy records answer old new =
-    AnswersPlain (λ plain. AnswersExplainProfileOn asked format arch container.now policy records plain old new) answer
-AnswersCommand (StatsProfile arch container path) policy records answer old new =
-    AnswersPlain (λ plain. AnswersStatsProfile arch container.now policy plain old new) answer
-AnswersCommand (CheckProfile arch container denied allowed path) policy records answer old new =
-    AnswersCheckProfile arch container.now denied allowed.now path.now policy answer old new
+-- It is carried out on some texts.
+abbrev pub IsPerformed : Command → Verdict → Type 0
+IsPerformed command v = (first : List ℕ) × (second : List ℕ) × IsCarriedOut command first second v
 
--- The path of the policy, program or profile that a command reads, that of the old policy where it compares two.
-abbrev pub policy_of : Command → Option (List ℕ)
-policy_of (Compile arch filter layout format output quiet path) = Some path.now
-policy_of (Show arch layout (shown.Policy path)) = Some path.now
-policy_of (Show arch layout (shown.Program path)) = Some path.now
-policy_of (Check arch denied allowed path) = Some path.now
-policy_of Codes = None
-policy_of (Explain arch filter format asked path) = Some path.now
-policy_of (Run arch asked path) = Some path.now
-policy_of (Stats arch path) = Some path.now
-policy_of (Record arch call arguments) = None
-policy_of (Diff arch filter relation most quiet first second) = Some first.now
-policy_of (Verify arch filter relation scope most path program) = Some path.now
-policy_of (Compat arch path) = Some path.now
-policy_of (Import arch container strict format path) = Some path.now
-policy_of (DiffProfiles arch container relation most first second) = Some first.now
-policy_of (ExplainProfile arch container format asked path) = Some path.now
-policy_of (StatsProfile arch container path) = Some path.now
-policy_of (CheckProfile arch container denied allowed path) = Some path.now
+-- The failure is one of writing, or one that is told behind what is written.
+abbrev pub IsOfWriting : Failure → Type 0
+IsOfWriting (failure.Output e) = ⊤
+IsOfWriting (failure.ShortRecord rest) = ⊤
+IsOfWriting other = ⊥
 
--- The path of the records that a command reads, of the new policy, or of the program that is verified.
-abbrev pub records_of : Command → Option (List ℕ)
-records_of (Explain arch filter format (records.In path) policy) = Some path.now
-records_of (Run arch (records.In path) program) = Some path.now
-records_of (Diff arch filter relation most quiet first second) = Some second.now
-records_of (DiffProfiles arch container relation most first second) = Some second.now
-records_of (ExplainProfile arch container format (records.In path) profile) = Some path.now
-records_of (Verify arch filter relation scope most path program) = Some program.now
-records_of command = None
+-- What is written is as it was, where the failure isn't one of writing.
+abbrev pub KeepsOutput : {W : Type 0} → Failure → W → W → Type 0
+KeepsOutput f old new = (IsOfWriting f → ⊥) → new ≡ old
 
--- The path of the file that a command writes.
-abbrev pub output_of : Command → Option (List ℕ)
-output_of (Compile arch filter layout format output quiet path) = text_of output
-output_of command = None
+-- ---- statuses
 
--- What the command writes to standard output is no text: a program, or a record.
-abbrev pub writes_bytes : Command → Bool
-writes_bytes (Compile arch filter layout program_format.Raw None quiet path) = true
-writes_bytes (Import arch container strict import_format.Raw path) = true
-writes_bytes (Record arch call arguments) = true
-writes_bytes command = false
-
--- A command compares: two policies, two profiles, or a filter and a program.
-abbrev pub compares : Command → Bool
-compares (Diff arch filter relation most quiet first second) = true
-compares (DiffProfiles arch container relation most first second) = true
-compares (Verify arch filter relation scope most path program) = true
-compares command = false
-
--- The exit status of a command that fails.
-abbrev pub trouble : Command → ℕ
-trouble (Diff arch filter relation most quiet first second) = 2
-trouble (DiffProfiles arch container relation most first second) = 2
-trouble (Verify arch filter relation scope most path program) = 2
-trouble command = 1
-
--- The exit status of a command that is carried out, by what it finds.
 abbrev pub verdict_status : Verdict → ℕ
 verdict_status Same = 0
 verdict_status Different = 1
 verdict_status Undecided = 3
 
-abbrev pub status_of : Command → Result Done ToolError → ℕ
-status_of command (Ok done) = verdict_status done.verdict
-status_of command (Err e) = trouble command
+-- The status of a command that fails.
+abbrev pub trouble : Command → ℕ
+trouble (DiffOf terms container filter quiet) = 2
+trouble (Verify terms filter scope) = 2
+trouble command = 1
 
--- The command is carried out without a fault, and this is what it finds, for some contents of its policy and its records.
-pub record IsPerformed (command : Command) (verdict : Verdict) : Type 0 where
-  pub policy : Option (List ℕ)
-  pub records : Option (List ℕ)
-  pub old : Option (List ℕ)
-  pub new : Option (List ℕ)
-  pub done : Done
-  pub answers : AnswersCommand command policy records (Ok done) old new
-  pub found : done.verdict ≡ verdict
-
--- The command may end with this status: where that is a verdict's, and not that of a failure, it is carried out, and this is what
--- it finds.
+-- The command may end with this status: where that is a verdict's, and not that of a failure, it is carried out, and this is
+-- what it finds.
 abbrev pub EndsWith : Command → ℕ → Type 0
-EndsWith command status =
-    (verdict : Verdict) → status ≡ verdict_status verdict → (status ≡ trouble command → ⊥) → IsPerformed command verdict
+EndsWith command status = (v : Verdict) → status ≡ verdict_status v → (status ≡ trouble command → ⊥) → IsPerformed command v
+
+-- The command ends with statuses, one for each of these that it is carried out on, of which this is the greatest; it is 0 where
+-- there is none.
+pub record EndWith (command : Command) (inputs : List Inputs) (status : ℕ) : Type 0 where
+  pub statuses : List ℕ
+  pub each : AllZip (λ (one : Inputs) s. EndsWith command s) inputs statuses
+  pub most : All (λ s. s ≤ status) statuses
+  pub reached : (status ≡ 0) ⊎ Contains statuses status

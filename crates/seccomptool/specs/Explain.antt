@@ -1,55 +1,86 @@
--- What `explain` answers and writes: what a filter decides on records, and why.
-use Rattle.std.specs.Prelude.{◌≡◌, ℕ, ◌<◌, List, Option, Result, Ok, Err, string_bytes, ⊤}
-use Rattle.serde_json.specs.Data.{Data}
-use Rattle.seccomp_command_line.specs.Records.{WritesLines}
+-- What `explain` gives: what a filter of a policy, or a profile, decides on records, and why.
+use Rattle.std.specs.Prelude.{◌≡◌, ◌≢◌, ℕ, List, All, Option, Some, None, String, string_bytes}
+use Rattle.std.specs.List.{AllZip}
+use Rattle.std.specs.declared.alloc.Global.{Global}
+use Rattle.seccompiler.specs.declared.backend.SeccompAction.{SeccompAction}
+use Rattle.seccompiler.specs.declared.backend.SeccompAction.TheVariants.{KillProcess}
 use Rattle.seccompiler.specs.declared.backend.TargetArch.{TargetArch}
-use Rattle.seccompiler.specs.JsonFilters.{AreAll}
+use Rattle.seccompiler.specs.Architecture.{audit_word}
+use Rattle.seccompiler.specs.JsonAnswers.{OfValue}
 use Rattle.seccompiler.specs.JsonPolicyOf.{IsPolicyOf}
-use Rattle.seccompiler.specs.JsonShape.{IsFilter, Lacks}
+use Rattle.seccompiler.specs.JsonShape.{IsFilter, Under}
 use Rattle.seccompiler.specs.JsonTypes.{JsonFilter}
-use Rattle.seccompiler.specs.Policy.{Filter}
-use Rattle.seccompiler.specs.Reads.{Reads}
-use Rattle.seccomptool.specs.declared.error.ToolError.{ToolError}
-use Rattle.seccomptool.specs.declared.error.ToolError.TheVariants.{Library, NoFilter, ShortRecord, Read, Write, OutOfMemory}
-use Rattle.seccomptool.specs.declared.explain.format.LineFormat.{LineFormat}
-use Rattle.seccomptool.specs.Errors.{IsReadFault}
-use Rattle.seccomptool.specs.ExplainLines.{AreLines}
-use Rattle.seccomptool.specs.Policies.{HasCompilable, OfPolicy, IsPolicyFault}
-use Rattle.seccomptool.specs.Compile.{UnderName}
+use Rattle.seccompiler.specs.Machine.{word_at}
+use Rattle.seccompiler.specs.Policy.{Filter, IsDecision, word_of}
+use Rattle.seccomp_oci.specs.declared.decide.ProfileDecision.{ProfileDecision}
+use Rattle.seccomp_oci.specs.Decided.{IsDecidedBy}
+use Rattle.seccomp_oci.specs.ProfileText.{IsProfileText}
+use Rattle.seccomp_oci.specs.Types.{Container, Profile}
+use Rattle.seccomptool.specs.declared.explain.Explained.{Explained}
+use Rattle.seccomptool.specs.declared.explain.Explanation.{Explanation}
+use Rattle.seccomptool.specs.declared.explain.NamedFilter.{NamedFilter}
+use Rattle.seccomptool.specs.declared.explain.Why.TheVariants as variant
+use Rattle.seccomptool.specs.declared.explain.reason.Reason.{Reason}
+use Rattle.seccomptool.specs.declared.explain.reason.Reason.TheVariants.{AnotherArchitecture, NoEntry, NoMatch, Entry}
+use Rattle.seccomptool.specs.declared.kind.Subject.{Subject}
+use Rattle.seccomptool.specs.declared.kind.Subject.TheVariants as subject
+use Rattle.seccomptool.specs.Chosen.{IsChosen}
+use Rattle.seccomptool.specs.Reasons.{IsReason}
 
--- The text is the lines, in this format, of the filter of this name that the value is, and of its policy, on records.
-pub record AreLinesOf (format : LineFormat) (target : TargetArch) (name : List ℕ) (value : Data) (records : List (List ℕ))
-    (text : List ℕ) : Type 0 where
-  pub filter : JsonFilter
-  pub is_filter : IsFilter value filter
-  pub policy : Filter
-  pub is_policy : IsPolicyOf target filter policy
-  pub lines : AreLines format target name filter policy records text
+-- ---- filters
 
--- Nothing is at fault in the architecture's name and in the policy's text, each of whose filters is a policy that can be
--- compiled. P holds of both.
-abbrev pub AreCompilable : List ℕ → Option (List ℕ) → (TargetArch → Data → Type 0) → Type 0
-AreCompilable arch known P = OfPolicy arch known (λ target d. AreAll (HasCompilable target) d × P target d)
+-- The action of a filter for this reason: that of killing the process on another architecture, the match action for an entry that
+-- matches, else the mismatch action.
+abbrev pub action_of : JsonFilter → Reason → SeccompAction
+action_of j AnotherArchitecture = KillProcess
+action_of j (NoEntry number) = j.mismatch_action
+action_of j (NoMatch count number nearest) = j.mismatch_action
+action_of j (Entry place rule number) = j.match_action
 
--- Besides, one filter has the name, and P holds of its value.
-abbrev pub OfFilter : List ℕ → Option (List ℕ) → List ℕ → (TargetArch → Data → Type 0) → Type 0
-OfFilter arch known name P = AreCompilable arch known (UnderName name P)
+-- The filter decides this on the record, for the only reason that there is. Its policy decides the word of the action.
+pub record IsExplainedBy (target : TargetArch) (j : JsonFilter) (r : List ℕ) (e : Explained) : Type 0 where
+  pub reason : Reason
+  pub is : e.why ≡ variant.Filter reason
+  pub why : IsReason target j.rules r reason
+  pub only : (other : Reason) → IsReason target j.rules r other → other ≡ reason
+  pub action : e.action ≡ action_of j reason
+  pub decided : (policy : Filter) → IsPolicyOf target j policy → IsDecision policy r (word_of e.action)
 
--- The answer of `explain`. The first fault is told: of the architecture's name and of the policy's text; that no filter
--- has the name; that reading the records, or writing, fails; and then, with the lines of the whole records written, that
--- the records end inside one. It is Ok only where nothing is at fault, and the lines are written. Want of memory may
--- come in place of all.
-abbrev pub AnswersExplain : LineFormat → List ℕ → Option (List ℕ) → List ℕ → Option (List ℕ) → Result ⊤ ToolError → Option (List ℕ)
-    → Option (List ℕ) → Type 0
-AnswersExplain format arch known name records (Ok done) old new =
-    OfFilter arch known name (λ target value. Reads records (λ bytes. WritesLines (AreLinesOf format target name value) bytes 0 old new))
-AnswersExplain format arch known name records (Err (Library e)) old new = IsPolicyFault arch known e
-AnswersExplain format arch known name records (Err (NoFilter text)) old new =
-    (string_bytes text ≡ name) × AreCompilable arch known (λ target d. Lacks d name)
-AnswersExplain format arch known name records (Err (Read e)) old new = IsReadFault e × OfFilter arch known name (λ target value. ⊤)
-AnswersExplain format arch known name records (Err (Write e)) old new = OfFilter arch known name (λ target value. ⊤)
-AnswersExplain format arch known name records (Err (ShortRecord rest)) old new = (0 < rest)
-    × OfFilter arch known name
-    (λ target value. Reads records (λ bytes. WritesLines (AreLinesOf format target name value) bytes rest old new))
-AnswersExplain format arch known name records (Err OutOfMemory) old new = ⊤
-AnswersExplain format arch known name records (Err e) old new = ⊥
+-- Each filter has a policy.
+abbrev pub HavePolicies : TargetArch → List (String Global × JsonFilter) → Type 0
+HavePolicies target filters = All (λ (named : String Global × JsonFilter). (policy : Filter) × IsPolicyOf target named.1 policy) filters
+
+-- The filter that is asked for, or the only one, of the policy's text decides so on the records.
+pub record IsOfPolicy (target : TargetArch) (asked : Option (List ℕ)) (text : List ℕ) (records : List (List ℕ)) (e : Explanation) : Type 0
+  where
+    pub named : NamedFilter
+    pub is : e.filter ≡ Some named
+    pub chosen : IsChosen text asked (string_bytes named.name)
+    pub of_text : OfValue text (λ d. Under d (string_bytes named.name) (λ value. IsFilter value named.filter))
+    pub policy : Filter
+    pub is_policy : IsPolicyOf target named.filter policy
+    pub each : AllZip (IsExplainedBy target named.filter) records e.records.items
+
+-- ---- profiles
+
+-- The profile decides this on the record, by this entry; or the record is of another architecture, and the process is killed.
+pub data IsExplainedByProfile (target : TargetArch) (container : Container) (p : Profile) (r : List ℕ) (e : Explained) : Type 0 where
+  elsewhere : word_at r 4 ≢ audit_word target → e ≡ record { action = KillProcess; why = variant.Elsewhere }
+      → IsExplainedByProfile target container p r e
+  decided : (d : ProfileDecision) → word_at r 4 ≡ audit_word target → IsDecidedBy target container p r d
+      → e ≡ record { action = d.action; why = variant.Profile (word_at r 0) d.entry } → IsExplainedByProfile target container p r e
+
+-- The profile of the text decides so on the records.
+pub record IsOfProfile (target : TargetArch) (container : Container) (text : List ℕ) (records : List (List ℕ)) (e : Explanation) : Type 0
+  where
+    pub profile : Profile
+    pub of_text : IsProfileText text profile
+    pub is : e.filter ≡ None
+    pub each : AllZip (IsExplainedByProfile target container profile) records e.records.items
+
+-- ---- both
+
+-- The text, a policy's or a profile's, decides so on the records.
+abbrev pub IsExplanation : TargetArch → Subject → Option (List ℕ) → List ℕ → List (List ℕ) → Explanation → Type 0
+IsExplanation target subject.Policy asked text records e = IsOfPolicy target asked text records e
+IsExplanation target (subject.Profile container) asked text records e = IsOfProfile target container.now text records e

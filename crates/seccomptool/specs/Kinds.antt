@@ -1,14 +1,13 @@
 -- Which texts are taken for profiles of container runtimes, where both a profile and a policy may be given.
-use Rattle.std.specs.Prelude.{◌≡◌, ℕ, List, [], ◌++◌, Option, Some, None, Result, IsErrAnd, codes}
+use Rattle.std.specs.Prelude.{◌≡◌, ℕ, List, [], ◌++◌, Option, Some, None, codes, ⊤}
 use Rattle.serde_json.specs.Data.{Data, string}
 use Rattle.seccompiler.specs.declared.backend.TargetArch.{TargetArch}
 use Rattle.seccompiler.specs.JsonAnswers.{ArePoliciesOf, IsReadAs, OfValue}
 use Rattle.seccompiler.specs.JsonShape.{Under}
 use Rattle.seccompiler.specs.Policy.{Filter}
-use Rattle.seccompiler.specs.Reads.{Reads}
 use Rattle.seccomp_oci.specs.Types.{Container}
-use Rattle.seccomptool.specs.declared.error.ToolError.{ToolError}
-use Rattle.seccomptool.specs.Policies.{IsPolicyReadError}
+use Rattle.seccomptool.specs.declared.kind.Subject.{Subject}
+use Rattle.seccomptool.specs.declared.kind.Subject.TheVariants as subject
 
 -- The bytes stand somewhere in the text.
 abbrev pub StandsIn : (part text : List ℕ) → Type 0
@@ -34,18 +33,16 @@ pub record IsOfProfile (text : List ℕ) : Type 0 where
 abbrev pub IsPolicyText : TargetArch → List ℕ → Type 0
 IsPolicyText arch text = (find : List ℕ → Option Filter) × OfValue text (ArePoliciesOf arch find)
 
--- The text is taken for a profile's, and no filter is asked for.
-abbrev pub IsTakenForProfile : Option (List ℕ) → List ℕ → Type 0
-IsTakenForProfile (Some name) text = ⊥
-IsTakenForProfile None text = IsOfProfile text
-
 -- A container of which nothing is said.
 abbrev pub plain_container : Container
 plain_container = record { caps = []; kernel = None }
 
--- The answer of a command on a text that may be a policy's or a profile's, where this filter is asked for, or none: the text isn't
--- read; or it is taken for a policy's, and P holds of it; or it is taken for a profile's, and Q does.
-pub data AnswersByKind {A : Type 0} (known asked : Option (List ℕ)) (P Q : List ℕ → Type 0) (answer : Result A ToolError) : Type 0 where
-  unread : IsErrAnd answer IsPolicyReadError → AnswersByKind known asked P Q answer
-  of_policy : Reads known (λ text. (IsTakenForProfile asked text → ⊥) × P text) → AnswersByKind known asked P Q answer
-  of_profile : Reads known (λ text. IsTakenForProfile asked text × Q text) → AnswersByKind known asked P Q answer
+-- The text is taken as this, where this container is given, or none, and this filter is asked for, or none: as a profile in the
+-- container that is given; else as one in a plain container, where the text is a profile's and no filter is asked for; else as a
+-- policy.
+abbrev pub IsTakenAs : Option Container → Option (List ℕ) → List ℕ → Subject → Type 0
+IsTakenAs (Some container) asked text (subject.Profile given) = given.now ≡ container
+IsTakenAs None None text (subject.Profile given) = IsOfProfile text × (given.now ≡ plain_container)
+IsTakenAs None None text subject.Policy = IsOfProfile text → ⊥
+IsTakenAs None (Some name) text subject.Policy = ⊤
+IsTakenAs container asked text taken = ⊥

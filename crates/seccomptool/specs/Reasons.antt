@@ -1,16 +1,15 @@
--- Why a filter decides a record as it does: the reasons, and their texts in numbers.
-use Rattle.std.specs.Prelude.{◌≡◌, ◌≢◌, ◌↔◌, ℕ, ℤ, pos, ◌+◌, ◌<◌, List, [], ◌∷◌, ◌++◌, length, take, slice_get, Some, All, IfSome, Contains}
-use Rattle.std.specs.Prelude.{codes, decimal}
+-- Why a filter decides a record as it does.
+use Rattle.std.specs.Prelude.{◌≡◌, ◌≢◌, ◌↔◌, ℕ, ℤ, pos, ◌+◌, ◌<◌, List, [], ◌∷◌, ◌++◌, length, take, slice_get, Option, Some, None, All}
+use Rattle.std.specs.Prelude.{IfSome, Contains}
+use Rattle.std.specs.Prelude.{nat_le, if◌then◌else◌}
 use Rattle.std.specs.List.Sorted.{IsStrictlySortedBy}
 use Rattle.std.specs.Ordering.{nat_cmp}
-use Rattle.seccompiler.specs.declared.backend.SeccompAction.{SeccompAction}
-use Rattle.seccompiler.specs.declared.backend.SeccompAction.TheVariants.{KillProcess}
 use Rattle.seccompiler.specs.declared.backend.TargetArch.{TargetArch}
 use Rattle.seccompiler.specs.declared.json.types.JsonCondition.{JsonCondition}
 use Rattle.seccompiler.specs.Architecture.{audit_word}
 use Rattle.seccompiler.specs.Policy.{Holds}
 use Rattle.seccompiler.specs.JsonPolicyOf.{IsFor, condition_of}
-use Rattle.seccompiler.specs.JsonTypes.{JsonRule, JsonFilter}
+use Rattle.seccompiler.specs.JsonTypes.{JsonRule}
 use Rattle.seccompiler.specs.Machine.{word_at}
 use Rattle.seccomptool.specs.declared.explain.reason.Miss.{Miss}
 use Rattle.seccomptool.specs.declared.explain.reason.Reason.{Reason}
@@ -87,18 +86,7 @@ pub data IsReason (target : TargetArch) (entries : List JsonRule) (r : List ℕ)
   of_another : word_at r 4 ≢ audit_word target → reason ≡ AnotherArchitecture → IsReason target entries r reason
   of_call : word_at r 4 ≡ audit_word target → IsReasonOfCall target entries r reason → IsReason target entries r reason
 
--- The action of a filter for this reason: that of killing the process on another architecture, the match action for an
--- entry that matches, else the mismatch action.
-abbrev pub reason_action : JsonFilter → Reason → SeccompAction
-reason_action j AnotherArchitecture = KillProcess
-reason_action j (NoEntry number) = j.mismatch_action
-reason_action j (NoMatch count number nearest) = j.mismatch_action
-reason_action j (Entry place rule number) = j.match_action
-
--- The reason in numbers.
-abbrev pub reason_text : Reason → List ℕ
-reason_text AnotherArchitecture = codes "another architecture"
-reason_text (NoEntry number) = codes "no entry of call " ++ decimal number
-reason_text (NoMatch count number nearest) = codes "no match among " ++ decimal count ++ codes " entries of call " ++ decimal number
-reason_text (Entry place rule number) =
-    codes "entry " ++ decimal place ++ codes ", rule " ++ decimal rule ++ codes " of call " ++ decimal number
+-- Between layers: the nearest miss of those so far and one more, which is the one more, where its condition stands further behind.
+abbrev pub nearer : Option Miss → Miss → Miss
+nearer None miss = miss
+nearer (Some nearest) miss = if nat_le miss.condition nearest.condition then nearest else miss

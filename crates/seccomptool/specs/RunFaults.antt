@@ -1,4 +1,4 @@
--- What is wrong with a program that isn't run, and its texts.
+-- What is wrong with a program that isn't run.
 use Rattle.std.specs.Prelude.{◌≡◌, ◌≢◌, ℕ, ◌+◌, ◌<◌, ◌≤◌, ◌%◌, ◌⊎◌, false, List, [], ◌∷◌, ◌++◌, length, All, Some, slice_get, codes}
 use Rattle.std.specs.Prelude.{decimal}
 use Rattle.std.specs.Fmt.{digits}
@@ -8,7 +8,7 @@ use Rattle.seccompiler.specs.Machine.{IsFine}
 use Rattle.seccomptool.specs.declared.run.fault.Amiss.{Amiss}
 use Rattle.seccomptool.specs.declared.run.fault.Amiss.TheVariants.{Operation, Load, Jump, End}
 use Rattle.seccomptool.specs.declared.run.fault.ProgramFault.{ProgramFault}
-use Rattle.seccomptool.specs.declared.run.fault.ProgramFault.TheVariants.{Read, Short, Length, Unfit}
+use Rattle.seccomptool.specs.declared.run.fault.ProgramFault.TheVariants.{Short, Length, Unfit}
 
 -- ---- what is amiss with an instruction
 
@@ -40,19 +40,3 @@ pub record IsUnfitAt (program : List sock_filter) (place : ℕ) (amiss : Amiss) 
   pub instruction : sock_filter
   pub there : slice_get program place ≡ Some instruction
   pub is_amiss : IsAmiss instruction place (length program) amiss
-
--- ---- texts
-
--- What is amiss, in words.
-abbrev pub amiss_text : Amiss → List ℕ
-amiss_text (Operation code) = codes "unknown operation 0x" ++ digits 16 false code
-amiss_text Load = codes "load of no word of a call record"
-amiss_text Jump = codes "jump behind the end"
-amiss_text End = codes "no return at the end"
-
--- The text of a fault.
-abbrev pub fault_text : ProgramFault → List ℕ
-fault_text (Read e) = codes "Error reading input."
-fault_text (Short rest) = codes "The input ends inside an instruction, after " ++ decimal rest ++ codes " bytes of it."
-fault_text (Length count) = codes "expected 1 to 4096 instructions, found " ++ decimal count
-fault_text (Unfit place amiss) = codes "instruction " ++ decimal place ++ codes ": " ++ amiss_text amiss

@@ -1,26 +1,10 @@
 -- What the private steps of `run` promise each other.
-use Rattle.std.specs.Prelude.{◌≡◌, ◌≢◌, ℕ, ◌+◌, ◌⊎◌, List, Some, ⊤}
+use Rattle.std.specs.Prelude.{◌≡◌, ◌≢◌, ℕ, ◌+◌, ◌⊎◌, List}
 use Rattle.seccompiler.specs.declared.bpf.sock_filter.{sock_filter}
 use Rattle.seccompiler.specs.Machine.{IsFine}
-use Rattle.seccomptool.specs.declared.error.ToolError.{ToolError}
-use Rattle.seccomptool.specs.declared.error.ToolError.TheVariants.{Program, OutOfMemory}
 use Rattle.seccomptool.specs.declared.run.fault.ProgramFault.{ProgramFault}
 use Rattle.seccomptool.specs.declared.run.fault.ProgramFault.TheVariants as fault
-use Rattle.seccomptool.specs.Errors.{IsReadFault}
-use Rattle.seccomptool.specs.Run.{IsProgramFault}
 use Rattle.seccomptool.specs.RunFaults.{IsUnfitAt}
-
--- An error of reading a program.
-abbrev pub IsReadRefusal : ToolError → Type 0
-IsReadRefusal (Program (fault.Read e)) = IsReadFault e
-IsReadRefusal OutOfMemory = ⊤
-IsReadRefusal e = ⊥
-
--- A fault of bytes that aren't those of a program of a length that is taken.
-abbrev pub IsCutFault : List ℕ → ProgramFault → Type 0
-IsCutFault bytes (fault.Short rest) = IsProgramFault (Some bytes) (fault.Short rest)
-IsCutFault bytes (fault.Length count) = IsProgramFault (Some bytes) (fault.Length count)
-IsCutFault bytes fault = ⊥
 
 -- A fault of a program of a length that is taken.
 abbrev pub IsUnfit : List sock_filter → ProgramFault → Type 0

@@ -1,74 +1,73 @@
 // The first fault of a policy, or else its warnings.
 
-pub mod given;
 pub mod profile;
 
-ghost use Rattle.std.specs.Prelude.{◌≡◌, IfErr};
-ghost use Rattle.seccomptool.specs.Check.{AnswersCheck, verdict_where};
-ghost use Rattle.seccomptool.specs.Errors.{KeepsOutput};
+ghost use Rattle.std.specs.Prelude.{◌≡◌, IfErr, IfOk, OnOk};
+ghost use Rattle.seccompiler.specs.JsonAnswers.{OfValue};
+ghost use Rattle.seccomp_check.specs.Checks.{AreAllCompiled};
+ghost use Rattle.seccomptool.specs.Check as spec;
+ghost use Rattle.seccomptool.specs.Check.{IsCheckOf, IsRefusal};
 
 use crate::error::ToolError;
 use crate::findings::Verdict;
-use crate::lint::lint;
-use crate::notes::front_of;
-use crate::policy::policy_text;
-use crate::send::send;
-use seccomp_warnings::{Code, report_of};
+use seccomp_check::{Rejection, check};
+use seccomp_warnings::{Code, Report, report_of};
 use seccompiler::TargetArch;
 use seccompiler::json::filters_of;
 use std::alloc::Global;
-use std::io::{Read, Write};
 
-/// Reports the first fault of a policy as an error, as [`lint`] reports it, or else writes its warnings,
-/// all but those of the allowed codes.
+/// The warnings of a policy's text, all but those of the allowed codes, each in a line behind this front.
 ///
 /// For each filter, in byte order of names, comes a line for each warning: those of its two actions
-/// first, and then those of its entries, condition by condition. A line is the policy's file, `: `, the
-/// place, `: warning [`, the warning's code, `]: `, what is so, and what to write instead. The file is
-/// `path`, or `standard input` where that is `-`. The place begins with the filter's name. In both the
-/// control characters, those from U+0080 to U+009F too, and the backslash are written as `\x` and two
-/// lower-case hexadecimal digits for each of their bytes. An action is placed as `mismatch_action` or
-/// `match_action`, by whichever of its two names it stands there. Where there is no warning nothing is
-/// written. All lines are written at once.
-///
-/// The verdict is `Different` where `denied` and there is a warning, and `Same` otherwise.
-///
-/// The policy's text is what its reader gives, and is read whole at first.
+/// first, and then those of its entries, condition by condition. A line is the front, the
+/// place, `: warning [`, the warning's code, `]: `, what is so, and what to write instead. The place begins with the filter's name.
 ///
 /// # Errors
 ///
-/// The first of these: the error of [`lint`], as it reports it; `Write` where the writer fails. `OutOfMemory`
-/// comes in place of any of these where memory runs out, in the reader too. On any error but `Write` nothing
-/// is written.
-pub fn check<R: Read + Drop, W: Write>(
+/// `Library` with what `compile_from_json` rejects the policy for, where that has no place: the bytes are no JSON, or a name is
+/// repeated; `Fault` with the text of a fault of the kind that `compile_from_json` reports, where that has a place. `OutOfMemory`
+/// comes in place of any of these where memory runs out.
+///
+/// Of several faults of that kind it is the first, in the order that docs/CHECKS.md gives. That is tested
+/// and not proved, and so is that a fault with a place is reported by it: by the contract it may be any one
+/// of its kind, and may be reported as `Library`.
+pub fn checked(
     alloc: Global,
-    arch: &str,
-    denied: bool,
+    target: TargetArch,
     allowed: &[Code],
-    path: &str,
-    policy: R,
-    out: &mut W,
-) -> Result<Verdict, ToolError>
-    // When each answer comes, and what is written.
-    ensures answers { AnswersCheck arch.now denied allowed.now path.now (R.remaining policy) result (W.contents out.old) (W.contents out.new) }
-    ensures unwritten { IfErr result (λ e. KeepsOutput e out.old out.new) }
+    front: &[u8],
+    text: &[u8],
+) -> Result<Report, ToolError>
+    ensures report { IfOk result (IsCheckOf target allowed.now front.now text.now) }
+    ensures refused { IfErr result (IsRefusal target text.now) }
 {
-    let target = TargetArch::from_text(alloc, arch)?;
-    let text = policy_text(alloc, policy)?;
-    lint(alloc, arch, text.as_slice())?;
-    let filters = filters_of(alloc, text.as_slice())?;
-    let front = front_of(alloc, path)?;
-    // `lint` takes the policy, so that each of its filters is one of the architecture: an error is want of memory.
-    let Ok(report) = report_of(alloc, target, &front, &filters, allowed) else {
+    judge(alloc, target, text)?;
+    // The policy is taken, so that each of its filters is one of the architecture: an error is want of memory.
+    let Ok(filters) = filters_of(alloc, text) else {
         return Err(ToolError::OutOfMemory);
     };
-    send(out, &report.text)?;
-    Ok(verdict_where(denied, report.count))
+    match report_of(alloc, target, front, &filters, allowed) {
+        Ok(report) => Ok(report),
+        Err(_) => Err(ToolError::OutOfMemory),
+    }
+}
+
+// That the library compiles all filters of the text.
+fn judge(alloc: Global, target: TargetArch, text: &[u8]) -> Result<(), ToolError>
+    ensures compiled { OnOk result (OfValue text.now (AreAllCompiled target)) }
+    ensures refused { IfErr result (IsRefusal target text.now) }
+{
+    match check(alloc, target, text) {
+        Ok(()) => Ok(()),
+        Err(Rejection::Library(refusal)) => Err(ToolError::Library(refusal)),
+        Err(Rejection::Placed(told)) => Err(ToolError::Fault(told)),
+        Err(Rejection::OutOfMemory) => Err(ToolError::OutOfMemory),
+    }
 }
 
 // The verdict where warnings are denied or not, and there are so many.
 pub(crate) fn verdict_where(denied: bool, count: usize) -> Verdict
-    ensures { result ≡ verdict_where denied count }
+    ensures { result ≡ spec.verdict_where denied count }
 {
     if !denied {
         return Verdict::Same;

@@ -1,9 +1,8 @@
 // The filter that a command is asked for.
 
-ghost use Rattle.std.specs.Prelude.{◌≡◌, ◌≢◌, [], ◌∷◌, length, IfOk, IfErr, IfSome, map, string_bytes, string_cmp};
+ghost use Rattle.std.specs.Prelude.{◌≡◌, ◌≢◌, [], ◌∷◌, length, IfOk, IfSome, map, string_bytes, string_cmp};
 ghost use Rattle.std.specs.BTreeMap as tree;
-ghost use Rattle.seccomptool.specs.Chosen.{HoldsOnly, IsChosen, IsNoChoice, IsUnchosen};
-ghost use Rattle.seccomptool.specs.Words.{text_of};
+ghost use Rattle.seccomptool.specs.Chosen.{HoldsOnly, IsChosen, text_of};
 
 use crate::error::ToolError;
 use seccomp_command_line::names::push_readable;
@@ -18,8 +17,7 @@ pub(crate) fn chosen_name(
     text: &[u8],
     asked: Option<&str>,
 ) -> Result<String, ToolError>
-    ensures chosen { IfOk result (λ name. IsChosen text.now (text_of asked.entry) (string_bytes name)) }
-    ensures refused { IfErr result (IsUnchosen text.now (text_of asked.entry)) }
+    ensures { IfOk result (λ name. IsChosen text.now (text_of asked.entry) (string_bytes name)) }
 {
     match asked {
         Some(name) => Ok(String::from_str(alloc, name)?),
@@ -33,7 +31,6 @@ pub(crate) fn chosen_name(
 // The name of the only filter of these.
 fn only_name(alloc: Global, filters: &JsonFilterMap) -> Result<String, ToolError>
     ensures only { IfOk result (HoldsOnly filters.now.0.entries) }
-    ensures refused { IfErr result (IsNoChoice filters.now.0.entries) }
     ensures ordered { tree.IsOrdered string_cmp filters.now.0 }
 {
     if filters.0.len() == 1 {

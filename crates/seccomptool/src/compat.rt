@@ -1,49 +1,87 @@
 // The calls that a policy decides otherwise than the Rust crate does.
 
-mod lines;
+ghost use Rattle.std.specs.Prelude.{IfOk, string_cmp};
+ghost use Rattle.std.specs.List.{AllZip};
+ghost use Rattle.std.specs.List.Sorted.{IsStrictlySortedBy};
+ghost use Rattle.std.specs.Map.{keys_of};
+ghost use Rattle.seccompiler.specs.JsonAnswers.{OfValue};
+ghost use Rattle.seccomptool.specs.Compat.{AreCalls, AreCallsOf};
 
-ghost use Rattle.std.specs.Prelude.{IfErr};
-ghost use Rattle.seccomptool.specs.Errors.{KeepsOutput};
-ghost use Rattle.seccomptool.specs.Compat.{AnswersCompat};
-
-use crate::compat::lines::calls_lines;
 use crate::error::ToolError;
-use crate::policy::filters_from;
-use crate::send::send;
-use seccompiler::TargetArch;
-use std::alloc::Global;
-use std::io::{Read, Write};
+use crate::findings::parts::name_of;
+use seccomp_command_line::names::push_readable;
+use seccompiler::json::filters_of;
+use seccompiler::{JsonCompiler, JsonFilterMap, JsonFrontendError, TargetArch};
+use std::alloc::{AllocError, Global};
 
-/// Names the calls of a policy that the Rust crate would decide otherwise: those that
-/// `JsonCompiler::widened` lists, which have both an entry without conditions and one with conditions.
-///
-/// For each filter, in byte order of names, and each such call, in ascending order of its number, comes
-/// a line: the call's name, as the filter's first entry of the call has it, a space, and the filter's
-/// name. In the latter the control characters, those from U+0080 to U+009F too, and the backslash are
-/// written as `\x` and two lower-case hexadecimal digits for each of their bytes, all others as they are.
-/// Where there is no such call nothing is written. All lines are written at once.
-///
-/// The policy's text is what its reader gives; of a reader whose type doesn't say what it reads, as that
-/// of standard input, the contract says that there is such a text.
+/// Calls of a filter.
+#[derive(Drop)]
+pub struct FilterCalls {
+    /// The filter's name.
+    pub name: String,
+    /// The calls' numbers, in ascending order.
+    pub numbers: Vec<i64>,
+}
+
+/// The calls of each filter of a policy's text that the Rust crate would decide otherwise, in byte order of the filters' names:
+/// those that `JsonCompiler::widened` lists, which have both an entry without conditions and one with conditions.
 ///
 /// # Errors
 ///
-/// The first of these: `Library` with `InvalidTargetArch` and the text as it was given where `arch` is
-/// no architecture's name, ASCII case aside; `Library` with what `JsonCompiler::compile` rejects the policy
-/// for, `JsonFrontend(Read)` among it where the reader fails; `Write` where the writer fails. No program is
-/// made, so that one is too large is no error. `OutOfMemory` comes in place of any of these where memory runs
-/// out, in the reader too. On any error but `Write` nothing is written.
-pub fn compat<R: Read + Drop, W: Write>(
+/// `Library` with what `JsonCompiler::policies_of` rejects the text for. No program is made, so that one is too large is no
+/// error. `OutOfMemory` comes in its place where memory runs out.
+pub fn widened_calls(
     alloc: Global,
-    arch: &str,
-    policy: R,
-    out: &mut W,
-) -> Result<(), ToolError>
-    // When each answer comes, and what is written.
-    ensures answers { AnswersCompat arch.now (R.remaining policy) result (W.contents out.old) (W.contents out.new) }
-    ensures unwritten { IfErr result (λ e. KeepsOutput e out.old out.new) }
+    target: TargetArch,
+    text: &[u8],
+) -> Result<Vec<FilterCalls>, ToolError>
+    ensures { IfOk result (λ all. OfValue text.now (λ d. AreCalls target d all.items)) }
 {
-    let target = TargetArch::from_text(alloc, arch)?;
-    let filters = filters_from(alloc, policy)?;
-    send(out, &calls_lines(alloc, target, &filters)?)
+    let filters = filters_of(alloc, text)?;
+    Ok(calls_of(alloc, target, &filters)?)
+}
+
+// The calls of JSON filters.
+fn calls_of(
+    alloc: Global,
+    target: TargetArch,
+    filters: &JsonFilterMap,
+) -> Result<Vec<FilterCalls>, JsonFrontendError>
+    ensures calls { IfOk result (λ all. AllZip (AreCallsOf target) filters.now.0.entries all.items) }
+    ensures ordered { IsStrictlySortedBy string_cmp (keys_of filters.now.0.entries) }
+{
+    let mut all = Vec::new(alloc);
+    for (name, filter) in &filters.0 {
+        let numbers = JsonCompiler::new(target).widened(alloc, filter)?;
+        let name = name.clone()?;
+        all.push(FilterCalls { name, numbers })?;
+    }
+    Ok(all)
+}
+
+/// The lines of calls: a call's name, a space, and the filter's name. In the latter the control characters, those from U+0080 to
+/// U+009F too, and the backslash are written as `\x` and two lower-case hexadecimal digits for each of their bytes.
+pub(crate) fn calls_text(
+    alloc: Global,
+    target: TargetArch,
+    all: &[FilterCalls],
+) -> Result<Vec<u8>, AllocError> {
+    let mut text = Vec::new(alloc);
+    for calls in all {
+        for number in &calls.numbers {
+            text.extend_from_slice(call_name(target, *number).as_bytes())?;
+            text.push(b' ')?;
+            push_readable(&mut text, calls.name.as_str())?;
+            text.push(b'\n')?;
+        }
+    }
+    Ok(text)
+}
+
+// The name of a call of the architecture.
+fn call_name(target: TargetArch, number: i64) -> &'static str {
+    let Ok(number) = u32::try_from(number) else {
+        return "unknown";
+    };
+    name_of(target, number).unwrap_or("unknown")
 }

@@ -1,18 +1,9 @@
 // How many warnings a policy has, as a note.
 
-ghost use Rattle.std.specs.Prelude.{◌≡◌, ◌≢◌, IfOk, false, string_cmp};
-ghost use Rattle.std.specs.List.Sorted.{IsStrictlySortedBy};
-ghost use Rattle.std.specs.Map.{keys_of};
-ghost use Rattle.seccompiler.specs.declared.json.error.JsonFrontendError.TheVariants as json;
-ghost use Rattle.seccomp_warnings.specs.Reports.{AreFaultless};
-ghost use Rattle.seccomptool.specs.Counts.{AreBothCounted, AreCounted, IsCountNoted, count_text};
-ghost use Rattle.seccomptool.specs.CountsParts.{IsCountOf, IsFaultlessText, IsTextCount};
-
 use crate::notes::note;
-use itoa::Buffer;
 use seccomp_warnings::report_of;
 use seccompiler::json::filters_of;
-use seccompiler::{JsonFilterMap, JsonFrontendError, TargetArch};
+use seccompiler::{JsonFrontendError, TargetArch};
 use std::alloc::{AllocError, Global};
 
 // The notes on an old policy, and then those on a new one.
@@ -24,9 +15,7 @@ pub(crate) fn both_counted(
     new_path: &str,
     old: &[u8],
     new: &[u8],
-) -> Result<Vec<u8>, AllocError>
-    ensures { IsFaultlessText arch old.now → IsFaultlessText arch new.now → IfOk result (λ notes. AreBothCounted quiet arch old_path.now new_path.now old.now new.now notes.items) }
-{
+) -> Result<Vec<u8>, AllocError> {
     let mut notes = counted(alloc, quiet, arch, old_path, old)?;
     let of_new = counted(alloc, quiet, arch, new_path, new)?;
     notes.extend_from_slice(&of_new)?;
@@ -41,84 +30,35 @@ pub(crate) fn counted(
     arch: TargetArch,
     path: &str,
     text: &[u8],
-) -> Result<Vec<u8>, AllocError>
-    ensures { IsFaultlessText arch text.now → IfOk result (λ notes. AreCounted quiet arch path.now text.now notes.items) }
-{
+) -> Result<Vec<u8>, AllocError> {
     if quiet {
         return Ok(Vec::new(alloc));
     }
     match count_in(alloc, arch, text)? {
-        Some(count) => count_note(alloc, path, count),
-        None => Ok(Vec::new(alloc)),
+        0 => Ok(Vec::new(alloc)),
+        1 => note(alloc, path, b"1 warning; seccomptool check tells it"),
+        count => {
+            let told = format!(in alloc; "{count} warnings; seccomptool check tells them")?;
+            note(alloc, path, told.as_bytes())
+        }
     }
 }
 
-// The notes on the policy of a path that has so many warnings.
-fn count_note(alloc: Global, path: &str, count: usize) -> Result<Vec<u8>, AllocError>
-    ensures { IfOk result (λ notes. IsCountNoted path.now count notes.items) }
-{
-    if count == 0 {
-        return Ok(Vec::new(alloc));
-    }
-    let text = count_told(alloc, count)?;
-    note(alloc, path, &text)
-}
-
-// That there are so many warnings, one or more.
-fn count_told(alloc: Global, count: usize) -> Result<Vec<u8>, AllocError>
-    ensures { IfOk result (λ text. text.items ≡ count_text count) }
-{
-    let mut text = Vec::new(alloc);
-    if count == 1 {
-        text.extend_from_slice(b"1 warning; seccomptool check tells it")?;
-        return Ok(text);
-    }
-    text.extend_from_slice(Buffer::new().format(count).as_bytes())?;
-    text.extend_from_slice(b" warnings; seccomptool check tells them")?;
-    Ok(text)
-}
-
-// How many warnings all filters of a policy's text have, where nothing is at fault in it.
-fn count_in(alloc: Global, arch: TargetArch, text: &[u8]) -> Result<Option<usize>, AllocError>
-    ensures { IsFaultlessText arch text.now → IfOk result (IsTextCount arch text.now) }
-{
-    match filters_of(alloc, text) {
-        Ok(filters) => count_of_all(alloc, arch, &filters),
-        Err(refusal) => no_count(refusal),
+// How many warnings all filters of a policy's text have: none where something is at fault in it.
+fn count_in(alloc: Global, arch: TargetArch, text: &[u8]) -> Result<usize, AllocError> {
+    let filters = match filters_of(alloc, text) {
+        Ok(filters) => filters,
+        Err(refusal) => return no_count(&refusal),
+    };
+    match report_of(alloc, arch, b"", &filters, &[]) {
+        Ok(report) => Ok(report.count),
+        Err(refusal) => no_count(&refusal),
     }
 }
 
-// How many warnings all these filters have, where each has a policy.
-fn count_of_all(
-    alloc: Global,
-    arch: TargetArch,
-    filters: &JsonFilterMap,
-) -> Result<Option<usize>, AllocError>
-    ensures count { AreFaultless arch filters.now.0.entries → IfOk result (IsCountOf arch filters.now.0.entries) }
-    ensures ordered { IsStrictlySortedBy string_cmp (keys_of filters.now.0.entries) }
-{
-    match report_of(alloc, arch, b"", filters, &[]) {
-        Ok(report) => Ok(Some(report.count)),
-        Err(refusal) => no_count(refusal),
-    }
-}
-
-// That there is no number where something is at fault.
-fn no_count(refusal: JsonFrontendError) -> Result<Option<usize>, AllocError>
-    ensures { IfOk result (λ found. refusal ≢ json.OutOfMemory) }
-{
-    if is_memory(&refusal) {
-        return Err(AllocError);
-    }
-    Ok(None)
-}
-
-// Whether memory ran out.
-fn is_memory(refusal: &JsonFrontendError) -> bool
-    ensures { result ≡ false → refusal.now ≢ json.OutOfMemory }
-{
+fn no_count(refusal: &JsonFrontendError) -> Result<usize, AllocError> {
     match refusal {
-        JsonFrontendError::OutOfMemory => true,
-        _ => false,
+        JsonFrontendError::OutOfMemory => Err(AllocError),
+        _ => Ok(0),
     }
 }

@@ -1,94 +1,234 @@
-// What a new policy decides otherwise than an old one.
+// On which calls a new text rules otherwise than an old one, or permits more.
 
-mod filters;
-pub mod profiles;
-mod programs;
-mod report;
+pub(crate) mod lines;
 
-ghost use Rattle.std.specs.Prelude.{◌≡◌, IfErr, option_map};
-ghost use Rattle.seccomptool.specs.Diff.{AnswersDiff};
-ghost use Rattle.seccomptool.specs.Errors as spec;
-ghost use Rattle.seccomptool.specs.Errors.{KeepsOutput};
+ghost use Rattle.std.specs.Prelude.{◌≡◌, All, IfOk, Some, map, option_map, string_bytes};
+ghost use Rattle.std.specs.BTreeMap.{get_by_text};
+ghost use Rattle.seccomptool.specs.Diff as spec;
+ghost use Rattle.seccomptool.specs.Diff.{IsDiff, IsFoundOf, name_bytes, verdict_all};
+ghost use Rattle.seccomptool.specs.DiffParts.{AreAllNames, AreOfProfiles, IsFoundUnder};
+ghost use Rattle.seccomptool.specs.Rulings.{of_filter};
+ghost use Rattle.seccomptool.specs.declared.kind.Subject.TheVariants as kind;
 
-use crate::diff::report::report_of;
 use crate::error::ToolError;
-use crate::findings::{Terms, Verdict};
-use crate::policy::policies_from;
+use crate::findings::fitting::fitting_program;
+use crate::findings::{Finding, Terms, Verdict, findings_of, verdict_of};
+use crate::kind::Subject;
+use crate::profile::compiled_of;
 use crate::progress::Progress;
-use crate::send::send;
-use seccomp_compare::Relation;
-use seccompiler::TargetArch;
+use seccomp_oci::Container;
+use seccompiler::{JsonCompiler, SeccompFilter};
 use std::alloc::Global;
-use std::io::{Read, Write};
+use std::collections::BTreeMap;
 
-/// Reports on which calls a new policy decides otherwise than an old one, or permits more.
+/// What is found under a name.
+#[derive(Drop)]
+pub enum Found {
+    /// The old text alone has the name.
+    OnlyOld,
+    /// The new text alone has the name.
+    OnlyNew,
+    /// What is found on each part of the calls.
+    Both(Vec<Finding>),
+}
+
+/// A name, and what is found under it; of profiles there is no name.
+#[derive(Drop)]
+pub struct NamedFound {
+    /// The name.
+    pub name: Option<String>,
+    /// What is found.
+    pub found: Found,
+}
+
+/// What a comparison of two texts finds: the old text's names in byte order, and then those that the new one alone has.
+#[derive(Drop)]
+pub struct Diff {
+    /// What is found, name by name.
+    pub all: Vec<NamedFound>,
+}
+
+/// Compares two texts, of policies or of profiles; where a filter is asked for, that one alone.
 ///
-/// For each filter of the old policy, in byte order of names, and then for each that the new one alone
-/// has, comes a line `filter NAME: ` and what is found; where `filter` is given, for that one alone.
-/// Where both policies have the filter, each call of the architecture's table on which the relation of
-/// the new decision to the old one doesn't hold has a line, in ascending order of numbers, and so has
-/// each range of numbers that have no name: the call's name, both actions, whether the new one permits
-/// `more`, `less` or `otherwise`, and a call on which this is so. A call for which `most` sets of
-/// records were looked at without an answer is reported as `undecided`. Other architectures have no line:
-/// both policies are for one, and kill the process on each other. All lines are written at once.
+/// What is compared are programs, each of which is made once: that of a filter as a tree where that fits, else in the linear
+/// layout, and that of [`compile_profile`](seccomp_oci::compile_profile), without the names that no call of the architecture
+/// has. Calls of other architectures are left out: policies kill the process on each, and profiles say nothing of them.
 ///
-/// The verdict is `Different` where some line reports a difference or a filter that one policy lacks;
-/// else `Undecided` where some call is undecided; and `Same` only where the relation holds for every
-/// call.
-///
-/// The policies' texts are what their readers give; of a reader whose type doesn't say what it reads, as
-/// that of standard input, the contract says that there is such a text.
-///
-/// `progress` gets how many sets of records were looked at without an answer, part by part. Where it shows
-/// them, a part is tried with few sets first and with twice as many each time, up to `most`. No answer
-/// depends on it.
+/// `progress` gets how many sets of records were looked at without an answer, part by part. Where it shows them, a part is tried
+/// with few sets first and with twice as many each time, up to `terms.most`. No answer depends on it.
 ///
 /// # Errors
 ///
-/// The first of these: `Library` with `InvalidTargetArch` and the text as it was given where `arch` is
-/// no architecture's name, ASCII case aside; `Library` with what `JsonCompiler::compile` rejects the old
-/// policy for, and then `NewPolicy` with what it rejects the new one for, `JsonFrontend(Read)` among it where
-/// the reader fails; `NoFilter` with the name where neither policy has the filter; `Library` with
-/// `FilterTooLarge` of a filter that both have and that is too large in both layouts; `Write` where the
-/// writer fails. `OutOfMemory` comes in place of any of these where memory runs out, in a reader too. On any
-/// error but `Write` nothing is written.
-pub fn diff<O: Read + Drop, N: Read + Drop, W: Write, G: Progress>(
+/// `Library` and `Import` with what is at fault in the old text, and `NewPolicy` and `NewImport` with what is in the new one;
+/// `NoFilter` with the name where neither policy has the filter that is asked for; `Library` with `FilterTooLarge` of a filter that
+/// both have and that is too large in both layouts. `OutOfMemory` where memory runs out.
+pub fn diff_of<G: Progress>(
     alloc: Global,
-    arch: &str,
-    filter: Option<&str>,
-    relation: Relation,
-    most: usize,
-    old: O,
-    new: N,
-    out: &mut W,
+    terms: Terms,
+    subject: Subject<'_>,
+    asked: Option<&str>,
+    old: &[u8],
+    new: &[u8],
     progress: &mut G,
-) -> Result<Verdict, ToolError>
-    // When each answer comes, and what is written.
-    ensures answers { AnswersDiff arch.now (option_map (λ name. name.now) filter.entry) relation (O.remaining old) (N.remaining new) result (W.contents out.old) (W.contents out.new) }
-    ensures unwritten { IfErr result (λ e. KeepsOutput e out.old out.new) }
+) -> Result<Diff, ToolError>
+    ensures { IfOk result (IsDiff terms.target terms.relation subject.entry (option_map (λ name. name.now) asked.entry) old.now new.now) }
 {
-    let target = TargetArch::from_text(alloc, arch)?;
-    let old = policies_from(alloc, target, old)?;
-    let new = match policies_from(alloc, target, new) {
-        Ok(new) => new,
-        Err(refusal) => return Err(of_new_policy(refusal.into())),
-    };
-    let terms = Terms {
-        target,
-        relation,
-        most,
-    };
-    let report = report_of(alloc, terms, filter, &old, &new, progress)?;
-    send(out, &report.text)?;
-    Ok(report.verdict)
+    match subject {
+        Subject::Policy => diff_policies(alloc, terms, asked, old, new, progress),
+        Subject::Profile(container) => {
+            let found = diff_profiles(alloc, terms, container, old, new, progress)?;
+            let named = NamedFound {
+                name: None,
+                found: Found::Both(found),
+            };
+            Ok(Diff {
+                all: vec![in alloc; named]?,
+            })
+        }
+    }
 }
 
-// A refusal, as one of the new policy.
-pub(crate) fn of_new_policy(refusal: ToolError) -> ToolError
-    ensures { result ≡ spec.of_new_policy refusal }
+impl Diff {
+    /// The verdict of all that is found.
+    pub fn verdict(&self) -> Verdict
+        ensures { result ≡ verdict_all self.now.all.items }
+    {
+        let mut verdict = Verdict::Same;
+        for named in &self.all {
+            verdict = verdict.worse(verdict_found(&named.found));
+        }
+        verdict
+    }
+}
+
+// The verdict of what is found under a name.
+pub(crate) fn verdict_found(found: &Found) -> Verdict
+    ensures { result ≡ spec.verdict_found found.now }
 {
-    match refusal {
+    match found {
+        Found::Both(findings) => verdict_of(findings),
+        _ => Verdict::Different,
+    }
+}
+
+fn diff_policies<G: Progress>(
+    alloc: Global,
+    terms: Terms,
+    asked: Option<&str>,
+    old: &[u8],
+    new: &[u8],
+    progress: &mut G,
+) -> Result<Diff, ToolError>
+    ensures { IfOk result (IsDiff terms.target terms.relation kind.Policy (option_map (λ name. name.now) asked.entry) old.now new.now) }
+{
+    let compiler = JsonCompiler::new(terms.target);
+    let old = compiler.policies_of(alloc, old)?;
+    let new = match compiler.policies_of(alloc, new) {
+        Ok(new) => new,
+        Err(error) => return Err(of_new(error.into())),
+    };
+    let names = names_of(alloc, asked, &old, &new)?;
+    Ok(Diff {
+        all: found_under(alloc, terms, &names, &old, &new, progress)?,
+    })
+}
+
+fn diff_profiles<G: Progress>(
+    alloc: Global,
+    terms: Terms,
+    container: &Container,
+    old: &[u8],
+    new: &[u8],
+    progress: &mut G,
+) -> Result<Vec<Finding>, ToolError>
+    ensures { IfOk result (λ findings. AreOfProfiles terms.target terms.relation container.now old.now new.now findings.items) }
+{
+    let old = compiled_of(alloc, terms.target, container, old)?;
+    let new = match compiled_of(alloc, terms.target, container, new) {
+        Ok(new) => new,
+        Err(error) => return Err(of_new(error)),
+    };
+    findings_of(alloc, terms, &new.program, &old.program, progress)
+}
+
+// An error of a text, as one of the new text.
+pub(crate) fn of_new(error: ToolError) -> ToolError {
+    match error {
         ToolError::Library(error) => ToolError::NewPolicy(error),
-        other => other,
+        ToolError::Import(error) => ToolError::NewImport(error),
+        error => error,
+    }
+}
+
+// The name that is asked for; or all names of both policies.
+fn names_of(
+    alloc: Global,
+    asked: Option<&str>,
+    old: &BTreeMap<String, SeccompFilter>,
+    new: &BTreeMap<String, SeccompFilter>,
+) -> Result<Vec<String>, ToolError>
+    ensures { IfOk result (λ names. AreAllNames (option_map (λ name. name.now) asked.entry) (get_by_text old.now) (get_by_text new.now) (map string_bytes names.items)) }
+{
+    let mut names = Vec::new(alloc);
+    if let Some(name) = asked {
+        names.push(String::from_str(alloc, name)?)?;
+        return Ok(names);
+    }
+    for (name, _) in old {
+        names.push(name.clone()?)?;
+    }
+    for (name, _) in new {
+        match old.get(name.as_str()) {
+            Some(_) => {}
+            None => names.push(name.clone()?)?,
+        }
+    }
+    Ok(names)
+}
+
+// What is found under these names.
+fn found_under<G: Progress>(
+    alloc: Global,
+    terms: Terms,
+    names: &[String],
+    old: &BTreeMap<String, SeccompFilter>,
+    new: &BTreeMap<String, SeccompFilter>,
+    progress: &mut G,
+) -> Result<Vec<NamedFound>, ToolError>
+    ensures named { IfOk result (λ all. map name_bytes all.items ≡ map (λ name. Some (string_bytes name)) names.now) }
+    ensures each { IfOk result (λ all. All (IsFoundUnder terms.target terms.relation (get_by_text old.now) (get_by_text new.now)) all.items) }
+{
+    let mut all = Vec::new(alloc);
+    for name in names {
+        let text = name.as_str();
+        let found = found_of(alloc, terms, text, old.get(text), new.get(text), progress)?;
+        all.push(NamedFound {
+            name: Some(name.clone()?),
+            found,
+        })?;
+    }
+    Ok(all)
+}
+
+// What is found of the filters that two policies have under a name, each compiled once.
+fn found_of<G: Progress>(
+    alloc: Global,
+    terms: Terms,
+    name: &str,
+    old: Option<&SeccompFilter>,
+    new: Option<&SeccompFilter>,
+    progress: &mut G,
+) -> Result<Found, ToolError>
+    ensures { IfOk result (IsFoundOf terms.target terms.relation (option_map (λ f. of_filter f.now) old.entry) (option_map (λ f. of_filter f.now) new.entry)) }
+{
+    match (old, new) {
+        (Some(old), Some(new)) => {
+            let new = fitting_program(alloc, new)?;
+            let old = fitting_program(alloc, old)?;
+            Ok(Found::Both(findings_of(alloc, terms, &new, &old, progress)?))
+        }
+        (Some(_), None) => Ok(Found::OnlyOld),
+        (None, Some(_)) => Ok(Found::OnlyNew),
+        (None, None) => Err(ToolError::NoFilter(String::from_str(alloc, name)?)),
     }
 }

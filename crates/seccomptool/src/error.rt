@@ -1,12 +1,11 @@
 // Why an engine of the program fails.
 
 use crate::run::fault::ProgramFault;
-use seccomp_command_line::error::ToolError as SharedError;
 use seccomp_oci::ImportError;
 use seccompiler::json::JsonFrontendError;
 use seccompiler::{BackendError, TargetArch};
 use std::alloc::{AllocError, AllocFailed};
-use std::{fmt, io};
+use std::fmt;
 
 /// Why an engine of the program fails.
 ///
@@ -23,10 +22,6 @@ pub enum ToolError {
     Unchosen(String),
     /// The architecture has no call of this name or number.
     UnknownCall(String, TargetArch),
-    /// The records end inside a record, after so many bytes of it, from 1 to 63.
-    ShortRecord(usize),
-    /// The records can't be read.
-    Read(io::Error),
     /// The policy has a fault that has a place; the text names the place, what stands there and what may.
     Fault(String),
     /// The program can't be read, or may not be run.
@@ -35,18 +30,12 @@ pub enum ToolError {
     Import(ImportError),
     /// The new one of two profiles isn't compiled.
     NewImport(ImportError),
-    /// The output can't be written; how much of it went out is not known.
-    Write(io::Error),
-    /// Memory ran out, here or in a reader.
+    /// Memory ran out.
     OutOfMemory,
 }
 
 /// The error's text.
 impl fmt::Display for ToolError {
-    ghost use Rattle.seccomptool.specs.Errors.{tool_text};
-
-    ghost output = { tool_text };
-
     fn fmt<W: fmt::Write>(&self, f: &mut fmt::Formatter<W>) -> fmt::Result {
         match self {
             ToolError::Library(error) => write!(f, "{error}"),
@@ -58,18 +47,10 @@ impl fmt::Display for ToolError {
             ToolError::UnknownCall(call, arch) => {
                 write!(f, "No call of {arch} has this name or number: {call}.")
             }
-            ToolError::ShortRecord(rest) => {
-                write!(
-                    f,
-                    "The input ends inside a record, after {rest} bytes of it."
-                )
-            }
-            ToolError::Read(_) => f.write_str("Error reading input."),
             ToolError::Fault(told) => f.write_str(told.as_str()),
             ToolError::Program(fault) => write!(f, "{fault}"),
             ToolError::Import(fault) => write!(f, "{fault}"),
             ToolError::NewImport(fault) => write!(f, "{fault}"),
-            ToolError::Write(_) => f.write_str("Error writing output."),
             ToolError::OutOfMemory => f.write_str("Out of memory."),
         }
     }
@@ -127,6 +108,17 @@ impl From<AllocError> for ToolError {
     }
 }
 
+impl<T: Drop> From<AllocFailed<T>> for ToolError {
+    ghost use Rattle.std.specs.Prelude.{◌≡◌};
+    ghost use Rattle.seccomptool.specs.declared.error.ToolError.TheVariants.{OutOfMemory};
+
+    ghost from_gives = { λ _ error. error ≡ OutOfMemory };
+
+    fn from(_failed: AllocFailed<T>) -> ToolError {
+        ToolError::OutOfMemory
+    }
+}
+
 impl From<ProgramFault> for ToolError {
     ghost use Rattle.std.specs.Prelude.{◌≡◌};
     ghost use Rattle.seccomptool.specs.declared.error.ToolError.TheVariants.{Program};
@@ -135,24 +127,5 @@ impl From<ProgramFault> for ToolError {
 
     fn from(fault: ProgramFault) -> ToolError {
         ToolError::Program(fault)
-    }
-}
-
-/// An error of the steps that the programs share, by its own name.
-impl From<SharedError> for ToolError {
-    ghost use Rattle.std.specs.Prelude.{◌≡◌};
-    ghost use Rattle.seccomptool.specs.Errors.{from_shared};
-
-    ghost from_gives = { λ told error. error ≡ from_shared told };
-
-    fn from(told: SharedError) -> ToolError {
-        match told {
-            SharedError::Library(refusal) => ToolError::Library(refusal),
-            SharedError::NoFilter(name) => ToolError::NoFilter(name),
-            SharedError::ShortRecord(rest) => ToolError::ShortRecord(rest),
-            SharedError::Read(error) => ToolError::Read(error),
-            SharedError::Write(error) => ToolError::Write(error),
-            SharedError::OutOfMemory => ToolError::OutOfMemory,
-        }
     }
 }

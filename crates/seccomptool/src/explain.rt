@@ -1,88 +1,263 @@
-// What a filter of a policy decides on records, and why.
+// What a filter of a policy, or a profile, decides on records, and why.
 
-mod filters;
 pub mod format;
-mod lines;
-pub mod profile;
-mod reason;
-mod records;
+pub(crate) mod lines;
+pub mod reason;
 mod search;
 
-ghost use Rattle.std.specs.Prelude.{IfErr};
-ghost use Rattle.seccomptool.specs.Errors.{KeepsOutput};
-ghost use Rattle.seccomptool.specs.Explain.{AnswersExplain};
+ghost use Rattle.std.specs.Prelude.{◌≡◌, All, IfOk, OnOk, option_map};
+ghost use Rattle.std.specs.List.{AllZip};
+ghost use Rattle.seccompiler.specs.JsonPolicyOf.{IsFineEntry};
+ghost use Rattle.seccomp_oci.specs.Filters.{AllOnArguments};
+ghost use Rattle.seccomp_oci.specs.ProfileText.{IsProfileText};
+ghost use Rattle.seccomptool.specs.Explain as spec;
+ghost use Rattle.seccomptool.specs.Explain.{HavePolicies, IsExplainedBy, IsExplainedByProfile, IsExplanation, IsOfPolicy, IsOfProfile};
 
+use crate::chosen::chosen_name;
 use crate::error::ToolError;
-use crate::explain::filters::usable_filters;
-use crate::explain::format::LineFormat;
-use crate::explain::records::explain_records;
-use seccompiler::TargetArch;
-use std::alloc::Global;
-use std::io::{Read, Write};
+use crate::explain::reason::Reason;
+use crate::explain::search::{reason_of, word_at};
+use crate::kind::Subject;
+use seccomp_oci::{Container, ImportError, Profile, ProfileError, decision_of_profile};
+use seccompiler::json::filters_of;
+use seccompiler::{
+    JsonCompiler, JsonFilter, JsonFilterMap, SeccompAction, SeccompFilter, TargetArch,
+};
+use std::alloc::{AllocError, Global};
 
-/// Explains what a policy's filter decides on records: for each whole record of 64 bytes a line with
-/// the decision and the reason.
+/// Why a record is decided as it is.
+#[derive(Clone, Copy)]
+pub enum Why {
+    /// By a filter of a policy, for this reason.
+    Filter(Reason),
+    /// The record is of another architecture than a profile is asked about, so that its programs kill the process.
+    Elsewhere,
+    /// By a profile.
+    Profile {
+        /// The number of the record's call.
+        number: u32,
+        /// The place of the entry whose action it is, from 0; none where it is the default action.
+        entry: Option<usize>,
+    },
+}
+
+/// What is decided on a record, and why.
+#[derive(Clone, Copy)]
+pub struct Explained {
+    /// The action.
+    pub action: SeccompAction,
+    /// Why.
+    pub why: Why,
+}
+
+/// A filter of a policy.
+#[derive(Drop)]
+pub struct NamedFilter {
+    /// Its name.
+    pub name: String,
+    /// The filter.
+    pub filter: JsonFilter,
+}
+
+/// What is decided on records, and why.
+#[derive(Drop)]
+pub struct Explanation {
+    /// The filter that decides; none of a profile.
+    pub filter: Option<NamedFilter>,
+    /// What is decided on each record, in order.
+    pub records: Vec<Explained>,
+}
+
+/// Explains what a filter of a policy, the one that is asked for or the only one, or what a profile decides on records.
 ///
-/// The reason is the first of these that is so:
+/// A filter's reason is the first of these that is so:
 ///
 /// - the record is of another architecture;
 /// - no entry of the filter is for the record's call;
-/// - entries are for it, and an entry matches by itself: the first of these is the reason. An entry
-///   matches by itself where it has no conditions, or where each of them holds;
-/// - entries are for it, and none of them matches. In each of them a condition is the first that does not
-///   hold; of these the nearest miss is the one that stands furthest behind in its entry, and of several
-///   the first.
+/// - entries are for it, and an entry matches by itself: the first of these is the reason. An entry matches by itself where it has
+///   no conditions, or where each of them holds;
+/// - entries are for it, and none of them matches. In each of them a condition is the first that does not hold; of these the nearest
+///   miss is the one that stands furthest behind in its entry, and of several the first.
 ///
-/// A line of `LineFormat::Path` is for people: the action by its name in a policy, with the low 16 bits of
-/// its number, if it has one, a colon, a space, the reason, and a line feed. Paths are those of the
-/// policy, with places from 0. In NAME, the filter's, the control characters, those from U+0080 to U+009F
-/// too, and the backslash are written as `\x` and two lower-case hexadecimal digits for each of their
-/// bytes, all others as they are. CALL is the name of the entry's call. In this order the reasons are
-///
-/// - `another architecture`;
-/// - `no entry of call N`, N being the record's call number;
-/// - `NAME.filter[I] (CALL)`, entry I being the reason;
-/// - `no match: NAME.filter[I].args[C] (CALL) does not hold`, condition C of entry I being the nearest
-///   miss, and behind it `, the nearest of K entries` where K entries are for the call, and K is above 1.
-///
-/// A line of `LineFormat::Word` is for scripts: the return value in 8 lower-case hexadecimal digits, a
-/// space, the reason in numbers, and a line feed. In this order the reasons are `another architecture`;
-/// `no entry of call N`; `entry I, rule J of call N`, where J entries in front of entry I are for the call;
-/// and `no match among K entries of call N`. All numbers are decimal.
-///
-/// The policy is read once, to its end, and all of its filters are looked at: each must be one that
-/// `compile_from_json` compiles. Then the filter under `name` is looked up, before the records are read.
-/// All records are read before the first line is written, and all lines are written at once.
-///
-/// The policy's text and the records are what their readers give; of a reader whose type doesn't say what it
-/// reads, as a file's, the contract says that there are such bytes.
+/// A profile decides the strictest action of the entries that count for the record, of equally strict ones the first entry's, and
+/// the default action where none counts.
 ///
 /// # Errors
 ///
-/// The first of these: `Library` with `InvalidTargetArch` and the text as it was given where `arch` is
-/// no architecture's name, ASCII case aside; `Library` with what `compile_from_json` rejects the policy for,
-/// `JsonFrontend(Read)` among it where its reader fails; `NoFilter` with the name where no filter of the
-/// policy has it; `Read` where the reader of the records fails; `Write` where the writer does; `ShortRecord`
-/// where 1 to 63 bytes are left, after the lines of the whole records are written. `OutOfMemory` comes in
-/// place of any of these where memory runs out, in a reader too. On any error but `Write` and `ShortRecord`
-/// nothing is written.
-pub fn explain<P: Read + Drop, R: Read + Drop, W: Write>(
+/// `Library` with what `compile_from_json` rejects the policy for, whichever filter has the fault; `Unchosen` where no filter is
+/// asked for and the policy hasn't exactly one; `NoFilter` with the name where no filter has it; `Import` with `Profile` and what
+/// [`profile_of`](seccomp_oci::profile_of) gives of a profile. `OutOfMemory` where memory runs out.
+pub fn explain_of(
     alloc: Global,
-    format: LineFormat,
-    arch: &str,
-    policy: P,
-    name: &str,
-    records: R,
-    out: &mut W,
-) -> Result<(), ToolError>
-    // When each answer comes, and what is written.
-    ensures answers { AnswersExplain format arch.now (P.remaining policy) name.now (R.remaining records) result (W.contents out.old) (W.contents out.new) }
-    ensures unwritten { IfErr result (λ e. KeepsOutput e out.old out.new) }
+    target: TargetArch,
+    subject: Subject<'_>,
+    asked: Option<&str>,
+    text: &[u8],
+    records: &[[u8; 64]],
+) -> Result<Explanation, ToolError>
+    ensures { IfOk result (IsExplanation target subject.entry (option_map (λ name. name.now) asked.entry) text.now records.now) }
 {
-    let target = TargetArch::from_text(alloc, arch)?;
-    let filters = usable_filters(alloc, target, policy)?;
-    let Some(filter) = filters.0.get(name) else {
-        return Err(ToolError::NoFilter(String::from_str(alloc, name)?));
+    match subject {
+        Subject::Policy => explain_policy(alloc, target, asked, text, records),
+        Subject::Profile(container) => explain_profile(alloc, target, container, text, records),
+    }
+}
+
+// Explains what a filter of a policy decides.
+fn explain_policy(
+    alloc: Global,
+    target: TargetArch,
+    asked: Option<&str>,
+    text: &[u8],
+    records: &[[u8; 64]],
+) -> Result<Explanation, ToolError>
+    ensures { IfOk result (IsOfPolicy target (option_map (λ name. name.now) asked.entry) text.now records.now) }
+{
+    let name = chosen_name(alloc, text, asked)?;
+    let mut filters = filters_of(alloc, text)?;
+    check_filters(alloc, target, &filters)?;
+    let Some(filter) = filters.0.remove(name.as_str()) else {
+        return Err(ToolError::NoFilter(name));
     };
-    explain_records(alloc, format, target, name, filter, records, out)
+    let records = explain_each(alloc, target, &filter, records)?;
+    Ok(Explanation {
+        filter: Some(NamedFilter { name, filter }),
+        records,
+    })
+}
+
+// That each of these filters has a policy, and none of their programs is too long.
+fn check_filters(
+    alloc: Global,
+    target: TargetArch,
+    filters: &JsonFilterMap,
+) -> Result<(), ToolError>
+    ensures { OnOk result (HavePolicies target filters.now.0.entries) }
+{
+    let policies = policies_of(alloc, target, filters)?;
+    for policy in &policies {
+        policy.compiled_len()?;
+    }
+    Ok(())
+}
+
+// The policies of filters, in byte order of names.
+fn policies_of(
+    alloc: Global,
+    target: TargetArch,
+    filters: &JsonFilterMap,
+) -> Result<Vec<SeccompFilter>, ToolError>
+    ensures { OnOk result (HavePolicies target filters.now.0.entries) }
+{
+    let compiler = JsonCompiler::new(target);
+    let mut policies = Vec::new(alloc);
+    'filters: for (_name, filter) in &filters.0 {
+        policies.push(compiler.make_seccomp_filter(alloc, filter)?)?;
+    }
+    Ok(policies)
+}
+
+// What a filter decides on each record, and why.
+fn explain_each(
+    alloc: Global,
+    target: TargetArch,
+    filter: &JsonFilter,
+    records: &[[u8; 64]],
+) -> Result<Vec<Explained>, AllocError>
+    requires { All (IsFineEntry target) filter.now.rules }
+    ensures { IfOk result (λ all. AllZip (IsExplainedBy target filter.now) records.now all.items) }
+{
+    let mut all = Vec::new(alloc);
+    'records: for call in records {
+        all.push(explain_record(alloc, target, filter, call)?)?;
+    }
+    Ok(all)
+}
+
+// What a filter decides on a record, and why.
+fn explain_record(
+    alloc: Global,
+    target: TargetArch,
+    filter: &JsonFilter,
+    call: &[u8; 64],
+) -> Result<Explained, AllocError>
+    requires { All (IsFineEntry target) filter.now.rules }
+    ensures { IfOk result (IsExplainedBy target filter.now call.now) }
+{
+    let entries = filter.rules.as_slice();
+    let reason = reason_of(alloc, target, entries, call)?;
+    Ok(Explained {
+        action: action_of(filter, reason),
+        why: Why::Filter(reason),
+    })
+}
+
+// The action of a filter for a reason.
+fn action_of(filter: &JsonFilter, reason: Reason) -> SeccompAction
+    ensures { result ≡ spec.action_of filter.now reason }
+{
+    match reason {
+        Reason::AnotherArchitecture => SeccompAction::KillProcess,
+        Reason::Entry { .. } => filter.match_action,
+        _ => filter.mismatch_action,
+    }
+}
+
+// Explains what a profile decides.
+fn explain_profile(
+    alloc: Global,
+    target: TargetArch,
+    container: &Container,
+    text: &[u8],
+    records: &[[u8; 64]],
+) -> Result<Explanation, ToolError>
+    ensures { IfOk result (IsOfProfile target container.now text.now records.now) }
+{
+    let profile = profile_in(alloc, text)?;
+    let mut all = Vec::new(alloc);
+    'records: for call in records {
+        all.push(explained_by_profile(target, container, &profile, call))?;
+    }
+    Ok(Explanation {
+        filter: None,
+        records: all,
+    })
+}
+
+// The profile of a text.
+fn profile_in(alloc: Global, text: &[u8]) -> Result<Profile, ToolError>
+    ensures read { IfOk result (IsProfileText text.now) }
+    ensures arguments { IfOk result (λ p. AllOnArguments p.entries) }
+{
+    match seccomp_oci::profile_of(alloc, text) {
+        Ok(profile) => Ok(profile),
+        Err(ProfileError::OutOfMemory) => Err(ToolError::OutOfMemory),
+        Err(fault) => Err(ToolError::Import(ImportError::Profile(fault))),
+    }
+}
+
+// What a profile decides on a record, and by which of its entries.
+fn explained_by_profile(
+    target: TargetArch,
+    container: &Container,
+    profile: &Profile,
+    call: &[u8; 64],
+) -> Explained
+    requires { AllOnArguments profile.now.entries }
+    ensures { IsExplainedByProfile target container.now profile.now call.now result }
+{
+    if word_at(call, 4) != target.get_audit_value() {
+        return Explained {
+            action: SeccompAction::KillProcess,
+            why: Why::Elsewhere,
+        };
+    }
+    let decision = decision_of_profile(target, container, profile, call);
+    Explained {
+        action: decision.action,
+        why: Why::Profile {
+            number: word_at(call, 0),
+            entry: decision.entry,
+        },
+    }
 }

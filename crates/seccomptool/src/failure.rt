@@ -1,190 +1,145 @@
 // What the program tells of a failure.
 
 use crate::error::ToolError;
-use crate::run::fault::ProgramFault;
+use crate::readable::{LineFeeds, readable};
+use crate::words::{Asked, Command, Inputs};
 use seccomp_command_line::names::push_readable;
 use seccompiler::Error;
-use seccompiler::json::JsonFrontendError;
 use std::alloc::{AllocError, Global};
+use std::fmt::Display;
 use std::io;
 use std::io::ErrorKind;
 
-// Why a command isn't carried out.
+/// Why a command isn't carried out.
 #[derive(Drop)]
 pub(crate) enum Failure {
-    // The policy can't be opened.
-    Policy(io::Error),
-    // The records can't be opened.
-    Records(io::Error),
-    // The output is a terminal, and no text.
+    /// The first one of what it reads can't be opened or read.
+    First(io::Error),
+    /// The second one can't be opened or read.
+    Second(io::Error),
+    /// The records end inside a record, after so many bytes of it.
+    ShortRecord(usize),
+    /// The output is a terminal, and no text.
     Terminal,
-    // The file of the output can't be written.
+    /// The file of the output is the one that is read.
+    Onto,
+    /// The output can't be written; how much of it went out is not known.
     Output(io::Error),
-    // The engine fails.
+    /// What the command reads has this fault.
     Engine(ToolError),
 }
 
-// The kind of command that fails: what stands in place of records.
+/// Where a failure is.
 #[derive(Clone, Copy)]
-pub(crate) enum ToldFor {
-    // The new policy.
-    Policies,
-    // The program that is verified.
-    PolicyAndProgram,
-    // Nothing does.
-    Other,
-}
-
-// Where a failure is.
-#[derive(Clone, Copy)]
-enum Place {
+pub(crate) enum Place {
+    /// Nowhere in what is read or written.
     Nowhere,
-    Policy,
-    Records,
+    /// In the first one of what is read.
+    First,
+    /// In the second one.
+    Second,
+    /// In the output.
     Output,
 }
 
 // Tells a failure on standard error: the program, the file that it is in, and the error, in one line.
 pub(crate) fn tell(
     rt: &(impl Eprint + AllocGlobal),
+    asked: &Asked<'_>,
+    inputs: Inputs<'_>,
     failure: &Failure,
-    told_for: ToldFor,
-    policy: &str,
-    records: &str,
-    output: &str,
 ) {
     let alloc = rt.alloc();
-    let text = match place_of(failure, told_for) {
-        Place::Nowhere => front_of(alloc, "", ""),
-        Place::Policy => front_of(alloc, policy, "standard input"),
-        Place::Records => front_of(alloc, records, "standard input"),
-        Place::Output => front_of(alloc, output, "standard output"),
+    let path = match place_of(&asked.command, failure) {
+        Place::Nowhere => None,
+        Place::First => Some((inputs.first, "standard input")),
+        Place::Second => Some((inputs.second, "standard input")),
+        Place::Output => Some((asked.output, "standard output")),
     };
-    let _ = match text {
-        Ok(text) => told(rt, alloc, text.as_str(), failure),
-        Err(_) => told(rt, alloc, "seccomptool: ", failure),
+    let _ = match line_of(alloc, path, failure) {
+        Ok(line) => eprintln!(rt; "{line}"),
+        Err(_) => eprintln!(rt; "seccomptool: Out of memory."),
     };
 }
 
 // Tells notes on standard error: lines of text.
-pub(crate) fn note(rt: &impl Eprint, notes: &[u8]) {
-    if let Ok(lines) = str::from_utf8(notes) {
+pub(crate) fn note(rt: &(impl Eprint + AllocGlobal), notes: &[u8]) {
+    if let Ok(lines) = readable(rt.alloc(), notes, LineFeeds::Kept) {
         let _ = eprint!(rt; "{lines}");
     }
 }
 
-// What stands in front of a message: the program and a path, with what steers a terminal written as numbers,
-// or another name where the path is `-`.
-fn front_of(alloc: Global, path: &str, standard: &str) -> Result<String, AllocError> {
-    let mut text = Vec::new(alloc);
-    text.extend_from_slice(b"seccomptool: ")?;
-    if path == "-" {
-        text.extend_from_slice(standard.as_bytes())?;
-        text.extend_from_slice(b": ")?;
-    } else if !path.is_empty() {
-        push_readable(&mut text, path)?;
-        text.extend_from_slice(b": ")?;
-    }
-    match String::from_utf8(text) {
-        Ok(text) => Ok(text),
-        Err(_) => String::from_str(alloc, "seccomptool: "),
-    }
-}
-
-// Where a failure is: of a reader's and a writer's at what they read and write; other faults that aren't
-// of the words are the policy's, those of two filters that are compared aside, and those of a program that is verified.
-fn place_of(failure: &Failure, told_for: ToldFor) -> Place {
+// Where a failure of a command is: faults that aren't of the words are of the first one that is read, those of two filters that
+// are compared aside, and those of a program that is verified.
+fn place_of(command: &Command<'_>, failure: &Failure) -> Place {
     match failure {
-        Failure::Policy(_) => Place::Policy,
-        Failure::Records(_) => Place::Records,
-        Failure::Output(_) => Place::Output,
+        Failure::First(_) => Place::First,
+        Failure::Second(_) => Place::Second,
+        Failure::ShortRecord(_) => Place::Second,
         Failure::Terminal => Place::Output,
-        Failure::Engine(error) => match told_for {
-            ToldFor::Policies => place_in_policies(error),
-            ToldFor::PolicyAndProgram => place_beside_program(error),
-            ToldFor::Other => place_in(error),
-        },
+        Failure::Onto => Place::Output,
+        Failure::Output(_) => Place::Output,
+        Failure::Engine(error) => place_in(command, error),
     }
 }
 
-// Where an error of `diff` is.
-fn place_in_policies(error: &ToolError) -> Place {
-    match error {
-        ToolError::NoFilter(_) => Place::Nowhere,
-        ToolError::Library(Error::Backend(_)) => Place::Nowhere,
-        error => place_in(error),
+// Where an error of a command is.
+pub(crate) fn place_in(command: &Command<'_>, error: &ToolError) -> Place {
+    match (error, command) {
+        (ToolError::NewPolicy(_), _) => Place::Second,
+        (ToolError::NewImport(_), _) => Place::Second,
+        (ToolError::Program(_), Command::Verify { .. }) => Place::Second,
+        (ToolError::UnknownCall(_, _), _) => Place::Nowhere,
+        (ToolError::OutOfMemory, _) => Place::Nowhere,
+        (ToolError::NoFilter(_), Command::Diff { .. }) => Place::Nowhere,
+        (ToolError::Library(Error::Backend(_)), Command::Diff { .. }) => Place::Nowhere,
+        _ => Place::First,
     }
 }
 
-// Where an error of `verify` is.
-fn place_beside_program(error: &ToolError) -> Place {
-    match error {
-        ToolError::Program(_) => Place::Records,
-        error => place_in(error),
+// The line of a failure: the program, a path with another name where it is `-`, and what is wrong.
+fn line_of(
+    alloc: Global,
+    path: Option<(Option<&str>, &str)>,
+    failure: &Failure,
+) -> Result<String, AllocError> {
+    let mut line = Vec::new(alloc);
+    line.extend_from_slice(b"seccomptool: ")?;
+    if let Some((path, standard)) = path {
+        match path {
+            None | Some("-") => line.extend_from_slice(standard.as_bytes())?,
+            Some(path) => push_readable(&mut line, path)?,
+        }
+        line.extend_from_slice(b": ")?;
     }
+    line.extend_from_slice(told(alloc, failure)?.as_bytes())?;
+    readable(alloc, &line, LineFeeds::Numbered)
 }
 
-// Where an error is.
-fn place_in(error: &ToolError) -> Place {
-    match error {
-        ToolError::NewPolicy(_) => Place::Records,
-        ToolError::NewImport(_) => Place::Records,
-        ToolError::Read(_) => Place::Records,
-        ToolError::ShortRecord(_) => Place::Records,
-        ToolError::Write(_) => Place::Output,
-        ToolError::UnknownCall(_, _) => Place::Nowhere,
-        ToolError::OutOfMemory => Place::Nowhere,
-        _ => Place::Policy,
-    }
-}
-
-// Tells what is wrong behind a text, in the system's words where it is the system that refuses.
-fn told(rt: &impl Eprint, alloc: Global, front: &str, failure: &Failure) -> io::Result<()> {
+// What is wrong, in the system's words where it is the system that refuses.
+fn told(alloc: Global, failure: &Failure) -> Result<String, AllocError> {
     match failure {
-        Failure::Policy(error) => told_by_system(rt, front, error),
-        Failure::Records(error) => told_by_system(rt, front, error),
-        Failure::Output(error) => told_by_system(rt, front, error),
+        Failure::First(error) => told_by_system(alloc, error),
+        Failure::Second(error) => told_by_system(alloc, error),
+        Failure::Output(error) => told_by_system(alloc, error),
+        Failure::ShortRecord(rest) => {
+            format!(in alloc; "The input ends inside a record, after {rest} bytes of it.")
+        }
         Failure::Terminal => {
-            eprintln!(rt; "{front}bytes aren't written to a terminal; give a file or a pipe")
+            String::from_str(
+                alloc,
+                "bytes aren't written to a terminal; give a file or a pipe",
+            )
         }
-        Failure::Engine(ToolError::Read(error)) => told_by_system(rt, front, error),
-        Failure::Engine(ToolError::Write(error)) => told_by_system(rt, front, error),
-        Failure::Engine(ToolError::Program(ProgramFault::Read(error))) => {
-            told_by_system(rt, front, error)
-        }
-        Failure::Engine(ToolError::Library(Error::JsonFrontend(JsonFrontendError::Read(error)))) =>
-            { told_by_system(rt, front, error) }
-        Failure::Engine(
-            ToolError::NewPolicy(Error::JsonFrontend(JsonFrontendError::Read(error))),
-        ) => { told_by_system(rt, front, error) }
-        Failure::Engine(error) => match plain(alloc, error) {
-            Ok(text) => eprintln!(rt; "{front}{text}"),
-            Err(_) => eprintln!(rt; "seccomptool: Out of memory."),
-        },
+        Failure::Onto => String::from_str(alloc, "the program isn't written onto its policy"),
+        Failure::Engine(error) => format!(in alloc; "{error}"),
     }
 }
 
-// The text of an error, with the characters from U+007F to U+009F as names are written: a value of a policy or a profile stands
-// there as JSON, which leaves them as they are, and some steer a terminal.
-fn plain(alloc: Global, error: &ToolError) -> Result<String, AllocError> {
-    let text = format!(in alloc; "{error}")?;
-    let mut plain = Vec::new(alloc);
-    for one in text.chars() {
-        let mut bytes = [0; 4];
-        let written = one.encode_utf8(&mut bytes);
-        if ('\u{7f}'..='\u{9f}').contains(&one) {
-            push_readable(&mut plain, written)?;
-        } else {
-            plain.extend_from_slice(written.as_bytes())?;
-        }
-    }
-    String::from_utf8(plain).or(Ok(text))
-}
-
-// Tells an error of the system.
-fn told_by_system(rt: &impl Eprint, front: &str, error: &io::Error) -> io::Result<()> {
+// What the system tells.
+fn told_by_system(alloc: Global, error: &io::Error) -> Result<String, AllocError> {
     if error.kind() == ErrorKind::OutOfMemory {
-        return eprintln!(rt; "{front}Out of memory.");
+        return String::from_str(alloc, "Out of memory.");
     }
-    eprintln!(rt; "{front}{error}")
+    format!(in alloc; "{error}")
 }

@@ -1,21 +1,28 @@
-// Sets of calls, and what a comparison finds on each of them.
+// What a comparison of two programs finds, on each set of calls.
 
-pub(crate) mod heading;
+pub(crate) mod fitting;
 pub(crate) mod lines;
 pub(crate) mod parts;
-pub(crate) mod tries;
+mod tries;
 
-ghost use Rattle.std.specs.Prelude.{◌≡◌, ℕ, List, ◌↔◌};
+ghost use Rattle.std.specs.Prelude.{◌≡◌, ℕ, List, ◌↔◌, IfOk};
 ghost use Rattle.seccomp_compare.specs.Compare.{IsCallOf};
+ghost use Rattle.seccompiler.specs.Machine.{IsChecked};
 ghost use Rattle.seccomptool.specs.Findings as spec;
-ghost use Rattle.seccomptool.specs.Findings.{IsInPart, worse, verdict_of};
+ghost use Rattle.seccomptool.specs.Findings.{AreFoundOn, AreReturned, IsFound, IsInPart, worse, verdict_of};
+ghost use Rattle.seccomptool.specs.Rulings.{AreFindingsOf, Ruling, StandsFor};
 
-use seccomp_compare::{Calls, Relation};
-use seccompiler::TargetArch;
+use crate::error::ToolError;
+use crate::findings::parts::parts;
+use crate::findings::tries::try_comparisons;
+use crate::progress::Progress;
+use seccomp_compare::{Calls, Comparison, Relation};
+use seccompiler::{BpfProgramRef, TargetArch, machine};
+use std::alloc::Global;
 
 /// On which terms two sides are compared.
 #[derive(Clone, Copy)]
-pub(crate) struct Terms {
+pub struct Terms {
     /// The architecture.
     pub target: TargetArch,
     /// What is asked of the two values for a call, the new one first.
@@ -86,17 +93,8 @@ pub enum Verdict {
     Undecided,
 }
 
-/// What is reported of two sides.
-#[derive(Drop)]
-pub(crate) struct Report {
-    /// The text.
-    pub text: Vec<u8>,
-    /// The verdict.
-    pub verdict: Verdict,
-}
-
 impl Verdict {
-    // The verdict of two together.
+    /// The verdict of two together.
     pub(crate) fn worse(self, other: Verdict) -> Verdict
         ensures { result ≡ worse self other }
     {
@@ -119,7 +117,7 @@ fn verdict_on(answer: Answer) -> Verdict
     }
 }
 
-// The verdict of what is found on all parts.
+/// The verdict of what is found on all parts.
 pub(crate) fn verdict_of(findings: &[Finding]) -> Verdict
     ensures { result ≡ verdict_of findings.now }
 {
@@ -131,7 +129,7 @@ pub(crate) fn verdict_of(findings: &[Finding]) -> Verdict
 }
 
 // The calls of a part.
-pub(crate) fn calls_of(target: TargetArch, part: Part) -> Calls
+fn calls_of(target: TargetArch, part: Part) -> Calls
     ensures { (r : List ℕ) → (IsCallOf result r ↔ IsInPart target part r) }
 {
     match part {
@@ -139,4 +137,69 @@ pub(crate) fn calls_of(target: TargetArch, part: Part) -> Calls
         Part::Unnamed { least, greatest } => Calls::of_numbers(target, least, greatest),
         Part::Elsewhere { least, greatest } => Calls::of_arch_words(least, greatest),
     }
+}
+
+/// What is found of two programs, on each part of the architecture's calls.
+pub(crate) fn findings_of<G: Progress>(
+    alloc: Global,
+    terms: Terms,
+    new: BpfProgramRef<'_>,
+    old: BpfProgramRef<'_>,
+    progress: &mut G,
+) -> Result<Vec<Finding>, ToolError>
+    requires new_checked { IsChecked new.now }
+    requires old_checked { IsChecked old.now }
+    // Of whatever the programs stand for.
+    ensures { IfOk result (λ findings. (by_new by_old : Ruling) → StandsFor terms.target by_new new.now → StandsFor terms.target by_old old.now → AreFindingsOf terms.target terms.relation by_new by_old findings.items) }
+{
+    let parts = parts(alloc, terms.target)?;
+    let findings = findings_on(alloc, terms, &parts, new, old, progress)?;
+    Ok(findings)
+}
+
+/// What is found of two programs, on each of these parts.
+pub(crate) fn findings_on<G: Progress>(
+    alloc: Global,
+    terms: Terms,
+    parts: &[Part],
+    new: BpfProgramRef<'_>,
+    old: BpfProgramRef<'_>,
+    progress: &mut G,
+) -> Result<Vec<Finding>, ToolError>
+    requires new_checked { IsChecked new.now }
+    requires old_checked { IsChecked old.now }
+    ensures { IfOk result (λ findings. AreFoundOn terms.target terms.relation (AreReturned new.now old.now) parts.now findings.items) }
+{
+    let mut findings = Vec::new(alloc);
+    for part in parts {
+        findings.push(finding_on(alloc, terms, *part, new, old, progress)?)?;
+    }
+    Ok(findings)
+}
+
+// What is found on a part.
+fn finding_on<G: Progress>(
+    alloc: Global,
+    terms: Terms,
+    part: Part,
+    new: BpfProgramRef<'_>,
+    old: BpfProgramRef<'_>,
+    progress: &mut G,
+) -> Result<Finding, ToolError>
+    requires new_checked { IsChecked new.now }
+    requires old_checked { IsChecked old.now }
+    ensures part { IfOk result (λ finding. finding.part ≡ part) }
+    ensures found { IfOk result (λ finding. IsFound terms.target terms.relation (AreReturned new.now old.now) part finding.answer) }
+{
+    let calls = calls_of(terms.target, part);
+    let answer = match try_comparisons(alloc, terms, part, &calls, new, old, progress)? {
+        Comparison::Holds => Answer::Holds,
+        Comparison::Fails(call) => Answer::Fails {
+            call,
+            old: machine::run(old, &call).word,
+            new: machine::run(new, &call).word,
+        },
+        Comparison::Undecided => Answer::Undecided,
+    };
+    Ok(Finding { part, answer })
 }

@@ -1,28 +1,44 @@
 // Whether a text is a profile's or a policy's, where both may be given.
 
-ghost use Rattle.std.specs.Prelude.{◌≡◌, ◌↔◌, IfOk, IsTrue, codes};
+ghost use Rattle.std.specs.Prelude.{◌≡◌, ◌↔◌, IfOk, IsTrue, codes, option_map};
 ghost use Rattle.serde_json.specs.View.{view};
 ghost use Rattle.seccomptool.specs.Kinds as spec;
 ghost use Rattle.seccompiler.specs.declared.backend.TargetArch.{TargetArch};
-ghost use Rattle.seccomptool.specs.Kinds.{IsOfProfile, IsPolicyText, IsTakenForProfile, NamesDefault, StandsIn};
-ghost use Rattle.seccomptool.specs.Words.{text_of};
+ghost use Rattle.seccomptool.specs.Kinds.{IsOfProfile, IsPolicyText, IsTakenAs, NamesDefault, StandsIn};
+ghost use Rattle.seccomptool.specs.Chosen.{text_of};
 
 use seccomp_oci::Container;
 use serde_json::Value;
 use std::alloc::{AllocError, Global};
 
-// Whether a text is taken for a profile, where this filter is asked for, or none.
-pub(crate) fn is_taken_for_profile(
+/// What a text is.
+#[derive(Clone, Copy)]
+pub enum Subject<'a> {
+    /// A policy.
+    Policy,
+    /// A profile, in this container.
+    Profile(&'a Container),
+}
+
+// What a text is, where this container is given, or none, and this filter is asked for, or none: a profile in the container that
+// is given; or one in a plain container, where the text is taken for a profile's and no filter is asked for; or else a policy.
+pub(crate) fn subject_of<'a>(
     alloc: Global,
+    given: Option<&'a Container>,
+    plain: &'a Container,
+    filter: Option<&str>,
     text: &[u8],
-    asked: Option<&str>,
-) -> Result<bool, AllocError>
-    ensures { IfOk result (λ is. IsTrue is ↔ IsTakenForProfile (text_of asked.entry) text.now) }
+) -> Result<Subject<'a>, AllocError>
+    requires { plain.entry.now ≡ spec.plain_container }
+    ensures { IfOk result (IsTakenAs (option_map (λ c. c.now) given.entry) (text_of filter.entry) text.now) }
 {
-    match asked {
-        Some(_) => Ok(false),
-        None => is_of_profile(alloc, text),
+    if let Some(container) = given {
+        return Ok(Subject::Profile(container));
     }
+    if filter.is_none() && is_of_profile(alloc, text)? {
+        return Ok(Subject::Profile(plain));
+    }
+    Ok(Subject::Policy)
 }
 
 // Whether a text is taken for a profile. Only one that has the key's bytes is parsed, since policies may be large.

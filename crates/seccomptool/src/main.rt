@@ -1,8 +1,6 @@
 // Compiles, checks and explains the policies of seccomp filters.
 #![tactic(auto)]
 
-mod answer;
-mod carry_out;
 mod check;
 mod chosen;
 mod codes;
@@ -10,34 +8,32 @@ mod compat;
 mod compile;
 mod counts;
 mod diff;
-mod done;
-mod each;
 mod error;
 mod explain;
 mod failure;
 mod findings;
 mod import;
 mod kind;
-mod lint;
-mod noted;
+mod layouts;
+mod made;
 mod notes;
 mod numbers;
+mod output;
 mod perform;
-mod policy;
 mod profile;
-mod program;
 mod progress;
+mod readable;
 mod record;
 mod run;
-mod send;
+mod shell;
 mod show;
 mod source;
 mod stats;
 mod verify;
 mod words;
 
-use crate::answer::{answer, unread};
 use crate::progress::Watch;
+use crate::shell::{answer, unread};
 use seccomp_command_line::arguments::behind_the_name;
 use std::io::IsTerminal;
 use std::process::ExitCode;

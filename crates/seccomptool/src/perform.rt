@@ -1,69 +1,173 @@
 // A command, carried out on what is opened for it.
 
-ghost use Rattle.std.specs.Prelude.{IfErr, Some};
-ghost use Rattle.seccomptool.specs.Commands.{AnswersCommand, AnswersExplainProfileOn, AnswersExplained, AnswersExplainedByKind, AnswersExplainedOn, AnswersRunOn, AnswersShown, AnswersStatsByKind};
-ghost use Rattle.seccomptool.specs.Errors.{KeepsOutput};
-ghost use Rattle.seccomptool.specs.Words.{text_of};
+ghost use Rattle.std.specs.Prelude.{◌≡◌, IfErr, IfOk, IfSome};
+ghost use Rattle.seccompiler.specs.Reads.{Reads};
+ghost use Rattle.seccomptool.specs.Commands.{IsCarriedOut, IsOfWriting, KeepsOutput};
 
-use crate::check::given::check_given;
-use crate::check::profile::check_profile;
-use crate::chosen::chosen_name;
-use crate::codes::codes;
-use crate::compat::compat;
-use crate::diff::profiles::diff_profiles;
-use crate::done::{Done, found, plain};
 use crate::error::ToolError;
-use crate::explain::explain;
-use crate::explain::format::LineFormat;
-use crate::explain::profile::explain_profile;
-use crate::findings::Terms;
-use crate::import::import;
-use crate::kind::{is_taken_for_profile, plain_container};
-use crate::noted::{compile_noted, diff_noted};
-use crate::policy::policy_text;
+use crate::failure::{Failure, Place, place_in};
+use crate::findings::Verdict;
+use crate::made::{
+    Made, check_made, codes_made, compat_made, compile_made, diff_made, explain_made, import_made,
+    record_made, run_made, show_made, stats_made, verify_made,
+};
 use crate::progress::Progress;
-use crate::record::{called_record, record};
-use crate::run::run;
-use crate::show::{show, show_program};
-use crate::stats::profile::stats_profile;
-use crate::stats::stats;
-use crate::verify::verify;
-use crate::words::{Command, Records, Shown};
-use seccomp_oci::Container;
-use seccompiler::{Layout, TargetArch};
-use std::alloc::Global;
+use crate::readable::{LineFeeds, readable};
+use crate::shell::writes_bytes;
+use crate::words::{Command, Inputs};
+use std::alloc::{AllocError, Global};
+use std::io;
 use std::io::{Read, Write};
 
-/// Carries out a command on its policy or profile, or `run` and `show` on their program, and `explain` and `run` on their records,
-/// those of a call aside; `diff` on the old policy or profile and, in place of records, the new one, and `verify` on the policy
-/// and, in place of records, the program. The verdict is that of `diff`, `verify` and `check`, and else `Same`. The notes are
-/// those of `import`, and of `check` of a profile; of `compile` and `diff` of policies, unless they are quiet, a line for each
-/// policy for which `check` has warnings, with their number; and else none. `progress` gets how far comparisons are.
-///
-/// Where `Explain` and `Diff` have no filter, and the text of the policy, or of the old one, is an object that has a text under
-/// `defaultAction`, they do what `ExplainProfile` and `DiffProfiles` do for a container of which nothing is said; and so do `Stats`
-/// what `StatsProfile` does, and `Check` what `CheckProfile` does. No text of a policy is such an object.
+/// What a command gives where it is carried out.
+#[derive(Drop)]
+pub struct Done {
+    /// What it finds.
+    pub verdict: Verdict,
+    /// What is to be noted on standard error, in lines, each with a line feed: no bytes where nothing is.
+    pub notes: Vec<u8>,
+}
+
+/// Carries out a command on what its readers give, both read to their ends at first, and writes what it makes at once. `inputs`
+/// are the paths of what is read, for its notes; `progress` gets how far comparisons are.
 ///
 /// # Errors
 ///
-/// Those of the engine: [`compile`](crate::compile::compile), [`show`] or [`show_program`], [`check`](crate::check::check), [`codes`],
-/// [`explain`], [`run`], [`stats`], [`record`], [`diff`](crate::diff::diff), [`verify`], [`compat`], [`import`], [`diff_profiles`],
-/// [`explain_profile`], [`stats_profile`] and [`check_profile`]. In front of them, for `compile` and `explain` of a policy, where no
-/// filter is asked for: the policy's fault that keeps its names from being
-/// read, and `Unchosen` with the names where it hasn't one. In front of all, for `explain` and `run` on a call, `UnknownCall`
-/// where the architecture hasn't it.
+/// The first of these: `First` where the first one can't be read; the engine's error of the first one; `Second` where the second
+/// one can't be read; the engine's other errors; `Output` where the writer fails; `ShortRecord` where 1 to 63 bytes are left of
+/// records, after what is made of the whole ones is written. On any error but the last two nothing is written.
 pub fn perform<P: Read + Drop, R: Read + Drop, W: Write, G: Progress>(
     alloc: Global,
-    command: Command<'_>,
-    policy: P,
-    records: R,
+    command: &Command<'_>,
+    inputs: Inputs<'_>,
+    first: P,
+    second: R,
     out: &mut W,
     progress: &mut G,
-) -> Result<Done, ToolError>
-    // When each answer comes, and what is written.
-    ensures answers { AnswersCommand command.entry (P.remaining policy) (R.remaining records) result (W.contents out.old) (W.contents out.new) }
-    ensures unwritten { IfErr result (λ e. KeepsOutput e out.old out.new) }
+) -> Result<Done, Failure>
+    ensures carried_out { IfOk result (λ done. Reads (P.remaining first) (λ one. Reads (R.remaining second) (λ two. IsCarriedOut command.now one two done.verdict))) }
+    ensures unwritten { IfErr result (λ failure. KeepsOutput failure out.old out.new) }
 {
+    let first = match text_of(alloc, first) {
+        Ok(text) => text,
+        Err(error) => return Err(Failure::First(error)),
+    };
+    let second = match text_of(alloc, second) {
+        Ok(text) => text,
+        Err(error) => {
+            return match fault_before(alloc, command, inputs, &first, progress) {
+                Some(fault) => Err(Failure::Engine(fault)),
+                None => Err(Failure::Second(error)),
+            };
+        }
+    };
+    match ready(alloc, command, inputs, &first, &second, progress) {
+        Ok(made) => written(out, made),
+        Err(fault) => Err(Failure::Engine(fault)),
+    }
+}
+
+// Writes what is made.
+fn written<W: Write>(out: &mut W, made: Made) -> Result<Done, Failure>
+    ensures found { IfOk result (λ done. done.verdict ≡ made.entry.verdict) }
+    ensures cause { IfErr result IsOfWriting }
+{
+    let Made {
+        text,
+        rest,
+        verdict,
+        notes,
+    } = made;
+    match out.write_all(&text) {
+        Ok(()) if rest == 0 => Ok(Done { verdict, notes }),
+        Ok(()) => Err(Failure::ShortRecord(rest)),
+        Err(error) => Err(Failure::Output(error)),
+    }
+}
+
+// All that a reader gives.
+fn text_of<R: Read + Drop>(alloc: Global, mut reader: R) -> io::Result<Vec<u8>>
+    ensures { IfOk result (λ text. IfSome (R.remaining reader) (λ known. text.items ≡ known)) }
+{
+    let mut text = Vec::new(alloc);
+    match reader.read_to_end(&mut text) {
+        Ok(_) => Ok(text),
+        Err(error) => Err(error),
+    }
+}
+
+// The fault of the first text that comes before the second one can't be read.
+fn fault_before<G: Progress>(
+    alloc: Global,
+    command: &Command<'_>,
+    inputs: Inputs<'_>,
+    first: &[u8],
+    progress: &mut G,
+) -> Option<ToolError> {
+    match made_by(alloc, command, inputs, first, b"", progress) {
+        Ok(_) => None,
+        Err(fault) => match place_in(command, &fault) {
+            Place::Second => None,
+            _ => Some(fault),
+        },
+    }
+}
+
+// What a command makes of these texts, ready to be written.
+fn ready<G: Progress>(
+    alloc: Global,
+    command: &Command<'_>,
+    inputs: Inputs<'_>,
+    first: &[u8],
+    second: &[u8],
+    progress: &mut G,
+) -> Result<Made, ToolError>
+    ensures { IfOk result (λ made. IsCarriedOut command.now first.now second.now made.verdict) }
+{
+    let Made {
+        text,
+        rest,
+        verdict,
+        notes,
+    } = made_by(alloc, command, inputs, first, second, progress)?;
+    Ok(Made {
+        text: shown(alloc, command, text)?,
+        rest,
+        verdict,
+        notes,
+    })
+}
+
+// What is written of a text that a command makes.
+fn shown(alloc: Global, command: &Command<'_>, text: Vec<u8>) -> Result<Vec<u8>, AllocError> {
+    if writes_bytes(command) || is_plain(&text) {
+        return Ok(text);
+    }
+    Ok(readable(alloc, &text, LineFeeds::Kept)?.into_bytes())
+}
+
+// Whether a text has printed ASCII and line feeds alone.
+fn is_plain(text: &[u8]) -> bool {
+    for byte in text {
+        if *byte != b'\n' && (*byte < b' ' || *byte > b'~') {
+            return false;
+        }
+    }
+    true
+}
+
+// What a command makes of these texts.
+fn made_by<G: Progress>(
+    alloc: Global,
+    command: &Command<'_>,
+    inputs: Inputs<'_>,
+    first: &[u8],
+    second: &[u8],
+    progress: &mut G,
+) -> Result<Made, ToolError>
+    ensures { IfOk result (λ made. IsCarriedOut command.now first.now second.now made.verdict) }
+{
+    let path = inputs.first.unwrap_or("-");
     match command {
         Command::Compile {
             arch,
@@ -71,286 +175,73 @@ pub fn perform<P: Read + Drop, R: Read + Drop, W: Write, G: Progress>(
             layout,
             format,
             quiet,
-            policy: path,
-            ..
-        } => compile_noted(
-            alloc, arch, filter, layout, format, quiet, path, policy, out,
-        ),
+        } => compile_made(alloc, *arch, *filter, *layout, *format, *quiet, path, first),
         Command::Show {
             arch,
             layout,
             shown,
-        } => plain(alloc, show_asked(alloc, arch, layout, shown, policy, out)),
+        } => show_made(alloc, *arch, *layout, *shown, first),
         Command::Check {
             arch,
+            container,
             denied,
             allowed,
-            policy: path,
-        } => check_given(alloc, arch, denied, allowed, path, policy, out),
-        Command::Codes => plain(alloc, codes(alloc, out)),
+        } => check_made(
+            alloc,
+            *arch,
+            container.as_ref(),
+            *denied,
+            allowed,
+            path,
+            first,
+        ),
+        Command::Codes => codes_made(alloc),
         Command::Explain {
             arch,
+            container,
             filter,
             format,
-            records: asked,
-            ..
-        } => plain(
-            alloc,
-            explain_asked(alloc, arch, filter, format, asked, policy, records, out),
-        ),
-        Command::Run {
-            arch,
-            records: asked,
-            ..
-        } => plain(alloc, run_asked(alloc, arch, asked, policy, records, out)),
-        Command::Stats { arch, .. } => plain(alloc, stats_by_kind(alloc, arch, policy, out)),
-        Command::Record {
-            arch,
             call,
-            arguments,
-        } => plain(alloc, record(alloc, arch.name(), call, arguments, out)),
-        Command::Diff {
-            arch: target,
-            filter,
-            relation,
-            most,
-            quiet,
-            old,
-            new,
-        } => {
-            let terms = Terms {
-                target,
-                relation,
-                most,
-            };
-            diff_noted(
-                alloc, terms, filter, quiet, old, new, policy, records, out, progress,
-            )
-        }
-        Command::Verify {
-            arch,
-            filter,
-            relation,
-            scope,
-            most,
-            ..
-        } => found(
+        } => explain_made(
             alloc,
-            verify(
-                alloc,
-                arch.name(),
-                filter,
-                relation,
-                scope,
-                most,
-                policy,
-                records,
-                out,
-                progress,
-            ),
+            *arch,
+            container.as_ref(),
+            *filter,
+            *format,
+            *call,
+            first,
+            second,
         ),
-        Command::Compat { arch, .. } => plain(alloc, compat(alloc, arch.name(), policy, out)),
+        Command::Run { arch, call } => run_made(alloc, *arch, *call, first, second),
+        Command::Stats { arch, container } => stats_made(alloc, *arch, container.as_ref(), first),
+        Command::Record { arch, call } => record_made(alloc, *arch, *call),
+        Command::Diff {
+            terms,
+            container,
+            filter,
+            quiet,
+        } => diff_made(
+            alloc,
+            *terms,
+            container.as_ref(),
+            *filter,
+            *quiet,
+            inputs,
+            first,
+            second,
+            progress,
+        ),
+        Command::Verify {
+            terms,
+            filter,
+            scope,
+        } => verify_made(alloc, *terms, *filter, *scope, first, second, progress),
+        Command::Compat { arch } => compat_made(alloc, *arch, first),
         Command::Import {
             arch,
             container,
             strict,
             format,
-            profile,
-        } => import(alloc, arch, container, strict, format, profile, policy, out),
-        Command::DiffProfiles {
-            arch,
-            container,
-            relation,
-            most,
-            ..
-        } => found(
-            alloc,
-            diff_profiles(
-                alloc, arch, container, relation, most, policy, records, out, progress,
-            ),
-        ),
-        Command::ExplainProfile {
-            arch,
-            container,
-            format,
-            records: asked,
-            ..
-        } => plain(
-            alloc,
-            explain_profile_asked(alloc, arch, container, format, asked, policy, records, out),
-        ),
-        Command::StatsProfile {
-            arch,
-            container,
-            ..
-        } => plain(alloc, stats_profile(alloc, arch, container, policy, out)),
-        Command::CheckProfile {
-            arch,
-            container,
-            denied,
-            allowed,
-            profile,
-        } => check_profile(
-            alloc, arch, container, denied, allowed, profile, policy, out,
-        ),
-    }
-}
-
-// Prints the programs of a policy, or a program.
-fn show_asked<P: Read + Drop, W: Write>(
-    alloc: Global,
-    arch: TargetArch,
-    layout: Layout,
-    shown: Shown<'_>,
-    given: P,
-    out: &mut W,
-) -> Result<(), ToolError>
-    ensures answers { AnswersShown shown.entry arch layout (P.remaining given) result }
-    ensures unwritten { IfErr result (λ e. KeepsOutput e out.old out.new) }
-{
-    match shown {
-        Shown::Policy(_) => show(alloc, arch.name(), layout, given, out),
-        Shown::Program(_) => show_program(alloc, arch, given, out),
-    }
-}
-
-// Explains what the filter that is asked for, or a profile, decides on the records that are asked about.
-fn explain_asked<P: Read + Drop, R: Read + Drop, W: Write>(
-    alloc: Global,
-    arch: TargetArch,
-    filter: Option<&str>,
-    format: LineFormat,
-    asked: Records<'_>,
-    policy: P,
-    records: R,
-    out: &mut W,
-) -> Result<(), ToolError>
-    ensures answers { AnswersExplainedOn asked.entry arch (text_of filter.entry) format (P.remaining policy) (R.remaining records) result (W.contents out.old) (W.contents out.new) }
-    ensures unwritten { IfErr result (λ e. KeepsOutput e out.old out.new) }
-{
-    match asked {
-        Records::In(_) => explain_records(alloc, arch, filter, format, policy, records, out),
-        Records::Call { call, arguments } => {
-            let record = called_record(alloc, arch, call, &arguments)?;
-            explain_records(alloc, arch, filter, format, policy, record.as_slice(), out)
-        }
-    }
-}
-
-// Explains what the filter that is asked for decides on records; or a profile, where no filter is and the text is taken for one's.
-fn explain_records<P: Read + Drop, R: Read + Drop, W: Write>(
-    alloc: Global,
-    arch: TargetArch,
-    filter: Option<&str>,
-    format: LineFormat,
-    given: P,
-    records: R,
-    out: &mut W,
-) -> Result<(), ToolError>
-    ensures answers { AnswersExplainedByKind arch (text_of filter.entry) format (P.remaining given) (R.remaining records) result (W.contents out.old) (W.contents out.new) }
-    ensures unwritten { IfErr result (λ e. KeepsOutput e out.old out.new) }
-{
-    let text = policy_text(alloc, given)?;
-    let text = text.as_slice();
-    if is_taken_for_profile(alloc, text, filter)? {
-        let container = plain_container(alloc);
-        return explain_profile(alloc, format, arch, &container, text, records, out);
-    }
-    explain_filter(alloc, arch, filter, format, text, records, out)
-}
-
-// Explains what the filter that is asked for decides on records, of a policy's text.
-fn explain_filter<R: Read + Drop, W: Write>(
-    alloc: Global,
-    arch: TargetArch,
-    filter: Option<&str>,
-    format: LineFormat,
-    text: &[u8],
-    records: R,
-    out: &mut W,
-) -> Result<(), ToolError>
-    ensures answers { AnswersExplained arch (text_of filter.entry) format (Some text.now) (R.remaining records) result (W.contents out.old) (W.contents out.new) }
-    ensures unwritten { IfErr result (λ e. KeepsOutput e out.old out.new) }
-{
-    let name = chosen_name(alloc, text, filter)?;
-    explain(
-        alloc,
-        format,
-        arch.name(),
-        text,
-        name.as_str(),
-        records,
-        out,
-    )
-}
-
-// Tells how long the programs of a policy are, or that of a profile, where the text is taken for one's.
-fn stats_by_kind<P: Read + Drop, W: Write>(
-    alloc: Global,
-    arch: TargetArch,
-    given: P,
-    out: &mut W,
-) -> Result<(), ToolError>
-    ensures answers { AnswersStatsByKind arch (P.remaining given) result (W.contents out.old) (W.contents out.new) }
-    ensures unwritten { IfErr result (λ e. KeepsOutput e out.old out.new) }
-{
-    let text = policy_text(alloc, given)?;
-    let text = text.as_slice();
-    if is_taken_for_profile(alloc, text, None)? {
-        let container = plain_container(alloc);
-        return stats_profile(alloc, arch, &container, text, out);
-    }
-    stats(alloc, arch.name(), text, out)
-}
-
-// Explains what a profile decides on the records that are asked about.
-fn explain_profile_asked<P: Read + Drop, R: Read + Drop, W: Write>(
-    alloc: Global,
-    arch: TargetArch,
-    container: &Container,
-    format: LineFormat,
-    asked: Records<'_>,
-    profile: P,
-    records: R,
-    out: &mut W,
-) -> Result<(), ToolError>
-    ensures answers { AnswersExplainProfileOn asked.entry format arch container.now (P.remaining profile) (R.remaining records) result (W.contents out.old) (W.contents out.new) }
-    ensures unwritten { IfErr result (λ e. KeepsOutput e out.old out.new) }
-{
-    match asked {
-        Records::In(_) => explain_profile(alloc, format, arch, container, profile, records, out),
-        Records::Call { call, arguments } => {
-            let record = called_record(alloc, arch, call, &arguments)?;
-            explain_profile(
-                alloc,
-                format,
-                arch,
-                container,
-                profile,
-                record.as_slice(),
-                out,
-            )
-        }
-    }
-}
-
-// Runs a program on the records that are asked about.
-fn run_asked<P: Read + Drop, R: Read + Drop, W: Write>(
-    alloc: Global,
-    arch: TargetArch,
-    asked: Records<'_>,
-    program: P,
-    records: R,
-    out: &mut W,
-) -> Result<(), ToolError>
-    ensures answers { AnswersRunOn asked.entry arch (P.remaining program) (R.remaining records) result (W.contents out.old) (W.contents out.new) }
-    ensures unwritten { IfErr result (λ e. KeepsOutput e out.old out.new) }
-{
-    match asked {
-        Records::In(_) => run(alloc, program, records, out),
-        Records::Call { call, arguments } => {
-            let record = called_record(alloc, arch, call, &arguments)?;
-            run(alloc, program, record.as_slice(), out)
-        }
+        } => import_made(alloc, *arch, container, *strict, *format, path, first),
     }
 }

@@ -1,42 +1,30 @@
 // The program of a profile of a container runtime.
 
-ghost use Rattle.std.specs.Prelude.{IfErr, IfOk, List, false, ℕ};
-ghost use Rattle.seccompiler.specs.Reads.{Reads};
-ghost use Rattle.seccomp_oci.specs.CompiledProfile.{IsCompileFault, IsCompiledProfile};
-ghost use Rattle.seccomp_oci.specs.Types as oci;
-ghost use Rattle.seccomptool.specs.ProfileParts.{IsRefusedProfile, IsUncompiled};
+ghost use Rattle.std.specs.Prelude.{IfOk, false};
+ghost use Rattle.seccomp_oci.specs.CompiledProfile.{IsCompiledProfile};
 
 use crate::error::ToolError;
-use crate::policy::policy_text;
 use seccomp_oci::{CompiledProfile, Container, ImportError, ProfileError, compile_profile};
 use seccompiler::TargetArch;
 use std::alloc::Global;
-use std::io::Read;
 
-// The program of a profile, without the names that no call of the architecture has.
-pub(crate) fn compiled_of<P: Read + Drop>(
+/// The program of a profile's text, without the names that no call of the architecture has.
+///
+/// # Errors
+///
+/// `Import` with what `compile_profile` gives; `OutOfMemory` in its place where memory runs out.
+pub(crate) fn compiled_of(
     alloc: Global,
-    arch: TargetArch,
+    target: TargetArch,
     container: &Container,
-    profile: P,
+    text: &[u8],
 ) -> Result<CompiledProfile, ToolError>
-    ensures compiled { IfOk result (λ compiled. Reads (P.remaining profile) (λ text. IsCompiledProfile arch container.now false text compiled)) }
-    ensures refused { IfErr result (IsRefusedProfile arch container.now (P.remaining profile)) }
+    ensures { IfOk result (IsCompiledProfile target container.now false text.now) }
 {
-    let text = policy_text(alloc, profile)?;
-    match compile_profile(alloc, arch, container, false, text.as_slice()) {
+    match compile_profile(alloc, target, container, false, text) {
         Ok(compiled) => Ok(compiled),
-        Err(error) => Err(uncompiled(error)),
-    }
-}
-
-// Why a profile isn't compiled.
-fn uncompiled(error: ImportError) -> ToolError
-    ensures { (arch : TargetArch) (container : oci.Container) (text : List ℕ) → IsCompileFault arch container false text error → IsUncompiled arch container text result }
-{
-    match error {
-        ImportError::OutOfMemory => ToolError::OutOfMemory,
-        ImportError::Profile(ProfileError::OutOfMemory) => ToolError::OutOfMemory,
-        error => ToolError::Import(error),
+        Err(ImportError::OutOfMemory) => Err(ToolError::OutOfMemory),
+        Err(ImportError::Profile(ProfileError::OutOfMemory)) => Err(ToolError::OutOfMemory),
+        Err(error) => Err(ToolError::Import(error)),
     }
 }

@@ -3,51 +3,25 @@
 ghost use Rattle.std.specs.Prelude.{◌≡◌, ◌++◌, ℕ, map, IfOk, IfErr, IfSome, IfNone, OnOk};
 ghost use Rattle.std.specs.Int.{w64, to_le_bytes};
 ghost use Rattle.std.specs.List.{concat};
-ghost use Rattle.seccomptool.specs.Errors.{KeepsOutput};
-ghost use Rattle.seccomptool.specs.Record.{AnswersRecord, IsCall, IsRecordOf, IsUncalled, record_bytes};
+ghost use Rattle.seccomptool.specs.Record.{IsCall, IsRecordOf, IsUncalled, record_bytes};
 
 use crate::error::ToolError;
 use crate::numbers::read_number;
-use crate::send::send;
 use seccompiler::{SyscallTable, TargetArch};
 use std::alloc::{AllocError, Global};
-use std::io::Write;
 
-/// Writes the record of a call as the kernel hands it to a program: the 64 bytes of a
+/// The record of a call as the kernel hands it to a program: the 64 bytes of a
 /// `struct seccomp_data`, as `seccomp(2)` has it.
 ///
 /// They are the call number and the `AUDIT_ARCH_*` value, of 4 bytes each, the instruction pointer, which
 /// is 0, and the six arguments, of 8 bytes each, every number with its low byte first. `call` is the
 /// call's number, from 0 to 4294967295, in decimal digits, or in hexadecimal ones behind `0x`; or, where
-/// it is no number that 64 bits hold, the name of a call of the architecture. All bytes are written at
-/// once.
+/// it is no number that 64 bits hold, the name of a call of the architecture.
 ///
 /// # Errors
 ///
-/// The first of these: `Library` with `InvalidTargetArch` and the text as it was given where `arch` is
-/// no architecture's name, ASCII case aside; `UnknownCall` with the text and the architecture where
-/// `call` is no call; `Write` where the writer fails. `OutOfMemory` comes in place of any of these
-/// where memory runs out. On any error but `Write` nothing is written.
-pub fn record<W: Write>(
-    alloc: Global,
-    arch: &str,
-    call: &str,
-    arguments: [u64; 6],
-    out: &mut W,
-) -> Result<(), ToolError>
-    // When each answer comes, and what is written.
-    ensures answers { AnswersRecord arch.now call.now arguments result (W.contents out.old) (W.contents out.new) }
-    ensures unwritten { IfErr result (λ e. KeepsOutput e out.old out.new) }
-{
-    let target = TargetArch::from_text(alloc, arch)?;
-    let Some(number) = call_number(target, call) else {
-        return Err(ToolError::UnknownCall(String::from_str(alloc, call)?, target));
-    };
-    send(out, &record_of(alloc, target, number, &arguments)?)
-}
-
-// The bytes of the record of the call of this name or number.
-pub(crate) fn called_record(
+/// `UnknownCall` with the text and the architecture where `call` is no call; `OutOfMemory` in its place where memory runs out.
+pub fn called_record(
     alloc: Global,
     target: TargetArch,
     call: &str,

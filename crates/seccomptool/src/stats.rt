@@ -1,69 +1,101 @@
-// How long the programs of a policy's filters are, and how many steps they take.
+// How long programs are, and how many steps they take.
 
-mod chains;
-mod lines;
 mod measure;
-pub mod profile;
+mod text;
 mod ways;
 
-ghost use Rattle.std.specs.Prelude.{IfErr};
-ghost use Rattle.seccomptool.specs.Errors.{KeepsOutput};
-ghost use Rattle.seccomptool.specs.Stats.{AnswersStats};
+ghost use Rattle.std.specs.Prelude.{IfOk, string_cmp};
+ghost use Rattle.std.specs.List.{AllZip};
+ghost use Rattle.std.specs.List.Sorted.{IsStrictlySortedBy};
+ghost use Rattle.std.specs.Map.{keys_of};
+ghost use Rattle.seccompiler.specs.JsonAnswers.{OfValue};
+ghost use Rattle.seccomptool.specs.Stats.{AreStats, IsMeasureIn, IsMeasured, IsProfileMeasure};
 
 use crate::error::ToolError;
-use crate::policy::policies_from;
-use crate::send::send;
-use crate::stats::chains::measured_chains;
-use crate::stats::lines::stats_lines;
-use seccompiler::{SyscallTable, TargetArch};
+use crate::layouts::program_in;
+use crate::profile::compiled_of;
+pub use crate::stats::measure::Measure;
+use crate::stats::measure::measure_of;
+pub(crate) use crate::stats::text::{filters_text, profile_text};
+use seccomp_oci::Container;
+use seccompiler::{BackendError, JsonCompiler, Layout, SeccompFilter, SyscallTable, TargetArch};
 use std::alloc::Global;
-use std::io::{Read, Write};
+use std::collections::BTreeMap;
 
-/// Reports how long the programs of a policy's filters are, in both layouts, and how many steps they
-/// take.
-///
-/// For each filter, in byte order of names, come three lines:
-///
-/// ```text
-/// filter NAME
-/// linear: LENGTH instructions, at most MOST steps, PASSING passing
-/// tree: LENGTH instructions, at most MOST steps, PASSING passing
-/// ```
-///
-/// In NAME the control characters, those from U+0080 to U+009F too, and the backslash are written as
-/// `\x` and two lower-case hexadecimal digits for each of their bytes, all others as they are. The
-/// numbers are decimal. MOST is the greatest number of instructions on a way through the program from
-/// its first instruction to a return, whatever its tests would say: no record takes more steps, and it
-/// isn't asked whether one takes as many. PASSING is the number of steps on the record of call
-/// 4294967295, which no architecture has, with arguments that are 0. In the linear layout each call that
-/// the filter doesn't list takes exactly as many, if it lists any; in the tree another one may take more
-/// or fewer. All lines are written at once.
-///
-/// The policy's text is what its reader gives; of a reader whose type doesn't say what it reads, as that
-/// of standard input, the contract says that there is such a text.
+/// The numbers of a filter's programs.
+#[derive(Drop)]
+pub struct FilterStats {
+    /// The filter's name.
+    pub name: String,
+    /// Those of its program in the linear layout.
+    pub linear: Measure,
+    /// Those of its program as a tree.
+    pub tree: Measure,
+}
+
+/// Measures the programs of all filters of a policy's text, in byte order of the filters' names.
 ///
 /// # Errors
 ///
-/// The first of these: `Library` with `InvalidTargetArch` and the text as it was given where `arch` is
-/// no architecture's name, ASCII case aside; `Library` with what `compile_from_json` rejects the policy for,
-/// `JsonFrontend(Read)` among it where the reader fails, and `FilterTooLarge` of a program in the linear
-/// layout; `Library` with `FilterTooLarge` of the tree of the least name whose tree is too large; `Write`
-/// where the writer fails. `OutOfMemory` comes in place of any of these where memory runs out, in the reader
-/// too. On any error but `Write` nothing is written.
-pub fn stats<R: Read + Drop, W: Write>(
+/// The first of these: `Library` with what `JsonCompiler::policies_of` rejects the text for; `Library` with `FilterTooLarge` of the
+/// least name of which a program is too large. `OutOfMemory` comes in place of any of these where memory runs out.
+pub fn stats_of(
     alloc: Global,
-    arch: &str,
-    policy: R,
-    out: &mut W,
-) -> Result<(), ToolError>
-    // When each answer comes, and what is written.
-    ensures answers { AnswersStats arch.now (R.remaining policy) result (W.contents out.old) (W.contents out.new) }
-    ensures unwritten { IfErr result (λ e. KeepsOutput e out.old out.new) }
+    target: TargetArch,
+    text: &[u8],
+) -> Result<Vec<FilterStats>, ToolError>
+    ensures { IfOk result (λ all. OfValue text.now (λ d. AreStats target d all.items)) }
 {
-    let target = TargetArch::from_text(alloc, arch)?;
     // Its table has no number as great as that of the passing record.
     let _table = SyscallTable::new(target);
-    let filters = policies_from(alloc, target, policy)?;
-    let all = measured_chains(alloc, target, filters)?;
-    send(out, &stats_lines(alloc, target, &all)?)
+    let filters = JsonCompiler::new(target).policies_of(alloc, text)?;
+    Ok(measured(alloc, target, filters)?)
+}
+
+/// Measures the one program of a profile's text, in a container.
+///
+/// # Errors
+///
+/// Those of [`compiled_of`].
+pub fn profile_stats(
+    alloc: Global,
+    target: TargetArch,
+    container: &Container,
+    text: &[u8],
+) -> Result<Measure, ToolError>
+    ensures { IfOk result (IsProfileMeasure target container.now text.now) }
+{
+    let compiled = compiled_of(alloc, target, container, text)?;
+    Ok(measure_of(alloc, target, &compiled.program)?)
+}
+
+// The numbers of the programs of filters.
+fn measured(
+    alloc: Global,
+    target: TargetArch,
+    filters: BTreeMap<String, SeccompFilter>,
+) -> Result<Vec<FilterStats>, BackendError>
+    ensures measured { IfOk result (λ all. AllZip (IsMeasured target) filters.entries all.items) }
+    ensures ordered { IsStrictlySortedBy string_cmp (keys_of filters.entries) }
+{
+    let mut all = Vec::new(alloc);
+    for (name, filter) in filters {
+        let linear = measure_in(alloc, target, &filter, Layout::Linear)?;
+        let tree = measure_in(alloc, target, &filter, Layout::Tree)?;
+        all.push(FilterStats { name, linear, tree })?;
+    }
+    Ok(all)
+}
+
+// The numbers of a filter's program in a layout.
+fn measure_in(
+    alloc: Global,
+    target: TargetArch,
+    filter: &SeccompFilter,
+    layout: Layout,
+) -> Result<Measure, BackendError>
+    ensures { IfOk result (IsMeasureIn layout target filter.now) }
+{
+    let program = program_in(alloc, filter, layout)?;
+    Ok(measure_of(alloc, target, &program)?)
 }

@@ -21,9 +21,8 @@ use Rattle.seccompiler.specs.SyscallTable.{number_of}
 use Rattle.seccomptool.specs.declared.explain.reason.Miss.{Miss}
 use Rattle.seccomptool.specs.declared.explain.reason.Reason.{Reason}
 use Rattle.seccomptool.specs.declared.explain.reason.Reason.TheVariants.{AnotherArchitecture, NoEntry, NoMatch, Entry}
-use Rattle.seccomptool.specs.ExplainSteps.{HasPlaces, nearer}
 use Rattle.seccomptool.specs.Reasons.{ConditionHolds, EntryHolds, EntryFails, FirstFails, OfEntry, FailsBelow, IsNearest, IsFirstMatch}
-use Rattle.seccomptool.specs.Reasons.{AreIndicesFor, IsReasonAmong, IsReason, of_another, of_call}
+use Rattle.seccomptool.specs.Reasons.{AreIndicesFor, IsReasonAmong, IsReason, of_another, of_call, nearer}
 use Rattle.seccomptool.proofs.explain.Ascending.{same_indices}
 
 -- ---- lists
@@ -280,15 +279,6 @@ module _ (entries : List JsonRule) (r : List ℕ) where
       let number : n ≡ m = is.0 ∙ sym too.0 in
       cc
 
-  -- ---- places
-
-  -- The entries that a reason tells are there.
-  has_places : (indices : List ℕ) (reason : Reason) → IsReasonAmong entries r indices reason → HasPlaces entries reason
-  has_places indices AnotherArchitecture is = tt
-  has_places indices (NoEntry n) is = tt
-  has_places indices (NoMatch k n miss) is = slice_get_within entries miss.entry is.2.fails.0 is.2.fails.1
-  has_places indices (Entry p s n) is = slice_get_within entries p is.1.matches.0 is.1.matches.1
-
 module _ (target : TargetArch) (entries : List JsonRule) (r : List ℕ) where
   -- There is one reason.
   pub one_reason : (a b : Reason) → IsReason target entries r a → IsReason target entries r b → a ≡ b
@@ -298,8 +288,3 @@ module _ (target : TargetArch) (entries : List JsonRule) (r : List ℕ) where
   one_reason a b (of_call same (xs, are, is)) (of_call also (ys, too, is')) =
       let one = same_indices target entries (pos (word_at r 0)) xs ys are too in
       one_among entries r ys a b (subst (λ zs. IsReasonAmong entries r zs a) one is) is'
-
-  -- The entries that a reason tells are there.
-  pub reason_places : (reason : Reason) → IsReason target entries r reason → HasPlaces entries reason
-  reason_places reason (of_another differs is) = subst (HasPlaces entries) (sym is) tt
-  reason_places reason (of_call same (indices, are, is)) = has_places entries r indices reason is

@@ -8,7 +8,7 @@ use Rattle.std.proofs.lemmas.Int.{ints}
 use Rattle.std.proofs.lemmas.List.Elements.{All-head, All-tail}
 use Rattle.seccompiler.specs.SyscallTable.{Pair, IsTableNumber}
 use Rattle.seccomptool.specs.Findings.{HasName, LacksName, ArePartsBelow, then_named, then_gap}
-use Rattle.seccomptool.specs.FindingsParts.{between}
+use Rattle.seccomptool.specs.Findings.{between}
 use Rattle.seccomptool.specs.declared.findings.Part.{Part}
 use Rattle.seccomptool.specs.declared.findings.Part.TheVariants.{Named, Unnamed}
 

@@ -1,19 +1,13 @@
--- For `call_number` and `record`: texts that are calls, and the answers of `record`.
-use Rattle.std.proofs.Common.{◌≡◌, ℕ, ◌<◌, ◌^◌, List, ◌++◌, Option, None, Result, Ok, Err, IfSome, IfNone, IfErr, codes, sym, subst, ◌∙◌}
+-- For `call_number`: texts that are calls.
+use Rattle.std.proofs.Common.{◌≡◌, ℕ, ◌<◌, ◌^◌, List, ◌++◌, Option, None, Result, Ok, Err, IfSome, IfNone, codes, sym, subst, ◌∙◌}
 use Rattle.std.proofs.Common.{ap, arith}
-use Rattle.std.specs.Prelude.{⊤, OnOk}
-use Rattle.std.specs.Io.KnownBytes.{Appends}
 use Rattle.std.specs.Result.{OkIff, result_ok}
 use Rattle.std.specs.Str.Parse.{IsNumeral, digits_value}
 use Rattle.seccompiler.specs.declared.backend.TargetArch.{TargetArch}
 use Rattle.seccompiler.specs.Architecture.{table_of}
 use Rattle.seccompiler.specs.SyscallTable.{number_of}
-use Rattle.seccomptool.specs.Errors.{IsWriteError}
 use Rattle.seccomptool.specs.Numbers.{IsNumber, decimal, hexadecimal}
-use Rattle.seccomptool.specs.Policies.{IsNameOf, IsRefusedName}
-use Rattle.seccomptool.specs.Record.{IsCall, numbered, named, record_bytes, AnswersRecord}
-use Rattle.seccomptool.specs.declared.error.ToolError.{ToolError}
-use Rattle.seccomptool.specs.declared.error.ToolError.TheVariants as tool
+use Rattle.seccomptool.specs.Record.{IsCall, numbered, named}
 
 -- ---- numbers
 
@@ -51,24 +45,3 @@ pub no_call : (target table : TargetArch) (call : List ℕ) → ((n : ℕ) → I
 no_call target table call none same lacks n (numbered is fits) = none n is
 no_call target table call none same lacks n (named unwritten found) = let e = lacks ∙ ap (λ t. number_of (table_of t) call) same ∙ found in
     cc
-
--- ---- answers
-
--- The answer where no architecture has the name.
-pub name_told : (arch call arguments : List ℕ) (e : ToolError) (old new : Option (List ℕ)) → IsRefusedName arch e
-    → AnswersRecord arch call arguments (Err e) old new
-name_told arch call arguments (tool.Library e) old new refused = refused
-name_told arch call arguments tool.OutOfMemory old new refused = tt
-name_told arch call arguments _ old new refused = absurd refused
-
--- The answer where the record is sent.
-pub record_sent : (arch call arguments : List ℕ) (target : TargetArch) (n : ℕ) (bytes sent : List ℕ) (r : Result ⊤ ToolError)
-    (old new : Option (List ℕ)) → IsNameOf arch target → IsCall target call n
-    → bytes ≡ record_bytes target n arguments → sent ≡ bytes → OnOk r (Appends old new sent) → IfErr r IsWriteError
-    → AnswersRecord arch call arguments r old new
-record_sent arch call arguments target n bytes sent (Ok done) old new own called are is appends cause =
-    (target, own, (n, called, rw (is, are) at appends))
-record_sent arch call arguments target n bytes sent (Err (tool.Write e)) old new own called are is appends cause =
-    (target, own, (n, called, tt))
-record_sent arch call arguments target n bytes sent (Err tool.OutOfMemory) old new own called are is appends cause = tt
-record_sent arch call arguments target n bytes sent (Err _) old new own called are is appends cause = absurd cause

@@ -1,16 +1,12 @@
 -- For `stats`: a policy's call numbers are those of its architecture's table.
-use Rattle.std.proofs.Common.{◌≡◌, ℕ, ℤ, pos, negsuc, ◌^◌, ◌-◌, List, [], ◌∷◌, Some, None, All, refl, subst, inl, inr, bytes_eq, arith}
-use Rattle.std.specs.Prelude.{IsSome}
-use Rattle.std.proofs.lemmas.Bool.{cases_Bool, false≢true}
-use Rattle.std.proofs.lemmas.Cmp.{int_eq_equiv}
+use Rattle.std.proofs.Common.{◌≡◌, ℕ, ℤ, pos, ◌^◌, ◌-◌, List, [], ◌∷◌, Some, None, All, subst, inl, inr, bytes_eq, arith}
+use Rattle.std.proofs.lemmas.Bool.{cases_Bool}
 use Rattle.std.proofs.lemmas.Int.{ints}
 use Rattle.std.proofs.lemmas.List.Elements.{All-head, All-tail}
-use Rattle.std.proofs.lemmas.Map.Views.{IsSome-lookup_from_Contains}
 use Rattle.seccompiler.specs.declared.backend.TargetArch.{TargetArch}
 use Rattle.seccompiler.specs.JsonPolicyOf.{IsPolicyOf, chain_at}
 use Rattle.seccompiler.specs.JsonTypes.{JsonFilter}
-use Rattle.seccompiler.specs.Policy.{Filter, IsCallNumber, chain_under}
-use Rattle.seccompiler.specs.Compiled.{numbers_of, IsLeastUnfit}
+use Rattle.seccompiler.specs.Policy.{Filter, chain_under}
 use Rattle.seccompiler.specs.Architecture.{table_of}
 use Rattle.seccompiler.specs.SyscallTable.{Pair, IsTableNumber, IsCallTable, number_of}
 
@@ -26,11 +22,6 @@ number_in (pair ∷ pairs) name n all is = elim (cases_Bool (bytes_eq pair.0 nam
   | inr f ↦ number_in pairs name n (All-tail (λ (pair : Pair). IsTableNumber pair.1) pair pairs all) (rw f at is)
 ]
 
--- A number of a table is a call number, and not the greatest.
-pub table_number_fits : (z : ℤ) → IsTableNumber z → IsCallNumber z
-table_number_fits (pos n) h = (n, refl, grind (arith, ints, h.1))
-table_number_fits (negsuc n) h = absurd (grind (arith, ints, h.0))
-
 not_greatest : IsTableNumber (pos (2 ^ 32 - 1)) → ⊥
 not_greatest h = grind (arith, ints, h.1)
 
@@ -42,10 +33,3 @@ module _ (target : TargetArch) (table : IsCallTable (table_of target)) (j : Json
   -- The greatest call number has no chain.
   pub greatest_passes : chain_under f.chains (2 ^ 32 - 1) ≡ None
   greatest_passes = no_chain (pos (2 ^ 32 - 1)) not_greatest
-
-  -- Each number of the policy is a call number.
-  pub none_unfit : (n : ℤ) → IsLeastUnfit (numbers_of f.chains) n → ⊥
-  none_unfit n least =
-      let none = no_chain n (λ h. least.unfit (table_number_fits n h)) in
-      let some : IsSome (chain_at f.chains n) = IsSome-lookup_from_Contains int_eq_equiv n f.chains least.among in
-      false≢true (rw none at some)

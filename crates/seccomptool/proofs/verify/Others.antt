@@ -1,4 +1,4 @@
--- For `report_of`: where nothing is found on other architectures, the relation holds on every call of them.
+-- For `compared`: where nothing is found on other architectures, the relation holds on every call of them.
 use Rattle.std.proofs.Common.{◌≡◌, ℕ, ◌+◌, ◌-◌, ◌^◌, ◌<◌, List, [], ◌∷◌, All, subst, inl, inr, arith}
 use Rattle.std.proofs.lemmas.Bool.{cases_lt}
 use Rattle.std.proofs.lemmas.List.Elements.{All-head, All-tail}
@@ -6,8 +6,8 @@ use Rattle.seccompiler.specs.declared.backend.TargetArch.{TargetArch}
 use Rattle.seccomp_compare.specs.declared.Relation.{Relation}
 use Rattle.seccompiler.specs.Architecture.{audit_word}
 use Rattle.seccompiler.specs.Machine.{IsRecord, word_at}
-use Rattle.seccomptool.specs.Findings.{IsFound, verdict_of}
-use Rattle.seccomptool.specs.Verify.{AreOtherFindings, HoldsElsewhere}
+use Rattle.seccomptool.specs.Findings.{AreFoundOn, IsFound, verdict_of}
+use Rattle.seccomptool.specs.Verify.{HoldsElsewhere, other_parts}
 use Rattle.seccomptool.specs.declared.findings.Answer.TheVariants as answer
 use Rattle.seccomptool.specs.declared.findings.Finding.{Finding}
 use Rattle.seccomptool.specs.declared.findings.Part.{Part}
@@ -25,13 +25,13 @@ word_fits r rec =
     omega arith
 
 pub others_covered : (target : TargetArch) (relation : Relation) (Words : List ℕ → ℕ → ℕ → Type 0) (findings : List Finding)
-    → AreOtherFindings target relation Words findings → verdict_of findings ≡ Same → HoldsElsewhere target relation Words
+    → AreFoundOn target relation Words (other_parts target) findings → verdict_of findings ≡ Same → HoldsElsewhere target relation Words
 others_covered target relation Words findings are same = λ r rec other.
     let Holding = λ (part : Part). IsFound target relation Words part answer.Holds in
     let word = audit_word target in
     let below : Part = Elsewhere 0 (word - 1) in
     let above : Part = Elsewhere (word + 1) (2 ^ 32 - 1) in
-    let each = subst (All Holding) are.parts (parts_hold target relation Words findings are.each same) in
+    let each = subst (All Holding) are.parts_are (parts_hold target relation Words findings are.each same) in
     let fits = word_fits r rec in
     elim (cases_lt (word_at r 4) word) [
       | inl less ↦ All-head Holding below (above ∷ []) each r (rec, omega arith, omega (arith, less))

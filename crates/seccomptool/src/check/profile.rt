@@ -1,29 +1,24 @@
 // The warnings of a profile of a container runtime.
 
-ghost use Rattle.std.specs.Prelude.{◌≡◌, ◌++◌, ◌↔◌, IfErr, IfOk, IsTrue};
-ghost use Rattle.seccomptool.specs.CheckProfile.{AnswersCheckProfile, DenyClone3, codes_of_base, codes_of_each, codes_of_others, has_base};
-ghost use Rattle.seccomptool.specs.CheckProfileParts.{IsProfileReport};
-ghost use Rattle.seccomptool.specs.Errors.{KeepsOutput};
+ghost use Rattle.std.specs.Prelude.{◌≡◌, ◌++◌, ◌↔◌, IfOk, IsTrue};
+ghost use Rattle.seccomptool.specs.CheckProfile.{DenyClone3, IsProfileCheckOf, IsProfileReport, codes_of_base, codes_of_each, codes_of_others, has_base};
 
-use crate::check::verdict_where;
-use crate::done::Done;
-use crate::error::ToolError;
-use crate::import::format::ImportFormat;
-use crate::import::made::made_of;
-use crate::import::{noted, unimported};
-use crate::notes::front_of;
-use crate::policy::policy_text;
-use crate::send::send;
-use seccomp_oci::Container;
+use seccomp_oci::{Container, Import, ImportError, import_profile};
 use seccomp_warnings::{Code, Report, denies_each, report_by_name};
 use seccompiler::json::filters_of;
 use seccompiler::{JsonFilterMap, TargetArch};
 use std::alloc::{AllocError, Global};
-use std::io::{Read, Write};
 
-/// Reports why a profile isn't imported as an error, as [`import`](crate::import::import) reports it, or else writes the
-/// warnings of the policy that it is imported as, as [`check`](crate::check::check) writes those of a policy; and
-/// notes the names that are left out and the profile's flags, as `import` does.
+/// A profile as a policy, and the policy's warnings.
+#[derive(Drop)]
+pub struct CheckedProfile {
+    /// The policy.
+    pub policy: Import,
+    /// Its warnings.
+    pub report: Report,
+}
+
+/// The warnings of the policy that a profile's text is imported as, as [`checked`](crate::check::checked) gives those of a policy.
 ///
 /// The filters of that policy are installed together, and a runtime reads the profile. So these warnings are left out
 /// beside those of the allowed codes:
@@ -32,68 +27,44 @@ use std::io::{Read, Write};
 /// - of `base` those of `unreachable-entry`, `redundant-entry` and `undecided-entry`;
 /// - of each other filter those of `allows-by-default`, where there is `base`.
 ///
-/// The verdict is `Different` where `denied` and there is a warning, and `Same` otherwise. What is noted counts for
-/// nothing.
-///
-/// The profile's text is what its reader gives, and is read whole at first.
-///
 /// # Errors
 ///
-/// Those of `import` of a policy that isn't strict. On any error but `Write` nothing is written.
-pub fn check_profile<R: Read + Drop, W: Write>(
+/// Those of [`import_profile`], where it isn't strict.
+pub fn profile_checked(
     alloc: Global,
-    arch: TargetArch,
+    target: TargetArch,
     container: &Container,
-    denied: bool,
     allowed: &[Code],
-    path: &str,
-    profile: R,
-    out: &mut W,
-) -> Result<Done, ToolError>
-    // When each answer comes, and what is written.
-    ensures answers { AnswersCheckProfile arch container.now denied allowed.now path.now (R.remaining profile) result (W.contents out.old) (W.contents out.new) }
-    ensures unwritten { IfErr result (λ e. KeepsOutput e out.old out.new) }
+    front: &[u8],
+    text: &[u8],
+) -> Result<CheckedProfile, ImportError>
+    ensures { IfOk result (IsProfileCheckOf target container.now allowed.now front.now text.now) }
 {
-    let text = policy_text(alloc, profile)?;
-    let made = match made_of(
-        alloc,
-        arch,
-        container,
-        false,
-        ImportFormat::Policy,
-        text.as_slice(),
-    ) {
-        Ok(made) => made,
-        Err(error) => return Err(unimported(alloc, arch, error)),
-    };
-    let notes = noted(alloc, arch, path, &made)?;
-    let report = report_on(alloc, arch, allowed, path, &made.bytes)?;
-    send(out, &report.text)?;
-    Ok(Done {
-        verdict: verdict_where(denied, report.count),
-        notes,
-    })
+    let policy = import_profile(alloc, target, container, false, text)?;
+    match report_on(alloc, target, allowed, front, &policy.text) {
+        Ok(report) => Ok(CheckedProfile { policy, report }),
+        Err(_) => Err(ImportError::OutOfMemory),
+    }
 }
 
-// The warnings of the policy that a profile of this path is imported as. `import_profile` takes only a text that reads back as
+// The warnings of the policy that a profile is imported as. `import_profile` takes only a text that reads back as
 // filters of the architecture: an error is want of memory.
 fn report_on(
     alloc: Global,
-    arch: TargetArch,
+    target: TargetArch,
     allowed: &[Code],
-    path: &str,
+    front: &[u8],
     text: &[u8],
 ) -> Result<Report, AllocError>
-    ensures { IfOk result (IsProfileReport arch allowed.now path.now text.now) }
+    ensures { IfOk result (IsProfileReport target allowed.now front.now text.now) }
 {
     let Ok(filters) = filters_of(alloc, text) else {
         return Err(AllocError);
     };
-    let front = front_of(alloc, path)?;
     let of_each = codes_of_each(deny_clone3(&filters));
     let of_base = joined(alloc, allowed, of_each, codes_of_base())?;
     let of_others = joined(alloc, allowed, of_each, codes_of_others(has_base(&filters)))?;
-    match report_by_name(alloc, arch, &front, &filters, "base", &of_base, &of_others) {
+    match report_by_name(alloc, target, front, &filters, "base", &of_base, &of_others) {
         Ok(report) => Ok(report),
         Err(_) => Err(AllocError),
     }

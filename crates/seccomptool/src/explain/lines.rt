@@ -1,191 +1,153 @@
-// The lines of records.
-
-ghost use Rattle.std.specs.Prelude.{◌≡◌, ◌++◌, ◌<◌, length, All, IfOk, OnOk, codes, decimal};
-ghost use Rattle.seccompiler.specs.JsonPolicyOf.{IsFineEntry, IsPolicyOf};
-ghost use Rattle.seccompiler.specs.Policy.{Filter};
-ghost use Rattle.seccomptool.specs.ExplainLines.{AreLines, action_name, among, call_text, entry_path, line_of, miss_path, reason_path};
-ghost use Rattle.seccomptool.specs.ExplainSteps.{HasPlaces};
-ghost use Rattle.seccomptool.specs.Reasons.{reason_action};
+// What is printed of what is decided on records.
 
 use crate::explain::format::LineFormat;
 use crate::explain::reason::{Miss, Reason};
-use crate::explain::search::reason_of;
-use itoa::Buffer;
+use crate::explain::{Explained, Explanation, NamedFilter, Why};
+use crate::findings::lines::CallName;
 use seccomp_command_line::hexadecimal::eight_digits;
 use seccomp_command_line::names::push_readable;
-use seccompiler::{JsonFilter, JsonRule, SeccompAction, TargetArch};
+use seccompiler::{SeccompAction, TargetArch};
 use std::alloc::{AllocError, Global};
 
-// The lines of the JSON filter of this name on records, one for each, in order.
-pub(crate) fn lines(
+/// The lines of records, one for each.
+///
+/// By `LineFormat::Path` the action by its name in a policy, with the low 16 bits of its number, if it has one, and the reason by
+/// paths in the policy or in the profile. By `LineFormat::Word` the return value in 8 hexadecimal digits, and of a filter the reason
+/// in numbers.
+pub(crate) fn explained_lines(
     alloc: Global,
-    format: LineFormat,
     target: TargetArch,
-    name: &str,
-    filter: &JsonFilter,
-    records: &[[u8; 64]],
-) -> Result<Vec<u8>, AllocError>
-    requires fine { All (IsFineEntry target) filter.now.rules }
-    ensures { IfOk result (λ text. (policy : Filter) → IsPolicyOf target filter.now policy → AreLines format target name.now filter.now policy records.now text.items) }
-{
-    let mut shown = Vec::new(alloc);
-    push_readable(&mut shown, name)?;
-    let entries = filter.rules.as_slice();
+    format: LineFormat,
+    explanation: &Explanation,
+) -> Result<Vec<u8>, AllocError> {
     let mut text = Vec::new(alloc);
-    'records: for record in records {
-        let reason = reason_of(alloc, target, entries, record)?;
-        push_line(alloc, &mut text, format, shown.as_slice(), filter, reason)?;
+    for explained in &explanation.records {
+        let Explained { action, why } = *explained;
+        push_action(alloc, &mut text, format, action)?;
+        match (why, format, &explanation.filter) {
+            (Why::Filter(reason), LineFormat::Path, Some(filter)) => {
+                push_path(alloc, &mut text, filter, reason)?
+            }
+            (Why::Filter(reason), _, _) => push(&mut text, format!(in alloc; "{reason}")?)?,
+            (Why::Elsewhere, _, _) => text.extend_from_slice(b"another architecture")?,
+            (Why::Profile { entry: None, .. }, _, _) => text.extend_from_slice(b"defaultAction")?,
+            (
+                Why::Profile {
+                    number,
+                    entry: Some(place),
+                },
+                _,
+                _,
+            ) => {
+                let call = CallName { target, number };
+                push(&mut text, format!(in alloc; "syscalls[{place}] ({call})")?)?
+            }
+        }
+        text.push(b'\n')?;
     }
     Ok(text)
 }
 
-// Adds the line of a reason. The name is given as it is written.
-fn push_line(
+fn push(text: &mut Vec<u8>, more: String) -> Result<(), AllocError> {
+    text.extend_from_slice(more.as_bytes())
+}
+
+// Adds an action.
+fn push_action(
     alloc: Global,
     text: &mut Vec<u8>,
     format: LineFormat,
-    name: &[u8],
-    filter: &JsonFilter,
-    reason: Reason,
-) -> Result<(), AllocError>
-    requires { HasPlaces filter.now.rules reason }
-    ensures { OnOk result (text.new.items ≡ text.old.items ++ line_of format name.now filter.now reason) }
-{
-    let action = action_of(filter, reason);
+    action: SeccompAction,
+) -> Result<(), AllocError> {
     match format {
         LineFormat::Path => {
-            push_action(text, action)?;
-            text.extend_from_slice(b": ")?;
-            push_reason(text, name, filter.rules.as_slice(), reason)?;
+            push(text, name_of(alloc, action)?)?;
+            text.extend_from_slice(b": ")
         }
         LineFormat::Word => {
             text.extend_from_slice(&eight_digits(action.into()))?;
-            text.extend_from_slice(b" ")?;
-            text.extend_from_slice(reason.to_string(alloc)?.as_bytes())?;
+            text.extend_from_slice(b" ")
         }
     }
-    text.extend_from_slice(b"\n")
 }
 
-// The action of a filter for a reason.
-fn action_of(filter: &JsonFilter, reason: Reason) -> SeccompAction
-    ensures { result ≡ reason_action filter.now reason }
-{
-    match reason {
-        Reason::AnotherArchitecture => SeccompAction::KillProcess,
-        Reason::Entry { .. } => filter.match_action,
-        _ => filter.mismatch_action,
-    }
+// An action by its name.
+fn name_of(alloc: Global, action: SeccompAction) -> Result<String, AllocError> {
+    let (name, number) = match action {
+        SeccompAction::Allow => return String::from_str(alloc, "allow"),
+        SeccompAction::KillThread => return String::from_str(alloc, "kill_thread"),
+        SeccompAction::KillProcess => return String::from_str(alloc, "kill_process"),
+        SeccompAction::Log => return String::from_str(alloc, "log"),
+        SeccompAction::Trap => return String::from_str(alloc, "trap"),
+        SeccompAction::Errno(number) => ("errno", number % 0x1_0000),
+        SeccompAction::Trace(number) => ("trace", number % 0x1_0000),
+    };
+    Ok(format!(in alloc; "{name} {number}")?)
 }
 
-// Adds an action by its name.
-pub(crate) fn push_action(text: &mut Vec<u8>, action: SeccompAction) -> Result<(), AllocError>
-    ensures { OnOk result (text.new.items ≡ text.old.items ++ action_name action) }
-{
-    match action {
-        SeccompAction::Allow => text.extend_from_slice(b"allow"),
-        SeccompAction::Errno(number) => push_decimal(text, b"errno ", number % 0x1_0000),
-        SeccompAction::KillThread => text.extend_from_slice(b"kill_thread"),
-        SeccompAction::KillProcess => text.extend_from_slice(b"kill_process"),
-        SeccompAction::Log => text.extend_from_slice(b"log"),
-        SeccompAction::Trace(number) => push_decimal(text, b"trace ", number % 0x1_0000),
-        SeccompAction::Trap => text.extend_from_slice(b"trap"),
-    }
-}
-
-// Adds a reason by paths in the policy.
-fn push_reason(
+// Adds a filter's reason by paths in the policy.
+fn push_path(
+    alloc: Global,
     text: &mut Vec<u8>,
-    name: &[u8],
-    entries: &[JsonRule],
+    filter: &NamedFilter,
     reason: Reason,
-) -> Result<(), AllocError>
-    requires { HasPlaces entries.now reason }
-    ensures { OnOk result (text.new.items ≡ text.old.items ++ reason_path name.now entries.now reason) }
-{
+) -> Result<(), AllocError> {
     match reason {
-        Reason::AnotherArchitecture => text.extend_from_slice(b"another architecture"),
-        Reason::NoEntry { number } => push_decimal(text, b"no entry of call ", number),
         Reason::NoMatch {
-            entries: count,
-            number: _,
+            entries,
             nearest,
-        } => push_miss(text, name, entries, count, nearest),
+            ..
+        } => push_miss(alloc, text, filter, entries, nearest),
         Reason::Entry { place, .. } => {
-            push_entry(text, name, place)?;
-            push_call(text, entries, place)
+            push_entry(alloc, text, filter, place)?;
+            push_call(text, filter, place)
         }
+        reason => push(text, format!(in alloc; "{reason}")?),
     }
 }
 
 // Adds the nearest miss of so many entries.
 fn push_miss(
+    alloc: Global,
     text: &mut Vec<u8>,
-    name: &[u8],
-    entries: &[JsonRule],
-    count: usize,
+    filter: &NamedFilter,
+    entries: usize,
     nearest: Miss,
-) -> Result<(), AllocError>
-    requires { nearest.entry < length entries.now }
-    ensures { OnOk result (text.new.items ≡ text.old.items ++ miss_path name.now entries.now count nearest) }
-{
+) -> Result<(), AllocError> {
+    let Miss { entry, condition } = nearest;
     text.extend_from_slice(b"no match: ")?;
-    push_entry(text, name, nearest.entry)?;
-    push_place(text, b".args[", nearest.condition)?;
-    push_call(text, entries, nearest.entry)?;
+    push_entry(alloc, text, filter, entry)?;
+    push(text, format!(in alloc; ".args[{condition}]")?)?;
+    push_call(text, filter, entry)?;
     text.extend_from_slice(b" does not hold")?;
-    push_among(text, count)
-}
-
-// Adds of how many entries one is told, where they are several.
-fn push_among(text: &mut Vec<u8>, count: usize) -> Result<(), AllocError>
-    ensures { OnOk result (text.new.items ≡ text.old.items ++ among count) }
-{
-    if count == 1 {
+    if entries == 1 {
         return Ok(());
     }
-    push_number(text, b", the nearest of ", count)?;
-    text.extend_from_slice(b" entries")
+    push(
+        text,
+        format!(in alloc; ", the nearest of {entries} entries")?,
+    )
 }
 
-// Adds the path of an entry of the filter with this name.
-fn push_entry(text: &mut Vec<u8>, name: &[u8], place: usize) -> Result<(), AllocError>
-    ensures { OnOk result (text.new.items ≡ text.old.items ++ entry_path name.now place) }
-{
-    text.extend_from_slice(name)?;
-    push_place(text, b".filter[", place)
-}
-
-// Adds a step to a place of an array.
-fn push_place(text: &mut Vec<u8>, before: &[u8], place: usize) -> Result<(), AllocError>
-    ensures { OnOk result (text.new.items ≡ text.old.items ++ before.now ++ decimal place ++ codes "]") }
-{
-    push_number(text, before, place)?;
-    text.extend_from_slice(b"]")
+// Adds the path of an entry.
+fn push_entry(
+    alloc: Global,
+    text: &mut Vec<u8>,
+    filter: &NamedFilter,
+    place: usize,
+) -> Result<(), AllocError> {
+    push_readable(text, filter.name.as_str())?;
+    push(text, format!(in alloc; ".filter[{place}]")?)
 }
 
 // Adds the name of an entry's call.
-fn push_call(text: &mut Vec<u8>, entries: &[JsonRule], place: usize) -> Result<(), AllocError>
-    requires { place < length entries.now }
-    ensures { OnOk result (text.new.items ≡ text.old.items ++ call_text entries.now place) }
-{
-    let entry = &entries[place];
-    text.extend_from_slice(b" (")?;
-    text.extend_from_slice(entry.syscall.as_bytes())?;
-    text.extend_from_slice(b")")
-}
-
-// Adds some bytes and the decimal digits of a number.
-fn push_number(text: &mut Vec<u8>, before: &[u8], n: usize) -> Result<(), AllocError>
-    ensures { OnOk result (text.new.items ≡ text.old.items ++ before.now ++ decimal n) }
-{
-    text.extend_from_slice(before)?;
-    text.extend_from_slice(Buffer::new().format(n).as_bytes())
-}
-
-// Adds some bytes and the decimal digits of a number of 32 bits.
-fn push_decimal(text: &mut Vec<u8>, before: &[u8], n: u32) -> Result<(), AllocError>
-    ensures { OnOk result (text.new.items ≡ text.old.items ++ before.now ++ decimal n) }
-{
-    push_number(text, before, n as usize)
+fn push_call(text: &mut Vec<u8>, filter: &NamedFilter, place: usize) -> Result<(), AllocError> {
+    match filter.filter.rules.get(place) {
+        Some(entry) => {
+            text.extend_from_slice(b" (")?;
+            text.extend_from_slice(entry.syscall.as_bytes())?;
+            text.extend_from_slice(b")")
+        }
+        None => Ok(()),
+    }
 }

@@ -44,11 +44,6 @@ pub enum Reason {
 
 /// The reason in numbers.
 impl fmt::Display for Reason {
-    ghost use Rattle.std.specs.Prelude.{Some};
-    ghost use Rattle.seccomptool.specs.Reasons.{reason_text};
-
-    ghost output = { λ reason. Some (reason_text reason) };
-
     fn fmt<W: fmt::Write>(&self, f: &mut fmt::Formatter<W>) -> fmt::Result {
         match self {
             Reason::AnotherArchitecture => f.write_str("another architecture"),

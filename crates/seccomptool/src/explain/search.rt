@@ -4,7 +4,7 @@ ghost use Rattle.std.specs.Prelude.{◌≡◌, ◌≤◌, ◌<◌, ◌↔◌, po
 ghost use Rattle.seccompiler.specs.JsonPolicyOf.{IsFineEntry, AreFineArgs, is_for};
 ghost use Rattle.seccompiler.specs.Machine.{word_at};
 ghost use Rattle.seccomptool.specs.declared.explain.reason.Reason.{Reason};
-ghost use Rattle.seccomptool.specs.ExplainSteps.{nearer};
+ghost use Rattle.seccomptool.specs.Reasons.{nearer};
 ghost use Rattle.seccomptool.specs.Reasons.{AreIndicesFor, ConditionHolds, EntryHolds, EntryFails, FirstFails, IsReason, IsReasonAmong};
 
 use crate::explain::reason::{Miss, Reason};

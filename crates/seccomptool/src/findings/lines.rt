@@ -1,17 +1,16 @@
-// The lines that tell what is found.
+// What is printed of findings.
 
-ghost use Rattle.std.specs.Prelude.{◌≡◌, ◌++◌, ◌*◌, ◌≤◌, OnOk};
-ghost use Rattle.seccompiler.specs.Machine.{word_at, argument_at};
-ghost use Rattle.seccomptool.specs.Findings.{kind_text, argument_text, arguments_text, example_text, line_of, lines_of};
+ghost use Rattle.std.specs.Prelude.{◌≤◌};
 
 use crate::findings::parts::name_of;
-use crate::findings::{Answer, Finding, Part};
-use seccomp_compare::rank;
+use crate::findings::{Answer, Finding, Part, Verdict};
+use seccomp_command_line::names::push_readable;
+use seccomp_compare::{Relation, rank};
 use seccompiler::TargetArch;
 use std::alloc::{AllocError, Global};
 use std::fmt;
 
-// The words of actions without data, and the actions that have some (linux/seccomp.h).
+// The actions of return values, and the data beside them, as `linux/seccomp.h` has them.
 const ALLOW: u32 = 0x7fff_0000;
 
 const LOG: u32 = 0x7ffc_0000;
@@ -32,16 +31,81 @@ const ACTION: u32 = 0xffff_0000;
 
 const DATA: u32 = 0x0000_ffff;
 
+/// How findings are shown.
+#[derive(Clone, Copy)]
+pub(crate) struct Shown {
+    /// The architecture, whose calls have names.
+    pub target: TargetArch,
+    /// Whether an example tells the instruction pointer: where one of both sides may depend on it.
+    pub pointer: bool,
+}
+
+/// Adds a filter by its name.
+pub(crate) fn push_filter(text: &mut Vec<u8>, name: &str) -> Result<(), AllocError> {
+    text.extend_from_slice(b"filter ")?;
+    push_readable(text, name)
+}
+
+/// Adds a verdict in words.
+pub(crate) fn push_verdict(
+    text: &mut Vec<u8>,
+    relation: Relation,
+    verdict: Verdict,
+) -> Result<(), AllocError> {
+    text.extend_from_slice(match (relation, verdict) {
+        (Relation::Alike, Verdict::Same) => b": same\n",
+        (Relation::Alike, Verdict::Different) => b": different\n",
+        (Relation::AtMostAsPermissive, Verdict::Same) => b": nowhere more permissive\n",
+        (Relation::AtMostAsPermissive, Verdict::Different) => b": more permissive\n",
+        (_, Verdict::Undecided) => b": undecided\n",
+    })
+}
+
+/// Adds the line of what is found on a part: none where the relation holds.
+pub(crate) fn push_finding(
+    alloc: Global,
+    text: &mut Vec<u8>,
+    shown: Shown,
+    finding: Finding,
+) -> Result<(), AllocError> {
+    let Finding { part, answer } = finding;
+    let target = shown.target;
+    let name = PartName { target, part };
+    match answer {
+        Answer::Holds => Ok(()),
+        Answer::Fails { call, old, new } => {
+            let (kind, example) = (kind_of(old, new), Example { shown, call });
+            let (old, new) = (Word(old), Word(new));
+            push(
+                text,
+                format!(in alloc; "  {name}: {old} -> {new}, {kind}: {example}\n")?,
+            )
+        }
+        Answer::Undecided => push(text, format!(in alloc; "  {name}: undecided\n")?),
+    }
+}
+
+fn push(text: &mut Vec<u8>, more: String) -> Result<(), AllocError> {
+    text.extend_from_slice(more.as_bytes())
+}
+
+// Whether the new value permits more than the old one.
+fn kind_of(old: u32, new: u32) -> &'static str {
+    let (old, new) = (rank(old), rank(new));
+    if old < new {
+        "more"
+    } else if new < old {
+        "less"
+    } else {
+        "otherwise"
+    }
+}
+
 /// A value that a program returns, by its action.
 #[derive(Clone, Copy)]
 pub(crate) struct Word(pub u32);
 
 impl fmt::Display for Word {
-    ghost use Rattle.std.specs.Prelude.{Some};
-    ghost use Rattle.seccomptool.specs.Findings.{word_text};
-
-    ghost output = { λ word. Some (word_text word.0) };
-
     fn fmt<W: fmt::Write>(&self, f: &mut fmt::Formatter<W>) -> fmt::Result {
         let word = self.0;
         let data = word & DATA;
@@ -69,11 +133,6 @@ pub(crate) struct CallName {
 }
 
 impl fmt::Display for CallName {
-    ghost use Rattle.std.specs.Prelude.{Some};
-    ghost use Rattle.seccomptool.specs.Findings.{call_text};
-
-    ghost output = { λ call. Some (call_text call.target call.number) };
-
     fn fmt<W: fmt::Write>(&self, f: &mut fmt::Formatter<W>) -> fmt::Result {
         match name_of(self.target, self.number) {
             Some(name) => f.write_str(name),
@@ -93,11 +152,6 @@ struct PartName {
 }
 
 impl fmt::Display for PartName {
-    ghost use Rattle.std.specs.Prelude.{Some};
-    ghost use Rattle.seccomptool.specs.Findings.{part_text};
-
-    ghost output = { λ name. Some (part_text name.target name.part) };
-
     fn fmt<W: fmt::Write>(&self, f: &mut fmt::Formatter<W>) -> fmt::Result {
         let target = self.target;
         match self.part {
@@ -113,174 +167,44 @@ impl fmt::Display for PartName {
     }
 }
 
-/// The two values of a difference, and whether the new one permits more.
+/// A call on which two sides differ: its name or number, behind the `AUDIT_ARCH_*` value where that is another, its arguments,
+/// and the instruction pointer where that is to be told.
 #[derive(Clone, Copy)]
-struct Change {
-    old: u32,
-    new: u32,
+struct Example {
+    shown: Shown,
+    call: [u8; 64],
 }
 
-impl fmt::Display for Change {
-    ghost use Rattle.std.specs.Prelude.{Some};
-    ghost use Rattle.seccomptool.specs.Findings.{change_text};
-
-    ghost output = { λ change. Some (change_text change.old change.new) };
-
+impl fmt::Display for Example {
     fn fmt<W: fmt::Write>(&self, f: &mut fmt::Formatter<W>) -> fmt::Result {
-        let kind = kind_of(self.old, self.new);
-        let (old, new) = (Word(self.old), Word(self.new));
-        write!(f, "{old} -> {new}, {kind}")
-    }
-}
-
-/// A call of a part: its name or number, behind the `AUDIT_ARCH_*` value where that is another.
-#[derive(Clone, Copy)]
-struct ExampleCall {
-    target: TargetArch,
-    part: Part,
-    arch: u32,
-    number: u32,
-}
-
-impl fmt::Display for ExampleCall {
-    ghost use Rattle.std.specs.Prelude.{Some};
-    ghost use Rattle.seccomptool.specs.Findings.{example_call};
-
-    ghost output = { λ call. Some (example_call call.target call.part call.arch call.number) };
-
-    fn fmt<W: fmt::Write>(&self, f: &mut fmt::Formatter<W>) -> fmt::Result {
-        let (target, arch, number) = (self.target, self.arch, self.number);
-        match self.part {
-            Part::Elsewhere { .. } => write!(f, "0x{arch:x} {number}"),
-            _ => {
-                let name = CallName { target, number };
-                write!(f, "{name}")
-            }
+        let Example { shown, call } = *self;
+        let Shown { target, pointer } = shown;
+        let number = u32::from_le_bytes([call[0], call[1], call[2], call[3]]);
+        let arch = u32::from_le_bytes([call[4], call[5], call[6], call[7]]);
+        if arch == target.get_audit_value() {
+            let name = CallName { target, number };
+            write!(f, "{name}(")?;
+        } else {
+            write!(f, "0x{arch:x} {number}(")?;
         }
-    }
-}
-
-// Adds the line of what is found on a part.
-pub(crate) fn push_line(
-    alloc: Global,
-    text: &mut Vec<u8>,
-    target: TargetArch,
-    finding: Finding,
-) -> Result<(), AllocError>
-    ensures { OnOk result (text.new.items ≡ text.old.items ++ line_of target finding) }
-{
-    let Finding { part, answer } = finding;
-    let name = PartName { target, part };
-    match answer {
-        Answer::Holds => Ok(()),
-        Answer::Fails { call, old, new } => {
-            let change = Change { old, new };
-            text.extend_from_slice(format!(in alloc; "  {name}: {change}: ")?.as_bytes())?;
-            push_example(alloc, text, target, part, &call)?;
-            text.extend_from_slice(b"\n")?;
-            Ok(())
+        for index in 0..6usize {
+            let front = if index == 0 { "" } else { ", " };
+            let argument = number_at(&call, 16 + 8 * index);
+            write!(f, "{front}0x{argument:x}")?;
         }
-        Answer::Undecided => {
-            text.extend_from_slice(format!(in alloc; "  {name}: undecided\n")?.as_bytes())
+        f.write_str(")")?;
+        if pointer {
+            let pointer = number_at(&call, 8);
+            write!(f, " at 0x{pointer:x}")?;
         }
+        Ok(())
     }
 }
 
-// Adds a call of a part, with its arguments.
-fn push_example(
-    alloc: Global,
-    text: &mut Vec<u8>,
-    target: TargetArch,
-    part: Part,
-    call: &[u8; 64],
-) -> Result<(), AllocError>
-    ensures { OnOk result (text.new.items ≡ text.old.items ++ example_text target part call.now) }
+// The 64-bit number of bytes `k` to `k + 7`.
+fn number_at(call: &[u8; 64], k: usize) -> u64
+    requires { k ≤ 56 }
 {
-    let name = ExampleCall {
-        target,
-        part,
-        arch: word_at(call, 4),
-        number: word_at(call, 0),
-    };
-    text.extend_from_slice(name.to_string(alloc)?.as_bytes())?;
-    push_arguments(alloc, text, call)?;
-    Ok(())
-}
-
-// Adds the arguments of a call.
-fn push_arguments(alloc: Global, text: &mut Vec<u8>, call: &[u8; 64]) -> Result<(), AllocError>
-    ensures { OnOk result (text.new.items ≡ text.old.items ++ arguments_text call.now) }
-{
-    push_argument(alloc, text, b"(", call, 0)?;
-    push_argument(alloc, text, b", ", call, 1)?;
-    push_argument(alloc, text, b", ", call, 2)?;
-    push_argument(alloc, text, b", ", call, 3)?;
-    push_argument(alloc, text, b", ", call, 4)?;
-    push_argument(alloc, text, b", ", call, 5)?;
-    text.extend_from_slice(b")")?;
-    Ok(())
-}
-
-// Adds some bytes and an argument of a call.
-fn push_argument(
-    alloc: Global,
-    text: &mut Vec<u8>,
-    before: &[u8],
-    call: &[u8; 64],
-    index: usize,
-) -> Result<(), AllocError>
-    requires { index ≤ 5 }
-    ensures { OnOk result (text.new.items ≡ text.old.items ++ before.now ++ argument_text call.now index) }
-{
-    let argument = argument_at(call, index);
-    text.extend_from_slice(before)?;
-    text.extend_from_slice(format!(in alloc; "0x{argument:x}")?.as_bytes())?;
-    Ok(())
-}
-
-// Whether the new word permits more than the old one.
-fn kind_of(old: u32, new: u32) -> &'static str
-    ensures { result.now ≡ kind_text old new }
-{
-    let (old, new) = (rank(old), rank(new));
-    if old < new {
-        return "more";
-    }
-    if new < old {
-        return "less";
-    }
-    "otherwise"
-}
-
-// Adds the lines of what is found.
-pub(crate) fn push_lines(
-    alloc: Global,
-    text: &mut Vec<u8>,
-    target: TargetArch,
-    findings: &[Finding],
-) -> Result<(), AllocError>
-    ensures { OnOk result (text.new.items ≡ text.old.items ++ lines_of target findings.now) }
-{
-    for finding in findings {
-        push_line(alloc, text, target, *finding)?;
-    }
-    Ok(())
-}
-
-// The 32-bit word of bytes `k` to `k + 3`.
-fn word_at(call: &[u8; 64], k: usize) -> u32
-    requires { k ≤ 60 }
-    ensures { result ≡ word_at call.now k }
-{
-    u32::from_le_bytes([call[k], call[k + 1], call[k + 2], call[k + 3]])
-}
-
-// The argument of this index.
-fn argument_at(call: &[u8; 64], index: usize) -> u64
-    requires { index ≤ 5 }
-    ensures { result ≡ argument_at call.now index }
-{
-    let k = 16 + 8 * index;
     u64::from_le_bytes([
         call[k],
         call[k + 1],

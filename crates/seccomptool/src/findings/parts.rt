@@ -5,7 +5,7 @@ ghost use Rattle.std.specs.Prelude.{◌≡◌, ℕ, ◌++◌, ◌^◌, ◌<◌, 
 ghost use Rattle.seccompiler.specs.Architecture.{table_of};
 ghost use Rattle.seccomptool.specs.Findings as spec;
 ghost use Rattle.seccomptool.specs.Findings.{ArePartsBelow, HasName, LacksName};
-ghost use Rattle.seccomptool.specs.FindingsParts.{between};
+ghost use Rattle.seccomptool.specs.Findings.{between};
 
 use crate::findings::Part;
 use seccompiler::{SyscallTable, TargetArch};

@@ -1,61 +1,40 @@
-// Comparisons, made in one try after the other, so that it can be shown how far they are.
+// A comparison of two programs on a part, made in one try after the other, so that it can be shown how far it is.
 
-ghost use Rattle.std.specs.Prelude.{◌≡◌, ◌<◌, ◌≤◌, IfOk, IfErr, OnOk};
-ghost use Rattle.seccomptool.specs.FindingsParts.{AreComparable, AreCompilable, IsSidesRefusal, SidesCompare};
+ghost use Rattle.std.specs.Prelude.{◌≡◌, ◌<◌, ◌≤◌, IfOk, true};
+ghost use Rattle.seccomp_compare.specs.Compare.{Compares};
+ghost use Rattle.seccompiler.specs.Machine.{IsChecked};
 
+use crate::error::ToolError;
 use crate::findings::{Part, Terms};
 use crate::progress::Progress;
-use seccomp_compare::{Calls, Comparison, Relation, compare, compare_filters, compare_program};
-use seccompiler::{BackendError, BpfProgramRef, SeccompFilter};
+use seccomp_compare::{Calls, Comparison, compare};
+use seccompiler::BpfProgramRef;
 use std::alloc::Global;
 
 // So many sets are looked at in the first of several tries.
 const FIRST: usize = 250_000;
 
-/// What is compared, the new side first.
-#[derive(Clone, Copy)]
-pub(crate) enum Sides<'a> {
-    /// Two filters.
-    Filters {
-        /// That of the new policy.
-        new: &'a SeccompFilter,
-        /// That of the old one.
-        old: &'a SeccompFilter,
-    },
-    /// A program and a filter.
-    Program {
-        /// The program, one that may be run.
-        program: BpfProgramRef<'a>,
-        /// The filter.
-        filter: &'a SeccompFilter,
-    },
-    /// Two programs, each one that may be run.
-    Programs {
-        /// That of the new profile.
-        new: BpfProgramRef<'a>,
-        /// That of the old one.
-        old: BpfProgramRef<'a>,
-    },
-}
-
-// Compares two sides on the calls of a part. Where the progress is shown, it tries with few sets first and then with
+// Compares two programs on the calls of a part: programs that are the same without a search. Where the progress is shown, it tries with few sets first and then with
 // twice as many each time, since a comparison can't be interrupted; a try that has an answer is the last one.
 pub(crate) fn try_comparisons<G: Progress>(
     alloc: Global,
     terms: Terms,
-    sides: Sides<'_>,
     part: Part,
     calls: &Calls,
+    new: BpfProgramRef<'_>,
+    old: BpfProgramRef<'_>,
     progress: &mut G,
-) -> Result<Comparison, BackendError>
-    requires { AreComparable sides }
-    ensures compares { IfOk result (λ answer. SidesCompare calls.now terms.relation sides.entry answer) }
-    ensures compilable { OnOk result (AreCompilable sides.entry) }
-    ensures refused { IfErr result (IsSidesRefusal sides.entry) }
+) -> Result<Comparison, ToolError>
+    requires new_checked { IsChecked new.now }
+    requires old_checked { IsChecked old.now }
+    ensures { IfOk result (Compares calls.now terms.relation new.now old.now) }
 {
+    if are_same(new, old) {
+        return Ok(Comparison::Holds);
+    }
     let mut sets = first(terms.most, progress.is_shown());
     loop {
-        let answer = compare_sides(alloc, sides, calls, terms.relation, sets)?;
+        let answer = compare(alloc, new, old, calls, terms.relation, sets)?;
         if !matches!(answer, Comparison::Undecided) {
             return Ok(answer);
         }
@@ -65,6 +44,13 @@ pub(crate) fn try_comparisons<G: Progress>(
         }
         sets = more(sets, terms.most);
     }
+}
+
+// Whether two programs are the same, instruction by instruction.
+fn are_same(new: BpfProgramRef<'_>, old: BpfProgramRef<'_>) -> bool
+    ensures { result ≡ true → new.now ≡ old.now }
+{
+    new == old
 }
 
 // How many sets are looked at first.
@@ -87,27 +73,5 @@ fn more(sets: usize, most: usize) -> usize
         most
     } else {
         sets + sets
-    }
-}
-
-// Compares two sides on a set of calls, with one try.
-fn compare_sides(
-    alloc: Global,
-    sides: Sides<'_>,
-    calls: &Calls,
-    relation: Relation,
-    most: usize,
-) -> Result<Comparison, BackendError>
-    requires { AreComparable sides }
-    ensures compares { IfOk result (λ answer. SidesCompare calls.now relation sides.entry answer) }
-    ensures compilable { OnOk result (AreCompilable sides.entry) }
-    ensures refused { IfErr result (IsSidesRefusal sides.entry) }
-{
-    match sides {
-        Sides::Filters { new, old } => compare_filters(alloc, new, old, calls, relation, most),
-        Sides::Program { program, filter } => {
-            compare_program(alloc, program, filter, calls, relation, most)
-        }
-        Sides::Programs { new, old } => compare(alloc, new, old, calls, relation, most),
     }
 }

@@ -1,12 +1,10 @@
 // What is wrong with the bytes of a program.
 
-use std::{fmt, io};
+use std::fmt;
 
 /// Why a program isn't run, in the order in which the faults are reported.
 #[derive(Drop)]
 pub enum ProgramFault {
-    /// Its bytes can't be read.
-    Read(io::Error),
     /// Its bytes end inside an instruction, after so many bytes of it, from 1 to 7.
     Short(usize),
     /// It has so many instructions: none, or more than 4096.
@@ -31,14 +29,8 @@ pub enum Amiss {
 
 /// The fault's text.
 impl fmt::Display for ProgramFault {
-    ghost use Rattle.std.specs.Prelude.{Some};
-    ghost use Rattle.seccomptool.specs.RunFaults.{fault_text};
-
-    ghost output = { λ fault. Some (fault_text fault) };
-
     fn fmt<W: fmt::Write>(&self, f: &mut fmt::Formatter<W>) -> fmt::Result {
         match self {
-            ProgramFault::Read(_) => f.write_str("Error reading input."),
             ProgramFault::Short(rest) => {
                 write!(
                     f,
@@ -55,11 +47,6 @@ impl fmt::Display for ProgramFault {
 
 /// What is amiss, in English.
 impl fmt::Display for Amiss {
-    ghost use Rattle.std.specs.Prelude.{Some};
-    ghost use Rattle.seccomptool.specs.RunFaults.{amiss_text};
-
-    ghost output = { λ amiss. Some (amiss_text amiss) };
-
     fn fmt<W: fmt::Write>(&self, f: &mut fmt::Formatter<W>) -> fmt::Result {
         match self {
             Amiss::Operation(code) => write!(f, "unknown operation 0x{code:x}"),

@@ -1,12 +1,10 @@
 // The program that bytes are.
 
-ghost use Rattle.std.specs.Prelude.{◌≡◌, ◌≤◌, length, map, All, IfOk, IfErr, IfSome};
+ghost use Rattle.std.specs.Prelude.{◌≡◌, ◌≤◌, length, map, All, IfOk, IfErr};
 ghost use Rattle.std.specs.List.{concat};
 ghost use Rattle.seccompiler.specs.Machine.{IsChecked, IsInRange};
-ghost use Rattle.seccompiler.specs.Reads.{Reads};
 ghost use Rattle.seccomptool.specs.Compile.{instruction_bytes};
-ghost use Rattle.seccomptool.specs.Run.{IsProgramOf, IsRefusedProgram};
-ghost use Rattle.seccomptool.specs.RunParts.{IsCutFault, IsReadRefusal};
+ghost use Rattle.seccomptool.specs.Run.{IsCutFault, IsProgramOf, IsRefusedProgram};
 
 use crate::error::ToolError;
 use crate::run::fault::ProgramFault;
@@ -14,31 +12,23 @@ use crate::run::unfit::refuse_unfit;
 use seccompiler::bpf::BPF_MAX_LEN;
 use seccompiler::{BpfProgram, sock_filter};
 use std::alloc::{AllocError, Global};
-use std::io::{ErrorKind, Read};
 
-// The program that a reader's bytes are, which may be run.
-pub(crate) fn program_of<P: Read + Drop>(alloc: Global, program: P) -> Result<BpfProgram, ToolError>
-    ensures program { IfOk result (λ read. Reads (P.remaining program) (λ bytes. IsProgramOf bytes read.items)) }
+/// The program of these bytes, which may be run.
+///
+/// Each instruction is a `struct sock_filter` of 8 bytes, its numbers with the low byte first: code in 2, jt in 1, jf in 1, k
+/// in 4.
+///
+/// # Errors
+///
+/// `Program` with the first of [`ProgramFault`] that is so of the bytes; `OutOfMemory` in its place where memory runs out.
+pub(crate) fn program_of(alloc: Global, bytes: &[u8]) -> Result<BpfProgram, ToolError>
+    ensures program { IfOk result (λ read. IsProgramOf bytes.now read.items) }
     ensures checked { IfOk result (λ read. IsChecked read.items) }
-    ensures refused { IfErr result (IsRefusedProgram (P.remaining program)) }
+    ensures refused { IfErr result (IsRefusedProgram bytes.now) }
 {
-    let bytes = read_bytes(alloc, program)?;
-    let program = instructions(alloc, cut(bytes.as_slice())?)?;
-    refuse_unfit(program.as_slice())?;
+    let program = instructions(alloc, cut(bytes)?)?;
+    refuse_unfit(&program)?;
     Ok(program)
-}
-
-// All bytes that the reader of a program gives.
-fn read_bytes<P: Read + Drop>(alloc: Global, mut program: P) -> Result<Vec<u8>, ToolError>
-    ensures bytes { IfOk result (λ bytes. IfSome (P.remaining program) (λ known. bytes.items ≡ known)) }
-    ensures refused { IfErr result IsReadRefusal }
-{
-    let mut bytes = Vec::new(alloc);
-    match program.read_to_end(&mut bytes) {
-        Ok(_) => Ok(bytes),
-        Err(error) if error.kind() == ErrorKind::OutOfMemory => Err(ToolError::OutOfMemory),
-        Err(error) => Err(ToolError::Program(ProgramFault::Read(error))),
-    }
 }
 
 // Bytes, cut into as many instructions as a program may have.

@@ -1,27 +1,51 @@
 // The text of programs for people.
 
+use crate::compile::NamedProgram;
 use crate::show::instruction::words;
 use crate::show::notes::notes;
-use crate::show::programs::NamedProgram;
 use seccomp_command_line::names::push_readable;
 use seccompiler::{BpfProgramRef, TargetArch};
 use std::alloc::{AllocError, Global};
 
-// The text of programs, each behind a line with its length and its name.
-pub(crate) fn text_of(alloc: Global, programs: &[NamedProgram]) -> Result<Vec<u8>, AllocError> {
+/// The text of the programs of a policy's filters.
+///
+/// For each filter come a line `filter LENGTH NAME` and a line for each instruction. In NAME the control
+/// characters, those from U+0080 to U+009F too, and the backslash are written as `\x` and two lower-case
+/// hexadecimal digits for each of their bytes. An instruction's line has its
+/// place in decimal, filled with spaces in front up to 4 bytes; two spaces; and the instruction as `bpf_asm`
+/// has it, in which jumps name the places that they lead to. Where a note stands beside it, the instruction
+/// is filled with spaces up to 28 bytes, and `; ` stands in front of the note. The notes are read off the
+/// program: what a load gets of the record, which call, calls, architecture or half of an argument a test is
+/// about, and which action a returned value stands for.
+pub(crate) fn programs_text(
+    alloc: Global,
+    programs: &[NamedProgram],
+) -> Result<Vec<u8>, AllocError> {
     let mut text = Vec::new(alloc);
-    for named in programs {
-        let count = named.program.len();
+    for made in programs {
+        let count = made.program.len();
         text.extend_from_slice(format!(in alloc; "filter {count} ")?.as_bytes())?;
-        push_readable(&mut text, named.name.as_str())?;
+        push_readable(&mut text, made.name.as_str())?;
         text.push(b'\n')?;
-        push_instructions(alloc, &mut text, None, &named.program)?;
+        push_instructions(alloc, &mut text, None, &made.program)?;
     }
     Ok(text)
 }
 
+/// The text of a program by itself. Its calls have their names on the architecture that it tests for, and on this one where it
+/// tests for none.
+pub(crate) fn program_text(
+    alloc: Global,
+    arch: TargetArch,
+    program: BpfProgramRef<'_>,
+) -> Result<Vec<u8>, AllocError> {
+    let mut text = Vec::new(alloc);
+    push_instructions(alloc, &mut text, Some(arch), program)?;
+    Ok(text)
+}
+
 // Adds the lines of a program's instructions. Its calls are those of this architecture where it tests for none.
-pub(crate) fn push_instructions(
+fn push_instructions(
     alloc: Global,
     text: &mut Vec<u8>,
     arch: Option<TargetArch>,
@@ -34,23 +58,12 @@ pub(crate) fn push_instructions(
             Some(note) => note.as_str(),
             None => "",
         };
-        push_line(alloc, text, place, words.as_str(), note)?;
+        let line = if note.is_empty() {
+            format!(in alloc; "{place:4}  {words}\n")?
+        } else {
+            format!(in alloc; "{place:4}  {words:28}; {note}\n")?
+        };
+        text.extend_from_slice(line.as_bytes())?;
     }
     Ok(())
-}
-
-// Adds the line of an instruction that stands at this place, with its note, where there is one.
-fn push_line(
-    alloc: Global,
-    text: &mut Vec<u8>,
-    place: usize,
-    words: &str,
-    note: &str,
-) -> Result<(), AllocError> {
-    let line = if note.is_empty() {
-        format!(in alloc; "{place:4}  {words}\n")?
-    } else {
-        format!(in alloc; "{place:4}  {words:28}; {note}\n")?
-    };
-    text.extend_from_slice(line.as_bytes())
 }

@@ -1,52 +1,38 @@
-// The lines of what is found on numbers that have names, and of what is found on others.
+// What is printed of a comparison of a program with a filter.
 
-ghost use Rattle.std.specs.Prelude.{◌≡◌, ◌++◌, OnOk};
-ghost use Rattle.seccomptool.specs.Verify.{line_among, lines_among};
-
-use crate::findings::lines::push_line;
-use crate::findings::{Finding, Part};
-use seccompiler::TargetArch;
+use crate::findings::lines::{Shown, push_filter, push_finding, push_verdict};
+use crate::findings::{Part, Terms, verdict_of};
+use crate::verify::Verification;
 use std::alloc::{AllocError, Global};
 
-/// Which numbers of an architecture's calls.
-#[derive(Clone, Copy)]
-pub(crate) enum Numbers {
-    /// Those that have a name.
-    Named,
-    /// Those that have none.
-    Unnamed,
-}
-
-// Adds the lines of what is found on such numbers.
-pub(crate) fn push_among(
+/// The lines of a comparison: what is found on the architecture's calls, those that have a name first; and then on the calls of
+/// others.
+pub(crate) fn verified_lines(
     alloc: Global,
-    text: &mut Vec<u8>,
-    target: TargetArch,
-    numbers: Numbers,
-    findings: &[Finding],
-) -> Result<(), AllocError>
-    ensures { OnOk result (text.new.items ≡ text.old.items ++ lines_among target numbers findings.now) }
-{
-    for finding in findings {
-        push_one(alloc, text, target, numbers, *finding)?;
-    }
-    Ok(())
-}
-
-// Adds the line of what is found on a part, where that is of such numbers.
-fn push_one(
-    alloc: Global,
-    text: &mut Vec<u8>,
-    target: TargetArch,
-    numbers: Numbers,
-    finding: Finding,
-) -> Result<(), AllocError>
-    ensures { OnOk result (text.new.items ≡ text.old.items ++ line_among target numbers finding.part finding.answer) }
-{
-    match (numbers, finding.part) {
-        (Numbers::Named, Part::Named { .. }) | (Numbers::Unnamed, Part::Unnamed { .. }) => {
-            push_line(alloc, text, target, finding)
+    terms: Terms,
+    found: &Verification,
+) -> Result<Vec<u8>, AllocError> {
+    let shown = Shown {
+        target: terms.target,
+        pointer: found.loads_pointer,
+    };
+    let mut text = Vec::new(alloc);
+    push_filter(&mut text, found.name.as_str())?;
+    push_verdict(&mut text, terms.relation, verdict_of(&found.own))?;
+    for finding in &found.own {
+        if let Part::Named { .. } = finding.part {
+            push_finding(alloc, &mut text, shown, *finding)?;
         }
-        _ => Ok(()),
     }
+    for finding in &found.own {
+        if let Part::Unnamed { .. } = finding.part {
+            push_finding(alloc, &mut text, shown, *finding)?;
+        }
+    }
+    text.extend_from_slice(b"other architectures")?;
+    push_verdict(&mut text, terms.relation, verdict_of(&found.others))?;
+    for finding in &found.others {
+        push_finding(alloc, &mut text, shown, *finding)?;
+    }
+    Ok(text)
 }

@@ -1,314 +1,194 @@
-// The command that clap's matches are.
+// What clap's matches ask for.
 
-ghost use Rattle.std.specs.Prelude.{IfOk, IfSome, IfNone, codes};
-ghost use Rattle.clap.specs.Words.{found_of, rows_of};
-ghost use Rattle.seccomptool.specs.Words.{IsAsked, IsCommand};
-ghost use Rattle.seccomptool.specs.declared.words.Asked.{Asked};
-ghost use Rattle.seccomptool.specs.declared.words.Command.{Command};
-
-use super::checks::checks_in;
-use super::profiles::{is_no_profile, misuse_of_profile, of_profiles_in};
 use super::values::{
-    arch_in, arguments_in, compared_in, format_in, is_listed, is_quiet, layout_in, line_format_in,
-    most_in, records_in, relation_in, scope_in, shown_in, text_in,
+    allowed_in, arch_in, arguments_in, call_in, container_in, format_in, given_container,
+    import_format_in, is_set, layout_in, line_format_in, path_in, policies_in, terms_in,
 };
-use super::{Asked, Command};
+use super::{Asked, Call, Command, Inputs, Misuse, Shown};
+use crate::verify::scope::Scope;
 use clap::ArgMatches;
-use std::alloc::{AllocError, Global};
+use std::alloc::Global;
+
+type Read<'a> = Result<Asked<'a>, Misuse>;
 
 // What the matches of the subcommand of this name ask for.
-pub(crate) fn asked_in<'a>(
-    alloc: Global,
-    name: &str,
-    found: &ArgMatches<'a>,
-) -> Result<Option<Asked<'a>>, AllocError>
-    ensures some { IfOk result (λ o. IfSome o (IsAsked name.now (rows_of (found_of found.now)))) }
-    ensures none { IfOk result (λ o. IfNone o ((asked : Asked) → IsAsked name.now (rows_of (found_of found.now)) asked → ⊥)) }
-{
-    if name == "check" {
-        return checks_in(alloc, found);
-    }
-    match command_in(name, found) {
-        Some(command) => Ok(Some(Asked::One(command))),
-        None => of_profiles_in(alloc, name, found),
-    }
-}
-
-// The command that the matches of the subcommand of this name are, the check of policies and what is done with profiles aside.
-pub(crate) fn command_in<'a>(name: &str, found: &ArgMatches<'a>) -> Option<Command<'a>>
-    ensures some { IfSome result (IsCommand name.now (rows_of (found_of found.now))) }
-    ensures none { IfNone result ((c : Command) → IsCommand name.now (rows_of (found_of found.now)) c → ⊥) }
-{
+pub(super) fn asked_in<'a>(alloc: Global, name: &str, found: &ArgMatches<'a>) -> Read<'a> {
     match name {
-        "compile" => compile_in(found),
-        "show" => show_in(found),
-        "check" => codes_in(found),
-        "explain" => explain_in(found),
-        "run" => run_in(found),
-        "stats" => stats_in(found),
-        "record" => record_in(found),
-        "diff" => diff_in(found),
-        "verify" => verify_in(found),
-        "compat" => compat_in(found),
-        _ => None,
+        "compile" => compile_in(alloc, found),
+        "show" => show_in(alloc, found),
+        "check" => check_in(alloc, found),
+        "explain" => explain_in(alloc, found),
+        "run" => run_in(alloc, found),
+        "stats" => stats_in(alloc, found),
+        "record" => record_in(alloc, found),
+        "diff" => diff_in(alloc, found),
+        "verify" => verify_in(alloc, found),
+        "compat" => compat_in(alloc, found),
+        "import" => import_in(alloc, found),
+        _ => Err(Misuse::Told("no command is given")),
     }
 }
 
-// What is wrong where the matches are no command.
-pub(crate) fn misuse_in(found: &ArgMatches<'_>) -> &'static str {
-    if let Some(message) = misuse_of_profile(found) {
-        return message;
-    }
-    if text_in(found, "new").is_some() {
-        return misuse_of_comparison(found, "OLD and NEW can't both be read from standard input");
-    }
-    if text_in(found, "most").is_some() {
-        return misuse_of_comparison(
-            found,
-            "POLICY and PROGRAM can't both be read from standard input",
-        );
-    }
-    if text_in(found, "layout").is_some() {
-        return "either POLICY or --program is given, not both";
-    }
-    if arguments_in(found).is_none() {
-        return "an ARG is no number from -9223372036854775808 to 18446744073709551615, decimal or hexadecimal behind 0x";
-    }
-    if text_in(found, "call").is_some() {
-        return "either CALL or --records is given, not both";
-    }
-    if text_in(found, "program").is_some() {
-        return "PROGRAM and records can't both be read from standard input: give CALL or --records";
-    }
-    "policy and records can't both be read from standard input: give CALL or --records"
-}
-
-// What is wrong where the matches of `diff` or `verify` are no command: `--most`, or else `both`.
-fn misuse_of_comparison(found: &ArgMatches<'_>, both: &'static str) -> &'static str {
-    if most_in(found).is_none() {
-        return "the value of --most is no number from 0 to 18446744073709551615, decimal or hexadecimal behind 0x";
-    }
-    both
-}
-
-// The command that the matches of `compile` are.
-fn compile_in<'a>(found: &ArgMatches<'a>) -> Option<Command<'a>>
-    ensures some { IfSome result (IsCommand (codes "compile") (rows_of (found_of found.now))) }
-    ensures none { IfNone result ((c : Command) → IsCommand (codes "compile") (rows_of (found_of found.now)) c → ⊥) }
-{
-    let Some(arch) = arch_in(found) else {
-        return None;
-    };
-    let Some(layout) = layout_in(found) else {
-        return None;
-    };
-    let Some(format) = format_in(found) else {
-        return None;
-    };
-    let Some(policy) = text_in(found, "policy") else {
-        return None;
-    };
-    Some(Command::Compile {
-        arch,
-        filter: text_in(found, "filter"),
-        layout,
-        format,
-        output: text_in(found, "output"),
-        quiet: is_quiet(found),
-        policy,
+// A command that is carried out once, on what it reads at these paths.
+fn on<'a>(
+    alloc: Global,
+    command: Command<'a>,
+    first: Option<&'a str>,
+    second: Option<&'a str>,
+) -> Read<'a> {
+    Ok(Asked {
+        command,
+        inputs: vec![in alloc; Inputs { first, second }]?,
+        output: None,
     })
 }
 
-// The command that the matches of `show` are.
-fn show_in<'a>(found: &ArgMatches<'a>) -> Option<Command<'a>>
-    ensures some { IfSome result (IsCommand (codes "show") (rows_of (found_of found.now))) }
-    ensures none { IfNone result ((c : Command) → IsCommand (codes "show") (rows_of (found_of found.now)) c → ⊥) }
-{
-    let Some(arch) = arch_in(found) else {
-        return None;
+fn compile_in<'a>(alloc: Global, found: &ArgMatches<'a>) -> Read<'a> {
+    let command = Command::Compile {
+        arch: arch_in(found),
+        filter: found.get_str("filter"),
+        layout: layout_in(found),
+        format: format_in(found),
+        quiet: is_set(found, "quiet"),
     };
-    let Some(layout) = layout_in(found) else {
-        return None;
+    let mut asked = on(alloc, command, Some(path_in(found, "policy")), None)?;
+    asked.output = match found.get_str("output") {
+        Some("-") => None,
+        output => output,
     };
-    let Some(shown) = shown_in(found) else {
-        return None;
+    Ok(asked)
+}
+
+fn show_in<'a>(alloc: Global, found: &ArgMatches<'a>) -> Read<'a> {
+    let (shown, path) = match (found.get_str("program"), found.get_str("policy")) {
+        (None, _) => (Shown::Policy, path_in(found, "policy")),
+        (Some(program), None) => (Shown::Program, program),
+        _ => return Err(Misuse::Told("either POLICY or --program is given, not both")),
     };
-    Some(Command::Show {
-        arch,
-        layout,
+    let command = Command::Show {
+        arch: arch_in(found),
+        layout: layout_in(found),
         shown,
+    };
+    on(alloc, command, Some(path), None)
+}
+
+fn check_in<'a>(alloc: Global, found: &ArgMatches<'a>) -> Read<'a> {
+    if is_set(found, "list") {
+        return on(alloc, Command::Codes, None, None);
+    }
+    let command = Command::Check {
+        arch: arch_in(found),
+        container: given_container(alloc, found)?,
+        denied: is_set(found, "deny-warnings"),
+        allowed: allowed_in(alloc, found)?,
+    };
+    Ok(Asked {
+        command,
+        inputs: policies_in(alloc, found)?,
+        output: None,
     })
 }
 
-// The command that the matches of `check` are where they ask for the codes.
-pub(super) fn codes_in<'a>(found: &ArgMatches<'a>) -> Option<Command<'a>>
-    ensures some { IfSome result (IsCommand (codes "check") (rows_of (found_of found.now))) }
-    ensures none { IfNone result ((c : Command) → IsCommand (codes "check") (rows_of (found_of found.now)) c → ⊥) }
-{
-    if is_listed(found) {
-        Some(Command::Codes)
-    } else {
-        None
-    }
-}
-
-// The command that the matches of `explain` are.
-fn explain_in<'a>(found: &ArgMatches<'a>) -> Option<Command<'a>>
-    ensures some { IfSome result (IsCommand (codes "explain") (rows_of (found_of found.now))) }
-    ensures none { IfNone result ((c : Command) → IsCommand (codes "explain") (rows_of (found_of found.now)) c → ⊥) }
-{
-    if !is_no_profile(found) {
-        return None;
-    }
-    let Some(arch) = arch_in(found) else {
-        return None;
-    };
-    let Some(format) = line_format_in(found) else {
-        return None;
-    };
-    let Some(policy) = text_in(found, "policy") else {
-        return None;
-    };
-    let Some(records) = records_in(found, policy) else {
-        return None;
-    };
-    Some(Command::Explain {
-        arch,
-        filter: text_in(found, "filter"),
-        format,
-        records,
+fn explain_in<'a>(alloc: Global, found: &ArgMatches<'a>) -> Read<'a> {
+    let container = given_container(alloc, found)?;
+    let policy = path_in(found, "policy");
+    let (call, records) = call_in(
+        found,
         policy,
-    })
-}
-
-// The command that the matches of `run` are.
-fn run_in<'a>(found: &ArgMatches<'a>) -> Option<Command<'a>>
-    ensures some { IfSome result (IsCommand (codes "run") (rows_of (found_of found.now))) }
-    ensures none { IfNone result ((c : Command) → IsCommand (codes "run") (rows_of (found_of found.now)) c → ⊥) }
-{
-    let Some(arch) = arch_in(found) else {
-        return None;
-    };
-    let Some(program) = text_in(found, "program") else {
-        return None;
-    };
-    let Some(records) = records_in(found, program) else {
-        return None;
-    };
-    Some(Command::Run {
-        arch,
-        records,
-        program,
-    })
-}
-
-// The command that the matches of `stats` are.
-fn stats_in<'a>(found: &ArgMatches<'a>) -> Option<Command<'a>>
-    ensures some { IfSome result (IsCommand (codes "stats") (rows_of (found_of found.now))) }
-    ensures none { IfNone result ((c : Command) → IsCommand (codes "stats") (rows_of (found_of found.now)) c → ⊥) }
-{
-    if !is_no_profile(found) {
-        return None;
-    }
-    let Some(arch) = arch_in(found) else {
-        return None;
-    };
-    let Some(policy) = text_in(found, "policy") else {
-        return None;
-    };
-    Some(Command::Stats { arch, policy })
-}
-
-// The command that the matches of `record` are.
-fn record_in<'a>(found: &ArgMatches<'a>) -> Option<Command<'a>>
-    ensures some { IfSome result (IsCommand (codes "record") (rows_of (found_of found.now))) }
-    ensures none { IfNone result ((c : Command) → IsCommand (codes "record") (rows_of (found_of found.now)) c → ⊥) }
-{
-    let Some(arch) = arch_in(found) else {
-        return None;
-    };
-    let Some(call) = text_in(found, "call") else {
-        return None;
-    };
-    let Some(arguments) = arguments_in(found) else {
-        return None;
-    };
-    Some(Command::Record {
-        arch,
+        "policy and records can't both be read from standard input: give CALL or --records",
+    )?;
+    let command = Command::Explain {
+        arch: arch_in(found),
+        container,
+        filter: found.get_str("filter"),
+        format: line_format_in(found),
         call,
-        arguments,
-    })
+    };
+    on(alloc, command, Some(policy), records)
 }
 
-// The command that the matches of `diff` are.
-fn diff_in<'a>(found: &ArgMatches<'a>) -> Option<Command<'a>>
-    ensures some { IfSome result (IsCommand (codes "diff") (rows_of (found_of found.now))) }
-    ensures none { IfNone result ((c : Command) → IsCommand (codes "diff") (rows_of (found_of found.now)) c → ⊥) }
-{
-    if !is_no_profile(found) {
-        return None;
-    }
-    let Some(arch) = arch_in(found) else {
-        return None;
-    };
-    let Some(most) = most_in(found) else {
-        return None;
-    };
-    let Some((old, new)) = compared_in(found) else {
-        return None;
-    };
-    Some(Command::Diff {
-        arch,
-        filter: text_in(found, "filter"),
-        relation: relation_in(found),
-        most,
-        quiet: is_quiet(found),
-        old,
-        new,
-    })
-}
-
-// The command that the matches of `verify` are.
-fn verify_in<'a>(found: &ArgMatches<'a>) -> Option<Command<'a>>
-    ensures some { IfSome result (IsCommand (codes "verify") (rows_of (found_of found.now))) }
-    ensures none { IfNone result ((c : Command) → IsCommand (codes "verify") (rows_of (found_of found.now)) c → ⊥) }
-{
-    let Some(arch) = arch_in(found) else {
-        return None;
-    };
-    let Some(most) = most_in(found) else {
-        return None;
-    };
-    let Some(policy) = text_in(found, "policy") else {
-        return None;
-    };
-    let Some(program) = text_in(found, "program") else {
-        return None;
-    };
-    if policy == "-" && program == "-" {
-        return None;
-    }
-    Some(Command::Verify {
-        arch,
-        filter: text_in(found, "filter"),
-        relation: relation_in(found),
-        scope: scope_in(found),
-        most,
-        policy,
+fn run_in<'a>(alloc: Global, found: &ArgMatches<'a>) -> Read<'a> {
+    let program = path_in(found, "program");
+    let (call, records) = call_in(
+        found,
         program,
-    })
+        "PROGRAM and records can't both be read from standard input: give CALL or --records",
+    )?;
+    let command = Command::Run {
+        arch: arch_in(found),
+        call,
+    };
+    on(alloc, command, Some(program), records)
 }
 
-// The command that the matches of `compat` are.
-fn compat_in<'a>(found: &ArgMatches<'a>) -> Option<Command<'a>>
-    ensures some { IfSome result (IsCommand (codes "compat") (rows_of (found_of found.now))) }
-    ensures none { IfNone result ((c : Command) → IsCommand (codes "compat") (rows_of (found_of found.now)) c → ⊥) }
-{
-    let Some(arch) = arch_in(found) else {
-        return None;
+fn stats_in<'a>(alloc: Global, found: &ArgMatches<'a>) -> Read<'a> {
+    let command = Command::Stats {
+        arch: arch_in(found),
+        container: given_container(alloc, found)?,
     };
-    let Some(policy) = text_in(found, "policy") else {
-        return None;
+    on(alloc, command, Some(path_in(found, "policy")), None)
+}
+
+fn record_in<'a>(alloc: Global, found: &ArgMatches<'a>) -> Read<'a> {
+    let call = Call {
+        name: path_in(found, "call"),
+        arguments: arguments_in(found)?,
     };
-    Some(Command::Compat { arch, policy })
+    let command = Command::Record {
+        arch: arch_in(found),
+        call,
+    };
+    on(alloc, command, None, None)
+}
+
+fn diff_in<'a>(alloc: Global, found: &ArgMatches<'a>) -> Read<'a> {
+    let container = given_container(alloc, found)?;
+    let terms = terms_in(found)?;
+    let (old, new) = (path_in(found, "old"), path_in(found, "new"));
+    if old == "-" && new == "-" {
+        return Err(Misuse::Told("OLD and NEW can't both be read from standard input"));
+    }
+    let command = Command::Diff {
+        terms,
+        container,
+        filter: found.get_str("filter"),
+        quiet: is_set(found, "quiet"),
+    };
+    on(alloc, command, Some(old), Some(new))
+}
+
+fn verify_in<'a>(alloc: Global, found: &ArgMatches<'a>) -> Read<'a> {
+    let terms = terms_in(found)?;
+    let (policy, program) = (path_in(found, "policy"), path_in(found, "program"));
+    if policy == "-" && program == "-" {
+        return Err(Misuse::Told("POLICY and PROGRAM can't both be read from standard input"));
+    }
+    let command = Command::Verify {
+        terms,
+        filter: found.get_str("filter"),
+        scope: if is_set(found, "all") {
+            Scope::All
+        } else {
+            Scope::Named
+        },
+    };
+    on(alloc, command, Some(policy), Some(program))
+}
+
+fn compat_in<'a>(alloc: Global, found: &ArgMatches<'a>) -> Read<'a> {
+    let command = Command::Compat {
+        arch: arch_in(found),
+    };
+    on(alloc, command, Some(path_in(found, "policy")), None)
+}
+
+fn import_in<'a>(alloc: Global, found: &ArgMatches<'a>) -> Read<'a> {
+    let command = Command::Import {
+        arch: arch_in(found),
+        container: container_in(alloc, found)?,
+        strict: is_set(found, "strict"),
+        format: import_format_in(found),
+    };
+    on(alloc, command, Some(path_in(found, "profile")), None)
 }

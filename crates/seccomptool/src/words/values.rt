@@ -1,300 +1,194 @@
 // The values of options and arguments, in clap's matches.
+//
+// Where an option takes some names alone, clap lets no other pass, and one that isn't given has a name of its own.
 
-ghost use Rattle.std.specs.Prelude.{◌≡◌, ◌↔◌, ℕ, List, [], IfOk, IsTrue, IfSome, IfNone, Some, codes, map, unwrap_or};
-ghost use Rattle.clap.specs.Words.{first_of, found_of, rows_of};
-ghost use Rattle.seccompiler.specs.declared.backend.TargetArch.{TargetArch};
-ghost use Rattle.seccompiler.specs.declared.layout.Layout.{Layout};
-ghost use Rattle.seccomptool.specs.Numbers.{IsNumber};
-ghost use Rattle.seccomptool.specs.Words.{AreArguments, AreRecords, AreShown, IsArch, IsDenied, IsMost, IsQuiet, IsRelation, IsListed, IsScope, IsStrict, format_text, given_arguments, given_codes, given_policies, import_format_text, layout_text, line_format_text, text_of};
-ghost use Rattle.seccomptool.specs.WordsParts.{AreCompared};
-ghost use Rattle.seccomp_warnings.specs.Codes.{code_text};
-ghost use Rattle.seccomp_warnings.specs.declared.code.Code.{Code as CodeOf};
-ghost use Rattle.seccomptool.specs.declared.compile.format.ProgramFormat.{ProgramFormat};
-ghost use Rattle.seccomptool.specs.declared.explain.format.LineFormat.{LineFormat};
-ghost use Rattle.seccomptool.specs.declared.import.format.ImportFormat.{ImportFormat};
-ghost use Rattle.seccomptool.specs.declared.words.Records.{Records};
-ghost use Rattle.seccomptool.specs.declared.words.Shown.{Shown};
-
-use super::arguments::read_arguments;
-use super::codes::read_codes;
-use super::{Records, Shown};
+use super::{Call, Inputs, Misuse};
 use crate::compile::format::ProgramFormat;
 use crate::explain::format::LineFormat;
+use crate::findings::Terms;
 use crate::import::format::ImportFormat;
 use crate::numbers::read_number;
-use crate::verify::scope::Scope;
 use clap::ArgMatches;
 use seccomp_compare::Relation;
+use seccomp_oci::{Container, Kernel, kernel_of};
 use seccomp_warnings::Code;
 use seccompiler::{Layout, TargetArch};
 use std::alloc::{AllocError, Global};
 
-// The value of an argument of this name.
-pub(super) fn text_in<'a>(found: &ArgMatches<'a>, id: &str) -> Option<&'a str>
-    ensures { first_of id.now (rows_of (found_of found.now)) ≡ text_of result }
-{
-    found.get_str(id)
+const NO_ARGUMENT: &str =
+    "an ARG is no number from -9223372036854775808 to 18446744073709551615, decimal or hexadecimal behind 0x";
+
+const NO_MOST: &str =
+    "the value of --most is no number from 0 to 18446744073709551615, decimal or hexadecimal behind 0x";
+
+// Whether an option without a value is given.
+pub(super) fn is_set(found: &ArgMatches<'_>, id: &str) -> bool {
+    matches!(found.get_str(id), Some("true"))
 }
 
-// The architecture that `--arch` names.
-pub(super) fn arch_in(found: &ArgMatches<'_>) -> Option<TargetArch>
-    ensures some { IfSome result (IsArch (rows_of (found_of found.now))) }
-    ensures none { IfNone result ((arch : TargetArch) → IsArch (rows_of (found_of found.now)) arch → ⊥) }
-{
-    match text_in(found, "arch") {
-        Some("x86_64") => Some(TargetArch::x86_64),
-        Some("amd64") => Some(TargetArch::x86_64),
-        Some("aarch64") => Some(TargetArch::aarch64),
-        Some("arm64") => Some(TargetArch::aarch64),
-        Some("riscv64") => Some(TargetArch::riscv64),
-        _ => None,
+// The path that is given, or standard input.
+pub(super) fn path_in<'a>(found: &ArgMatches<'a>, id: &str) -> &'a str {
+    found.get_str(id).unwrap_or("-")
+}
+
+pub(super) fn arch_in(found: &ArgMatches<'_>) -> TargetArch {
+    match found.get_str("arch") {
+        Some("aarch64" | "arm64") => TargetArch::aarch64,
+        Some("riscv64") => TargetArch::riscv64,
+        _ => TargetArch::x86_64,
     }
 }
 
-// The layout that `--layout` names.
-pub(super) fn layout_in(found: &ArgMatches<'_>) -> Option<Layout>
-    ensures some { IfSome result (λ layout. first_of (codes "layout") (rows_of (found_of found.now)) ≡ Some (layout_text layout)) }
-    ensures none { IfNone result ((layout : Layout) → first_of (codes "layout") (rows_of (found_of found.now)) ≡ Some (layout_text layout) → ⊥) }
-{
-    match text_in(found, "layout") {
-        Some("linear") => Some(Layout::Linear),
-        Some("tree") => Some(Layout::Tree),
-        _ => None,
+pub(super) fn layout_in(found: &ArgMatches<'_>) -> Layout {
+    match found.get_str("layout") {
+        Some("linear") => Layout::Linear,
+        _ => Layout::Tree,
     }
 }
 
-// The format that `--format` names.
-pub(super) fn format_in(found: &ArgMatches<'_>) -> Option<ProgramFormat>
-    ensures some { IfSome result (λ format. first_of (codes "format") (rows_of (found_of found.now)) ≡ Some (format_text format)) }
-    ensures none { IfNone result ((format : ProgramFormat) → first_of (codes "format") (rows_of (found_of found.now)) ≡ Some (format_text format) → ⊥) }
-{
-    match text_in(found, "format") {
-        Some("raw") => Some(ProgramFormat::Raw),
-        Some("listing") => Some(ProgramFormat::Listing),
-        Some("c") => Some(ProgramFormat::C),
-        _ => None,
+pub(super) fn format_in(found: &ArgMatches<'_>) -> ProgramFormat {
+    match found.get_str("format") {
+        Some("listing") => ProgramFormat::Listing,
+        Some("c") => ProgramFormat::C,
+        _ => ProgramFormat::Raw,
     }
 }
 
-// The form of lines that `--format` of `explain` names.
-pub(super) fn line_format_in(found: &ArgMatches<'_>) -> Option<LineFormat>
-    ensures some { IfSome result (λ format. first_of (codes "format") (rows_of (found_of found.now)) ≡ Some (line_format_text format)) }
-    ensures none { IfNone result ((format : LineFormat) → first_of (codes "format") (rows_of (found_of found.now)) ≡ Some (line_format_text format) → ⊥) }
-{
-    match text_in(found, "format") {
-        Some("path") => Some(LineFormat::Path),
-        Some("word") => Some(LineFormat::Word),
-        _ => None,
+pub(super) fn line_format_in(found: &ArgMatches<'_>) -> LineFormat {
+    match found.get_str("format") {
+        Some("word") => LineFormat::Word,
+        _ => LineFormat::Path,
     }
 }
 
-// What `--format` of `import` names.
-pub(super) fn import_format_in(found: &ArgMatches<'_>) -> Option<ImportFormat>
-    ensures some { IfSome result (λ format. first_of (codes "format") (rows_of (found_of found.now)) ≡ Some (import_format_text format)) }
-    ensures none { IfNone result ((format : ImportFormat) → first_of (codes "format") (rows_of (found_of found.now)) ≡ Some (import_format_text format) → ⊥) }
-{
-    match text_in(found, "format") {
-        Some("policy") => Some(ImportFormat::Policy),
-        Some("raw") => Some(ImportFormat::Raw),
-        _ => None,
+pub(super) fn import_format_in(found: &ArgMatches<'_>) -> ImportFormat {
+    match found.get_str("format") {
+        Some("raw") => ImportFormat::Raw,
+        _ => ImportFormat::Policy,
     }
-}
-
-// Whether the number of warnings is left out.
-pub(super) fn is_quiet(found: &ArgMatches<'_>) -> bool
-    ensures { IsQuiet (rows_of (found_of found.now)) result }
-{
-    match text_in(found, "quiet") {
-        Some("true") => true,
-        _ => false,
-    }
-}
-
-// Whether the codes are asked for.
-pub(super) fn is_listed(found: &ArgMatches<'_>) -> bool
-    ensures { IsTrue result ↔ IsListed (rows_of (found_of found.now)) }
-{
-    matches!(text_in(found, "list"), Some("true"))
 }
 
 // The codes whose warnings aren't printed.
-pub(super) fn allowed_in(
-    alloc: Global,
-    found: &ArgMatches<'_>,
-) -> Result<Option<Vec<Code>>, AllocError>
-    ensures some { IfOk result (λ o. IfSome o (λ allowed. map code_text allowed.items ≡ given_codes (rows_of (found_of found.now)))) }
-    ensures none { IfOk result (λ o. IfNone o ((allowed : List CodeOf) → map code_text allowed ≡ given_codes (rows_of (found_of found.now)) → ⊥)) }
-{
-    match found.get_strs("allow") {
-        Some(texts) => read_codes(alloc, texts),
-        None => read_codes(alloc, &[]),
+pub(super) fn allowed_in(alloc: Global, found: &ArgMatches<'_>) -> Result<Vec<Code>, AllocError> {
+    let mut allowed = Vec::new(alloc);
+    for name in found.get_strs("allow").unwrap_or(&[]) {
+        if let Some(code) = Code::by_name(name) {
+            allowed.push(code)?;
+        }
     }
-}
-
-// Whether names that the architecture hasn't are rejected.
-pub(super) fn is_strict(found: &ArgMatches<'_>) -> bool
-    ensures { IsStrict (rows_of (found_of found.now)) result }
-{
-    match text_in(found, "strict") {
-        Some("true") => true,
-        _ => false,
-    }
-}
-
-// Whether warnings are denied.
-pub(super) fn denied_in(found: &ArgMatches<'_>) -> bool
-    ensures { IsDenied (rows_of (found_of found.now)) result }
-{
-    match text_in(found, "deny-warnings") {
-        Some("true") => true,
-        _ => false,
-    }
+    Ok(allowed)
 }
 
 // The policies of `check`: standard input where none is given.
 pub(super) fn policies_in<'a>(
     alloc: Global,
     found: &ArgMatches<'a>,
-) -> Result<Vec<&'a str>, AllocError>
-    ensures { IfOk result (λ policies. map (λ p. p.now) policies.items ≡ given_policies (rows_of (found_of found.now))) }
-{
-    let mut policies = Vec::new(alloc);
-    let Some(paths) = found.get_strs("policy") else {
-        policies.push("-")?;
-        return Ok(policies);
-    };
-    policies.extend_from_slice(paths)?;
-    Ok(policies)
-}
-
-// What `show` is to print: a policy or a program, and not both.
-pub(super) fn shown_in<'a>(found: &ArgMatches<'a>) -> Option<Shown<'a>>
-    ensures some { IfSome result (AreShown (rows_of (found_of found.now))) }
-    ensures none { IfNone result ((shown : Shown) → AreShown (rows_of (found_of found.now)) shown → ⊥) }
-{
-    let Some(program) = text_in(found, "program") else {
-        return Some(Shown::Policy(policy_in(found)));
-    };
-    let None = text_in(found, "policy") else {
-        return None;
-    };
-    Some(Shown::Program(program))
-}
-
-// The path of the policy, `-` where none is given.
-fn policy_in<'a>(found: &ArgMatches<'a>) -> &'a str
-    ensures { result.now ≡ unwrap_or (first_of (codes "policy") (rows_of (found_of found.now))) (codes "-") }
-{
-    match text_in(found, "policy") {
-        Some(path) => path,
-        None => "-",
+) -> Result<Vec<Inputs<'a>>, AllocError> {
+    let mut inputs = Vec::new(alloc);
+    for path in found.get_strs("policy").unwrap_or(&["-"]) {
+        inputs.push(Inputs {
+            first: Some(*path),
+            second: None,
+        })?;
     }
+    Ok(inputs)
 }
 
-// The calls that count.
-pub(super) fn scope_in(found: &ArgMatches<'_>) -> Scope
-    ensures { IsScope (rows_of (found_of found.now)) result }
-{
-    match text_in(found, "all") {
-        Some("true") => Scope::All,
-        _ => Scope::Named,
-    }
-}
-
-// The relation that is asked for.
-pub(super) fn relation_in(found: &ArgMatches<'_>) -> Relation
-    ensures { IsRelation (rows_of (found_of found.now)) result }
-{
-    match text_in(found, "at-most") {
-        Some("true") => Relation::AtMostAsPermissive,
-        _ => Relation::Alike,
-    }
-}
-
-// The number of sets that `--most` gives.
-pub(super) fn most_in(found: &ArgMatches<'_>) -> Option<usize>
-    ensures some { IfSome result (IsMost (rows_of (found_of found.now))) }
-    ensures none { IfNone result ((most : ℕ) → IsMost (rows_of (found_of found.now)) most → ⊥) }
-{
-    sets_in(most_text(found))
-}
-
-// The value of `--most`.
-fn most_text<'a>(found: &ArgMatches<'a>) -> &'a str
-    ensures { result.now ≡ unwrap_or (first_of (codes "most") (rows_of (found_of found.now))) [] }
-{
-    match text_in(found, "most") {
-        Some(text) => text,
-        None => "",
-    }
-}
-
-// The number that a text writes.
-fn sets_in(text: &str) -> Option<usize>
-    ensures some { IfSome result (IsNumber text.now) }
-    ensures none { IfNone result ((most : ℕ) → IsNumber text.now most → ⊥) }
-{
-    let Some(most) = read_number(text) else {
-        return None;
+// On which terms two sides are compared.
+pub(super) fn terms_in(found: &ArgMatches<'_>) -> Result<Terms, Misuse> {
+    let Some(most) = read_number(found.get_str("most").unwrap_or("")) else {
+        return Err(Misuse::Told(NO_MOST));
     };
-    Some(most as usize)
+    Ok(Terms {
+        target: arch_in(found),
+        relation: if is_set(found, "at-most") {
+            Relation::AtMostAsPermissive
+        } else {
+            Relation::Alike
+        },
+        most: most as usize,
+    })
 }
 
-// The old and the new path, not both `-`.
-pub(super) fn compared_in<'a>(found: &ArgMatches<'a>) -> Option<(&'a str, &'a str)>
-    ensures some { IfSome result (λ paths. AreCompared (rows_of (found_of found.now)) paths.0.now paths.1.now) }
-    ensures none { IfNone result ((old new : List ℕ) → AreCompared (rows_of (found_of found.now)) old new → ⊥) }
-{
-    let Some(old) = text_in(found, "old") else {
-        return None;
-    };
-    let Some(new) = text_in(found, "new") else {
-        return None;
-    };
-    if old == "-" && new == "-" {
-        return None;
-    }
-    Some((old, new))
-}
-
-// The arguments that the values of ARG write.
-pub(super) fn arguments_in(found: &ArgMatches<'_>) -> Option<[u64; 6]>
-    ensures some { IfSome result (AreArguments (given_arguments (rows_of (found_of found.now)))) }
-    ensures none { IfNone result ((arguments : List ℕ) → AreArguments (given_arguments (rows_of (found_of found.now))) arguments → ⊥) }
-{
-    match found.get_strs("arguments") {
-        Some(texts) => read_arguments(texts),
-        None => read_arguments(&[]),
-    }
-}
-
-// The records that are asked about, beside a policy or a program.
-pub(super) fn records_in<'a>(found: &ArgMatches<'a>, policy: &str) -> Option<Records<'a>>
-    ensures some { IfSome result (AreRecords (rows_of (found_of found.now)) policy.now) }
-    ensures none { IfNone result ((records : Records) → AreRecords (rows_of (found_of found.now)) policy.now records → ⊥) }
-{
-    let Some(call) = text_in(found, "call") else {
-        let path = path_in(found);
-        if path == "-" && policy == "-" {
-            return None;
+// The call that is asked about, or else the path of the records; both may not be standard input, of which `both` tells.
+pub(super) fn call_in<'a>(
+    found: &ArgMatches<'a>,
+    beside: &str,
+    both: &'static str,
+) -> Result<(Option<Call<'a>>, Option<&'a str>), Misuse> {
+    let arguments = arguments_in(found)?;
+    let Some(name) = found.get_str("call") else {
+        let records = path_in(found, "records");
+        if records == "-" && beside == "-" {
+            return Err(Misuse::Told(both));
         }
-        return Some(Records::In(path));
+        return Ok((None, Some(records)));
     };
-    let None = text_in(found, "records") else {
-        return None;
-    };
-    let Some(arguments) = arguments_in(found) else {
-        return None;
-    };
-    Some(Records::Call { call, arguments })
+    if found.get_str("records").is_some() {
+        return Err(Misuse::Told("either CALL or --records is given, not both"));
+    }
+    Ok((Some(Call { name, arguments }), None))
 }
 
-// The path of the records.
-fn path_in<'a>(found: &ArgMatches<'a>) -> &'a str
-    ensures { result.now ≡ unwrap_or (first_of (codes "records") (rows_of (found_of found.now))) (codes "-") }
-{
-    match text_in(found, "records") {
-        Some(path) => path,
-        None => "-",
+// The arguments of a call, with zeros behind them.
+pub(super) fn arguments_in(found: &ArgMatches<'_>) -> Result<[u64; 6], Misuse> {
+    let mut arguments = [0; 6];
+    let texts = found.get_strs("arguments").unwrap_or(&[]);
+    for (argument, text) in arguments.iter_mut().zip(texts) {
+        match argument_of(text) {
+            Some(number) => *argument = number,
+            None => return Err(Misuse::Told(NO_ARGUMENT)),
+        }
+    }
+    Ok(arguments)
+}
+
+// The argument that a text writes, a negative one as its two's complement.
+fn argument_of(text: &str) -> Option<u64> {
+    let Some(digits) = text.strip_prefix("-") else {
+        return read_number(text);
+    };
+    let number = read_number(digits)?;
+    if number == 0 || number > 1 << 63 {
+        return None;
+    }
+    Some(u64::MAX - number + 1)
+}
+
+// The container of the profiles, where it is profiles that are given.
+pub(super) fn given_container(
+    alloc: Global,
+    found: &ArgMatches<'_>,
+) -> Result<Option<Container>, Misuse> {
+    if is_set(found, "oci") {
+        if found.get_str("filter").is_some() {
+            return Err(Misuse::Told("--filter can't be given with --oci"));
+        }
+        return Ok(Some(container_in(alloc, found)?));
+    }
+    if found.get_str("cap").is_some() || found.get_str("kernel").is_some() {
+        return Err(Misuse::Told("--cap and --kernel are for --oci"));
+    }
+    Ok(None)
+}
+
+// The container of the capabilities that `--cap` names, and of the kernel that `--kernel` names.
+pub(super) fn container_in(alloc: Global, found: &ArgMatches<'_>) -> Result<Container, Misuse> {
+    let kernel = kernel_in(found)?;
+    let mut caps = Vec::new(alloc);
+    for cap in found.get_strs("cap").unwrap_or(&[]) {
+        caps.push(String::from_str(alloc, cap)?)?;
+    }
+    Ok(Container { caps, kernel })
+}
+
+// The version that `--kernel` names, if it is given.
+fn kernel_in(found: &ArgMatches<'_>) -> Result<Option<Kernel>, Misuse> {
+    let Some(text) = found.get_str("kernel") else {
+        return Ok(None);
+    };
+    match kernel_of(text) {
+        Some(kernel) => Ok(Some(kernel)),
+        None => Err(Misuse::Told("the value of --kernel is no version of two numbers, as 6.1")),
     }
 }

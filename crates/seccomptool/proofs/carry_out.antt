@@ -1,2 +1,0 @@
--- Lemmas for the functions of `carry_out`.
-pub mod Statuses

@@ -1,2 +1,0 @@
--- Lemmas for the functions of `compat::lines`.
-pub mod CallLines

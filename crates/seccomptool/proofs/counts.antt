@@ -1,3 +1,0 @@
--- Lemmas for the functions of `counts`.
-pub mod Faultless
-pub mod TextCounts

@@ -1,0 +1,8 @@
+use Rattle.std.proofs.Common.{take}
+use Rattle.std.specs.List.{AllZip}
+use Rattle.seccomptool.specs.Explain.{IsExplainedBy}
+use Rattle.seccomptool.proofs.explain.explain_each.Given as goal
+
+-- the records so far are explained
+abbrev pub invariant-records : goal.invariant-records
+invariant-records l = AllZip (IsExplainedBy l.target l.filter) (take l.call-index l.records) l.all.items

@@ -1,0 +1,26 @@
+use Rattle.std.proofs.Common.{◌≡◌, refl, sym, ap, ◌∙◌, subst}
+use Rattle.seccompiler.specs.JsonTypes.{JsonFilter}
+use Rattle.seccompiler.specs.Policy.{IsDecision, word_of}
+use Rattle.seccomptool.specs.declared.explain.reason.Reason.{Reason}
+use Rattle.seccomptool.specs.Reasons.{IsReason}
+use Rattle.seccomptool.proofs.explain.Agreement.{reason_decides}
+use Rattle.seccomptool.proofs.explain.explain_record.Goals as goal
+
+pub returns : goal.returns
+returns c =
+    let target = c.args.target in
+    let filter = c.args.filter.now in
+    let call = c.args.call.now in
+    let reason = c.in_ok-reason.reason in
+    let same : c.as_slice-entries.result.now ≡ filter.rules = c.as_slice-entries.ensures.value
+    ∙ ap (λ (f : JsonFilter). f.rules) c.filter.view_is in
+    let why = subst (λ entries. IsReason target entries call reason) same c.in_ok-reason.ensures.reason in
+    record {
+      reason = reason;
+      is = refl;
+      why = why;
+      only = subst (λ entries. (other : Reason) → IsReason target entries call other → other ≡ reason) same c.in_ok-reason.ensures.only;
+      action = c.action_of.ensures;
+      decided = λ policy is_policy. subst (λ a. IsDecision policy call (word_of a)) (sym c.action_of.ensures)
+          (reason_decides target call filter policy is_policy reason why);
+    }

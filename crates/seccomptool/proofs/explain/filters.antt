@@ -1,2 +1,0 @@
--- Lemmas for the functions of `explain::filters`.
-pub mod TextFilters

@@ -1,0 +1,61 @@
+-- For `findings_of` and `compared`: what is found of two programs is found of whatever they stand for.
+use Rattle.std.proofs.Common.{◌≡◌, ℕ, ◌^◌, List, All, sym, subst}
+use Rattle.std.proofs.lemmas.List.Elements.{All-weaker}
+use Rattle.seccompiler.specs.declared.backend.TargetArch.{TargetArch}
+use Rattle.seccompiler.specs.declared.bpf.sock_filter.{sock_filter}
+use Rattle.seccomp_compare.specs.declared.Relation.{Relation}
+use Rattle.seccompiler.specs.Architecture.{table_of}
+use Rattle.seccompiler.specs.Machine.{IsRecord}
+use Rattle.seccomptool.specs.declared.findings.Answer.{Answer}
+use Rattle.seccomptool.specs.declared.findings.Answer.TheVariants.{Holds, Fails, Undecided}
+use Rattle.seccomptool.specs.declared.findings.Finding.{Finding}
+use Rattle.seccomptool.specs.declared.findings.Part.{Part}
+use Rattle.seccomptool.specs.declared.findings.Part.TheVariants.{Named, Unnamed, Elsewhere}
+use Rattle.seccomptool.specs.Findings.{AreFindings, AreFoundOn, ArePartsBelow, AreReturned, IsFound, IsInPart}
+use Rattle.seccomptool.specs.Rulings.{AreDecided, AreFindingsOf, Ruling, StandsFor}
+use Rattle.seccomptool.proofs.findings.Covered.{covered}
+
+module _ (target : TargetArch) (relation : Relation) (new old : List sock_filter) (by_new by_old : Ruling)
+    (of_new : StandsFor target by_new new) (of_old : StandsFor target by_old old) where
+  -- The calls of a part are records.
+  record_in : (part : Part) (r : List ℕ) → IsInPart target part r → IsRecord r
+  record_in (Named number) r own = own.0
+  record_in (Unnamed least greatest) r own = own.0
+  record_in (Elsewhere least greatest) r own = own.0
+
+  words_decided : (r : List ℕ) → IsRecord r → (new_word old_word : ℕ) → AreReturned new old r new_word old_word
+      → AreDecided target by_new by_old r new_word old_word
+  words_decided r rec new_word old_word are = (
+    of_new.decides r rec are.new_steps new_word are.new_ends,
+    of_old.decides r rec are.old_steps old_word are.old_ends,
+  )
+
+  found_decided : (part : Part) (answer : Answer) → IsFound target relation (AreReturned new old) part answer
+      → IsFound target relation (AreDecided target by_new by_old) part answer
+  found_decided part Holds found = λ r own.
+      let are = found r own in
+      (are.0, are.1, words_decided r (record_in part r own) are.0 are.1 are.2, are.3)
+  found_decided part (Fails call old_word new_word) found =
+      (found.0, words_decided call (record_in part call found.0) new_word old_word found.1, found.2)
+  found_decided part Undecided found = tt
+
+  -- It is found of them on the same parts.
+  pub decided_on : (parts : List Part) (findings : List Finding) → AreFoundOn target relation (AreReturned new old) parts findings
+      → AreFoundOn target relation (AreDecided target by_new by_old) parts findings
+  decided_on parts findings are = record {
+    parts_are = are.parts_are;
+    each = All-weaker (λ (f : Finding). IsFound target relation (AreReturned new old) f.part f.answer)
+        (λ (f : Finding). IsFound target relation (AreDecided target by_new by_old) f.part f.answer)
+        (λ f. found_decided f.part f.answer) findings are.each;
+  }
+
+  -- Where the parts are those of all calls, they are findings of both.
+  pub decided : (parts : List Part) (findings : List Finding) → ArePartsBelow (table_of target) parts (2 ^ 32)
+      → AreFoundOn target relation (AreReturned new old) parts findings → AreFindingsOf target relation by_new by_old findings
+  decided parts findings all are =
+      let on = decided_on parts findings are in
+      let own : AreFindings target relation (AreDecided target by_new by_old) findings = record {
+        parts = subst (λ ps. ArePartsBelow (table_of target) ps (2 ^ 32)) (sym on.parts_are) all;
+        each = on.each;
+      } in
+      record { are = own; holds = covered target relation (AreDecided target by_new by_old) findings own }

@@ -1,0 +1,72 @@
+-- For `carry_out` and `carry_out_each`: with which statuses commands end.
+use Rattle.std.proofs.Common.{◌≡◌, ◌∙◌, ℕ, ◌+◌, ◌≤◌, ◌<◌, List, [], ◌∷◌, ◌++◌, All, Contains, arith, get_or, inl, inr, length, refl, subst, sym, take}
+use Rattle.std.specs.Prelude.{◌⊎◌}
+use Rattle.std.specs.List.{AllZip}
+use Rattle.std.proofs.lemmas.List.{take_more}
+use Rattle.std.proofs.lemmas.List.Elements.{All-nil, All-push, All-weaker, Contains-append_left, Contains-push}
+use Rattle.std.proofs.lemmas.Slice.Zip.{all_zipped_more}
+use Rattle.seccomptool.specs.Commands.{EndWith, EndsWith, IsPerformed, trouble, verdict_status}
+use Rattle.seccomptool.specs.declared.findings.Verdict.{Verdict}
+use Rattle.seccomptool.specs.declared.findings.Verdict.TheVariants.{Same, Different, Undecided}
+use Rattle.seccomptool.specs.declared.words.Command.{Command}
+use Rattle.seccomptool.specs.declared.words.Inputs.{Inputs}
+
+-- Each verdict has a status of its own.
+one_status : (a b : Verdict) → verdict_status a ≡ verdict_status b → a ≡ b
+one_status Same Same e = refl
+one_status Same Different e = absurd cc
+one_status Same Undecided e = absurd cc
+one_status Different Same e = absurd cc
+one_status Different Different e = refl
+one_status Different Undecided e = absurd cc
+one_status Undecided Same e = absurd cc
+one_status Undecided Different e = absurd cc
+one_status Undecided Undecided e = refl
+
+-- A command that is carried out ends with the status of its verdict.
+pub performed : (command : Command) (found : Verdict) (status : ℕ) → IsPerformed command found → status ≡ verdict_status found
+    → EndsWith command status
+performed command found status is own v shown other = subst (IsPerformed command) (one_status found v (sym own ∙ shown)) is
+
+-- A command that fails ends with its own status of that.
+pub failed : (command : Command) (status : ℕ) → status ≡ trouble command → EndsWith command status
+failed command status own v shown other = absurd (other own)
+
+-- Nothing ends with 0.
+pub none_ended : (command : Command) → EndWith command [] 0
+none_ended command = record { statuses = []; each = tt; most = All-nil (λ s. s ≤ 0); reached = inl refl }
+
+-- One more, where the status behind it is the greater one of the status before it and of its own.
+module _ (command : Command) (inputs : List Inputs) (one : Inputs) (before own after : ℕ) (ended : EndWith command inputs before)
+    (ends : EndsWith command own) (above : before ≤ after) (covers : own ≤ after) (either : (after ≡ before) ⊎ (after ≡ own)) where
+  abbrev statuses : List ℕ
+  statuses = ended.statuses ++ own ∷ []
+
+  reached : (after ≡ 0) ⊎ Contains statuses after
+  reached = elim either [
+    | inl same ↦ elim ended.reached [
+      | inl zero ↦ inl (same ∙ zero)
+      | inr there ↦ inr (subst (Contains statuses) (sym same) (Contains-append_left ended.statuses (own ∷ []) before there))
+    ]
+    | inr same ↦ inr (subst (Contains statuses) (sym same) (Contains-push ended.statuses own))
+  ]
+
+  most : All (λ s. s ≤ after) statuses
+  most = All-push (λ s. s ≤ after) ended.statuses own
+      (All-weaker (λ s. s ≤ before) (λ s. s ≤ after) (λ s le. omega (arith, le, above)) ended.statuses ended.most) covers
+
+  pub one_more : EndWith command (inputs ++ one ∷ []) after
+  one_more = record {
+    statuses = statuses;
+    each = all_zipped_more (λ (one : Inputs) s. EndsWith command s) inputs ended.statuses one own ended.each ends;
+    most = most;
+    reached = reached;
+  }
+
+-- The next one of what a command is carried out on. The default is any.
+pub next_ended : (command : Command) (inputs : List Inputs) (at : ℕ) (default : Inputs) (before own after : ℕ) → at < length inputs
+    → EndWith command (take at inputs) before → EndsWith command own → before ≤ after → own ≤ after → (after ≡ before) ⊎ (after ≡ own)
+    → EndWith command (take (at + 1) inputs) after
+next_ended command inputs at default before own after room ended ends above covers either =
+    subst (λ some. EndWith command some after) (sym (take_more inputs at default room))
+    (one_more command (take at inputs) (get_or inputs at default) before own after ended ends above covers either)

@@ -1,0 +1,27 @@
+use Rattle.std.proofs.Common.{◌≤◌, arith, inl, inr, subst, take}
+use Rattle.std.proofs.lemmas.List.{take_all}
+use Rattle.seccomptool.specs.Commands.{EndWith}
+use Rattle.seccomptool.proofs.shell.Statuses.{next_ended, none_ended}
+use Rattle.seccomptool.proofs.shell.carry_out_each.Goals as goal
+
+pub loop-inputs-init : goal.loop-inputs-init
+loop-inputs-init g c = (none_ended c.args.asked.now.command, omega arith)
+
+pub loop-inputs-preserved : goal.loop-inputs-preserved
+loop-inputs-preserved g c =
+    let before = c.loop-inputs.invariant in
+    let greater = c.greater-status.ensures in
+    let own_status = c.carry_out.ensures.ended in
+    let at_most : c.greater-status.result ≤ 3 = elim greater.2 [
+      | inl same ↦ let le = before.1 in omega (arith, same, le)
+      | inr same ↦ omega (arith, same, own_status)
+    ] in (
+      next_ended c.args.asked.now.command c.args.asked.now.inputs.items c.loop-inputs.inputs-index _ c.loop-inputs.status c.carry_out.result
+          c.greater-status.result c.loop-inputs-test.true before.0 c.carry_out.ensures.performed greater.0 greater.1 greater.2,
+      at_most,
+    )
+
+pub returns-clause-each : goal.returns-clause-each
+returns-clause-each g c =
+    subst (λ inputs. EndWith c.args.asked.now.command inputs c.loop-inputs.status)
+    (take_all c.loop-inputs.inputs-index c.args.asked.now.inputs.items c.loop-inputs-test.false) c.loop-inputs.invariant.0

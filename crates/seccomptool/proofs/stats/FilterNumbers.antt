@@ -1,0 +1,32 @@
+-- For `stats_of`: what the numbers of a filter's programs mean for the value that it is of.
+use Rattle.std.proofs.Common.{◌≡◌, None, String, Global, sym, ap, ◌∙◌, subst}
+use Rattle.serde_json.specs.Data.{Data}
+use Rattle.seccompiler.specs.declared.backend.TargetArch.{TargetArch}
+use Rattle.seccompiler.specs.Architecture.{audit_word, table_of}
+use Rattle.seccompiler.specs.JsonAnswers.{HasPolicy}
+use Rattle.seccompiler.specs.Layout.{passing_steps}
+use Rattle.seccompiler.specs.Machine.{Ends}
+use Rattle.seccompiler.specs.Policy.{word_of, Filter, chain_under}
+use Rattle.seccompiler.specs.SyscallTable.{IsCallTable}
+use Rattle.seccomptool.specs.Stats.{passing_record, HasStats, IsMeasured}
+use Rattle.seccomptool.specs.declared.stats.FilterStats.{FilterStats}
+use Rattle.seccomptool.proofs.stats.PassingRecord.{is_record, its_number, its_word}
+use Rattle.seccomptool.proofs.stats.TableNumbers.{greatest_passes}
+
+-- The steps on the passing record are those of each record that no chain is for.
+pub has_stats : (target : TargetArch) → IsCallTable (table_of target) → (e : String Global × Filter) (s : FilterStats) (value : Data)
+    → IsMeasured target e s → HasPolicy target value e.1 → HasStats target s value
+has_stats target table e s value is has =
+    let arch : audit_word target ≡ audit_word e.1.target_arch = ap audit_word (sym has.2.target_arch) in
+    let none = subst (λ n. chain_under e.1.chains n ≡ None) (sym (its_number target)) (greatest_passes target table has.0 e.1 has.2) in
+    let passes = is.linear.compiled.passes.passes in
+    record {
+      policy = e.1;
+      is_policy = has;
+      linear = is.linear;
+      tree = is.tree;
+      passing = λ some r record_is own lacks.
+          let steps = (is.linear.measure.only (passing_steps e.1) (word_of e.1.mismatch_action)
+          (passes some (passing_record target) (is_record target) (its_word target ∙ arch) none)).0 in
+          subst (λ n. Ends is.linear.program r n (word_of e.1.mismatch_action)) steps (passes some r record_is (own ∙ arch) lacks);
+    }

@@ -1,2 +1,0 @@
--- Lemmas for the functions of `stats::lines`.
-pub mod MeasureLines

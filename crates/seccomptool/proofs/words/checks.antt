@@ -1,2 +1,0 @@
--- Lemmas for the functions of `words::checks`.
-pub mod AllChecks

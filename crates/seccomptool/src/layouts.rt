@@ -1,0 +1,97 @@
+// The programs of a filter in its layouts, and how many instructions fit.
+
+ghost use Rattle.std.specs.Prelude.{IfOk};
+ghost use Rattle.seccompiler.specs.Layouts.{IsCompiledIn};
+
+use crate::error::ToolError;
+use seccomp_command_line::names::push_readable;
+use seccompiler::{BackendError, BpfProgram, Layout, SeccompFilter};
+use std::alloc::{AllocError, Global};
+
+// The program of a filter in a layout.
+pub(crate) fn program_in(
+    alloc: Global,
+    filter: &SeccompFilter,
+    layout: Layout,
+) -> Result<BpfProgram, BackendError>
+    ensures { IfOk result (λ program. IsCompiledIn layout filter.now program.items) }
+{
+    filter.to_bpf_in(alloc, layout)
+}
+
+// Why a filter of this name has no program in a layout: where it is too large, with its lengths in both.
+pub(crate) fn uncompiled(
+    alloc: Global,
+    filter: &SeccompFilter,
+    name: &str,
+    layout: Layout,
+    cause: BackendError,
+) -> ToolError {
+    let BackendError::FilterTooLarge(length) = cause else {
+        return cause.into();
+    };
+    let other = other_layout(layout);
+    let Ok(fits) = length_in(alloc, filter, other) else {
+        return ToolError::OutOfMemory;
+    };
+    match room_text(alloc, name, (layout, Some(length)), (other, fits)) {
+        Ok(told) => ToolError::Fault(told),
+        Err(_) => ToolError::OutOfMemory,
+    }
+}
+
+// The length of a filter's program in a layout, where it fits.
+fn length_in(
+    alloc: Global,
+    filter: &SeccompFilter,
+    layout: Layout,
+) -> Result<Option<usize>, BackendError> {
+    match program_in(alloc, filter, layout) {
+        Ok(program) => Ok(Some(program.len())),
+        Err(BackendError::FilterTooLarge(_)) => Ok(None),
+        Err(error) => Err(error),
+    }
+}
+
+// The layout that isn't this one.
+fn other_layout(layout: Layout) -> Layout {
+    match layout {
+        Layout::Linear => Layout::Tree,
+        Layout::Tree => Layout::Linear,
+    }
+}
+
+// That the program of a filter of this name is too large in a layout, which would have so many instructions, if that is known;
+// and how many it has in another one, where it fits.
+fn room_text(
+    alloc: Global,
+    name: &str,
+    needs: (Layout, Option<usize>),
+    other: (Layout, Option<usize>),
+) -> Result<String, AllocError> {
+    let mut text = Vec::new(alloc);
+    push_readable(&mut text, name)?;
+    let layout = layout_text(needs.0);
+    let told = match needs.1 {
+        Some(length) => format!(in alloc; ": needs {length} instructions in the {layout} layout")?,
+        None => format!(in alloc; ": needs more instructions in the {layout} layout")?,
+    };
+    text.extend_from_slice(told.as_bytes())?;
+    text.extend_from_slice(b"; 4096 fit")?;
+    if let Some(length) = other.1 {
+        let layout = layout_text(other.0);
+        text.extend_from_slice(format!(in alloc; "; {length} in the {layout} layout")?.as_bytes())?;
+    }
+    match String::from_utf8(text) {
+        Ok(text) => Ok(text),
+        Err(_) => String::from_str(alloc, "too many instructions"),
+    }
+}
+
+// A layout's name.
+fn layout_text(layout: Layout) -> &'static str {
+    match layout {
+        Layout::Linear => "linear",
+        Layout::Tree => "tree",
+    }
+}

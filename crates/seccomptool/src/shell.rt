@@ -1,0 +1,228 @@
+// What the program does with its arguments: opens what a command reads, and ends with a status.
+
+ghost use Rattle.std.specs.Prelude.{◌≡◌, ◌≤◌, ◌⊎◌, IfOk};
+ghost use Rattle.std.specs.Process.{exit_status};
+ghost use Rattle.clap.specs.Words.{kind_of};
+ghost use Rattle.clap.specs.declared.error.kind.ErrorKind.TheVariants.{DisplayHelp, DisplayVersion};
+ghost use Rattle.seccomptool.specs.Commands as spec;
+ghost use Rattle.seccomptool.specs.Commands.{EndWith, EndsWith, IsPerformed, verdict_status};
+
+use crate::compile::format::ProgramFormat;
+use crate::failure::{Failure, note, tell};
+use crate::findings::Verdict;
+use crate::import::format::ImportFormat;
+use crate::output::{is_same, write_whole};
+use crate::perform::{Done, perform};
+use crate::progress::Progress;
+use crate::readable::{LineFeeds, readable};
+use crate::source::open;
+use crate::words::{Asked, Command, Inputs, read};
+use clap::error::ErrorKind;
+use std::io;
+use std::process::ExitCode;
+use std::rt::Files;
+
+/// Carries out what the arguments behind the program's name ask for, or says what is wrong with
+/// them, or writes the help or the version that they ask for. `to_terminal` says whether standard output
+/// is a terminal; `progress` gets how far comparisons are.
+pub(crate) fn answer<G: Progress>(
+    rt: &(impl Files + Input + Print + Eprint + AllocGlobal),
+    words: &[String],
+    to_terminal: bool,
+    progress: &mut G,
+) -> ExitCode
+    ensures ended { exit_status result ≤ 3 }
+{
+    match read(rt.alloc(), words) {
+        Ok(asked) => ExitCode::from(carry_out_each(rt, &asked, to_terminal, progress)),
+        Err(error) => misused(rt, &error),
+    }
+}
+
+// Tells what `clap` has to say: status 0 where that is help or the version, and it is written, and 1 where it
+// isn't; 2 where the words are no command, or memory runs out before one is known.
+fn misused(rt: &(impl Print + Eprint + AllocGlobal), error: &clap::Error) -> ExitCode
+    ensures ended { exit_status result ≤ 2 }
+    ensures shown { exit_status result ≤ 1 → (kind_of error.now ≡ DisplayHelp) ⊎ (kind_of error.now ≡ DisplayVersion) }
+{
+    match error.kind() {
+        ErrorKind::DisplayHelp => printed(rt, error),
+        ErrorKind::DisplayVersion => printed(rt, error),
+        ErrorKind::OutOfMemory => {
+            let _ = eprintln!(rt; "seccomptool: Out of memory.");
+            ExitCode::from(2)
+        }
+        _ => {
+            tell_misuse(rt, error);
+            ExitCode::from(2)
+        }
+    }
+}
+
+// Tells what is wrong with the words.
+fn tell_misuse(rt: &(impl Eprint + AllocGlobal), error: &clap::Error) {
+    let alloc = rt.alloc();
+    if let Ok(told) = format!(in alloc; "{error}") {
+        if let Ok(lines) = readable(alloc, told.as_bytes(), LineFeeds::Kept) {
+            let _ = eprint!(rt; "{lines}");
+        }
+    }
+}
+
+// Writes help or the version: status 0, or 1 where that fails.
+fn printed(rt: &(impl Print + Eprint), error: &clap::Error) -> ExitCode
+    ensures { exit_status result ≤ 1 }
+{
+    match error.print(rt) {
+        Ok(()) => ExitCode::SUCCESS,
+        Err(error) => {
+            let _ = eprintln!(rt; "seccomptool: standard output: {error}");
+            ExitCode::FAILURE
+        }
+    }
+}
+
+// Tells that the words can't be read: for want of memory, or as one of them is no text.
+pub(crate) fn unread(rt: &impl Eprint, error: &io::Error) -> ExitCode {
+    if error.kind() == io::ErrorKind::OutOfMemory {
+        let _ = eprintln!(rt; "seccomptool: Out of memory.");
+    } else {
+        let _ = eprintln!(rt; "seccomptool: the arguments aren't UTF-8");
+    }
+    ExitCode::from(2)
+}
+
+// Carries out a command on one after the other of what it is asked for: one that fails doesn't keep those behind it from being
+// carried out. The status is the greatest of theirs.
+fn carry_out_each<G: Progress>(
+    rt: &(impl Files + Input + Print + Eprint + AllocGlobal),
+    asked: &Asked<'_>,
+    to_terminal: bool,
+    progress: &mut G,
+) -> u8
+    ensures ended { result ≤ 3 }
+    ensures each { EndWith asked.now.command asked.now.inputs.items result }
+{
+    let mut status = 0;
+    for inputs in &asked.inputs {
+        status = greater(status, carry_out(rt, asked, *inputs, to_terminal, progress));
+    }
+    status
+}
+
+fn greater(first: u8, second: u8) -> u8
+    ensures { (first ≤ result) × (second ≤ result) × ((result ≡ first) ⊎ (result ≡ second)) }
+{
+    if first < second { second } else { first }
+}
+
+// Carries out a command on the files and standard input that it names. Where standard output is a terminal, no bytes of programs
+// or records are written there. A status that isn't that of a failure comes only where the command is carried out, and is that
+// of what it finds.
+fn carry_out<G: Progress>(
+    rt: &(impl Files + Input + Print + Eprint + AllocGlobal),
+    asked: &Asked<'_>,
+    inputs: Inputs<'_>,
+    to_terminal: bool,
+    progress: &mut G,
+) -> u8
+    ensures ended { result ≤ 3 }
+    ensures performed { EndsWith asked.now.command result }
+{
+    match carried_out(rt, asked, inputs, to_terminal, progress) {
+        Ok(done) => {
+            note(rt, &done.notes);
+            status_of(done.verdict)
+        }
+        Err(failure) => {
+            tell(rt, asked, inputs, &failure);
+            trouble(&asked.command)
+        }
+    }
+}
+
+fn carried_out<G: Progress>(
+    rt: &(impl Files + Input + Print + AllocGlobal),
+    asked: &Asked<'_>,
+    inputs: Inputs<'_>,
+    to_terminal: bool,
+    progress: &mut G,
+) -> Result<Done, Failure>
+    ensures { IfOk result (λ done. IsPerformed asked.now.command done.verdict) }
+{
+    let command = &asked.command;
+    if to_terminal && asked.output.is_none() && writes_bytes(command) {
+        return Err(Failure::Terminal);
+    }
+    if is_onto(rt, asked, inputs) {
+        return Err(Failure::Onto);
+    }
+    let first = open(rt, inputs.first).map_err(Failure::First)?;
+    let second = open(rt, inputs.second).map_err(Failure::Second)?;
+    let Some(path) = asked.output else {
+        let mut out = io::writer(rt);
+        return perform(
+            rt.alloc(),
+            command,
+            inputs,
+            first,
+            second,
+            &mut out,
+            progress,
+        );
+    };
+    let mut bytes = Vec::new(rt.alloc());
+    let done = perform(
+        rt.alloc(),
+        command,
+        inputs,
+        first,
+        second,
+        &mut bytes,
+        progress,
+    )?;
+    match write_whole(rt, path, &bytes) {
+        Ok(()) => Ok(done),
+        Err(error) => Err(Failure::Output(error)),
+    }
+}
+
+// Whether the file that is written is the one that is read.
+fn is_onto(rt: &(impl Files + AllocGlobal), asked: &Asked<'_>, inputs: Inputs<'_>) -> bool {
+    match (inputs.first, asked.output) {
+        (Some(first), Some(output)) => first != "-" && is_same(rt, first, output),
+        _ => false,
+    }
+}
+
+// Whether a command writes bytes that are no text.
+pub(crate) fn writes_bytes(command: &Command<'_>) -> bool {
+    match command {
+        Command::Compile { format, .. } => matches!(format, ProgramFormat::Raw),
+        Command::Import { format, .. } => matches!(format, ImportFormat::Raw),
+        Command::Record { .. } => true,
+        _ => false,
+    }
+}
+
+// The status of what a command finds.
+fn status_of(verdict: Verdict) -> u8
+    ensures { result ≡ verdict_status verdict }
+{
+    match verdict {
+        Verdict::Same => 0,
+        Verdict::Different => 1,
+        Verdict::Undecided => 3,
+    }
+}
+
+// The status of a command that fails.
+fn trouble(command: &Command<'_>) -> u8
+    ensures { result ≡ spec.trouble command.now }
+{
+    match command {
+        Command::Diff { .. } => 2,
+        Command::Verify { .. } => 2,
+        _ => 1,
+    }
+}

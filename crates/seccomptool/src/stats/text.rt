@@ -1,0 +1,58 @@
+// The numbers of programs, in lines.
+
+use crate::stats::{FilterStats, Measure};
+use seccomp_command_line::names::push_readable;
+use std::alloc::{AllocError, Global};
+
+/// The lines of filters' numbers. For each filter come three lines:
+///
+/// ```text
+/// filter NAME
+/// linear: LENGTH instructions, at most MOST steps, PASSING passing
+/// tree: LENGTH instructions, at most MOST steps, PASSING passing
+/// ```
+///
+/// In NAME the control characters, those from U+0080 to U+009F too, and the backslash are written as
+/// `\x` and two lower-case hexadecimal digits for each of their bytes, all others as they are. The
+/// numbers are decimal. MOST is the greatest number of instructions on a way through the program from
+/// its first instruction to a return, whatever its tests would say: no record takes more steps, and it
+/// isn't asked whether one takes as many. PASSING is the number of steps on the record of call
+/// 4294967295, which no architecture has, with arguments that are 0. In the linear layout each call that
+/// the filter doesn't list takes exactly as many, if it lists any; in the tree another one may take more
+/// or fewer.
+pub(crate) fn filters_text(alloc: Global, all: &[FilterStats]) -> Result<Vec<u8>, AllocError> {
+    let mut text = Vec::new(alloc);
+    for filter in all {
+        text.extend_from_slice(b"filter ")?;
+        push_readable(&mut text, filter.name.as_str())?;
+        text.push(b'\n')?;
+        push_measure(alloc, &mut text, "linear", filter.linear)?;
+        push_measure(alloc, &mut text, "tree", filter.tree)?;
+    }
+    Ok(text)
+}
+
+/// The line of the numbers of a profile's program.
+pub(crate) fn profile_text(alloc: Global, measure: Measure) -> Result<Vec<u8>, AllocError> {
+    let mut text = Vec::new(alloc);
+    push_measure(alloc, &mut text, "profile", measure)?;
+    Ok(text)
+}
+
+// Adds the line of a program's numbers, behind a name.
+fn push_measure(
+    alloc: Global,
+    text: &mut Vec<u8>,
+    front: &str,
+    measure: Measure,
+) -> Result<(), AllocError> {
+    let Measure {
+        length,
+        most,
+        passing,
+    } = measure;
+    let line = format!(in alloc;
+        "{front}: {length} instructions, at most {most} steps, {passing} passing\n"
+    )?;
+    text.extend_from_slice(line.as_bytes())
+}

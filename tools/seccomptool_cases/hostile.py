@@ -1,0 +1,120 @@
+"""How text from outside is written that steers a terminal or isn't seen there: in each place of each command."""
+
+import json
+import shlex
+
+from program_cases import FRONTEND
+
+from .compile import TREE, listed
+from .diff import policy
+from .forms import INPUT, LOGS, MISSING, TOOL, Case, rejects, writes
+from .imports import base, call, entry, profile
+from .imports import policy as imported
+from .records import X86_64, record_of
+from .show import LOGS_SHOWN
+from .stats import LOGS_STEPS
+
+# Control characters, marks and embeddings of the direction of writing, and characters without a width; and then what isn't hostile.
+HOSTILE = "\x1b\n\x7f\u0085\u009b\u061c\u200b\u200c\u200d\u200e\u200f\u2028\u202a\u202b\u202c\u202d\u202e\u2060\u2066\u2067\u2068\u2069\ufeff"
+HARMLESS = "\u00b5\u0627\u2027\u202f\u2065\u206a\u200a\u2010\u00ad\U0001f600"
+
+# The same without what is white space, which `clap` writes in quotes as Rust does.
+UNQUOTED = "".join(it for it in HOSTILE if not it.isspace())
+
+
+def told(text):
+    """Returns a text as it is written for people."""
+    return "".join("".join(f"\\x{byte:02x}" for byte in it.encode()) if it in HOSTILE else it for it in text)
+
+
+def named(text):
+    """Returns the policy of one filter of this name, without entries."""
+    return LOGS.replace('"a"', json.dumps(text))
+
+
+# Names of filters, of calls and of files, and words for them.
+NAMES = [f"a{it}b" for it in HOSTILE + HARMLESS] + [HOSTILE, "\x1b[2J\x1b]0;title\x07"]
+FIRST = "a\x1b[2Jb\u202e\u200b"
+WORD = shlex.quote(FIRST)
+
+FILES = {
+    f"{FIRST}.json": LOGS,
+    f"{FIRST}.bpf": b"\0",
+    "hostile-filter.json": named(FIRST),
+    "hostile-bad.json": '{"a":1}',
+    "hostile.bpf": TREE,
+}
+
+NO_FILTER = f"No filter has this name: {told(FIRST)}.\n"
+NO_CALL = f"No call of x86_64 has this name or number: {told(FIRST)}.\n"
+BAD_CALL = FRONTEND + f"Invalid syscall name: {told(FIRST)} for given arch: x86_64.\n"
+OF_BAD_CALL = policy('{"syscall":' + json.dumps(FIRST) + "}")
+WRONG = FRONTEND + f"Json filter has a wrong shape: {told(FIRST)}.\n"
+
+# The commands that read a file, and those that read two.
+OF_ONE = ("compile", "show", "show --program", "check", "check --oci", "explain", "run", "stats", "stats --oci", "compat", "import")
+CALLED = ("explain", "run")
+
+
+def missing(words, status=1):
+    """Returns the case of a file that isn't there."""
+    return Case(words, status, "", f"{TOOL}{told(FIRST)}: {MISSING}")
+
+
+CASES = [
+    # A filter's name, in what is written.
+    *[writes("show --layout linear", named(it), LOGS_SHOWN.replace("filter 4 a", "filter 4 " + told(it)))
+      for it in NAMES if "\\" not in it],
+    *[writes("stats", named(it), LOGS_STEPS.replace("filter a", "filter " + told(it))) for it in NAMES],
+    writes("compile -q --format listing", named(FIRST), listed(told(FIRST), TREE)),
+    writes(f"compile -q --format listing -f {WORD}", named(FIRST), listed(told(FIRST), TREE)),
+    writes("explain hostile-filter.json", record_of(1, X86_64), "log: no entry of call 1\n"),
+    Case("diff -q hostile-filter.json hostile-filter.json", 0, f"filter {told(FIRST)}: same\n", ""),
+    Case("diff -q hostile-filter.json logs.json", 1, f"filter {told(FIRST)}: only in OLD\nfilter a: only in NEW\n", ""),
+    Case("diff -q logs.json hostile-filter.json", 1, f"filter a: only in OLD\nfilter {told(FIRST)}: only in NEW\n", ""),
+    Case("verify hostile-filter.json hostile.bpf", 0, f"filter {told(FIRST)}: same\n..", ""),
+    writes("compat", policy('{"syscall":"read"},{"syscall":"read","args":[{"index":0,"type":"dword","op":"eq","val":5}]}')
+           .replace('"a"', json.dumps(FIRST)), f"read {told(FIRST)}\n"),
+    *[writes("check", policy("", default='"allow"', match='"log"').replace('"a"', json.dumps(it)),
+             f"{INPUT[len(TOOL):]}{told(it)}.mismatch_action: warning [allows-by-default]: ..") for it in NAMES],
+    # In what is wrong.
+    *[rejects(f"{it} -f {WORD} logs.json", "", NO_FILTER, TOOL + "logs.json: ") for it in ("compile -q",)],
+    rejects(f"explain -f {WORD} logs.json read", "", NO_FILTER, TOOL + "logs.json: "),
+    Case(f"verify -f {WORD} logs.json hostile.bpf", 2, "", f"{TOOL}logs.json: {NO_FILTER}"),
+    Case(f"diff -f {WORD} logs.json logs.json", 2, "", TOOL + NO_FILTER),
+    *[rejects(f"compile -q -f {shlex.quote(it)} logs.json", "", f"No filter has this name: {told(it)}.\n", TOOL + "logs.json: ")
+      for it in NAMES],
+    rejects("compile", named(FIRST)[:-1] + "," + LOGS[1:], f"Name one of its filters by --filter: a, {told(FIRST)}.\n"),
+    *[rejects(it, '{' + json.dumps(FIRST) + ':{}}', WRONG) for it in ("compile", "show", "stats", "compat")],
+    *[rejects(it, OF_BAD_CALL, BAD_CALL) for it in ("compile", "show", "stats", "compat")],
+    *[rejects("stats", policy('{"syscall":' + json.dumps(it) + "}"),
+              FRONTEND + f"Invalid syscall name: {told(it)} for given arch: x86_64.\n") for it in NAMES],
+    Case("diff -q logs.json -", 2, "", INPUT + BAD_CALL, OF_BAD_CALL),
+    Case("verify - hostile.bpf", 2, "", INPUT + BAD_CALL, OF_BAD_CALL),
+    # A call that is asked for.
+    *[rejects(f"{it} {WORD}", "", NO_CALL, TOOL) for it in ("record", "explain logs.json", "run hostile.bpf")],
+    *[rejects(f"record {shlex.quote(it)}", "", f"No call of x86_64 has this name or number: {told(it)}.\n", TOOL) for it in NAMES],
+    # A profile's names and values.
+    *[Case("import", 0, imported(base()),
+           f"{INPUT}names of no system call of x86_64, left out (1): {told(it)}\n", json.dumps(profile(entry("") | {"names": [it]})))
+      for it in NAMES],
+    *[rejects("import --strict", json.dumps(profile(entry("") | {"names": [it]})),
+              f"names of no system call of x86_64 (1): {told(it)}\n") for it in NAMES],
+    # The path of a file.
+    *[missing(f"{it} {WORD}") for it in OF_ONE if it not in CALLED], *[missing(f"{it} {WORD} read") for it in CALLED],
+    missing(f"explain --records {WORD} logs.json"), missing(f"run --records {WORD} hostile.bpf"),
+    missing(f"diff {WORD} logs.json", 2), missing(f"diff logs.json {WORD}", 2),
+    missing(f"verify {WORD} hostile.bpf", 2), missing(f"verify logs.json {WORD}", 2),
+    *[rejects(f"check {shlex.quote(it)}", "", MISSING, f"{TOOL}{told(it)}: ") for it in NAMES],
+    rejects(f"compile -q logs.json -o {WORD}/{WORD}", "", MISSING, f"{TOOL}{told(FIRST)}/{told(FIRST)}: "),
+    rejects(f"run {WORD}.bpf read", "", "..", f"{TOOL}{told(FIRST)}.bpf: "),
+    writes(f"compile -q {WORD}.json", "", TREE),
+    # Words that are no command.
+    *[Case(f"a{it}b", 2, "", f"error: unrecognized subcommand 'a{told(it)}b'\n..") for it in UNQUOTED],
+    Case(f"{WORD}", 2, "", f"error: unrecognized subcommand '{told(FIRST)}'\n.."),
+    *[Case(f"{it} -a {WORD}", 2, "", f"error: invalid value '{told(FIRST)}' for '--arch <ARCH>'\n..")
+      for it in ("compile", "show", "check", "explain", "run", "stats", "record", "diff", "verify", "compat", "import")],
+    *[Case(f"{it} --{WORD}", 2, "", f"error: unexpected argument '--{told(FIRST)}' found\n..")
+      for it in ("compile", "show", "check", "explain", "run", "stats", "record", "diff", "verify", "compat", "import")],
+    Case(f"check --allow {WORD}", 2, "", f"error: invalid value '{told(FIRST)}' for '--allow <CODE>'\n.."),
+]

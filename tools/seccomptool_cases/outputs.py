@@ -1,0 +1,45 @@
+"""Where `compile` writes: standard output, or a file that is replaced whole or not at all."""
+
+from program_cases import FRONTEND
+
+from .compile import TREE
+from .forms import FULL, LOGS, MISSING, OUTPUT, TOOL, Case, rejects, writes
+
+FILES = {"read.json": LOGS}
+
+ONTO = "the program isn't written onto its policy\n"
+
+
+def beside(name, before, words, then, status=0, output="", told=""):
+    """Returns the case of words in a folder of this name that has a file `older`, and of what is looked at behind them."""
+    return Case(f"--version > /dev/null && mkdir {name} && cd {name} && echo older > older && cp ../read.json . && {before}"
+                f" ../seccomptool compile -q {words}; status=$?; {then}; cd .. && rm -r {name} && (exit $status)",
+                status, output, told)
+
+
+CASES = [
+    # `-` is standard output.
+    writes("compile -q logs.json -o -", "", TREE),
+    rejects("compile -q logs.json --output=- > /dev/full", "", FULL, OUTPUT),
+    # A file is replaced whole and keeps its permissions, also where a link leads to it, and nothing is left beside it.
+    beside("replaced", "chmod 640 older &&", "read.json -o older", "stat -c %a older; ls",
+           0, "640\nolder\nread.json\n"),
+    beside("linked", "ln -s older link &&", "read.json -o link", "readlink link; wc -c < older", 0, f"older\n{len(TREE)}\n"),
+    beside("dangling", "ln -s newer link &&", "read.json -o link", "wc -c < link", 0, f"{len(TREE)}\n"),
+    beside("taken", "touch older.0.new &&", "read.json -o older", "ls; wc -c < older", 0, f"older\nolder.0.new\nread.json\n{len(TREE)}\n"),
+    beside("made", "", "read.json -o made.bpf", "ls; wc -c < made.bpf", 0, f"made.bpf\nolder\nread.json\n{len(TREE)}\n"),
+    # An older file stays where anything fails, and nothing is left beside it.
+    beside("faulty", "", "../no-json.json -o older", "ls; cat older", 1, "older\nread.json\nolder\n",
+           TOOL + "../no-json.json: " + FRONTEND + "Error parsing Json: .."),
+    beside("unnamed", "", "-f b read.json -o older", "ls; cat older", 1, "older\nread.json\nolder\n",
+           TOOL + "read.json: No filter has this name: b.\n"),
+    beside("nowhere", "", "read.json -o missing/older", "ls; cat older", 1, "older\nread.json\nolder\n",
+           TOOL + "missing/older: " + MISSING),
+    # A program isn't written onto its policy, by whichever path.
+    *[beside(f"onto-{number}", "ln -s read.json link &&", f"{policy} -o {output}", "cmp read.json ../read.json; ls", 1,
+             "link\nolder\nread.json\n", TOOL + f"{output}: " + ONTO)
+      for number, (policy, output) in enumerate([
+          ("read.json", "read.json"), ("read.json", "./read.json"), ("read.json", "../onto-2/read.json"), ("link", "read.json"),
+          ("read.json", "link")])],
+    beside("input", "", "- -o read.json < ../read.json", "wc -c < read.json", 0, f"{len(TREE)}\n"),
+]

@@ -4,7 +4,7 @@ use Rattle.core.specs.Simd.{first_chunks}
 use Rattle.std.specs.List.{AllZip}
 use Rattle.seccompiler.specs.declared.backend.TargetArch.{TargetArch}
 use Rattle.seccompiler.specs.declared.bpf.sock_filter.{sock_filter}
-use Rattle.seccompiler.specs.declared.layout.Layout.{Layout}
+use Rattle.seccomp_tree.specs.declared.layout.Layout.{Layout}
 use Rattle.seccompiler.specs.JsonAnswers.{OfValue}
 use Rattle.seccompiler.specs.Machine.{IsChecked}
 use Rattle.seccomp_oci.specs.Types.{Container}

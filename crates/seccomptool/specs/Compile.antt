@@ -6,8 +6,8 @@ use Rattle.std.specs.declared.alloc.Global.{Global}
 use Rattle.serde_json.specs.Data.{Data}
 use Rattle.seccompiler.specs.declared.backend.TargetArch.{TargetArch}
 use Rattle.seccompiler.specs.declared.bpf.sock_filter.{sock_filter}
-use Rattle.seccompiler.specs.declared.layout.Layout.{Layout}
-use Rattle.seccompiler.specs.Layouts.{IsCompiledIn}
+use Rattle.seccomp_tree.specs.declared.layout.Layout.{Layout}
+use Rattle.seccomp_tree.specs.Layouts.{IsCompiledIn}
 use Rattle.seccompiler.specs.JsonAnswers.{HasPolicy, OfValue}
 use Rattle.seccompiler.specs.JsonShape.{Under}
 use Rattle.seccompiler.specs.Policy.{Filter}

@@ -4,10 +4,10 @@ use Rattle.std.specs.declared.alloc.Global.{Global}
 use Rattle.serde_json.specs.Data.{Data}
 use Rattle.seccompiler.specs.declared.backend.TargetArch.{TargetArch}
 use Rattle.seccompiler.specs.declared.bpf.sock_filter.{sock_filter}
-use Rattle.seccompiler.specs.declared.layout.Layout.{Layout}
-use Rattle.seccompiler.specs.declared.layout.Layout.TheVariants.{Linear, Tree}
+use Rattle.seccomp_tree.specs.declared.layout.Layout.{Layout}
+use Rattle.seccomp_tree.specs.declared.layout.Layout.TheVariants.{Linear, Tree}
 use Rattle.seccompiler.specs.Architecture.{audit_word}
-use Rattle.seccompiler.specs.Layouts.{IsCompiledIn}
+use Rattle.seccomp_tree.specs.Layouts.{IsCompiledIn}
 use Rattle.seccompiler.specs.Policy.{word_of, Filter, chain_under}
 use Rattle.seccompiler.specs.JsonAnswers.{HasPolicy}
 use Rattle.seccompiler.specs.Machine.{Ends, IsRecord, word_at}

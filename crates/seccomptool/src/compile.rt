@@ -12,7 +12,8 @@ use crate::chosen::chosen_name;
 pub(crate) use crate::compile::text::program_text;
 use crate::error::ToolError;
 use crate::layouts::{program_in, uncompiled};
-use seccompiler::{BpfProgram, JsonCompiler, Layout, TargetArch};
+use seccomp_tree::Layout;
+use seccompiler::{BpfProgram, JsonCompiler, TargetArch};
 use std::alloc::Global;
 
 /// A filter's program.

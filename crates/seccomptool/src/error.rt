@@ -2,6 +2,7 @@
 
 use crate::run::fault::ProgramFault;
 use seccomp_oci::ImportError;
+use seccomp_tree::FilterError;
 use seccompiler::json::JsonFrontendError;
 use seccompiler::{BackendError, TargetArch};
 use std::alloc::{AllocError, AllocFailed};
@@ -24,6 +25,8 @@ pub enum ToolError {
     UnknownCall(String, TargetArch),
     /// The policy has a fault that has a place; the text names the place, what stands there and what may.
     Fault(String),
+    /// A filter would have more than 4096 instructions as a tree.
+    TreeTooLarge,
     /// The program can't be read, or may not be run.
     Program(ProgramFault),
     /// A profile isn't imported.
@@ -48,6 +51,9 @@ impl fmt::Display for ToolError {
                 write!(f, "No call of {arch} has this name or number: {call}.")
             }
             ToolError::Fault(told) => f.write_str(told.as_str()),
+            ToolError::TreeTooLarge => {
+                f.write_str("A filter needs more than 4096 instructions in the tree layout.")
+            }
             ToolError::Program(fault) => write!(f, "{fault}"),
             ToolError::Import(fault) => write!(f, "{fault}"),
             ToolError::NewImport(fault) => write!(f, "{fault}"),
@@ -81,6 +87,20 @@ impl From<BackendError> for ToolError {
 
     fn from(refusal: BackendError) -> ToolError {
         seccompiler::Error::from(refusal).into()
+    }
+}
+
+/// As the library's root answers it, but for a tree.
+impl From<FilterError> for ToolError {
+    fn from(refusal: FilterError) -> ToolError {
+        match refusal {
+            FilterError::InvalidSyscallNumber(number) => {
+                BackendError::InvalidSyscallNumber(number).into()
+            }
+            FilterError::FilterTooLarge(length) => BackendError::FilterTooLarge(length).into(),
+            FilterError::TreeTooLarge => ToolError::TreeTooLarge,
+            FilterError::OutOfMemory => ToolError::OutOfMemory,
+        }
     }
 }
 

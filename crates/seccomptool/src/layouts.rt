@@ -1,11 +1,12 @@
 // The programs of a filter in its layouts, and how many instructions fit.
 
 ghost use Rattle.std.specs.Prelude.{IfOk};
-ghost use Rattle.seccompiler.specs.Layouts.{IsCompiledIn};
+ghost use Rattle.seccomp_tree.specs.Layouts.{IsCompiledIn};
 
 use crate::error::ToolError;
 use seccomp_command_line::names::push_readable;
-use seccompiler::{BackendError, BpfProgram, Layout, SeccompFilter};
+use seccomp_tree::{FilterError, Layout, to_bpf_in};
+use seccompiler::{BpfProgram, SeccompFilter};
 use std::alloc::{AllocError, Global};
 
 // The program of a filter in a layout.
@@ -13,42 +14,44 @@ pub(crate) fn program_in(
     alloc: Global,
     filter: &SeccompFilter,
     layout: Layout,
-) -> Result<BpfProgram, BackendError>
+) -> Result<BpfProgram, FilterError>
     ensures { IfOk result (λ program. IsCompiledIn layout filter.now program.items) }
 {
-    filter.to_bpf_in(alloc, layout)
+    to_bpf_in(alloc, filter, layout)
 }
 
-// Why a filter of this name has no program in a layout: where it is too large, with its lengths in both.
+// Why a filter of this name has no program in a layout: if it is too large, with its length in the other one.
 pub(crate) fn uncompiled(
     alloc: Global,
     filter: &SeccompFilter,
     name: &str,
     layout: Layout,
-    cause: BackendError,
+    cause: FilterError,
 ) -> ToolError {
-    let BackendError::FilterTooLarge(length) = cause else {
-        return cause.into();
+    let needs = match cause {
+        FilterError::FilterTooLarge(length) => Some(length),
+        FilterError::TreeTooLarge => None,
+        cause => return cause.into(),
     };
     let other = other_layout(layout);
     let Ok(fits) = length_in(alloc, filter, other) else {
         return ToolError::OutOfMemory;
     };
-    match room_text(alloc, name, (layout, Some(length)), (other, fits)) {
+    match room_text(alloc, name, (layout, needs), (other, fits)) {
         Ok(told) => ToolError::Fault(told),
         Err(_) => ToolError::OutOfMemory,
     }
 }
 
-// The length of a filter's program in a layout, where it fits.
+// The length of a filter's program in a layout, if it fits.
 fn length_in(
     alloc: Global,
     filter: &SeccompFilter,
     layout: Layout,
-) -> Result<Option<usize>, BackendError> {
+) -> Result<Option<usize>, FilterError> {
     match program_in(alloc, filter, layout) {
         Ok(program) => Ok(Some(program.len())),
-        Err(BackendError::FilterTooLarge(_)) => Ok(None),
+        Err(FilterError::FilterTooLarge(_) | FilterError::TreeTooLarge) => Ok(None),
         Err(error) => Err(error),
     }
 }
@@ -73,11 +76,12 @@ fn room_text(
     push_readable(&mut text, name)?;
     let layout = layout_text(needs.0);
     let told = match needs.1 {
-        Some(length) => format!(in alloc; ": needs {length} instructions in the {layout} layout")?,
-        None => format!(in alloc; ": needs more instructions in the {layout} layout")?,
+        Some(length) => {
+            format!(in alloc; ": needs {length} instructions in the {layout} layout; 4096 fit")?
+        }
+        None => format!(in alloc; ": needs more than 4096 instructions in the {layout} layout")?,
     };
     text.extend_from_slice(told.as_bytes())?;
-    text.extend_from_slice(b"; 4096 fit")?;
     if let Some(length) = other.1 {
         let layout = layout_text(other.0);
         text.extend_from_slice(format!(in alloc; "; {length} in the {layout} layout")?.as_bytes())?;

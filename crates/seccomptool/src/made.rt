@@ -38,7 +38,8 @@ use crate::verify::verify_of;
 use crate::words::{Call, Inputs, Shown};
 use seccomp_oci::Container;
 use seccomp_warnings::Code;
-use seccompiler::{Layout, TargetArch};
+use seccomp_tree::Layout;
+use seccompiler::TargetArch;
 use std::alloc::Global;
 
 /// What a command makes of the texts that it is given.

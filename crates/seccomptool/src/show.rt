@@ -15,7 +15,8 @@ use crate::compile::NamedProgram;
 use crate::error::ToolError;
 use crate::layouts::program_in;
 pub(crate) use crate::show::text::{program_text, programs_text};
-use seccompiler::{BackendError, JsonCompiler, Layout, SeccompFilter, TargetArch};
+use seccomp_tree::{FilterError, Layout};
+use seccompiler::{JsonCompiler, SeccompFilter, TargetArch};
 use std::alloc::Global;
 use std::collections::BTreeMap;
 
@@ -23,8 +24,8 @@ use std::collections::BTreeMap;
 ///
 /// # Errors
 ///
-/// The first of these: `Library` with what `JsonCompiler::policies_of` rejects the text for; `Library` with `FilterTooLarge` of the
-/// least name whose program would have more than 4096 instructions in this layout. `OutOfMemory` comes in place of any
+/// The first of these: `Library` with what `JsonCompiler::policies_of` rejects the text for; `Library` with `FilterTooLarge`, or
+/// `TreeTooLarge`, of the least name whose program would have more than 4096 instructions in this layout. `OutOfMemory` comes in place of any
 /// of these where memory runs out.
 pub fn programs_in(
     alloc: Global,
@@ -43,7 +44,7 @@ fn compiled(
     alloc: Global,
     layout: Layout,
     filters: BTreeMap<String, SeccompFilter>,
-) -> Result<Vec<NamedProgram>, BackendError>
+) -> Result<Vec<NamedProgram>, FilterError>
     ensures programs { IfOk result (λ programs. AllZip (IsCompiledAs layout) filters.entries programs.items) }
     ensures ordered { IsStrictlySortedBy string_cmp (keys_of filters.entries) }
 {

@@ -18,7 +18,8 @@ pub use crate::stats::measure::Measure;
 use crate::stats::measure::measure_of;
 pub(crate) use crate::stats::text::{filters_text, profile_text};
 use seccomp_oci::Container;
-use seccompiler::{BackendError, JsonCompiler, Layout, SeccompFilter, SyscallTable, TargetArch};
+use seccomp_tree::{FilterError, Layout};
+use seccompiler::{JsonCompiler, SeccompFilter, SyscallTable, TargetArch};
 use std::alloc::Global;
 use std::collections::BTreeMap;
 
@@ -74,7 +75,7 @@ fn measured(
     alloc: Global,
     target: TargetArch,
     filters: BTreeMap<String, SeccompFilter>,
-) -> Result<Vec<FilterStats>, BackendError>
+) -> Result<Vec<FilterStats>, FilterError>
     ensures measured { IfOk result (λ all. AllZip (IsMeasured target) filters.entries all.items) }
     ensures ordered { IsStrictlySortedBy string_cmp (keys_of filters.entries) }
 {
@@ -93,7 +94,7 @@ fn measure_in(
     target: TargetArch,
     filter: &SeccompFilter,
     layout: Layout,
-) -> Result<Measure, BackendError>
+) -> Result<Measure, FilterError>
     ensures { IfOk result (IsMeasureIn layout target filter.now) }
 {
     let program = program_in(alloc, filter, layout)?;

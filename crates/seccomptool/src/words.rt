@@ -15,7 +15,8 @@ use crate::words::program::program;
 use clap::error::ErrorKind;
 use seccomp_oci::Container;
 use seccomp_warnings::Code;
-use seccompiler::{Layout, TargetArch};
+use seccomp_tree::Layout;
+use seccompiler::TargetArch;
 use std::alloc::{AllocError, AllocFailed, Global};
 
 /// A command of the program, with its options.

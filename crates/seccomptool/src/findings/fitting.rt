@@ -5,7 +5,8 @@ ghost use Rattle.seccompiler.specs.declared.backend.TargetArch.{TargetArch};
 ghost use Rattle.seccomptool.specs.Rulings.{StandsFor, of_filter};
 
 use crate::error::ToolError;
-use seccompiler::{BackendError, BpfProgram, SeccompFilter};
+use seccomp_tree::fitting_bpf;
+use seccompiler::{BpfProgram, SeccompFilter};
 use std::alloc::Global;
 
 /// The program of a filter as a tree where that fits, else in the linear layout.
@@ -15,9 +16,5 @@ pub(crate) fn fitting_program(
 ) -> Result<BpfProgram, ToolError>
     ensures { IfOk result (λ program. (target : TargetArch) → StandsFor target (of_filter filter.now) program.items) }
 {
-    match filter.to_tree_bpf(alloc) {
-        Ok(program) => Ok(program),
-        Err(BackendError::FilterTooLarge(_)) => Ok(filter.to_bpf(alloc)?),
-        Err(error) => Err(error.into()),
-    }
+    Ok(fitting_bpf(alloc, filter)?)
 }

@@ -12,7 +12,8 @@ use clap::ArgMatches;
 use seccomp_compare::Relation;
 use seccomp_oci::{Container, Kernel, kernel_of};
 use seccomp_warnings::Code;
-use seccompiler::{Layout, TargetArch};
+use seccomp_tree::Layout;
+use seccompiler::TargetArch;
 use std::alloc::{AllocError, Global};
 
 const NO_ARGUMENT: &str =

@@ -1,11 +1,13 @@
+use Rattle.seccomp_tree.specs.Layouts.{IsFitting, as_linear, as_tree}
+use Rattle.seccomptool.specs.Rulings.{StandsFor, of_filter}
 use Rattle.seccomptool.proofs.findings.Programs.{stands_for}
 use Rattle.seccomptool.proofs.findings.fitting.fitting_program.Goals as goal
 
-pub returns-in_ok-to_bpf-in-Err-FilterTooLarge : goal.returns-in_ok-to_bpf-in-Err-FilterTooLarge
-returns-in_ok-to_bpf-in-Err-FilterTooLarge c =
-    let is = c.in_ok-to_bpf-in-Err-FilterTooLarge.ensures.compiled in
-    stands_for c.args.filter.now c.in_ok-to_bpf-in-Err-FilterTooLarge.field-0.items is.checked is.decides
-
-pub returns-in-Ok : goal.returns-in-Ok
-returns-in-Ok c =
-    let is = c.in-Ok.ensures.compiled in stands_for c.args.filter.now c.in-Ok.program.items is.checked is.decides
+pub returns : goal.returns
+returns c =
+    let f = c.args.filter.now in
+    let p = c.in_ok-fitting_bpf.field-0.items in
+    λ target. elim c.in_ok-fitting_bpf.ensures.fitting [
+      | as_tree is ↦ stands_for f p is.tree.checked is.decides target
+      | as_linear large is ↦ stands_for f p is.checked is.decides target
+    ]

@@ -65,7 +65,8 @@ CASES = [
     Case("diff without-filters.json without-filters.json", 0, "", ""),
     Case("diff - one-warning.json", 0, "filter a: same\n", noted(INPUT, 1) + noted(f"{TOOL}one-warning.json: ", 1), LOGS),
     Case("diff three-warnings.json -", 1, "filter a: ..", noted(f"{TOOL}three-warnings.json: ", 3) + noted(INPUT, 1), LOGS),
-    Case("diff --most 0 one-warning.json one-warning.json", 3, "filter a: undecided\n..", 2 * noted(f"{TOOL}one-warning.json: ", 1)),
+    Case("diff --most 0 one-warning.json three-warnings.json", 3, "filter a: undecided\n..",
+         noted(f"{TOOL}one-warning.json: ", 1) + noted(f"{TOOL}three-warnings.json: ", 3)),
     Case("compile -o /dev/null three-warnings.json", 0, "", noted(f"{TOOL}three-warnings.json: ", 3)),
     # Where a command fails there is its error alone.
     rejects("compile one-warning.json > /dev/full", "", FULL, OUTPUT),

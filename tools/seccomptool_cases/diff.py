@@ -13,6 +13,15 @@ def policy(entries, default='"log"', match='"allow"', name="a"):
     return f'{{"{name}":{{"mismatch_action":{default},"match_action":{match},"filter":[{entries}]}}}}'
 
 
+def masked(place):
+    """Returns an entry of two conditions, each on two bits of an argument."""
+    first, second = (
+        f'{{"index":{index % 6},"type":"qword","op":{{"masked_eq":{mask}}},"val":{value}}}'
+        for index, mask, value in ((place, 3, 1), (place + 1, 12, 4))
+    )
+    return f'{{"syscall":"read","args":[{first},{second}]}}'
+
+
 def filters(*names):
     """Returns a policy whose filters have these names, and no entries."""
     return "{" + ",".join(policy("", name=name)[1:-1] for name in names) + "}"
@@ -21,6 +30,8 @@ def filters(*names):
 FILES = {
     "allows-read.json": policy(READ),
     "allows-read-of-5.json": policy(READ_OF_5),
+    "allows-read-of-5-twice.json": policy(READ_OF_5 + "," + READ_OF_5),
+    "masks.json": policy(",".join(map(masked, range(11)))),
     "errno-1.json": policy(READ, match='{"errno":1}'),
     "errno-2.json": policy(READ, match='{"errno":2}'),
     "traps.json": policy("", default='"trap"'),
@@ -68,6 +79,9 @@ CASES = [
     same("logs.json -", SAME, LOGS),
     same("-f a logs.json logs.json", SAME),
     same("none.json none.json", ""),
+    # Programs that are the same need no search, however many sets one would take.
+    same("masks.json masks.json", SAME),
+    same("--most 0 masks.json masks.json", SAME),
     # A call that the new policy lets through, and the way back.
     differ("logs.json allows-read.json", "filter a: different\n" + READS),
     differ("allows-read.json logs.json", "filter a: different\n" + NO_LONGER_READS),
@@ -90,13 +104,13 @@ CASES = [
     differ("--filter=c filters-b-a.json filters-c-a.json", "filter c: only in NEW\n"),
     same("--filter=a filters-b-a.json filters-c-a.json", SAME),
     # No set may be looked at, or few.
-    Case("diff --most 0 logs.json logs.json", 3, "filter a: undecided\n  read: undecided\n  write: undecided\n..", ""),
-    Case("diff --most=0x0 --at-most logs.json logs.json", 3, "filter a: undecided\n  read: undecided\n..", ""),
+    Case("diff --most 0 logs.json allows-read.json", 3, "filter a: undecided\n  read: undecided\n  write: undecided\n..", ""),
+    Case("diff --most=0x0 --at-most logs.json allows-read.json", 3, "filter a: undecided\n  read: undecided\n..", ""),
     same("--most 0x10 logs.json logs.json", SAME),
     # The calls of `read` take five sets, by the test of an argument for 5: all of them, which are split below 5; those below;
     # those from 5 on, which are split behind it; 5 alone; and those above. Every other part takes one set.
     same("--most 5 allows-read-of-5.json allows-read-of-5.json", SAME),
-    Case("diff --most 4 allows-read-of-5.json allows-read-of-5.json", 3, "filter a: undecided\n  read: undecided\n", ""),
+    Case("diff --most 4 allows-read-of-5.json allows-read-of-5-twice.json", 3, "filter a: undecided\n  read: undecided\n", ""),
     # A filter that neither has.
     fails("-f b logs.json logs.json", "No filter has this name: b.\n"),
     # The faults of the old policy, and then those of the new one.

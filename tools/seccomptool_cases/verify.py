@@ -32,11 +32,13 @@ PROGRAMS = {
     "reads-riscv64.bpf": guarded((JUMP_EQUAL, 0, 1, 63), returns(ALLOW), returns(LOG), arch=RISCV64),
     "logs.bpf": program(returns(LOG)),
     "allows.bpf": program(returns(ALLOW)),
-    # `read` of 5 (a condition on the low half of argument 0), and of numbers whose bit 0 is set.
+    # `read` of 5 (a condition on the low half of argument 0), and of numbers whose bit 0 is set; and `read` where the high half of
+    # the instruction pointer is 5.
     "reads-5.bpf": guarded((JUMP_EQUAL, 0, 3, 0), (LOAD, 0, 0, 16), (JUMP_EQUAL, 0, 1, 5), returns(ALLOW), returns(LOG)),
     "reads-odd.bpf": guarded(
         (JUMP_EQUAL, 0, 4, 0), (LOAD, 0, 0, 16), (MASK, 0, 0, 1), (JUMP_EQUAL, 0, 1, 1), returns(ALLOW), returns(LOG)
     ),
+    "reads-from-5.bpf": guarded((JUMP_EQUAL, 0, 3, 0), (LOAD, 0, 0, 12), (JUMP_EQUAL, 0, 1, 5), returns(ALLOW), returns(LOG)),
     "errno-1.bpf": guarded(returns(ERRNO_1)),
 }
 FILES = {"errno-2-only.json": policy("", default='{"errno":2}'), **PROGRAMS}
@@ -101,6 +103,9 @@ CASES = [
     Case("compile -q --layout linear allows-read.json | ./seccomptool verify logs.json -", 1, DIFFERENT + READS + OTHERS_SAME, ""),
     # An example is a call on which the two differ.
     differs("logs.json reads-odd.bpf", DIFFERENT + "  read: log -> allow, more: read(0x1, 0x0, 0x0, 0x0, 0x0, 0x0)\n" + OTHERS_SAME),
+    # It tells the instruction pointer of a program that loads that.
+    differs("logs.json reads-from-5.bpf", DIFFERENT + READS[:-1] + " at 0x500000000\n" + OTHERS_SAME),
+    differs("allows-read.json reads-from-5.bpf", DIFFERENT + NO_LONGER_READS[:-1] + " at 0x0\n" + OTHERS_SAME),
     # The high half of an argument that is compared as `dword` doesn't count.
     same("allows-read-of-5.json reads-5.bpf", SAME + OTHERS_SAME),
     # x32 numbers are among those without a name, whose ranges come behind the calls.

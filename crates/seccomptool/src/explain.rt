@@ -168,8 +168,8 @@ fn explain_each(
     ensures { IfOk result (λ all. AllZip (IsExplainedBy target filter.now) records.now all.items) }
 {
     let mut all = Vec::new(alloc);
-    'records: for record in records {
-        all.push(explain_record(alloc, target, filter, record)?)?;
+    'records: for call in records {
+        all.push(explain_record(alloc, target, filter, call)?)?;
     }
     Ok(all)
 }
@@ -179,13 +179,13 @@ fn explain_record(
     alloc: Global,
     target: TargetArch,
     filter: &JsonFilter,
-    record: &[u8; 64],
+    call: &[u8; 64],
 ) -> Result<Explained, AllocError>
     requires { All (IsFineEntry target) filter.now.rules }
-    ensures { IfOk result (IsExplainedBy target filter.now record.now) }
+    ensures { IfOk result (IsExplainedBy target filter.now call.now) }
 {
     let entries = filter.rules.as_slice();
-    let reason = reason_of(alloc, target, entries, record)?;
+    let reason = reason_of(alloc, target, entries, call)?;
     Ok(Explained {
         action: action_of(filter, reason),
         why: Why::Filter(reason),
@@ -215,8 +215,8 @@ fn explain_profile(
 {
     let profile = profile_in(alloc, text)?;
     let mut all = Vec::new(alloc);
-    'records: for record in records {
-        all.push(explained_by_profile(target, container, &profile, record))?;
+    'records: for call in records {
+        all.push(explained_by_profile(target, container, &profile, call))?;
     }
     Ok(Explanation {
         filter: None,
@@ -241,22 +241,22 @@ fn explained_by_profile(
     target: TargetArch,
     container: &Container,
     profile: &Profile,
-    record: &[u8; 64],
+    call: &[u8; 64],
 ) -> Explained
     requires { AllOnArguments profile.now.entries }
-    ensures { IsExplainedByProfile target container.now profile.now record.now result }
+    ensures { IsExplainedByProfile target container.now profile.now call.now result }
 {
-    if word_at(record, 4) != target.get_audit_value() {
+    if word_at(call, 4) != target.get_audit_value() {
         return Explained {
             action: SeccompAction::KillProcess,
             why: Why::Elsewhere,
         };
     }
-    let decision = decision_of_profile(target, container, profile, record);
+    let decision = decision_of_profile(target, container, profile, call);
     Explained {
         action: decision.action,
         why: Why::Profile {
-            number: word_at(record, 0),
+            number: word_at(call, 0),
             entry: decision.entry,
         },
     }

@@ -16,6 +16,7 @@ use crate::findings::fitting::fitting_program;
 use crate::findings::{Finding, Part, Terms, Verdict, findings_of, findings_on, verdict_of};
 use crate::progress::Progress;
 use crate::run::program::program_of;
+use crate::show::instruction::LOAD;
 use crate::verify::scope::Scope;
 use seccompiler::{BpfProgramRef, JsonCompiler, SeccompFilter, TargetArch};
 use std::alloc::Global;
@@ -30,6 +31,8 @@ pub struct Verification {
     pub own: Vec<Finding>,
     /// What is found on the calls of the others.
     pub others: Vec<Finding>,
+    /// Whether the program loads the instruction pointer, on which what it decides may depend then.
+    pub loads_pointer: bool,
 }
 
 impl Verification {
@@ -129,7 +132,22 @@ fn compared<G: Progress>(
         &own_program,
         progress,
     )?;
-    Ok(Verification { name, own, others })
+    Ok(Verification {
+        name,
+        own,
+        others,
+        loads_pointer: loads_pointer(program),
+    })
+}
+
+// Whether a program loads a word of the instruction pointer.
+fn loads_pointer(program: BpfProgramRef<'_>) -> bool {
+    for instruction in program {
+        if instruction.code == LOAD && (instruction.k == 8 || instruction.k == 12) {
+            return true;
+        }
+    }
+    false
 }
 
 // The calls of the architectures with a lesser word than this one, and of those with a greater one.

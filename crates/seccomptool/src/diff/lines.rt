@@ -2,7 +2,7 @@
 
 use crate::diff::{Diff, Found, NamedFound, verdict_found};
 use crate::findings::Terms;
-use crate::findings::lines::{push_filter, push_finding, push_verdict};
+use crate::findings::lines::{Shown, push_filter, push_finding, push_verdict};
 use std::alloc::{AllocError, Global};
 
 /// The lines of a comparison: under each name what is found, and then a line for each part of the calls on which the relation
@@ -26,13 +26,17 @@ fn push_found(
         Some(name) => push_filter(text, name.as_str())?,
         None => text.extend_from_slice(b"profile")?,
     }
+    let shown = Shown {
+        target: terms.target,
+        pointer: false,
+    };
     match &named.found {
         Found::OnlyOld => text.extend_from_slice(b": only in OLD\n"),
         Found::OnlyNew => text.extend_from_slice(b": only in NEW\n"),
         Found::Both(findings) => {
             push_verdict(text, terms.relation, verdict_found(&named.found))?;
             for finding in findings {
-                push_finding(alloc, text, terms, *finding)?;
+                push_finding(alloc, text, shown, *finding)?;
             }
             Ok(())
         }

@@ -3,7 +3,7 @@
 ghost use Rattle.std.specs.Prelude.{◌≤◌};
 
 use crate::findings::parts::name_of;
-use crate::findings::{Answer, Finding, Part, Terms, Verdict};
+use crate::findings::{Answer, Finding, Part, Verdict};
 use seccomp_command_line::names::push_readable;
 use seccomp_compare::{Relation, rank};
 use seccompiler::TargetArch;
@@ -31,6 +31,15 @@ const ACTION: u32 = 0xffff_0000;
 
 const DATA: u32 = 0x0000_ffff;
 
+/// How findings are shown.
+#[derive(Clone, Copy)]
+pub(crate) struct Shown {
+    /// The architecture, whose calls have names.
+    pub target: TargetArch,
+    /// Whether an example tells the instruction pointer: where one of both sides may depend on it.
+    pub pointer: bool,
+}
+
 /// Adds a filter by its name.
 pub(crate) fn push_filter(text: &mut Vec<u8>, name: &str) -> Result<(), AllocError> {
     text.extend_from_slice(b"filter ")?;
@@ -56,16 +65,16 @@ pub(crate) fn push_verdict(
 pub(crate) fn push_finding(
     alloc: Global,
     text: &mut Vec<u8>,
-    terms: Terms,
+    shown: Shown,
     finding: Finding,
 ) -> Result<(), AllocError> {
     let Finding { part, answer } = finding;
-    let target = terms.target;
+    let target = shown.target;
     let name = PartName { target, part };
     match answer {
         Answer::Holds => Ok(()),
         Answer::Fails { call, old, new } => {
-            let (kind, example) = (kind_of(old, new), Example { target, call });
+            let (kind, example) = (kind_of(old, new), Example { shown, call });
             let (old, new) = (Word(old), Word(new));
             push(
                 text,
@@ -159,16 +168,17 @@ impl fmt::Display for PartName {
 }
 
 /// A call on which two sides differ: its name or number, behind the `AUDIT_ARCH_*` value where that is another, its arguments,
-/// and the instruction pointer where the difference depends on it. A comparison takes 0 for all that nothing depends on.
+/// and the instruction pointer where that is to be told.
 #[derive(Clone, Copy)]
 struct Example {
-    target: TargetArch,
+    shown: Shown,
     call: [u8; 64],
 }
 
 impl fmt::Display for Example {
     fn fmt<W: fmt::Write>(&self, f: &mut fmt::Formatter<W>) -> fmt::Result {
-        let Example { target, call } = *self;
+        let Example { shown, call } = *self;
+        let Shown { target, pointer } = shown;
         let number = u32::from_le_bytes([call[0], call[1], call[2], call[3]]);
         let arch = u32::from_le_bytes([call[4], call[5], call[6], call[7]]);
         if arch == target.get_audit_value() {
@@ -183,8 +193,8 @@ impl fmt::Display for Example {
             write!(f, "{front}0x{argument:x}")?;
         }
         f.write_str(")")?;
-        let pointer = number_at(&call, 8);
-        if pointer != 0 {
+        if pointer {
+            let pointer = number_at(&call, 8);
             write!(f, " at 0x{pointer:x}")?;
         }
         Ok(())

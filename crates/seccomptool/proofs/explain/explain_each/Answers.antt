@@ -11,16 +11,16 @@ records-init c = subst (AllZip (IsExplainedBy c.args.target c.args.filter.now) [
 pub records-preserved : goal.records-preserved
 records-preserved c =
     let records = c.args.records.now in
-    let call = get_or records c.records.record-index [] in
+    let call = get_or records c.records.call-index [] in
     let Is = IsExplainedBy c.args.target c.args.filter.now in
     let one = c.in_ok-explain_record.field-0 in
     subst (AllZip Is _) (sym c.in_ok-push.ensures.items)
-    (all_zip_more Is records c.records.all.items c.records.record-index call one c.records-test.true
-    (get_or_default records c.records.record-index [] call c.records-test.true) c.records.invariant c.in_ok-explain_record.ensures)
+    (all_zip_more Is records c.records.all.items c.records.call-index call one c.records-test.true
+    (get_or_default records c.records.call-index [] call c.records-test.true) c.records.invariant c.in_ok-explain_record.ensures)
 
 pub returns : goal.returns
 returns c =
     let records = c.args.records.now in
-    let long : length records ≤ c.records.record-index = omega (arith, c.records-test.false) in
+    let long : length records ≤ c.records.call-index = omega (arith, c.records-test.false) in
     subst (λ rs. AllZip (IsExplainedBy c.args.target c.args.filter.now) rs c.records.all.items)
-    (take_all c.records.record-index records long) c.records.invariant
+    (take_all c.records.call-index records long) c.records.invariant

@@ -5,4 +5,4 @@ use Rattle.seccomptool.proofs.explain.explain_each.Given as goal
 
 -- the records so far are explained
 abbrev pub invariant-records : goal.invariant-records
-invariant-records l = AllZip (IsExplainedBy l.target l.filter) (take l.record-index l.records) l.all.items
+invariant-records l = AllZip (IsExplainedBy l.target l.filter) (take l.call-index l.records) l.all.items

@@ -5,4 +5,4 @@ use Rattle.seccomptool.proofs.explain.explain_profile.Given as goal
 
 -- the records so far are explained
 abbrev pub invariant-records : goal.invariant-records
-invariant-records l = AllZip (IsExplainedByProfile l.target l.container l.profile) (take l.record-index l.records) l.all.items
+invariant-records l = AllZip (IsExplainedByProfile l.target l.container l.profile) (take l.call-index l.records) l.all.items

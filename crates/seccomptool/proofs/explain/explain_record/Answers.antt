@@ -10,7 +10,7 @@ pub returns : goal.returns
 returns c =
     let target = c.args.target in
     let filter = c.args.filter.now in
-    let call = c.args.record.now in
+    let call = c.args.call.now in
     let reason = c.in_ok-reason.reason in
     let same : c.as_slice-entries.result.now ≡ filter.rules = c.as_slice-entries.ensures.value
     ∙ ap (λ (f : JsonFilter). f.rules) c.filter.view_is in

@@ -9,7 +9,7 @@ use Rattle.seccomptool.proofs.explain.explained_by_profile.Goals as goal
 pub returns : goal.returns
 returns c =
     let d = c.decision_of_profile-decision.result in
-    let here : word_at c.args.record.now 4 ≡ audit_word c.args.target =
+    let here : word_at c.args.call.now 4 ≡ audit_word c.args.target =
     sym c.word_at.ensures ∙ c.if-word_at-get_audit_value.false ∙ c.get_audit_value.ensures in
     let with_number = λ (number : ℕ). let e : Explained = record { action = d.action; why = variant.Profile number d.entry } in e in
     decided d here c.decision_of_profile-decision.ensures.decided (ap with_number c.word_at-2.ensures)

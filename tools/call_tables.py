@@ -1,0 +1,70 @@
+"""Holds the names and numbers of calls against other sources of the machine: the kernel's headers, through a C compiler, and the
+resolver of libseccomp, where they are installed. Both may be older than the tables, or newer, so a name that they lack is passed over."""
+
+import ctypes
+import ctypes.util
+import re
+import subprocess
+
+from row_cases import ARCHITECTURES, names_of
+
+# The header of each architecture, and what its own header defines before it. Of x86_64 it is the machine's.
+WANTED = "-D__ARCH_WANT_NEW_STAT -D__ARCH_WANT_SET_GET_RLIMIT -D__ARCH_WANT_SYS_CLONE3 -D__ARCH_WANT_MEMFD_SECRET"
+HEADERS = {
+    "x86_64": ("asm/unistd_64.h", ""),
+    "aarch64": ("asm-generic/unistd.h", f"{WANTED} -D__ARCH_WANT_RENAMEAT"),
+    "riscv64": ("asm-generic/unistd.h", WANTED),
+}
+
+# The least number of names that a source shares with a table.
+SHARED = 280
+
+# What a header defines that is no call.
+BORDERS = {"arch_specific_syscall", "syscalls"}
+
+
+def in_header(arch):
+    """Returns the numbers of names as a header has them; none where there is no header or no compiler."""
+    header, defined = HEADERS[arch]
+    words = ["env", "cc", "-E", "-dM", *defined.split(), "-include", header, "-x", "c", "/dev/null"]
+    try:
+        ran = subprocess.run(words, capture_output=True, text=True)
+    except FileNotFoundError:
+        return {}
+    defines = dict(re.findall(r"^#define (__NR\w+) (\w+)$", ran.stdout if ran.returncode == 0 else "", re.M))
+    numbers = {name: defines.get(value, value) for name, value in defines.items()}
+    return {name.removeprefix("__NR_"): int(number) for name, number in numbers.items()
+            if name.startswith("__NR_") and number.isdigit()}
+
+
+def in_libseccomp(arch, names):
+    """Returns the numbers of names as libseccomp resolves them; none where it isn't installed. A number below 0 is its own."""
+    file = ctypes.util.find_library("seccomp")
+    if file is None:
+        return {}
+    resolve = ctypes.CDLL(file).seccomp_syscall_resolve_name_arch
+    resolve.argtypes = [ctypes.c_uint32, ctypes.c_char_p]
+    found = {name: resolve(ARCHITECTURES[arch], name.encode()) for name in names}
+    return {name: number for name, number in found.items() if number >= 0}
+
+
+def compare_with(results, what, pairs, other):
+    """Compares a table with another source, where they share names."""
+    if not other:
+        print(f"{what}: there is no such source, so it is left out")
+        return
+    shared = pairs.keys() & other.keys()
+    differ = sorted(f"{name} {pairs[name]} {other[name]}" for name in shared if pairs[name] != other[name])
+    results.compare(f"{what}: numbers that differ", ([],), (differ,))
+    results.compare(f"{what}: {SHARED} names or more", (True,), (len(shared) >= SHARED,))
+    # A number that the table has too has one name.
+    others = sorted(name for name, number in other.items() if name not in pairs and number in pairs.values())
+    results.compare(f"{what}: other names of the table's numbers", ([],), ([it for it in others if it not in BORDERS],))
+
+
+def compare_tables(results):
+    """Compares each table with each source."""
+    for arch in ARCHITECTURES:
+        pairs = {name: number for number, name in names_of(arch).items()}
+        compare_with(results, f"{arch}: {HEADERS[arch][0]}", pairs, in_header(arch))
+        compare_with(results, f"{arch}: libseccomp", pairs, in_libseccomp(arch, pairs))

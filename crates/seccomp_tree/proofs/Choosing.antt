@@ -1,7 +1,8 @@
 -- Rulings as targets: one by its conditions, a run by steps.
-use Rattle.std.proofs.Common.{◌≡◌, ℕ, zero, suc, ◌+◌, ◌-◌, ◌*◌, ◌<◌, ◌≤◌, ◌^◌, List, [], ◌∷◌, length, drop, get_or, true, false, refl, sym}
-use Rattle.std.proofs.Common.{ap, ◌∙◌, subst, ◌⊎◌, inl, inr, Option, Some, None, arith}
-use Rattle.std.specs.Prelude.{Bool, bit_and, nat_eq, ◌&&◌, if◌then◌else◌}
+use Rattle.std.proofs.Common.{◌≡◌, ℕ, zero, suc, ◌+◌, ◌*◌, ◌<◌, ◌≤◌, ◌^◌, List, [], ◌∷◌, ◌++◌, length, take, drop, get_or, true, false, refl, sym}
+use Rattle.std.proofs.Common.{ap, ◌∙◌, subst, ◌⊎◌, inl, inr, Option, Some, None, length-drop, take-append-drop, arith}
+use Rattle.std.proofs.lemmas.List.{get_or-drop}
+use Rattle.std.specs.Prelude.{Bool, bit_and, nat_eq, if◌then◌else◌}
 use Rattle.std.proofs.lemmas.Bool.{cases_eq, cases_lt, eqb-true, and_parts, false≢true}
 use Rattle.std.proofs.lemmas.List.Elements.{All-nil, All-cons, All-head, All-tail}
 use Rattle.seccompiler.specs.declared.bpf.sock_filter.{sock_filter}
@@ -12,21 +13,24 @@ use Rattle.seccompiler.specs.declared.backend.SeccompCmpOp.TheVariants.{Eq, Ge, 
 use Rattle.seccompiler.specs.Machine.{IsRecord, argument_at}
 use Rattle.seccompiler.specs.Policy.{Condition, Compares, Holds, RuleHolds, part_of, operator_part}
 use Rattle.seccomp_tree.specs.declared.steps.Target.{Target}
-use Rattle.seccomp_tree.specs.declared.steps.Target.TheVariants.{Give, At}
+use Rattle.seccomp_tree.specs.declared.steps.Target.TheVariants.{Give}
 use Rattle.seccomp_tree.specs.declared.steps.Step.{Step}
-use Rattle.seccomp_tree.specs.Steps.{found_in, AreSteps, IsPushed}
-use Rattle.seccomp_tree.specs.Intervals.{numbers_of, is_plain, IsLaid}
-use Rattle.seccomp_tree.specs.Code.{Leads, LeadsAlways, StartsAlways, IsIn, AreIn, Grows}
-use Rattle.seccomp_tree.specs.Conditions.{part_length, part_steps, condition_length, condition_steps, IsPart, IsConditionMet}
-use Rattle.seccomp_tree.specs.Decisions.{Ruling, only, alike, joins, same_length, conditions_length, conditions_steps, run_length, RunTakes}
+use Rattle.seccomp_tree.specs.Steps.{found_in, AreSteps}
+use Rattle.seccomp_tree.specs.Intervals.{numbers_of, is_plain, AreChoices, AreMerged, behind, over}
+use Rattle.seccomp_tree.specs.Rows.{same}
+use Rattle.seccomp_tree.specs.Code.{Leads, LeadsAlways, IsIn, AreIn, Grows}
+use Rattle.seccomp_tree.specs.Conditions.{part_length, part_steps, condition_length, IsPart, IsConditionMet}
+use Rattle.seccomp_tree.specs.Decisions.{Ruling, only, alike, same_length, conditions_length, conditions_steps, run_length, RunTakes}
 use Rattle.seccomp_tree.specs.Decisions.{by_steps, by_conditions}
 use Rattle.seccomp_tree.specs.Rules.{Chooses, chosen_here, chosen_behind, chosen_after, Joined, IsRun, head, AreRunSteps, IsRulingMet}
+use Rattle.seccomp_tree.specs.Rules.{IsLike, AreLike}
 use Rattle.seccomp_tree.specs.Rules.{IsRunMet}
 use Rattle.seccomp_tree.proofs.Growing.{grows_not, grows_on, grown_long}
-use Rattle.seccomp_tree.proofs.Runs.{leads_by, leads_grown, starts_more}
-use Rattle.seccomp_tree.proofs.LowHalves.{are_in_below}
-use Rattle.seccomp_tree.proofs.HighHalves.{leads_more}
-use Rattle.seccomp_tree.proofs.Meeting.{compares_or_not, holds_plain, part_fits, shorter_part}
+use Rattle.seccomp_tree.proofs.Runs.{leads_by, leads_grown, leads_more}
+use Rattle.seccomp_tree.proofs.Begun.{are_in_below}
+use Rattle.seccomp_tree.proofs.Choices.{compares_or_not, numbers_many}
+use Rattle.seccomp_tree.proofs.Cuts.{get_take, length_take}
+use Rattle.seccomp_tree.proofs.Meeting.{holds_plain, part_fits, shorter_part}
 
 -- ---- one ruling
 
@@ -159,12 +163,6 @@ same_length_is Qword Qword e = refl
 same_length_is Dword Qword e = absurd (false≢true e)
 same_length_is Qword Dword e = absurd (false≢true e)
 
--- a condition of a run that begins with another: of the same argument, and as much of it
-pub record InRun (c d : Condition) : Type 0 where
-  pub index : d.arg_index ≡ c.arg_index
-  pub size : d.arg_len ≡ c.arg_len
-  pub plain : is_plain d.operator ≡ true
-
 alike_is : (c : Condition) (o : Option Condition) → alike (Some c) o ≡ true
     → (d : Condition) × (o ≡ Some d) × (c.arg_index ≡ d.arg_index) × (c.arg_len ≡ d.arg_len)
 alike_is c None e = absurd (false≢true e)
@@ -172,110 +170,119 @@ alike_is c (Some d) e =
     let both = and_parts (nat_eq c.arg_index d.arg_index) (same_length c.arg_len d.arg_len) e in
     (d, refl, eqb-true c.arg_index d.arg_index both.0, same_length_is c.arg_len d.arg_len both.1)
 
-pub in_run : (c : Condition) (d : Ruling) (rest : List Ruling) → IsRun (d ∷ rest) → (f : Condition) → only d.conditions ≡ Some f → InRun c f
-    → (k : ℕ) (e : Ruling) → k < length (d ∷ rest)
-    → (x : Condition) × ((get_or (d ∷ rest) k e).conditions ≡ x ∷ []) × InRun c x
-in_run c d rest run f is h zero e lt = (f, (only_is d.conditions f is).0, h)
-in_run c d [] run f is h (suc k) e lt = absurd (omega arith)
-in_run c d (g ∷ rest) run f is h (suc k) e lt =
+in_run : (c f : Condition) (d : Ruling) (rest : List Ruling) → Joined d.conditions rest → only d.conditions ≡ Some f
+    → IsLike c d.conditions → f.arg_index ≡ c.arg_index → f.arg_len ≡ c.arg_len → AreLike c (d ∷ rest)
+in_run c f d rest run is first index size zero x lt = first
+in_run c f d [] run is first index size (suc k) x lt = absurd (omega arith)
+in_run c f d (g ∷ rest) run is first index size (suc k) x lt =
     let next = alike_is f (only g.conditions) (subst (λ o. alike o (only g.conditions) ≡ true) is run.0) in
-    in_run c g rest run.1 next.0 next.1 record {
-      index = sym next.2 ∙ h.index;
-      size = sym next.3 ∙ h.size;
-      plain = (only_is g.conditions next.0 next.1).1;
-    } k e (omega arith)
+    let own = only_is g.conditions next.0 next.1 in
+    let here : IsLike c g.conditions = record { condition = next.0; whole = own.0; index = sym next.2 ∙ index; size = sym next.3 ∙ size; plain = own.1 } in
+    in_run c next.0 g rest run.1 next.1 here (sym next.2 ∙ index) (sym next.3 ∙ size) k x (omega arith)
 
 -- each ruling of a run has one condition, of the same argument
-pub record OfRun (c : Condition) (q : List Condition) : Type 0 where
-  pub condition : Condition
-  pub whole : q ≡ condition ∷ []
-  pub run : InRun c condition
+pub run_alike : (c : Condition) (rulings : List Ruling) → IsRun rulings → only (head rulings) ≡ Some c → AreLike c rulings
+run_alike c [] run is = absurd run
+run_alike c (d ∷ rest) run is =
+    let own = only_is d.conditions c is in
+    let first : IsLike c d.conditions = record { condition = c; whole = own.0; index = refl; size = refl; plain = own.1 } in
+    in_run c c d rest run is first refl refl
 
-pub of_run : (c : Condition) (rulings : List Ruling) → IsRun rulings → only (head rulings) ≡ Some c → (k : ℕ) (d : Ruling) → k < length
-    rulings
-    → OfRun c ((get_or rulings k d).conditions)
-of_run c [] run is k d lt = absurd run
-of_run c (e ∷ rulings) run is k d lt =
-    let first : InRun c c = record { index = refl; size = refl; plain = (only_is e.conditions c is).1 } in
-    let h = in_run c e rulings run c is first k d lt in
-    record { condition = h.0; whole = h.1; run = h.2 }
+pub like_take : (c : Condition) (n : ℕ) (rulings : List Ruling) → AreLike c rulings → AreLike c (take n rulings)
+like_take c n rulings h k d lt =
+    let at = get_take n k rulings d lt in subst (λ (x : Ruling). IsLike c x.conditions) (sym at.1) (h k d at.0)
 
-pub numbers_some : (l : SeccompCmpArgLen) → 1 ≤ numbers_of l
-numbers_some Dword = omega arith
-numbers_some Qword = omega arith
+pub like_drop : (c : Condition) (n : ℕ) (rulings : List Ruling) → AreLike c rulings → AreLike c (drop n rulings)
+like_drop c n rulings h k d lt =
+    subst (λ (x : Ruling). IsLike c x.conditions) (sym (get_or-drop n rulings k d)) (h (n + k) d (omega (arith, length-drop n rulings)))
 
--- the loop of `run_steps`: the rulings from one on
-pub record RunOn (c : Condition) (rulings : List Ruling) (after : Target) (steps : List Step) : Type 0 where
-  pub are : AreSteps (numbers_of c.arg_len) steps
-  pub few : length steps ≤ 2 * length rulings + 1
-  pub each : (r : List ℕ) → IsRecord r → (t : Target) → Chooses after r rulings t → found_in steps (part_of c.arg_len (argument_at r
-      c.arg_index)) ≡ t
-  pub inside : (code : List sock_filter) → IsIn code after → (a : ℕ) → a < numbers_of c.arg_len → IsIn code (found_in steps a)
-
-pub run_none : (c : Condition) (rulings : List Ruling) (after : Target) (steps : List Step) → rulings ≡ [] → AreSteps (numbers_of
-    c.arg_len) steps
-    → IsPushed [] 0 after steps → RunOn c rulings after steps
-run_none c rulings after steps empty are pushed = rw empty record {
-  are = are;
-  few = omega (arith, pushed.few);
-  each = λ r rec t chosen. pushed.from (part_of c.arg_len (argument_at r c.arg_index)) (omega arith) ∙ chosen_last after r t chosen;
-  inside = λ code inside a lt. subst (IsIn code) (sym (pushed.from a (omega arith))) inside;
-}
-
-pub run_one : (c x : Condition) (d : Ruling) (rest : List Ruling) (after : Target) (steps new : List Step) → InRun c x → d.conditions ≡ x ∷
-    []
-    → d.value < 2 ^ 32 → RunOn c rest after steps → IsLaid x steps (Give d.value) new → RunOn c (d ∷ rest) after new
-run_one c x d rest after steps new same is fits h laid = record {
-  are = subst (λ l. AreSteps (numbers_of l) new) same.size laid.laid.are;
-  few = omega (arith, h.few, laid.few);
+-- the steps of one ruling
+pub run_one : (c x : Condition) (rulings : List Ruling) (d : Ruling) (after : Target) (steps : List Step) → length rulings ≡ 1
+    → d ≡ get_or rulings 0 d → (like : IsLike c d.conditions) → like.condition ≡ x → d.value < 2 ^ 32
+    → AreChoices x (Give d.value) after steps → AreRunSteps c rulings after steps
+run_one c x [] d after steps one is like own fits h = absurd (omega arith)
+run_one c x (e ∷ f ∷ rest) d after steps one is like own fits h = absurd (omega arith)
+run_one c x (e ∷ []) d after steps one is like own fits h = record {
+  are = subst (λ l. AreSteps (numbers_of l) steps) size h.are;
+  few = h.few;
   each = λ r rec t chosen. go r rec t chosen;
-  inside = λ code inside a lt. elim (compares_or_not x.operator a (part_of x.arg_len x.value) same.plain) [
-    | inl met ↦ subst (IsIn code) (sym (laid.laid.met a (size a lt) met)) fits
-    | inr not ↦ subst (IsIn code) (sym (laid.laid.unmet a (size a lt) not)) (h.inside code inside a lt)
+  inside = λ code a lt. elim (compares_or_not x.operator a (part_of x.arg_len x.value)) [
+    | inl met ↦ inl (subst (IsIn code) (sym (h.met a (sized a lt) met)) fits)
+    | inr not ↦ inr (h.unmet a (sized a lt) not)
   ];
 }
   where
-    size : (a : ℕ) → a < numbers_of c.arg_len → a < numbers_of x.arg_len
-    size a lt = subst (λ l. a < numbers_of l) (sym same.size) lt
+    size : x.arg_len ≡ c.arg_len
+    size = ap (λ (y : Condition). y.arg_len) (sym own) ∙ like.size
+
+    sized : (a : ℕ) → a < numbers_of c.arg_len → a < numbers_of x.arg_len
+    sized a lt = subst (λ l. a < numbers_of l) (sym size) lt
+
+    whole : e.conditions ≡ x ∷ []
+    whole = ap (λ (y : Ruling). y.conditions) (sym is) ∙ like.whole ∙ ap (λ (y : Condition). y ∷ []) own
 
     place : (r : List ℕ) → part_of c.arg_len (argument_at r c.arg_index) ≡ part_of x.arg_len (argument_at r x.arg_index)
-    place r = ap (λ l. part_of l (argument_at r c.arg_index)) (sym same.size) ∙ ap (λ i. part_of x.arg_len (argument_at r i)) (sym
-        same.index)
+    place r = ap (λ l. part_of l (argument_at r c.arg_index)) (sym size)
+        ∙ ap (λ i. part_of x.arg_len (argument_at r i)) (sym like.index ∙ ap (λ (y : Condition). y.arg_index) own)
 
-    one : (r : List ℕ) → RuleHolds d.conditions r → Holds x r
-    one r holds = All-head (λ (y : Condition). Holds y r) x [] (subst (λ (q : List Condition). RuleHolds q r) is holds)
-
-    back : (r : List ℕ) → Holds x r → RuleHolds d.conditions r
-    back r holds = subst (λ (q : List Condition). RuleHolds q r) (sym is)
-        (All-cons (λ (y : Condition). Holds y r) x [] holds (All-nil (λ (y : Condition). Holds y r)))
-
-    go : (r : List ℕ) → IsRecord r → (t : Target) → Chooses after r (d ∷ rest) t → found_in new (part_of c.arg_len (argument_at r
-        c.arg_index)) ≡ t
+    go : (r : List ℕ) → IsRecord r → (t : Target) → Chooses after r (e ∷ []) t → found_in steps (part_of c.arg_len (argument_at r c.arg_index)) ≡ t
     go r rec t (chosen_here y others holds) =
-        let a = part_of x.arg_len (argument_at r x.arg_index) in
-        ap (λ p. found_in new p) (place r)
-        ∙ laid.laid.met a (part_fits x.arg_len r x.arg_index rec) ((holds_plain x r same.plain).0 (one r holds))
+        let one = All-head (λ (y : Condition). Holds y r) x [] (subst (λ (q : List Condition). RuleHolds q r) whole holds) in
+        ap (λ p. found_in steps p) (place r)
+        ∙ h.met _ (part_fits x.arg_len r x.arg_index rec) ((holds_plain x r h.plain).0 one) ∙ ap (λ (y : Ruling). Give y.value) is
     go r rec t (chosen_behind y others u not chosen) =
-        let a = part_of x.arg_len (argument_at r x.arg_index) in
-        ap (λ p. found_in new p) (place r)
-        ∙ laid.laid.unmet a (part_fits x.arg_len r x.arg_index rec) (λ m. not (back r ((holds_plain x r same.plain).1 m)))
-        ∙ ap (λ p. found_in steps p) (sym (place r)) ∙ h.each r rec u chosen
+        let none = λ (m : Holds x r). not (subst (λ (q : List Condition). RuleHolds q r) (sym whole)
+        (All-cons (λ (y : Condition). Holds y r) x [] m (All-nil (λ (y : Condition). Holds y r)))) in
+        ap (λ p. found_in steps p) (place r)
+        ∙ h.unmet _ (part_fits x.arg_len r x.arg_index rec) (λ m. none ((holds_plain x r h.plain).1 m)) ∙ chosen_last after r u chosen
 
-pub run_all : (c : Condition) (rulings all : List Ruling) (after : Target) (steps : List Step) → rulings ≡ all → RunOn c rulings after steps
-    → AreRunSteps c all after steps
-run_all c rulings all after steps whole h =
-    let k = subst (λ (l : List Ruling). RunOn c l after steps) whole h in
-    record { are = k.are; few = k.few; each = k.each; inside = k.inside }
+-- what is chosen among rulings is chosen among the first ones, or behind them
+chosen_first : (after : Target) (r : List ℕ) (front back : List Ruling) (t : Target) → Chooses after r (front ++ back) t
+    → (Chooses behind r front t × (same t behind ≡ false)) ⊎ (Chooses behind r front behind × Chooses after r back t)
+chosen_first after r [] back t h = inr (chosen_after, h)
+chosen_first after r (d ∷ front) back t (chosen_here x rest holds) = inl (chosen_here d front holds, refl)
+chosen_first after r (d ∷ front) back t (chosen_behind x rest u not h) = elim (chosen_first after r front back t h) [
+  | inl c ↦ inl (chosen_behind d front t not c.0, c.1)
+  | inr c ↦ inr (chosen_behind d front behind not c.0, c.1)
+]
+
+-- the steps of two parts of a run, merged
+pub run_two : (c : Condition) (n : ℕ) (rulings : List Ruling) (after : Target) (one two steps : List Step) → n ≤ length rulings
+    → AreRunSteps c (take n rulings) behind one → AreRunSteps c (drop n rulings) after two → AreMerged (numbers_of c.arg_len) one two steps
+    → AreRunSteps c rulings after steps
+run_two c n rulings after one two steps le f b h = record {
+  are = h.are;
+  few = omega (arith, h.few, f.few, b.few, length_take n rulings le, length-drop n rulings);
+  each = λ r rec t chosen.
+      let p = part_of c.arg_len (argument_at r c.arg_index) in
+      let here = h.found p (part_fits c.arg_len r c.arg_index rec) in
+      elim (chosen_first after r (take n rulings) (drop n rulings) t
+      (subst (λ (l : List Ruling). Chooses after r l t) (sym (take-append-drop n rulings)) chosen)) [
+        | inl k ↦
+            let no = k.1 in
+            here ∙ ap (λ u. over u (found_in two p)) (f.each r rec t k.0) ∙ rw no refl
+        | inr k ↦ here ∙ ap (λ u. over u (found_in two p)) (f.each r rec behind k.0) ∙ b.each r rec t k.1
+      ];
+  inside = λ code a lt. subst (λ u. IsIn code u ⊎ (u ≡ after)) (sym (h.found a lt)) (either code a lt (f.inside code a lt));
+}
+  where
+    either : (code : List sock_filter) (a : ℕ) → a < numbers_of c.arg_len → IsIn code (found_in one a) ⊎ (found_in one a ≡ behind)
+        → IsIn code (over (found_in one a) (found_in two a)) ⊎ (over (found_in one a) (found_in two a) ≡ after)
+    either code a lt (inr is) = subst (λ u. IsIn code (over u (found_in two a)) ⊎ (over u (found_in two a) ≡ after)) (sym is) (b.inside code a lt)
+    either code a lt (inl own) = go (same (found_in one a) behind)
+      where
+        go : (v : Bool) → IsIn code (if v then found_in two a else found_in one a) ⊎ ((if v then found_in two a else found_in one a) ≡ after)
+        go true = b.inside code a lt
+        go false = inl own
 
 pub run_in : (code : List sock_filter) (c : Condition) (rulings : List Ruling) (after : Target) (steps : List Step) → AreRunSteps c rulings
     after steps
     → IsIn code after → AreIn code steps
 run_in code c rulings after steps h inside =
-    are_in_below code (numbers_of c.arg_len) steps (some c.arg_len) h.are (λ a lt. h.inside code inside a lt)
-  where
-    some : (l : SeccompCmpArgLen) → 1 ≤ numbers_of l
-    some Dword = omega arith
-    some Qword = omega arith
+    are_in_below code (numbers_of c.arg_len) steps (omega (arith, numbers_many c.arg_len)) h.are (λ a lt. elim (h.inside code a lt) [
+      | inl in_code ↦ in_code
+      | inr is ↦ subst (IsIn code) (sym is) inside
+    ])
 
 pub run_by_steps : (old new : List sock_filter) (c : Condition) (rulings : List Ruling) (after t : Target) (steps : List Step)
     → only (head rulings) ≡ Some c → AreRunSteps c rulings after steps → IsPart old c.arg_len c.arg_index steps t new

@@ -1,10 +1,9 @@
 -- Conditions as targets: what choices and masks make of them.
-use Rattle.std.proofs.Common.{◌≡◌, ℕ, zero, suc, ◌+◌, ◌-◌, ◌*◌, ◌/◌, ◌%◌, ◌<◌, ◌≤◌, ◌^◌, List, [], ◌∷◌, length, drop, true, false, refl}
-use Rattle.std.proofs.Common.{sym, ap, ◌∙◌, subst, ◌⊎◌, inl, inr, arith}
-use Rattle.std.proofs.Common.{nat_eq, if◌then◌else◌}
+use Rattle.std.proofs.Common.{◌≡◌, ℕ, suc, ◌+◌, ◌-◌, ◌*◌, ◌/◌, ◌%◌, ◌<◌, ◌≤◌, ◌^◌, List, ◌∷◌, length, true, refl}
+use Rattle.std.proofs.Common.{sym, ap, ◌∙◌, subst, inl, inr, arith}
 use Rattle.std.specs.Prelude.{bit_and}
 use Rattle.std.specs.Int.Bits.{and_lt, and_zero_r}
-use Rattle.std.proofs.lemmas.Bool.{cases_eq, cases_lt, eq-eqb, ne_eqb}
+use Rattle.std.proofs.lemmas.Bool.{cases_eq, eq-eqb, ne_eqb}
 use Rattle.seccompiler.specs.declared.bpf.sock_filter.{sock_filter}
 use Rattle.seccompiler.specs.declared.backend.SeccompCmpArgLen.{SeccompCmpArgLen}
 use Rattle.seccompiler.specs.declared.backend.SeccompCmpArgLen.TheVariants.{Dword, Qword}
@@ -14,21 +13,21 @@ use Rattle.seccompiler.specs.Machine.{IsRecord, word_at, argument_at, Does, load
 use Rattle.seccompiler.specs.Policy.{Condition, Compares, Holds, part_of, operator_part}
 use Rattle.seccompiler.specs.Code.{load, mask}
 use Rattle.seccompiler.proofs.Words.{word_fits, number_halves, mask_halves}
-use Rattle.seccomp_tree.specs.declared.code.Test.{Test}
 use Rattle.seccomp_tree.specs.declared.code.Test.TheVariants.{Equal}
 use Rattle.seccomp_tree.specs.declared.steps.Target.{Target}
-use Rattle.seccomp_tree.specs.declared.steps.Target.TheVariants.{Give, At}
+use Rattle.seccomp_tree.specs.declared.steps.Target.TheVariants.{At}
 use Rattle.seccomp_tree.specs.declared.steps.Step.{Step}
-use Rattle.seccomp_tree.specs.Steps.{found_in, AreSteps, IsPushed}
-use Rattle.seccomp_tree.specs.Intervals.{numbers_of, is_plain, AreLaidOver, IsLaid}
+use Rattle.seccomp_tree.specs.Steps.{found_in}
+use Rattle.seccomp_tree.specs.Intervals.{numbers_of, is_plain, AreChoices}
 use Rattle.seccomp_tree.specs.Code.{tail_at, Returns, goes_on, Starts, by_return, at_place, Leads, LeadsAlways, StartsAlways, IsIn, AreIn}
-use Rattle.seccomp_tree.specs.Code.{Grows, chosen, IsTested, IsWord, IsArgument}
-use Rattle.seccomp_tree.specs.Conditions.{part_length, part_steps, condition_length, condition_steps, IsPart, IsMasked, AreChoices}
+use Rattle.seccomp_tree.specs.Code.{chosen, IsTested, IsWord, IsArgument}
+use Rattle.seccomp_tree.specs.Conditions.{part_length, part_steps, condition_length, condition_steps, IsPart, IsMasked}
 use Rattle.seccomp_tree.specs.Conditions.{IsConditionMet}
 use Rattle.seccomp_tree.proofs.Tails.{tail_whole}
-use Rattle.seccomp_tree.proofs.Growing.{grows_not, grows_one, grows_on, is_in_grown, last_in}
+use Rattle.seccomp_tree.proofs.Growing.{grows_not, grows_one, grows_on}
 use Rattle.seccomp_tree.proofs.Runs.{starts_more, starts_by, leads_by, leads_grown}
-use Rattle.seccomp_tree.proofs.LowHalves.{are_in_below}
+use Rattle.seccomp_tree.proofs.Begun.{are_in_below}
+use Rattle.seccomp_tree.proofs.Choices.{compares_or_not, numbers_many}
 
 -- ---- numbers of an argument
 
@@ -76,29 +75,15 @@ part_of_argument old new index steps t argument = record {
 
 -- ---- conditions without a mask
 
--- each comparison holds or doesn't
-pub compares_or_not : (o : SeccompCmpOp) (a v : ℕ) → is_plain o ≡ true → Compares o a v ⊎ (Compares o a v → ⊥)
-compares_or_not Eq a v plain = cases_eq a v
-compares_or_not Ne a v plain = elim (cases_eq a v) [ inl e ↦ inr (λ not. not e) | inr not ↦ inl not ]
-compares_or_not Ge a v plain = elim (cases_lt a v) [ inl lt ↦ inr (λ h. absurd (omega arith)) | inr le ↦ inl le ]
-compares_or_not Gt a v plain = elim (cases_lt v a) [ inl lt ↦ inl lt | inr le ↦ inr (λ h. absurd (omega arith)) ]
-compares_or_not Le a v plain = elim (cases_lt v a) [ inl lt ↦ inr (λ h. absurd (omega arith)) | inr le ↦ inl le ]
-compares_or_not Lt a v plain = elim (cases_lt a v) [ inl lt ↦ inl lt | inr le ↦ inr (λ h. absurd (omega arith)) ]
-compares_or_not (MaskedEq m) a v plain = cases_eq (bit_and a m) (bit_and v m)
-
 -- one of two targets is inside where both are
-pub choices_in : (code : List sock_filter) (c : Condition) (fit unfit : Target) (steps : List Step) → is_plain c.operator ≡ true
+pub choices_in : (code : List sock_filter) (c : Condition) (fit unfit : Target) (steps : List Step)
     → AreChoices c fit unfit steps → IsIn code fit → IsIn code unfit → AreIn code steps
-choices_in code c fit unfit steps plain h in_yes in_no =
-    are_in_below code (numbers_of c.arg_len) steps (some c.arg_len) h.are
-    (λ a lt. elim (compares_or_not c.operator a (part_of c.arg_len c.value) plain) [
+choices_in code c fit unfit steps h in_yes in_no =
+    are_in_below code (numbers_of c.arg_len) steps (omega (arith, numbers_many c.arg_len)) h.are
+    (λ a lt. elim (compares_or_not c.operator a (part_of c.arg_len c.value)) [
       | inl met ↦ subst (IsIn code) (sym (h.met a lt met)) in_yes
       | inr not ↦ subst (IsIn code) (sym (h.unmet a lt not)) in_no
     ])
-  where
-    some : (l : SeccompCmpArgLen) → 1 ≤ numbers_of l
-    some Dword = omega arith
-    some Qword = omega arith
 
 plain_operator : (l : SeccompCmpArgLen) (o : SeccompCmpOp) → is_plain o ≡ true → operator_part l o ≡ o
 plain_operator l Eq plain = refl

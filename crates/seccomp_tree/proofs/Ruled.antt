@@ -1,21 +1,21 @@
 -- Rulings as a target, run by run from the last to the first.
-use Rattle.std.proofs.Common.{◌≡◌, ℕ, zero, suc, ◌+◌, ◌-◌, ◌*◌, ◌<◌, ◌≤◌, ◌^◌, List, [], ◌∷◌, ◌++◌, length, take, drop, true, false, refl}
+use Rattle.std.proofs.Common.{◌≡◌, ℕ, zero, suc, ◌+◌, ◌-◌, ◌<◌, ◌≤◌, ◌^◌, List, [], ◌∷◌, ◌++◌, length, take, drop, true, false, refl}
 use Rattle.std.proofs.Common.{sym, ap, ◌∙◌, subst, ◌⊎◌, inl, inr, Option, Some, None, arith}
-use Rattle.std.proofs.Common.{get_or, zero-add, if◌then◌else◌}
+use Rattle.std.proofs.Common.{get_or, zero-add}
 use Rattle.std.proofs.lemmas.List.{drop_more}
-use Rattle.std.proofs.lemmas.Bool.{false≢true, true≢false}
+use Rattle.std.proofs.lemmas.Bool.{true≢false}
 use Rattle.seccompiler.specs.declared.bpf.sock_filter.{sock_filter}
 use Rattle.seccompiler.specs.Machine.{IsRecord}
-use Rattle.seccompiler.specs.Policy.{Condition, RuleHolds}
+use Rattle.seccompiler.specs.Policy.{Condition}
 use Rattle.seccomp_tree.specs.declared.steps.Target.{Target}
 use Rattle.seccomp_tree.specs.declared.steps.Target.TheVariants.{Give}
 use Rattle.seccomp_tree.specs.Code.{Leads, to_return, LeadsAlways, IsIn, Grows}
 use Rattle.seccomp_tree.specs.Decisions.{Ruling, First, here, behind, nothing, alike, only, joins, joined, run_length, RunTakes}
-use Rattle.seccomp_tree.specs.Decisions.{length_behind, rules_length, Enters, goes_on, begins, Takes, stops, passes, ends}
+use Rattle.seccomp_tree.specs.Decisions.{length_behind, rules_length, Enters, goes_on, begins, Takes, stops, passes}
 use Rattle.seccomp_tree.specs.Rules.{Chooses, chosen_here, chosen_behind, chosen_after, Joined, IsRun, before, head, IsRunFrom, IsRunMet}
 use Rattle.seccomp_tree.specs.Rules.{AreRules}
 use Rattle.seccomp_tree.proofs.Growing.{grows_not, grows_on, grown_long}
-use Rattle.seccomp_tree.proofs.HighHalves.{leads_more}
+use Rattle.seccomp_tree.proofs.Runs.{leads_more}
 
 -- the conditions of the last of the rulings, or these where there is none
 abbrev pub last : List Condition → List Ruling → List Condition

@@ -1,6 +1,5 @@
 -- Rulings as a target: what the first that holds says, or what there is behind them.
-use Rattle.std.specs.Prelude.{◌≡◌, ℕ, zero, suc, ◌+◌, ◌-◌, ◌*◌, ◌<◌, ◌≤◌, ◌^◌, ⊤, List, [], ◌∷◌, length, take, drop, Bool, true, false}
-use Rattle.std.specs.Prelude.{Option, Some, None}
+use Rattle.std.specs.Prelude.{◌≡◌, ℕ, zero, suc, ◌+◌, ◌-◌, ◌*◌, ◌<◌, ◌≤◌, ⊤, ◌⊎◌, List, [], ◌∷◌, length, slice_index_or, take, drop, true, false}
 use Rattle.seccompiler.specs.declared.bpf.sock_filter.{sock_filter}
 use Rattle.seccompiler.specs.Machine.{IsRecord, argument_at}
 use Rattle.seccompiler.specs.Policy.{Condition, RuleHolds, part_of}
@@ -8,8 +7,8 @@ use Rattle.seccomp_tree.specs.declared.steps.Target.{Target}
 use Rattle.seccomp_tree.specs.declared.steps.Target.TheVariants.{Give}
 use Rattle.seccomp_tree.specs.declared.steps.Step.{Step}
 use Rattle.seccomp_tree.specs.Steps.{found_in, AreSteps}
-use Rattle.seccomp_tree.specs.Intervals.{numbers_of}
-use Rattle.seccomp_tree.specs.Code.{IsIn, Grows, LeadsAlways, StartsAlways}
+use Rattle.seccomp_tree.specs.Intervals.{numbers_of, is_plain}
+use Rattle.seccomp_tree.specs.Code.{IsIn, Grows, LeadsAlways}
 use Rattle.seccomp_tree.specs.Decisions.{Ruling, First, Takes, RunTakes, joins, run_length, rules_length, conditions_length}
 use Rattle.seccomp_tree.specs.Decisions.{conditions_steps}
 
@@ -47,13 +46,25 @@ pub record IsRunFrom (rulings : List Ruling) (start end : ℕ) : Type 0 where
   pub run : IsRun (take (end - start) (drop start rulings))
   pub begins : joins (before [] start rulings) (head (drop start rulings)) ≡ false
 
+-- The only condition of a ruling, which has no mask, and is of the same argument as another condition, and of as much of it.
+pub record IsLike (c : Condition) (conditions : List Condition) : Type 0 where
+  pub condition : Condition
+  pub whole : conditions ≡ condition ∷ []
+  pub index : condition.arg_index ≡ c.arg_index
+  pub size : condition.arg_len ≡ c.arg_len
+  pub plain : is_plain condition.operator ≡ true
+
+-- Each ruling has one like this.
+abbrev pub AreLike : Condition → List Ruling → Type 0
+AreLike c rulings = (k : ℕ) (d : Ruling) → k < length rulings → IsLike c (slice_index_or rulings k d).conditions
+
 -- The steps have, for what is compared of the record's argument, the target of the first of the rulings that holds.
 pub record AreRunSteps (c : Condition) (rulings : List Ruling) (after : Target) (steps : List Step) : Type 0 where
   pub are : AreSteps (numbers_of c.arg_len) steps
   pub few : length steps ≤ 2 * length rulings + 1
   pub each : (r : List ℕ) → IsRecord r → (t : Target) → Chooses after r rulings t → found_in steps (part_of c.arg_len (argument_at r
       c.arg_index)) ≡ t
-  pub inside : (code : List sock_filter) → IsIn code after → (a : ℕ) → a < numbers_of c.arg_len → IsIn code (found_in steps a)
+  pub inside : (code : List sock_filter) → (a : ℕ) → a < numbers_of c.arg_len → IsIn code (found_in steps a) ⊎ (found_in steps a ≡ after)
 
 -- The target goes on as the ruling says where it holds, and else as there is behind it; whatever the accumulator holds.
 pub record IsRulingMet (old : List sock_filter) (d : Ruling) (after t : Target) (new : List sock_filter) : Type 0 where

@@ -1,6 +1,6 @@
-use Rattle.std.proofs.Common.{refl, length, ◌≤◌, ◌+◌, arith}
+use Rattle.std.proofs.Common.{refl, arith}
 use Rattle.std.proofs.lemmas.Result.{err_from_is_err_and}
-use Rattle.seccomp_tree.proofs.Ruled.{RulesOn, rules_none, rules_one, run_room, rules_all}
+use Rattle.seccomp_tree.proofs.Ruled.{rules_none, rules_one, run_room}
 use Rattle.seccomp_tree.proofs.code.Code.rules.Goals as goal
 
 pub loop-end-init : goal.loop-end-init

@@ -29,22 +29,21 @@ abbrev pub IsRun : List Ruling → Type 0
 IsRun [] = ⊥
 IsRun (d ∷ rest) = Joined d.conditions rest
 
--- The conditions of the ruling in front of a place, or none.
-abbrev pub before : List Condition → ℕ → List Ruling → List Condition
-before first zero rulings = first
-before first (suc n) [] = first
-before first (suc n) (d ∷ rulings) = before d.conditions n rulings
-
 -- The conditions of the first ruling, or none.
 abbrev pub head : List Ruling → List Condition
 head [] = []
 head (d ∷ rest) = d.conditions
 
+-- No run goes on over the place.
+abbrev pub IsApart : List Ruling → ℕ → Type 0
+IsApart rulings place = (d : Ruling) → 1 ≤ place → place < length rulings
+    → joins (slice_index_or rulings (place - 1) d).conditions (slice_index_or rulings place d).conditions ≡ false
+
 -- The rulings from the start to the end are a run, and the one in front of it is of no run with them.
 pub record IsRunFrom (rulings : List Ruling) (start end : ℕ) : Type 0 where
   pub some : start < end
   pub run : IsRun (take (end - start) (drop start rulings))
-  pub begins : joins (before [] start rulings) (head (drop start rulings)) ≡ false
+  pub begins : IsApart rulings start
 
 -- The only condition of a ruling, which has no mask, and is of the same argument as another condition, and of as much of it.
 pub record IsLike (c : Condition) (conditions : List Condition) : Type 0 where

@@ -13,7 +13,7 @@ use Rattle.seccomp_tree.specs.declared.steps.Target.{Target}
 use Rattle.seccomp_tree.specs.declared.steps.Step.{Step}
 use Rattle.seccomp_tree.specs.Steps.{StartsAtZero, found_in, AscendFrom, AreSteps, begun, IsPushed, IsPartPushed}
 use Rattle.seccomp_tree.specs.Rows.{same}
-use Rattle.seccomp_tree.specs.Intervals.{numbers_of, is_plain, IsSide, AreTwo, AreChoices, behind, over, IsOverPushed, starts_or, AreMerged}
+use Rattle.seccomp_tree.specs.Intervals.{numbers_of, is_plain, IsChosen, AreTwo, AreChoices, behind, over, IsOverPushed, starts_or, AreMerged}
 use Rattle.seccomp_tree.proofs.Begun.{steps_more, begun_few, begun_more, begun_some, begun_below, begun_counts, found_begun, not_none}
 use Rattle.seccomp_tree.proofs.RowTests.{same_one}
 
@@ -47,72 +47,77 @@ above_alike Le a b v plain la lb h = absurd (omega arith)
 above_alike Lt a b v plain la lb h = absurd (omega arith)
 above_alike (MaskedEq m) a b v plain la lb h = absurd (cc)
 
-pub sides_below : (o : SeccompCmpOp) (a b v : ℕ) (fit unfit t : Target) → is_plain o ≡ true → a < v → b < v → IsSide o b v fit unfit t
-    → IsSide o a v fit unfit t
-sides_below o a b v fit unfit t plain la lb h = record {
-  met = λ c. h.met (below_alike o a b v plain la lb c);
-  unmet = λ not. h.unmet (λ c. not (below_alike o b a v plain lb la c));
-}
+-- what is chosen where two statements are one
+pub chosen_alike : (Is Too : Type 0) (fit unfit t : Target) → (Is → Too) → (Too → Is) → IsChosen Too fit unfit t → IsChosen Is fit unfit t
+chosen_alike Is Too fit unfit t to back h = record { met = λ x. h.met (to x); unmet = λ not. h.unmet (λ y. not (back y)) }
 
-pub sides_above : (o : SeccompCmpOp) (a b v : ℕ) (fit unfit t : Target) → is_plain o ≡ true → v < a → v < b → IsSide o b v fit unfit t
-    → IsSide o a v fit unfit t
-sides_above o a b v fit unfit t plain la lb h = record {
-  met = λ c. h.met (above_alike o a b v plain la lb c);
-  unmet = λ not. h.unmet (λ c. not (above_alike o b a v plain lb la c));
-}
+pub chosen_yes : (Is : Type 0) (fit unfit : Target) → Is → IsChosen Is fit unfit fit
+chosen_yes Is fit unfit x = record { met = λ _. refl; unmet = λ not. absurd (not x) }
+
+pub chosen_no : (Is : Type 0) (fit unfit : Target) → (Is → ⊥) → IsChosen Is fit unfit unfit
+chosen_no Is fit unfit not = record { met = λ x. absurd (not x); unmet = λ _. refl }
+
+pub sides_below : (o : SeccompCmpOp) (a b v : ℕ) (fit unfit t : Target) → is_plain o ≡ true → a < v → b < v
+    → IsChosen (Compares o b v) fit unfit t → IsChosen (Compares o a v) fit unfit t
+sides_below o a b v fit unfit t plain la lb h =
+    chosen_alike (Compares o a v) (Compares o b v) fit unfit t (below_alike o a b v plain la lb) (below_alike o b a v plain lb la) h
+
+pub sides_above : (o : SeccompCmpOp) (a b v : ℕ) (fit unfit t : Target) → is_plain o ≡ true → v < a → v < b
+    → IsChosen (Compares o b v) fit unfit t → IsChosen (Compares o a v) fit unfit t
+sides_above o a b v fit unfit t plain la lb h =
+    chosen_alike (Compares o a v) (Compares o b v) fit unfit t (above_alike o a b v plain la lb) (above_alike o b a v plain lb la) h
 
 module _ (c : Condition) (fit unfit : Target) (steps : List Step) (plain : is_plain c.operator ≡ true) (few : length steps ≤ 3)
     (size value : ℕ) (sized : size ≡ numbers_of c.arg_len) (valued : value ≡ part_of c.arg_len c.value) where
-  choices_are : AreSteps size steps → ((a : ℕ) → a < size → IsSide c.operator a value fit unfit (found_in steps a)) → AreChoices c fit unfit steps
+  choices_are : AreSteps size steps → ((a : ℕ) → a < size → IsChosen (Compares c.operator a value) fit unfit (found_in steps a)) → AreChoices c fit unfit steps
   choices_are are side = record {
     are = subst (λ n. AreSteps n steps) sized are;
-    met = λ a lt h. (sided a lt).met h;
-    unmet = λ a lt not. (sided a lt).unmet not;
+    each = sided;
     few = few;
     plain = plain;
   }
     where
-      sided : (a : ℕ) → a < numbers_of c.arg_len → IsSide c.operator a (part_of c.arg_len c.value) fit unfit (found_in steps a)
-      sided a lt = subst (λ v. IsSide c.operator a v fit unfit (found_in steps a)) valued (side a (omega (arith, sized)))
+      sided : (a : ℕ) → a < numbers_of c.arg_len → IsChosen (Compares c.operator a (part_of c.arg_len c.value)) fit unfit (found_in steps a)
+      sided a lt = subst (λ v. IsChosen (Compares c.operator a v) fit unfit (found_in steps a)) valued (side a (omega (arith, sized)))
 
   -- from a value of 0 on, and up to the greatest, there are two steps; else three
-  pub choices_zero : (low high : Target) → 1 < size → value ≡ 0 → IsSide c.operator 0 value fit unfit low → IsSide c.operator 1 value fit unfit high
+  pub choices_zero : (low high : Target) → 1 < size → value ≡ 0 → IsChosen (Compares c.operator 0 value) fit unfit low → IsChosen (Compares c.operator 1 value) fit unfit high
       → AreTwo low 1 high steps → AreChoices c fit unfit steps
   choices_zero low high more z first second h = choices_are (steps_more 2 size steps (omega arith) (omega arith) h.are)
       (λ a lt. elim (cases_lt a 1) [
         | inl less ↦
             let none : 0 ≡ a = omega arith in
-            subst (IsSide c.operator a value fit unfit) (sym (h.below a less)) (subst (λ n. IsSide c.operator n value fit unfit low) none first)
-        | inr le ↦ subst (IsSide c.operator a value fit unfit) (sym (h.from a le))
+            subst (IsChosen (Compares c.operator a value) fit unfit) (sym (h.below a less)) (subst (λ n. IsChosen (Compares c.operator n value) fit unfit low) none first)
+        | inr le ↦ subst (IsChosen (Compares c.operator a value) fit unfit) (sym (h.from a le))
             (sides_above c.operator a 1 value fit unfit high plain (omega arith) (omega arith) second)
       ])
 
-  pub choices_end : (low high : Target) → 1 ≤ value → value + 1 ≡ size → IsSide c.operator 0 value fit unfit low
-      → IsSide c.operator value value fit unfit high → AreTwo low value high steps → AreChoices c fit unfit steps
+  pub choices_end : (low high : Target) → 1 ≤ value → value + 1 ≡ size → IsChosen (Compares c.operator 0 value) fit unfit low
+      → IsChosen (Compares c.operator value value) fit unfit high → AreTwo low value high steps → AreChoices c fit unfit steps
   choices_end low high some end first second h = choices_are (steps_more (value + 1) size steps (omega arith) (omega arith) h.are)
       (λ a lt. elim (cases_lt a value) [
-        | inl less ↦ subst (IsSide c.operator a value fit unfit) (sym (h.below a less))
+        | inl less ↦ subst (IsChosen (Compares c.operator a value) fit unfit) (sym (h.below a less))
             (sides_below c.operator a 0 value fit unfit low plain less (omega arith) first)
         | inr le ↦
             let at : value ≡ a = omega arith in
-            subst (IsSide c.operator a value fit unfit) (sym (h.from a le)) (subst (λ n. IsSide c.operator n value fit unfit high) at second)
+            subst (IsChosen (Compares c.operator a value) fit unfit) (sym (h.from a le)) (subst (λ n. IsChosen (Compares c.operator n value) fit unfit high) at second)
       ])
 
-  pub choices_inner : (low mid high : Target) (two : List Step) → 1 ≤ value → value + 1 < size → IsSide c.operator 0 value fit unfit low
-      → IsSide c.operator value value fit unfit mid → IsSide c.operator (value + 1) value fit unfit high → AreTwo low value mid two
+  pub choices_inner : (low mid high : Target) (two : List Step) → 1 ≤ value → value + 1 < size → IsChosen (Compares c.operator 0 value) fit unfit low
+      → IsChosen (Compares c.operator value value) fit unfit mid → IsChosen (Compares c.operator (value + 1) value) fit unfit high → AreTwo low value mid two
       → IsPushed two (value + 1) high steps → AreChoices c fit unfit steps
   choices_inner low mid high two some inner first second third h pushed =
       choices_are (steps_more (value + 1 + 1) size steps (omega arith) (omega arith) pushed.are)
       (λ a lt. elim (cases_lt a (value + 1)) [
         | inl less ↦ elim (cases_lt a value) [
-          | inl below ↦ subst (IsSide c.operator a value fit unfit) (sym (pushed.below a less ∙ h.below a below))
+          | inl below ↦ subst (IsChosen (Compares c.operator a value) fit unfit) (sym (pushed.below a less ∙ h.below a below))
               (sides_below c.operator a 0 value fit unfit low plain below (omega arith) first)
           | inr le ↦
               let at : value ≡ a = omega arith in
-              subst (IsSide c.operator a value fit unfit) (sym (pushed.below a less ∙ h.from a le))
-              (subst (λ n. IsSide c.operator n value fit unfit mid) at second)
+              subst (IsChosen (Compares c.operator a value) fit unfit) (sym (pushed.below a less ∙ h.from a le))
+              (subst (λ n. IsChosen (Compares c.operator n value) fit unfit mid) at second)
         ]
-        | inr above ↦ subst (IsSide c.operator a value fit unfit) (sym (pushed.from a above))
+        | inr above ↦ subst (IsChosen (Compares c.operator a value) fit unfit) (sym (pushed.from a above))
             (sides_above c.operator a (value + 1) value fit unfit high plain (omega arith) (omega arith) third)
       ])
 

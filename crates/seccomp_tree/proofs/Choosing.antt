@@ -2,24 +2,22 @@
 use Rattle.std.proofs.Common.{◌≡◌, ℕ, zero, suc, ◌+◌, ◌*◌, ◌<◌, ◌≤◌, ◌^◌, List, [], ◌∷◌, ◌++◌, length, take, drop, get_or, true, false, refl, sym}
 use Rattle.std.proofs.Common.{ap, ◌∙◌, subst, ◌⊎◌, inl, inr, Option, Some, None, length-drop, take-append-drop, arith}
 use Rattle.std.proofs.lemmas.List.{get_or-drop}
-use Rattle.std.specs.Prelude.{Bool, bit_and, nat_eq, if◌then◌else◌}
-use Rattle.std.proofs.lemmas.Bool.{cases_eq, cases_lt, eqb-true, and_parts, false≢true}
+use Rattle.std.specs.Prelude.{Bool, nat_eq, if◌then◌else◌}
+use Rattle.std.proofs.lemmas.Bool.{eqb-true, and_parts, false≢true}
 use Rattle.std.proofs.lemmas.List.Elements.{All-nil, All-cons, All-head, All-tail}
 use Rattle.seccompiler.specs.declared.bpf.sock_filter.{sock_filter}
 use Rattle.seccompiler.specs.declared.backend.SeccompCmpArgLen.{SeccompCmpArgLen}
 use Rattle.seccompiler.specs.declared.backend.SeccompCmpArgLen.TheVariants.{Dword, Qword}
-use Rattle.seccompiler.specs.declared.backend.SeccompCmpOp.{SeccompCmpOp}
-use Rattle.seccompiler.specs.declared.backend.SeccompCmpOp.TheVariants.{Eq, Ge, Gt, Le, Lt, MaskedEq, Ne}
 use Rattle.seccompiler.specs.Machine.{IsRecord, argument_at}
-use Rattle.seccompiler.specs.Policy.{Condition, Compares, Holds, RuleHolds, part_of, operator_part}
+use Rattle.seccompiler.specs.Policy.{Condition, Holds, RuleHolds, part_of}
 use Rattle.seccomp_tree.specs.declared.steps.Target.{Target}
 use Rattle.seccomp_tree.specs.declared.steps.Target.TheVariants.{Give}
 use Rattle.seccomp_tree.specs.declared.steps.Step.{Step}
 use Rattle.seccomp_tree.specs.Steps.{found_in, AreSteps}
-use Rattle.seccomp_tree.specs.Intervals.{numbers_of, is_plain, AreChoices, AreMerged, behind, over}
+use Rattle.seccomp_tree.specs.Intervals.{numbers_of, is_plain, IsChosen, AreChoices, AreMerged, behind, over}
 use Rattle.seccomp_tree.specs.Rows.{same}
-use Rattle.seccomp_tree.specs.Code.{Leads, LeadsAlways, IsIn, AreIn, Grows}
-use Rattle.seccomp_tree.specs.Conditions.{part_length, part_steps, condition_length, IsPart, IsConditionMet}
+use Rattle.seccomp_tree.specs.Code.{Leads, LeadsAlways, IsIn, AreIn}
+use Rattle.seccomp_tree.specs.Conditions.{part_length, part_steps, condition_length, condition_steps, IsPart, IsConditionMet}
 use Rattle.seccomp_tree.specs.Decisions.{Ruling, only, alike, same_length, conditions_length, conditions_steps, run_length, RunTakes}
 use Rattle.seccomp_tree.specs.Decisions.{by_steps, by_conditions}
 use Rattle.seccomp_tree.specs.Rules.{Chooses, chosen_here, chosen_behind, chosen_after, Joined, IsRun, head, AreRunSteps, IsRulingMet}
@@ -28,72 +26,43 @@ use Rattle.seccomp_tree.specs.Rules.{IsRunMet}
 use Rattle.seccomp_tree.proofs.Growing.{grows_not, grows_on, grown_long}
 use Rattle.seccomp_tree.proofs.Runs.{leads_by, leads_grown, leads_more}
 use Rattle.seccomp_tree.proofs.Begun.{are_in_below}
-use Rattle.seccomp_tree.proofs.Choices.{compares_or_not, numbers_many}
+use Rattle.seccomp_tree.proofs.Choices.{compares_or_not, numbers_many, chosen_alike, chosen_yes, chosen_no}
 use Rattle.seccomp_tree.proofs.Cuts.{get_take, length_take}
-use Rattle.seccomp_tree.proofs.Meeting.{holds_plain, part_fits, shorter_part}
+use Rattle.seccomp_tree.proofs.Meeting.{holds_or_not, chosen_plain, part_fits, shorter_part}
 
 -- ---- one ruling
 
--- each condition holds or doesn't
-pub holds_or_not : (c : Condition) (r : List ℕ) → Holds c r ⊎ (Holds c r → ⊥)
-holds_or_not c r = either (operator_part c.arg_len c.operator) (part_of c.arg_len (argument_at r c.arg_index)) (part_of c.arg_len c.value)
-  where
-    either : (o : SeccompCmpOp) (a v : ℕ) → Compares o a v ⊎ (Compares o a v → ⊥)
-    either Eq a v = cases_eq a v
-    either Ne a v = elim (cases_eq a v) [ inl e ↦ inr (λ not. not e) | inr not ↦ inl not ]
-    either Ge a v = elim (cases_lt a v) [ inl lt ↦ inr (λ h. absurd (omega arith)) | inr le ↦ inl le ]
-    either Gt a v = elim (cases_lt v a) [ inl lt ↦ inl lt | inr le ↦ inr (λ h. absurd (omega arith)) ]
-    either Le a v = elim (cases_lt v a) [ inl lt ↦ inr (λ h. absurd (omega arith)) | inr le ↦ inl le ]
-    either Lt a v = elim (cases_lt a v) [ inl lt ↦ inl lt | inr le ↦ inr (λ h. absurd (omega arith)) ]
-    either (MaskedEq m) a v = cases_eq (bit_and a m) (bit_and v m)
-
--- the loop of `ruling`: the conditions from one on
-pub record RulingOn (old : List sock_filter) (d : Ruling) (after : Target) (conditions : List Condition) (t : Target) (new : List
-    sock_filter) : Type 0 where
-  pub grows : Grows old (conditions_length conditions) new
-  pub inside : IsIn new t
-  pub met : (r : List ℕ) → IsRecord r → RuleHolds conditions r → (w n : ℕ) → LeadsAlways old r (Give d.value) w n
-      → LeadsAlways new r t w (n + conditions_steps conditions)
-  pub unmet : (r : List ℕ) → IsRecord r → (RuleHolds conditions r → ⊥) → (w n : ℕ) → LeadsAlways old r after w n
-      → LeadsAlways new r t w (n + conditions_steps conditions)
-
-pub ruling_none : (old : List sock_filter) (d : Ruling) (after : Target) (conditions : List Condition) → conditions ≡ [] → d.value < 2 ^ 32
-    → RulingOn old d after conditions (Give d.value) old
-ruling_none old d after conditions empty fits = rw empty record {
+pub ruling_none : (old : List sock_filter) (value : ℕ) (after : Target) (conditions : List Condition) → conditions ≡ [] → value < 2 ^ 32
+    → IsRulingMet old conditions value after (Give value) old
+ruling_none old value after conditions empty fits = rw empty record {
   grows = grows_not old 0;
   inside = fits;
-  met = λ r rec holds w n lead a small. leads_more (n + 0) (omega arith) (lead a small);
-  unmet = λ r rec not w n lead. absurd (not (All-nil (λ (c : Condition). Holds c r)));
+  leads = λ r rec u chosen w n lead a small.
+      let is = chosen.met (All-nil (λ (c : Condition). Holds c r)) in
+      leads_more (n + 0) (omega arith) (subst (λ v. Leads old r v a w n) is (lead a small));
 }
 
-pub ruling_one : (old mid new : List sock_filter) (d : Ruling) (after t u : Target) (c : Condition) (rest : List Condition)
-    → RulingOn old d after rest t mid → IsConditionMet mid c t after u new → RulingOn old d after (c ∷ rest) u new
-ruling_one old mid new d after t u c rest h one = record {
+pub ruling_one : (old mid new : List sock_filter) (value : ℕ) (after t u : Target) (c : Condition) (rest : List Condition)
+    → IsRulingMet old rest value after t mid → IsConditionMet mid c t after u new → IsRulingMet old (c ∷ rest) value after u new
+ruling_one old mid new value after t u c rest h one = record {
   grows = grows_on old mid new (conditions_length rest) (condition_length c.arg_len c.operator) (conditions_length (c ∷ rest)) h.grows
       one.grows
       (omega arith);
   inside = one.inside;
-  met = λ r rec holds w n lead.
-      let first = All-head (λ (x : Condition). Holds x r) c rest holds in
-      let others = All-tail (λ (x : Condition). Holds x r) c rest holds in
-      let start = one.met r rec first w (n + conditions_steps rest) (h.met r rec others w n lead) in
-      λ a small. leads_more (n + conditions_steps (c ∷ rest)) (omega arith) (leads_by (start a small));
-  unmet = λ r rec not w n lead. elim (holds_or_not c r) [
+  leads = λ r rec v chosen w n lead a small. leads_more (n + conditions_steps (c ∷ rest)) (omega arith) (elim (holds_or_not c r) [
     | inl first ↦
-        let start = one.met r rec first w (n + conditions_steps rest)
-        (h.unmet r rec (λ others. not (All-cons (λ (x : Condition). Holds x r) c rest first others)) w n lead) in
-        λ a small. leads_more (n + conditions_steps (c ∷ rest)) (omega arith) (leads_by (start a small))
+        let further = h.leads r rec v (chosen_alike (RuleHolds rest r) (RuleHolds (c ∷ rest) r) (Give value) after v
+        (λ others. All-cons (λ (x : Condition). Holds x r) c rest first others)
+        (λ all. All-tail (λ (x : Condition). Holds x r) c rest all) chosen) w n lead in
+        leads_more (suc (n + conditions_steps rest + condition_steps c.arg_len c.operator)) (omega arith)
+        (leads_by (one.leads r rec t (chosen_yes (Holds c r) t after first) w (n + conditions_steps rest) further a small))
     | inr other ↦
-        let start = one.unmet r rec other w n (λ a small. leads_grown old mid (conditions_length rest) h.grows (lead a small)) in
-        λ a small. leads_more (n + conditions_steps (c ∷ rest)) (omega arith) (leads_by (start a small))
-  ];
+        let is = chosen.unmet (λ all. other (All-head (λ (x : Condition). Holds x r) c rest all)) in
+        leads_more (suc (n + conditions_steps rest + condition_steps c.arg_len c.operator)) (omega arith)
+        (leads_by (one.leads r rec after (chosen_no (Holds c r) t after other) w n
+        (λ b fits. leads_grown old mid (conditions_length rest) h.grows (subst (λ z. Leads old r z b w n) is (lead b fits))) a small))
+  ]);
 }
-
-pub ruling_all : (old new : List sock_filter) (d : Ruling) (after t : Target) (conditions : List Condition) → conditions ≡ d.conditions
-    → RulingOn old d after conditions t new → IsRulingMet old d after t new
-ruling_all old new d after t conditions whole h =
-    let k = subst (λ (l : List Condition). RulingOn old d after l t new) whole h in
-    record { grows = k.grows; inside = k.inside; met = k.met; unmet = k.unmet }
 
 conditions_less : (n : ℕ) (q : List Condition) → conditions_length (drop n q) ≤ conditions_length q
 conditions_less zero q = omega arith
@@ -101,11 +70,11 @@ conditions_less (suc n) [] = omega arith
 conditions_less (suc n) (c ∷ q) = let h = conditions_less n q in omega arith
 
 -- how much room a condition takes at most, of what all take
-pub ruling_room : (old mid : List sock_filter) (d : Ruling) (after t : Target) (q : List Condition) (k : ℕ) (c : Condition) (rest : List
+pub ruling_room : (old mid : List sock_filter) (value : ℕ) (after t : Target) (q : List Condition) (k : ℕ) (c : Condition) (rest : List
     Condition)
-    → drop k q ≡ c ∷ rest → RulingOn old d after rest t mid → length mid + condition_length c.arg_len c.operator ≤ length old +
+    → drop k q ≡ c ∷ rest → IsRulingMet old rest value after t mid → length mid + condition_length c.arg_len c.operator ≤ length old +
     conditions_length q
-ruling_room old mid d after t q k c rest cons h =
+ruling_room old mid value after t q k c rest cons h =
     let less = conditions_less k q in
     let same : conditions_length (drop k q) ≡ condition_length c.arg_len c.operator + conditions_length rest = ap conditions_length cons in
     let grown = grown_long old mid (conditions_length rest) h.grows in
@@ -120,7 +89,7 @@ chosen_last after r t (chosen_after) = refl
 
 pub run_of_one : (old new : List sock_filter) (d : Ruling) (rest : List Ruling) (after t : Target) → IsRun (d ∷ rest) → only d.conditions ≡
     None
-    → IsRulingMet old d after t new → IsRunMet old (d ∷ rest) after t new
+    → IsRulingMet old d.conditions d.value after t new → IsRunMet old (d ∷ rest) after t new
 run_of_one old new d [] after t run is h = record {
   grows = let same : run_length d.conditions 1 ≡ conditions_length d.conditions = rw is refl in
       record { front = h.grows.front; whole = h.grows.whole; few = omega (arith, h.grows.few, same) };
@@ -136,9 +105,11 @@ run_of_one old new d [] after t run is h = record {
 
     go : (r : List ℕ) → IsRecord r → (u : Target) (w n : ℕ) → Chooses after r (d ∷ []) u → LeadsAlways old r u w n
         → LeadsAlways new r t w (n + conditions_steps d.conditions)
-    go r rec u w n (chosen_here x rest holds) lead = h.met r rec holds w n lead
+    go r rec u w n (chosen_here x rest holds) lead =
+        h.leads r rec (Give d.value) (chosen_yes (RuleHolds d.conditions r) (Give d.value) after holds) w n lead
     go r rec u w n (chosen_behind x rest v not others) lead =
-        h.unmet r rec not w n (subst (λ z. LeadsAlways old r z w n) (sym (chosen_last after r v others)) lead)
+        h.leads r rec after (chosen_no (RuleHolds d.conditions r) (Give d.value) after not) w n
+        (subst (λ z. LeadsAlways old r z w n) (sym (chosen_last after r v others)) lead)
 run_of_one old new d (e ∷ rest) after t run is h = absurd (only_alike (only e.conditions) (subst (λ o. alike o (only e.conditions) ≡ true)
     is run.0))
 
@@ -207,8 +178,8 @@ run_one c x (e ∷ []) d after steps one is like own fits h = record {
   few = h.few;
   each = λ r rec t chosen. go r rec t chosen;
   inside = λ code a lt. elim (compares_or_not x.operator a (part_of x.arg_len x.value)) [
-    | inl met ↦ inl (subst (IsIn code) (sym (h.met a (sized a lt) met)) fits)
-    | inr not ↦ inr (h.unmet a (sized a lt) not)
+    | inl met ↦ inl (subst (IsIn code) (sym ((h.each a (sized a lt)).met met)) fits)
+    | inr not ↦ inr ((h.each a (sized a lt)).unmet not)
   ];
 }
   where
@@ -225,16 +196,19 @@ run_one c x (e ∷ []) d after steps one is like own fits h = record {
     place r = ap (λ l. part_of l (argument_at r c.arg_index)) (sym size)
         ∙ ap (λ i. part_of x.arg_len (argument_at r i)) (sym like.index ∙ ap (λ (y : Condition). y.arg_index) own)
 
+    own_choice : (r : List ℕ) → IsRecord r
+        → IsChosen (Holds x r) (Give d.value) after (found_in steps (part_of x.arg_len (argument_at r x.arg_index)))
+    own_choice r rec =
+        chosen_plain x r (Give d.value) after _ h.plain (h.each (part_of x.arg_len (argument_at r x.arg_index)) (part_fits x.arg_len r x.arg_index rec))
+
     go : (r : List ℕ) → IsRecord r → (t : Target) → Chooses after r (e ∷ []) t → found_in steps (part_of c.arg_len (argument_at r c.arg_index)) ≡ t
     go r rec t (chosen_here y others holds) =
         let one = All-head (λ (y : Condition). Holds y r) x [] (subst (λ (q : List Condition). RuleHolds q r) whole holds) in
-        ap (λ p. found_in steps p) (place r)
-        ∙ h.met _ (part_fits x.arg_len r x.arg_index rec) ((holds_plain x r h.plain).0 one) ∙ ap (λ (y : Ruling). Give y.value) is
+        ap (λ p. found_in steps p) (place r) ∙ (own_choice r rec).met one ∙ ap (λ (y : Ruling). Give y.value) is
     go r rec t (chosen_behind y others u not chosen) =
         let none = λ (m : Holds x r). not (subst (λ (q : List Condition). RuleHolds q r) (sym whole)
         (All-cons (λ (y : Condition). Holds y r) x [] m (All-nil (λ (y : Condition). Holds y r)))) in
-        ap (λ p. found_in steps p) (place r)
-        ∙ h.unmet _ (part_fits x.arg_len r x.arg_index rec) (λ m. none ((holds_plain x r h.plain).1 m)) ∙ chosen_last after r u chosen
+        ap (λ p. found_in steps p) (place r) ∙ (own_choice r rec).unmet none ∙ chosen_last after r u chosen
 
 -- what is chosen among rulings is chosen among the first ones, or behind them
 chosen_first : (after : Target) (r : List ℕ) (front back : List Ruling) (t : Target) → Chooses after r (front ++ back) t
@@ -315,7 +289,7 @@ run_head (d ∷ rest) x run is = ap (λ (y : Ruling). y.conditions) (sym is)
 
 pub run_single : (old new : List sock_filter) (rulings : List Ruling) (x : Ruling) (after t : Target) → IsRun rulings → x ≡ get_or rulings
     0 x
-    → only (head rulings) ≡ None → IsRulingMet old x after t new → IsRunMet old rulings after t new
+    → only (head rulings) ≡ None → IsRulingMet old x.conditions x.value after t new → IsRunMet old rulings after t new
 run_single old new [] x after t run is none h = absurd run
 run_single old new (d ∷ rest) x after t run is none h =
-    run_of_one old new d rest after t run none (subst (λ (y : Ruling). IsRulingMet old y after t new) is h)
+    run_of_one old new d rest after t run none (subst (λ (y : Ruling). IsRulingMet old y.conditions y.value after t new) is h)

@@ -9,7 +9,7 @@ use Rattle.seccompiler.specs.Machine.{IsRecord}
 use Rattle.seccompiler.specs.Policy.{Condition}
 use Rattle.seccomp_tree.specs.declared.steps.Target.{Target}
 use Rattle.seccomp_tree.specs.declared.steps.Target.TheVariants.{Give}
-use Rattle.seccomp_tree.specs.Code.{Leads, to_return, LeadsAlways, IsIn, Grows}
+use Rattle.seccomp_tree.specs.Code.{Leads, to_return, LeadsAlways}
 use Rattle.seccomp_tree.specs.Decisions.{Ruling, First, here, behind, nothing, alike, only, joins, joined, run_length, RunTakes}
 use Rattle.seccomp_tree.specs.Decisions.{length_behind, rules_length, Enters, goes_on, begins, Takes, stops, passes, ends}
 use Rattle.seccomp_tree.specs.Rules.{Chooses, chosen_here, chosen_behind, chosen_after, Joined, IsRun, IsApart, head, IsRunFrom, IsRunMet}
@@ -192,8 +192,7 @@ module _ (old mid : List sock_filter) (rulings : List Ruling) (default start end
       × (joins (last [] (take (end - start) (drop start rulings))) (head (drop end rulings)) ≡ false)
   front_cut h from =
       let some = from.some in
-      let at : start + (end - start) ≡ end = omega arith in
-      (
+      let at : start + (end - start) ≡ end = omega arith in (
         sym (take-append-drop (end - start) (drop start rulings))
             ∙ ap (λ (l : List Ruling). take (end - start) (drop start rulings) ++ l)
             (drop-drop (end - start) start rulings ∙ ap (λ n. drop n rulings) at),

@@ -28,7 +28,7 @@ use Rattle.seccomp_tree.proofs.Runs.{returns_more}
 use Rattle.seccomp_tree.proofs.Tails.{tail_whole}
 use Rattle.seccomp_tree.proofs.Reaching.{starts_at}
 use Rattle.seccomp_tree.proofs.Words.{word_small}
-use Rattle.seccomp_tree.proofs.Choosing.{holds_or_not}
+use Rattle.seccomp_tree.proofs.Meeting.{holds_or_not}
 use Rattle.seccomp_tree.proofs.ProgramEnds.{program_ends, sound_checked}
 
 -- ---- what there is for every record

@@ -10,6 +10,7 @@ use Rattle.seccompiler.specs.Policy.{Condition, Holds, part_of}
 use Rattle.seccomp_tree.specs.declared.steps.Target.{Target}
 use Rattle.seccomp_tree.specs.declared.steps.Step.{Step}
 use Rattle.seccomp_tree.specs.Steps.{found_in}
+use Rattle.seccomp_tree.specs.Intervals.{IsChosen}
 use Rattle.seccomp_tree.specs.Code.{IsIn, Grows, LeadsAlways, StartsAlways}
 
 -- ---- what a promise counts
@@ -51,16 +52,12 @@ pub record IsPart (old : List sock_filter) (l : SeccompCmpArgLen) (index : ℕ) 
 pub record IsMasked (old : List sock_filter) (byte mask value : ℕ) (yes no t : Target) (new : List sock_filter) : Type 0 where
   pub grows : Grows old 5 new
   pub inside : IsIn new t
-  pub met : (r : List ℕ) → IsRecord r → bit_and (word_at r byte) mask ≡ bit_and value mask → (w n : ℕ) → LeadsAlways old r yes w n
-      → StartsAlways new r t w (n + 3)
-  pub unmet : (r : List ℕ) → IsRecord r → (bit_and (word_at r byte) mask ≡ bit_and value mask → ⊥) → (w n : ℕ)
-      → LeadsAlways old r no w n → StartsAlways new r t w (n + 3)
+  pub leads : (r : List ℕ) → IsRecord r → (u : Target) → IsChosen (bit_and (word_at r byte) mask ≡ bit_and value mask) yes no u → (w n : ℕ)
+      → LeadsAlways old r u w n → StartsAlways new r t w (n + 3)
 
 -- The target goes on as the first where the condition holds, and else as the second, whatever the accumulator holds.
 pub record IsConditionMet (old : List sock_filter) (c : Condition) (yes no t : Target) (new : List sock_filter) : Type 0 where
   pub grows : Grows old (condition_length c.arg_len c.operator) new
   pub inside : IsIn new t
-  pub met : (r : List ℕ) → IsRecord r → Holds c r → (w n : ℕ) → LeadsAlways old r yes w n
-      → StartsAlways new r t w (n + condition_steps c.arg_len c.operator)
-  pub unmet : (r : List ℕ) → IsRecord r → (Holds c r → ⊥) → (w n : ℕ) → LeadsAlways old r no w n
+  pub leads : (r : List ℕ) → IsRecord r → (u : Target) → IsChosen (Holds c r) yes no u → (w n : ℕ) → LeadsAlways old r u w n
       → StartsAlways new r t w (n + condition_steps c.arg_len c.operator)

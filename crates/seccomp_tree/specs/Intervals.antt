@@ -21,10 +21,10 @@ abbrev pub is_plain : SeccompCmpOp → Bool
 is_plain (MaskedEq m) = false
 is_plain _ = true
 
--- The target for a number that is compared with a value.
-pub record IsSide (operator : SeccompCmpOp) (number value : ℕ) (yes no t : Target) : Type 0 where
-  pub met : Compares operator number value → t ≡ yes
-  pub unmet : (Compares operator number value → ⊥) → t ≡ no
+-- Of two targets the first where something is so, and else the second.
+pub record IsChosen (Is : Type 0) (yes no t : Target) : Type 0 where
+  pub met : Is → t ≡ yes
+  pub unmet : (Is → ⊥) → t ≡ no
 
 -- One target for the numbers below a start, and another from there on.
 pub record AreTwo (low : Target) (start : ℕ) (high : Target) (steps : List Step) : Type 0 where
@@ -36,8 +36,7 @@ pub record AreTwo (low : Target) (start : ℕ) (high : Target) (steps : List Ste
 -- The steps have the first target where the condition's comparison holds, and else the second.
 pub record AreChoices (c : Condition) (yes no : Target) (steps : List Step) : Type 0 where
   pub are : AreSteps (numbers_of c.arg_len) steps
-  pub met : (a : ℕ) → a < numbers_of c.arg_len → Compares c.operator a (part_of c.arg_len c.value) → found_in steps a ≡ yes
-  pub unmet : (a : ℕ) → a < numbers_of c.arg_len → (Compares c.operator a (part_of c.arg_len c.value) → ⊥) → found_in steps a ≡ no
+  pub each : (a : ℕ) → a < numbers_of c.arg_len → IsChosen (Compares c.operator a (part_of c.arg_len c.value)) yes no (found_in steps a)
   pub few : length steps ≤ 3
   pub plain : is_plain c.operator ≡ true
 

@@ -1,5 +1,5 @@
 -- Rulings as a target: what the first that holds says, or what there is behind them.
-use Rattle.std.specs.Prelude.{◌≡◌, ℕ, zero, suc, ◌+◌, ◌-◌, ◌*◌, ◌<◌, ◌≤◌, ⊤, ◌⊎◌, List, [], ◌∷◌, length, slice_index_or, take, drop, true, false}
+use Rattle.std.specs.Prelude.{◌≡◌, ℕ, ◌+◌, ◌-◌, ◌*◌, ◌<◌, ◌≤◌, ⊤, ◌⊎◌, List, [], ◌∷◌, length, slice_index_or, take, drop, true, false}
 use Rattle.seccompiler.specs.declared.bpf.sock_filter.{sock_filter}
 use Rattle.seccompiler.specs.Machine.{IsRecord, argument_at}
 use Rattle.seccompiler.specs.Policy.{Condition, RuleHolds, part_of}
@@ -7,7 +7,7 @@ use Rattle.seccomp_tree.specs.declared.steps.Target.{Target}
 use Rattle.seccomp_tree.specs.declared.steps.Target.TheVariants.{Give}
 use Rattle.seccomp_tree.specs.declared.steps.Step.{Step}
 use Rattle.seccomp_tree.specs.Steps.{found_in, AreSteps}
-use Rattle.seccomp_tree.specs.Intervals.{numbers_of, is_plain}
+use Rattle.seccomp_tree.specs.Intervals.{numbers_of, is_plain, IsChosen}
 use Rattle.seccomp_tree.specs.Code.{IsIn, Grows, LeadsAlways}
 use Rattle.seccomp_tree.specs.Decisions.{Ruling, First, Takes, RunTakes, joins, run_length, rules_length, conditions_length}
 use Rattle.seccomp_tree.specs.Decisions.{conditions_steps}
@@ -65,14 +65,13 @@ pub record AreRunSteps (c : Condition) (rulings : List Ruling) (after : Target) 
       c.arg_index)) ≡ t
   pub inside : (code : List sock_filter) → (a : ℕ) → a < numbers_of c.arg_len → IsIn code (found_in steps a) ⊎ (found_in steps a ≡ after)
 
--- The target goes on as the ruling says where it holds, and else as there is behind it; whatever the accumulator holds.
-pub record IsRulingMet (old : List sock_filter) (d : Ruling) (after t : Target) (new : List sock_filter) : Type 0 where
-  pub grows : Grows old (conditions_length d.conditions) new
+-- The target returns the value where all the conditions hold, and else goes on as there is behind; whatever the accumulator holds.
+pub record IsRulingMet (old : List sock_filter) (conditions : List Condition) (value : ℕ) (after t : Target) (new : List sock_filter) :
+    Type 0 where
+  pub grows : Grows old (conditions_length conditions) new
   pub inside : IsIn new t
-  pub met : (r : List ℕ) → IsRecord r → RuleHolds d.conditions r → (w n : ℕ) → LeadsAlways old r (Give d.value) w n
-      → LeadsAlways new r t w (n + conditions_steps d.conditions)
-  pub unmet : (r : List ℕ) → IsRecord r → (RuleHolds d.conditions r → ⊥) → (w n : ℕ) → LeadsAlways old r after w n
-      → LeadsAlways new r t w (n + conditions_steps d.conditions)
+  pub leads : (r : List ℕ) → IsRecord r → (u : Target) → IsChosen (RuleHolds conditions r) (Give value) after u → (w n : ℕ)
+      → LeadsAlways old r u w n → LeadsAlways new r t w (n + conditions_steps conditions)
 
 -- The target goes on as the first of the run's rulings that holds says, whatever the accumulator holds.
 pub record IsRunMet (old : List sock_filter) (rulings : List Ruling) (after t : Target) (new : List sock_filter) : Type 0 where

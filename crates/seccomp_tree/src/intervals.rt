@@ -3,7 +3,7 @@
 ghost use Rattle.std.specs.Prelude.{◌≡◌, ◌≤◌, ◌<◌, ◌+◌, ◌^◌, ◌↔◌, IsTrue, IfOk, IsOkUnless, length, true};
 ghost use Rattle.seccompiler.specs.Policy.{Compares, part_of};
 ghost use Rattle.seccomp_tree.specs.Steps.{AreSteps};
-ghost use Rattle.seccomp_tree.specs.Intervals.{AreChoices, AreMerged, AreTwo, IsOverPushed, IsSide, behind, is_plain, numbers_of, starts_or};
+ghost use Rattle.seccomp_tree.specs.Intervals.{AreChoices, AreMerged, AreTwo, IsChosen, IsOverPushed, behind, is_plain, numbers_of, starts_or};
 ghost use Rattle.seccomp_tree.specs.declared.error.TreeError.TheVariants.{OutOfMemory};
 
 use crate::error::TreeError;
@@ -48,7 +48,7 @@ pub(crate) fn choices(
 
 // The target for a number that is compared with the value.
 fn side(operator: SeccompCmpOp, number: u64, value: u64, yes: Target, no: Target) -> Target
-    ensures { IsSide operator number value yes no result }
+    ensures { IsChosen (Compares operator number value) yes no result }
 {
     if compares(operator, number, value) {
         yes

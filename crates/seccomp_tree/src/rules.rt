@@ -69,7 +69,7 @@ impl Code {
         after: Target,
     ) -> Result<Target, TreeError>
         requires after { IsIn self.old after }
-        ensures ok { IfOk result (λ t. IsRulingMet self.old ruling.now after t self.new) }
+        ensures ok { IfOk result (λ t. IsRulingMet self.old ruling.now.conditions ruling.now.value after t self.new) }
         ensures err { IfErr result (IsFullBy self.old (conditions_length ruling.now.conditions)) }
     {
         let mut target = Target::Give(ruling.value);

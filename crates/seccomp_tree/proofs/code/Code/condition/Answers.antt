@@ -30,7 +30,7 @@ pub returns-clause-ok : goal.returns-clause-ok
 returns-clause-ok c =
     let h = c.in_ok-steps.ensures.ok in
     IfOk-weaker c.part.result _ (λ t. IsConditionMet c.args.self.now c.args.condition.now c.args.yes c.args.no t c.part.new.self)
-    (λ t k. met_by_choices c.args.self.now c.part.new.self c.args.condition.now c.args.yes c.args.no t c.in_ok-steps.steps.items h.plain h
+    (λ t k. met_by_choices c.args.self.now c.part.new.self c.args.condition.now c.args.yes c.args.no t c.in_ok-steps.steps.items h
     (rw (c.arg_len.ensures, c.arg_index.ensures.index, c.deref.ensures.value) at k))
     c.part.ensures.ok
 

@@ -1,6 +1,6 @@
 -- Steps over call numbers: one call number more.
-use Rattle.std.proofs.Common.{◌≡◌, ℕ, ◌+◌, ◌-◌, ◌<◌, ◌≤◌, ◌^◌, List, [], ◌∷◌, length, true, false, Some, None, Vec, refl, sym, ap, ◌∙◌}
-use Rattle.std.proofs.Common.{subst, ◌⊎◌, inl, inr, ⊎_elim, arith}
+use Rattle.std.proofs.Common.{◌≡◌, ℕ, ◌+◌, ◌-◌, ◌<◌, ◌≤◌, ◌^◌, List, [], ◌∷◌, length, true, false, Vec, refl, sym, ap, ◌∙◌}
+use Rattle.std.proofs.Common.{subst, ⊎_elim, arith}
 use Rattle.std.proofs.Common.{nat_eq, if◌then◌else◌}
 use Rattle.std.proofs.lemmas.Bool.Decides.{nat_tests}
 use Rattle.std.proofs.lemmas.Bool.{cases_lt}
@@ -13,11 +13,11 @@ use Rattle.seccompiler.specs.declared.bpf.sock_filter.{sock_filter}
 use Rattle.seccomp_tree.specs.declared.steps.Target.{Target}
 use Rattle.seccomp_tree.specs.declared.steps.Target.TheVariants.{Give}
 use Rattle.seccomp_tree.specs.declared.steps.Step.{Step}
-use Rattle.seccomp_tree.specs.Steps.{found_in, AreTight, Precede, from_none, from_some, IsPushed}
+use Rattle.seccomp_tree.specs.Steps.{found_in, AreTight, AreSteps, IsPushed, IsPartPushed}
 use Rattle.seccomp_tree.specs.Code.{Grows}
 use Rattle.seccomp_tree.specs.Decisions.{Ruling, rules_length}
 use Rattle.seccomp_tree.specs.Decided.{DecisionSet, default_for, rulings_for, calls_of}
-use Rattle.seccomp_tree.specs.TreeProgram.{one_value, calls_length}
+use Rattle.seccomp_tree.specs.TreeProgram.{calls_length}
 use Rattle.seccomp_tree.specs.CallSteps.{IsAnswer, IsAnswered, AreDefaults, IsRangePushed, AreAnswers, AreCallSteps, HaveNone, IsCallPushed}
 use Rattle.seccomp_tree.proofs.Growing.{grows_not, grows_on, is_in_grown, grown_long}
 use Rattle.seccomp_tree.proofs.Runs.{leads_grown}
@@ -36,6 +36,24 @@ answer_none code default fits = record {
   inside = fits;
   one = λ v is. cc;
   own = λ none. absurd (cc);
+}
+
+pub range_none : (old others : List Step) (start end : ℕ) → start ≡ end → AreSteps start old → IsRangePushed old others start end old
+range_none old others start end same below = record {
+  are = subst (λ n. AreSteps n old) same below;
+  inside = λ n le lt. absurd (omega arith);
+  below = λ n lt. refl;
+  tight = λ h. h;
+}
+
+pub range_part : (old others : List Step) (start end : ℕ) (new : List Step) → 1 ≤ end → IsPartPushed old others start (end - 1) 0 new
+    → IsRangePushed old others start end new
+range_part old others start end new some h = record {
+  are = let size : end - 1 + 1 - 0 ≡ end = omega arith in subst (λ n. AreSteps n new) size h.are;
+  inside = λ n le lt.
+      let at : 0 + n ≡ n = omega arith in h.inside n (omega arith) (omega arith) ∙ ap (λ k. found_in others k) at;
+  below = λ n lt. h.below n (omega arith);
+  tight = h.tight;
 }
 
 -- with a range of defaults behind them the steps answer all numbers below its end
@@ -63,7 +81,7 @@ pub answers_call : (d : DecisionSet) (old new : List sock_filter) (steps mid pus
 answers_call d old new steps mid pushed number default rulings t h value here answered one tight = record {
   grows = answered.grows;
   answers = record {
-    are = from_some one.are;
+    are = one.are;
     tight = tight h.tight;
     each = λ n lt. ⊎_elim
         (λ (less : n < number).
@@ -130,7 +148,7 @@ calls_begin d code entries steps same sorted empty = rw empty record {
   count = 0;
   grows = grows_not code 0;
   total = sym (ap calls_length same ∙ sym (omega arith));
-  answers = record { are = from_none refl refl; tight = tt; each = λ n lt. absurd (omega arith) };
+  answers = record { are = record { first = λ lt. absurd (omega arith); ascend = tt }; tight = tt; each = λ n lt. absurd (omega arith) };
 }
 
 -- what `push_call` needs

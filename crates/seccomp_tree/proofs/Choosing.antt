@@ -1,95 +1,68 @@
 -- Rulings as targets: one by its conditions, a run by steps.
-use Rattle.std.proofs.Common.{◌≡◌, ℕ, zero, suc, ◌+◌, ◌-◌, ◌*◌, ◌<◌, ◌≤◌, ◌^◌, List, [], ◌∷◌, length, drop, get_or, true, false, refl, sym}
-use Rattle.std.proofs.Common.{ap, ◌∙◌, subst, ◌⊎◌, inl, inr, Option, Some, None, arith}
-use Rattle.std.specs.Prelude.{Bool, bit_and, nat_eq, ◌&&◌, if◌then◌else◌}
-use Rattle.std.proofs.lemmas.Bool.{cases_eq, cases_lt, eqb-true, and_parts, false≢true}
+use Rattle.std.proofs.Common.{◌≡◌, ℕ, zero, suc, ◌+◌, ◌*◌, ◌<◌, ◌≤◌, ◌^◌, List, [], ◌∷◌, ◌++◌, length, take, drop, get_or, true, false, refl, sym}
+use Rattle.std.proofs.Common.{ap, ◌∙◌, subst, ◌⊎◌, inl, inr, Option, Some, None, length-drop, take-append-drop, arith}
+use Rattle.std.proofs.lemmas.List.{get_or-drop}
+use Rattle.std.specs.Prelude.{Bool, nat_eq, if◌then◌else◌}
+use Rattle.std.proofs.lemmas.Bool.{eqb-true, and_parts, false≢true}
 use Rattle.std.proofs.lemmas.List.Elements.{All-nil, All-cons, All-head, All-tail}
 use Rattle.seccompiler.specs.declared.bpf.sock_filter.{sock_filter}
 use Rattle.seccompiler.specs.declared.backend.SeccompCmpArgLen.{SeccompCmpArgLen}
 use Rattle.seccompiler.specs.declared.backend.SeccompCmpArgLen.TheVariants.{Dword, Qword}
-use Rattle.seccompiler.specs.declared.backend.SeccompCmpOp.{SeccompCmpOp}
-use Rattle.seccompiler.specs.declared.backend.SeccompCmpOp.TheVariants.{Eq, Ge, Gt, Le, Lt, MaskedEq, Ne}
 use Rattle.seccompiler.specs.Machine.{IsRecord, argument_at}
-use Rattle.seccompiler.specs.Policy.{Condition, Compares, Holds, RuleHolds, part_of, operator_part}
+use Rattle.seccompiler.specs.Policy.{Condition, Holds, RuleHolds, part_of}
 use Rattle.seccomp_tree.specs.declared.steps.Target.{Target}
-use Rattle.seccomp_tree.specs.declared.steps.Target.TheVariants.{Give, At}
+use Rattle.seccomp_tree.specs.declared.steps.Target.TheVariants.{Give}
 use Rattle.seccomp_tree.specs.declared.steps.Step.{Step}
-use Rattle.seccomp_tree.specs.Steps.{found_in, AreSteps, IsPushed}
-use Rattle.seccomp_tree.specs.Intervals.{numbers_of, is_plain, IsLaid}
-use Rattle.seccomp_tree.specs.Code.{Leads, LeadsAlways, StartsAlways, IsIn, AreIn, Grows}
+use Rattle.seccomp_tree.specs.Steps.{found_in, AreSteps}
+use Rattle.seccomp_tree.specs.Intervals.{numbers_of, is_plain, IsChosen, AreChoices, AreMerged, behind, over}
+use Rattle.seccomp_tree.specs.Rows.{same}
+use Rattle.seccomp_tree.specs.Code.{Leads, LeadsAlways, IsIn, AreIn}
 use Rattle.seccomp_tree.specs.Conditions.{part_length, part_steps, condition_length, condition_steps, IsPart, IsConditionMet}
-use Rattle.seccomp_tree.specs.Decisions.{Ruling, only, alike, joins, same_length, conditions_length, conditions_steps, run_length, RunTakes}
+use Rattle.seccomp_tree.specs.Decisions.{Ruling, only, alike, same_length, conditions_length, conditions_steps, run_length, RunTakes}
 use Rattle.seccomp_tree.specs.Decisions.{by_steps, by_conditions}
 use Rattle.seccomp_tree.specs.Rules.{Chooses, chosen_here, chosen_behind, chosen_after, Joined, IsRun, head, AreRunSteps, IsRulingMet}
+use Rattle.seccomp_tree.specs.Rules.{IsLike, AreLike}
 use Rattle.seccomp_tree.specs.Rules.{IsRunMet}
 use Rattle.seccomp_tree.proofs.Growing.{grows_not, grows_on, grown_long}
-use Rattle.seccomp_tree.proofs.Runs.{leads_by, leads_grown, starts_more}
-use Rattle.seccomp_tree.proofs.LowHalves.{are_in_below}
-use Rattle.seccomp_tree.proofs.HighHalves.{leads_more}
-use Rattle.seccomp_tree.proofs.Meeting.{compares_or_not, holds_plain, part_fits, shorter_part}
+use Rattle.seccomp_tree.proofs.Runs.{leads_by, leads_grown, leads_more}
+use Rattle.seccomp_tree.proofs.Begun.{are_in_below}
+use Rattle.seccomp_tree.proofs.Choices.{compares_or_not, numbers_many, chosen_alike, chosen_yes, chosen_no}
+use Rattle.seccomp_tree.proofs.Cuts.{get_take, length_take}
+use Rattle.seccomp_tree.proofs.Meeting.{holds_or_not, chosen_plain, part_fits, shorter_part}
 
 -- ---- one ruling
 
--- each condition holds or doesn't
-pub holds_or_not : (c : Condition) (r : List ℕ) → Holds c r ⊎ (Holds c r → ⊥)
-holds_or_not c r = either (operator_part c.arg_len c.operator) (part_of c.arg_len (argument_at r c.arg_index)) (part_of c.arg_len c.value)
-  where
-    either : (o : SeccompCmpOp) (a v : ℕ) → Compares o a v ⊎ (Compares o a v → ⊥)
-    either Eq a v = cases_eq a v
-    either Ne a v = elim (cases_eq a v) [ inl e ↦ inr (λ not. not e) | inr not ↦ inl not ]
-    either Ge a v = elim (cases_lt a v) [ inl lt ↦ inr (λ h. absurd (omega arith)) | inr le ↦ inl le ]
-    either Gt a v = elim (cases_lt v a) [ inl lt ↦ inl lt | inr le ↦ inr (λ h. absurd (omega arith)) ]
-    either Le a v = elim (cases_lt v a) [ inl lt ↦ inr (λ h. absurd (omega arith)) | inr le ↦ inl le ]
-    either Lt a v = elim (cases_lt a v) [ inl lt ↦ inl lt | inr le ↦ inr (λ h. absurd (omega arith)) ]
-    either (MaskedEq m) a v = cases_eq (bit_and a m) (bit_and v m)
-
--- the loop of `ruling`: the conditions from one on
-pub record RulingOn (old : List sock_filter) (d : Ruling) (after : Target) (conditions : List Condition) (t : Target) (new : List
-    sock_filter) : Type 0 where
-  pub grows : Grows old (conditions_length conditions) new
-  pub inside : IsIn new t
-  pub met : (r : List ℕ) → IsRecord r → RuleHolds conditions r → (w n : ℕ) → LeadsAlways old r (Give d.value) w n
-      → LeadsAlways new r t w (n + conditions_steps conditions)
-  pub unmet : (r : List ℕ) → IsRecord r → (RuleHolds conditions r → ⊥) → (w n : ℕ) → LeadsAlways old r after w n
-      → LeadsAlways new r t w (n + conditions_steps conditions)
-
-pub ruling_none : (old : List sock_filter) (d : Ruling) (after : Target) (conditions : List Condition) → conditions ≡ [] → d.value < 2 ^ 32
-    → RulingOn old d after conditions (Give d.value) old
-ruling_none old d after conditions empty fits = rw empty record {
+pub ruling_none : (old : List sock_filter) (value : ℕ) (after : Target) (conditions : List Condition) → conditions ≡ [] → value < 2 ^ 32
+    → IsRulingMet old conditions value after (Give value) old
+ruling_none old value after conditions empty fits = rw empty record {
   grows = grows_not old 0;
   inside = fits;
-  met = λ r rec holds w n lead a small. leads_more (n + 0) (omega arith) (lead a small);
-  unmet = λ r rec not w n lead. absurd (not (All-nil (λ (c : Condition). Holds c r)));
+  leads = λ r rec u chosen w n lead a small.
+      let is = chosen.met (All-nil (λ (c : Condition). Holds c r)) in
+      leads_more (n + 0) (omega arith) (subst (λ v. Leads old r v a w n) is (lead a small));
 }
 
-pub ruling_one : (old mid new : List sock_filter) (d : Ruling) (after t u : Target) (c : Condition) (rest : List Condition)
-    → RulingOn old d after rest t mid → IsConditionMet mid c t after u new → RulingOn old d after (c ∷ rest) u new
-ruling_one old mid new d after t u c rest h one = record {
+pub ruling_one : (old mid new : List sock_filter) (value : ℕ) (after t u : Target) (c : Condition) (rest : List Condition)
+    → IsRulingMet old rest value after t mid → IsConditionMet mid c t after u new → IsRulingMet old (c ∷ rest) value after u new
+ruling_one old mid new value after t u c rest h one = record {
   grows = grows_on old mid new (conditions_length rest) (condition_length c.arg_len c.operator) (conditions_length (c ∷ rest)) h.grows
       one.grows
       (omega arith);
   inside = one.inside;
-  met = λ r rec holds w n lead.
-      let first = All-head (λ (x : Condition). Holds x r) c rest holds in
-      let others = All-tail (λ (x : Condition). Holds x r) c rest holds in
-      let start = one.met r rec first w (n + conditions_steps rest) (h.met r rec others w n lead) in
-      λ a small. leads_more (n + conditions_steps (c ∷ rest)) (omega arith) (leads_by (start a small));
-  unmet = λ r rec not w n lead. elim (holds_or_not c r) [
+  leads = λ r rec v chosen w n lead a small. leads_more (n + conditions_steps (c ∷ rest)) (omega arith) (elim (holds_or_not c r) [
     | inl first ↦
-        let start = one.met r rec first w (n + conditions_steps rest)
-        (h.unmet r rec (λ others. not (All-cons (λ (x : Condition). Holds x r) c rest first others)) w n lead) in
-        λ a small. leads_more (n + conditions_steps (c ∷ rest)) (omega arith) (leads_by (start a small))
+        let further = h.leads r rec v (chosen_alike (RuleHolds rest r) (RuleHolds (c ∷ rest) r) (Give value) after v
+        (λ others. All-cons (λ (x : Condition). Holds x r) c rest first others)
+        (λ all. All-tail (λ (x : Condition). Holds x r) c rest all) chosen) w n lead in
+        leads_more (suc (n + conditions_steps rest + condition_steps c.arg_len c.operator)) (omega arith)
+        (leads_by (one.leads r rec t (chosen_yes (Holds c r) t after first) w (n + conditions_steps rest) further a small))
     | inr other ↦
-        let start = one.unmet r rec other w n (λ a small. leads_grown old mid (conditions_length rest) h.grows (lead a small)) in
-        λ a small. leads_more (n + conditions_steps (c ∷ rest)) (omega arith) (leads_by (start a small))
-  ];
+        let is = chosen.unmet (λ all. other (All-head (λ (x : Condition). Holds x r) c rest all)) in
+        leads_more (suc (n + conditions_steps rest + condition_steps c.arg_len c.operator)) (omega arith)
+        (leads_by (one.leads r rec after (chosen_no (Holds c r) t after other) w n
+        (λ b fits. leads_grown old mid (conditions_length rest) h.grows (subst (λ z. Leads old r z b w n) is (lead b fits))) a small))
+  ]);
 }
-
-pub ruling_all : (old new : List sock_filter) (d : Ruling) (after t : Target) (conditions : List Condition) → conditions ≡ d.conditions
-    → RulingOn old d after conditions t new → IsRulingMet old d after t new
-ruling_all old new d after t conditions whole h =
-    let k = subst (λ (l : List Condition). RulingOn old d after l t new) whole h in
-    record { grows = k.grows; inside = k.inside; met = k.met; unmet = k.unmet }
 
 conditions_less : (n : ℕ) (q : List Condition) → conditions_length (drop n q) ≤ conditions_length q
 conditions_less zero q = omega arith
@@ -97,11 +70,11 @@ conditions_less (suc n) [] = omega arith
 conditions_less (suc n) (c ∷ q) = let h = conditions_less n q in omega arith
 
 -- how much room a condition takes at most, of what all take
-pub ruling_room : (old mid : List sock_filter) (d : Ruling) (after t : Target) (q : List Condition) (k : ℕ) (c : Condition) (rest : List
+pub ruling_room : (old mid : List sock_filter) (value : ℕ) (after t : Target) (q : List Condition) (k : ℕ) (c : Condition) (rest : List
     Condition)
-    → drop k q ≡ c ∷ rest → RulingOn old d after rest t mid → length mid + condition_length c.arg_len c.operator ≤ length old +
+    → drop k q ≡ c ∷ rest → IsRulingMet old rest value after t mid → length mid + condition_length c.arg_len c.operator ≤ length old +
     conditions_length q
-ruling_room old mid d after t q k c rest cons h =
+ruling_room old mid value after t q k c rest cons h =
     let less = conditions_less k q in
     let same : conditions_length (drop k q) ≡ condition_length c.arg_len c.operator + conditions_length rest = ap conditions_length cons in
     let grown = grown_long old mid (conditions_length rest) h.grows in
@@ -116,7 +89,7 @@ chosen_last after r t (chosen_after) = refl
 
 pub run_of_one : (old new : List sock_filter) (d : Ruling) (rest : List Ruling) (after t : Target) → IsRun (d ∷ rest) → only d.conditions ≡
     None
-    → IsRulingMet old d after t new → IsRunMet old (d ∷ rest) after t new
+    → IsRulingMet old d.conditions d.value after t new → IsRunMet old (d ∷ rest) after t new
 run_of_one old new d [] after t run is h = record {
   grows = let same : run_length d.conditions 1 ≡ conditions_length d.conditions = rw is refl in
       record { front = h.grows.front; whole = h.grows.whole; few = omega (arith, h.grows.few, same) };
@@ -132,9 +105,11 @@ run_of_one old new d [] after t run is h = record {
 
     go : (r : List ℕ) → IsRecord r → (u : Target) (w n : ℕ) → Chooses after r (d ∷ []) u → LeadsAlways old r u w n
         → LeadsAlways new r t w (n + conditions_steps d.conditions)
-    go r rec u w n (chosen_here x rest holds) lead = h.met r rec holds w n lead
+    go r rec u w n (chosen_here x rest holds) lead =
+        h.leads r rec (Give d.value) (chosen_yes (RuleHolds d.conditions r) (Give d.value) after holds) w n lead
     go r rec u w n (chosen_behind x rest v not others) lead =
-        h.unmet r rec not w n (subst (λ z. LeadsAlways old r z w n) (sym (chosen_last after r v others)) lead)
+        h.leads r rec after (chosen_no (RuleHolds d.conditions r) (Give d.value) after not) w n
+        (subst (λ z. LeadsAlways old r z w n) (sym (chosen_last after r v others)) lead)
 run_of_one old new d (e ∷ rest) after t run is h = absurd (only_alike (only e.conditions) (subst (λ o. alike o (only e.conditions) ≡ true)
     is run.0))
 
@@ -159,12 +134,6 @@ same_length_is Qword Qword e = refl
 same_length_is Dword Qword e = absurd (false≢true e)
 same_length_is Qword Dword e = absurd (false≢true e)
 
--- a condition of a run that begins with another: of the same argument, and as much of it
-pub record InRun (c d : Condition) : Type 0 where
-  pub index : d.arg_index ≡ c.arg_index
-  pub size : d.arg_len ≡ c.arg_len
-  pub plain : is_plain d.operator ≡ true
-
 alike_is : (c : Condition) (o : Option Condition) → alike (Some c) o ≡ true
     → (d : Condition) × (o ≡ Some d) × (c.arg_index ≡ d.arg_index) × (c.arg_len ≡ d.arg_len)
 alike_is c None e = absurd (false≢true e)
@@ -172,110 +141,122 @@ alike_is c (Some d) e =
     let both = and_parts (nat_eq c.arg_index d.arg_index) (same_length c.arg_len d.arg_len) e in
     (d, refl, eqb-true c.arg_index d.arg_index both.0, same_length_is c.arg_len d.arg_len both.1)
 
-pub in_run : (c : Condition) (d : Ruling) (rest : List Ruling) → IsRun (d ∷ rest) → (f : Condition) → only d.conditions ≡ Some f → InRun c f
-    → (k : ℕ) (e : Ruling) → k < length (d ∷ rest)
-    → (x : Condition) × ((get_or (d ∷ rest) k e).conditions ≡ x ∷ []) × InRun c x
-in_run c d rest run f is h zero e lt = (f, (only_is d.conditions f is).0, h)
-in_run c d [] run f is h (suc k) e lt = absurd (omega arith)
-in_run c d (g ∷ rest) run f is h (suc k) e lt =
+in_run : (c f : Condition) (d : Ruling) (rest : List Ruling) → Joined d.conditions rest → only d.conditions ≡ Some f
+    → IsLike c d.conditions → f.arg_index ≡ c.arg_index → f.arg_len ≡ c.arg_len → AreLike c (d ∷ rest)
+in_run c f d rest run is first index size zero x lt = first
+in_run c f d [] run is first index size (suc k) x lt = absurd (omega arith)
+in_run c f d (g ∷ rest) run is first index size (suc k) x lt =
     let next = alike_is f (only g.conditions) (subst (λ o. alike o (only g.conditions) ≡ true) is run.0) in
-    in_run c g rest run.1 next.0 next.1 record {
-      index = sym next.2 ∙ h.index;
-      size = sym next.3 ∙ h.size;
-      plain = (only_is g.conditions next.0 next.1).1;
-    } k e (omega arith)
+    let own = only_is g.conditions next.0 next.1 in
+    let here : IsLike c g.conditions = record { condition = next.0; whole = own.0; index = sym next.2 ∙ index; size = sym next.3 ∙ size; plain = own.1 } in
+    in_run c next.0 g rest run.1 next.1 here (sym next.2 ∙ index) (sym next.3 ∙ size) k x (omega arith)
 
 -- each ruling of a run has one condition, of the same argument
-pub record OfRun (c : Condition) (q : List Condition) : Type 0 where
-  pub condition : Condition
-  pub whole : q ≡ condition ∷ []
-  pub run : InRun c condition
+pub run_alike : (c : Condition) (rulings : List Ruling) → IsRun rulings → only (head rulings) ≡ Some c → AreLike c rulings
+run_alike c [] run is = absurd run
+run_alike c (d ∷ rest) run is =
+    let own = only_is d.conditions c is in
+    let first : IsLike c d.conditions = record { condition = c; whole = own.0; index = refl; size = refl; plain = own.1 } in
+    in_run c c d rest run is first refl refl
 
-pub of_run : (c : Condition) (rulings : List Ruling) → IsRun rulings → only (head rulings) ≡ Some c → (k : ℕ) (d : Ruling) → k < length
-    rulings
-    → OfRun c ((get_or rulings k d).conditions)
-of_run c [] run is k d lt = absurd run
-of_run c (e ∷ rulings) run is k d lt =
-    let first : InRun c c = record { index = refl; size = refl; plain = (only_is e.conditions c is).1 } in
-    let h = in_run c e rulings run c is first k d lt in
-    record { condition = h.0; whole = h.1; run = h.2 }
+pub like_take : (c : Condition) (n : ℕ) (rulings : List Ruling) → AreLike c rulings → AreLike c (take n rulings)
+like_take c n rulings h k d lt =
+    let at = get_take n k rulings d lt in subst (λ (x : Ruling). IsLike c x.conditions) (sym at.1) (h k d at.0)
 
-pub numbers_some : (l : SeccompCmpArgLen) → 1 ≤ numbers_of l
-numbers_some Dword = omega arith
-numbers_some Qword = omega arith
+pub like_drop : (c : Condition) (n : ℕ) (rulings : List Ruling) → AreLike c rulings → AreLike c (drop n rulings)
+like_drop c n rulings h k d lt =
+    subst (λ (x : Ruling). IsLike c x.conditions) (sym (get_or-drop n rulings k d)) (h (n + k) d (omega (arith, length-drop n rulings)))
 
--- the loop of `run_steps`: the rulings from one on
-pub record RunOn (c : Condition) (rulings : List Ruling) (after : Target) (steps : List Step) : Type 0 where
-  pub are : AreSteps (numbers_of c.arg_len) steps
-  pub few : length steps ≤ 2 * length rulings + 1
-  pub each : (r : List ℕ) → IsRecord r → (t : Target) → Chooses after r rulings t → found_in steps (part_of c.arg_len (argument_at r
-      c.arg_index)) ≡ t
-  pub inside : (code : List sock_filter) → IsIn code after → (a : ℕ) → a < numbers_of c.arg_len → IsIn code (found_in steps a)
-
-pub run_none : (c : Condition) (rulings : List Ruling) (after : Target) (steps : List Step) → rulings ≡ [] → AreSteps (numbers_of
-    c.arg_len) steps
-    → IsPushed [] 0 after steps → RunOn c rulings after steps
-run_none c rulings after steps empty are pushed = rw empty record {
-  are = are;
-  few = omega (arith, pushed.few);
-  each = λ r rec t chosen. pushed.from (part_of c.arg_len (argument_at r c.arg_index)) (omega arith) ∙ chosen_last after r t chosen;
-  inside = λ code inside a lt. subst (IsIn code) (sym (pushed.from a (omega arith))) inside;
-}
-
-pub run_one : (c x : Condition) (d : Ruling) (rest : List Ruling) (after : Target) (steps new : List Step) → InRun c x → d.conditions ≡ x ∷
-    []
-    → d.value < 2 ^ 32 → RunOn c rest after steps → IsLaid x steps (Give d.value) new → RunOn c (d ∷ rest) after new
-run_one c x d rest after steps new same is fits h laid = record {
-  are = subst (λ l. AreSteps (numbers_of l) new) same.size laid.laid.are;
-  few = omega (arith, h.few, laid.few);
+-- the steps of one ruling
+pub run_one : (c x : Condition) (rulings : List Ruling) (d : Ruling) (after : Target) (steps : List Step) → length rulings ≡ 1
+    → d ≡ get_or rulings 0 d → (like : IsLike c d.conditions) → like.condition ≡ x → d.value < 2 ^ 32
+    → AreChoices x (Give d.value) after steps → AreRunSteps c rulings after steps
+run_one c x [] d after steps one is like own fits h = absurd (omega arith)
+run_one c x (e ∷ f ∷ rest) d after steps one is like own fits h = absurd (omega arith)
+run_one c x (e ∷ []) d after steps one is like own fits h = record {
+  are = subst (λ l. AreSteps (numbers_of l) steps) size h.are;
+  few = h.few;
   each = λ r rec t chosen. go r rec t chosen;
-  inside = λ code inside a lt. elim (compares_or_not x.operator a (part_of x.arg_len x.value) same.plain) [
-    | inl met ↦ subst (IsIn code) (sym (laid.laid.met a (size a lt) met)) fits
-    | inr not ↦ subst (IsIn code) (sym (laid.laid.unmet a (size a lt) not)) (h.inside code inside a lt)
+  inside = λ code a lt. elim (compares_or_not x.operator a (part_of x.arg_len x.value)) [
+    | inl met ↦ inl (subst (IsIn code) (sym ((h.each a (sized a lt)).met met)) fits)
+    | inr not ↦ inr ((h.each a (sized a lt)).unmet not)
   ];
 }
   where
-    size : (a : ℕ) → a < numbers_of c.arg_len → a < numbers_of x.arg_len
-    size a lt = subst (λ l. a < numbers_of l) (sym same.size) lt
+    size : x.arg_len ≡ c.arg_len
+    size = ap (λ (y : Condition). y.arg_len) (sym own) ∙ like.size
+
+    sized : (a : ℕ) → a < numbers_of c.arg_len → a < numbers_of x.arg_len
+    sized a lt = subst (λ l. a < numbers_of l) (sym size) lt
+
+    whole : e.conditions ≡ x ∷ []
+    whole = ap (λ (y : Ruling). y.conditions) (sym is) ∙ like.whole ∙ ap (λ (y : Condition). y ∷ []) own
 
     place : (r : List ℕ) → part_of c.arg_len (argument_at r c.arg_index) ≡ part_of x.arg_len (argument_at r x.arg_index)
-    place r = ap (λ l. part_of l (argument_at r c.arg_index)) (sym same.size) ∙ ap (λ i. part_of x.arg_len (argument_at r i)) (sym
-        same.index)
+    place r = ap (λ l. part_of l (argument_at r c.arg_index)) (sym size)
+        ∙ ap (λ i. part_of x.arg_len (argument_at r i)) (sym like.index ∙ ap (λ (y : Condition). y.arg_index) own)
 
-    one : (r : List ℕ) → RuleHolds d.conditions r → Holds x r
-    one r holds = All-head (λ (y : Condition). Holds y r) x [] (subst (λ (q : List Condition). RuleHolds q r) is holds)
+    own_choice : (r : List ℕ) → IsRecord r
+        → IsChosen (Holds x r) (Give d.value) after (found_in steps (part_of x.arg_len (argument_at r x.arg_index)))
+    own_choice r rec =
+        chosen_plain x r (Give d.value) after _ h.plain (h.each (part_of x.arg_len (argument_at r x.arg_index)) (part_fits x.arg_len r x.arg_index rec))
 
-    back : (r : List ℕ) → Holds x r → RuleHolds d.conditions r
-    back r holds = subst (λ (q : List Condition). RuleHolds q r) (sym is)
-        (All-cons (λ (y : Condition). Holds y r) x [] holds (All-nil (λ (y : Condition). Holds y r)))
-
-    go : (r : List ℕ) → IsRecord r → (t : Target) → Chooses after r (d ∷ rest) t → found_in new (part_of c.arg_len (argument_at r
-        c.arg_index)) ≡ t
+    go : (r : List ℕ) → IsRecord r → (t : Target) → Chooses after r (e ∷ []) t → found_in steps (part_of c.arg_len (argument_at r c.arg_index)) ≡ t
     go r rec t (chosen_here y others holds) =
-        let a = part_of x.arg_len (argument_at r x.arg_index) in
-        ap (λ p. found_in new p) (place r)
-        ∙ laid.laid.met a (part_fits x.arg_len r x.arg_index rec) ((holds_plain x r same.plain).0 (one r holds))
+        let one = All-head (λ (y : Condition). Holds y r) x [] (subst (λ (q : List Condition). RuleHolds q r) whole holds) in
+        ap (λ p. found_in steps p) (place r) ∙ (own_choice r rec).met one ∙ ap (λ (y : Ruling). Give y.value) is
     go r rec t (chosen_behind y others u not chosen) =
-        let a = part_of x.arg_len (argument_at r x.arg_index) in
-        ap (λ p. found_in new p) (place r)
-        ∙ laid.laid.unmet a (part_fits x.arg_len r x.arg_index rec) (λ m. not (back r ((holds_plain x r same.plain).1 m)))
-        ∙ ap (λ p. found_in steps p) (sym (place r)) ∙ h.each r rec u chosen
+        let none = λ (m : Holds x r). not (subst (λ (q : List Condition). RuleHolds q r) (sym whole)
+        (All-cons (λ (y : Condition). Holds y r) x [] m (All-nil (λ (y : Condition). Holds y r)))) in
+        ap (λ p. found_in steps p) (place r) ∙ (own_choice r rec).unmet none ∙ chosen_last after r u chosen
 
-pub run_all : (c : Condition) (rulings all : List Ruling) (after : Target) (steps : List Step) → rulings ≡ all → RunOn c rulings after steps
-    → AreRunSteps c all after steps
-run_all c rulings all after steps whole h =
-    let k = subst (λ (l : List Ruling). RunOn c l after steps) whole h in
-    record { are = k.are; few = k.few; each = k.each; inside = k.inside }
+-- what is chosen among rulings is chosen among the first ones, or behind them
+chosen_first : (after : Target) (r : List ℕ) (front back : List Ruling) (t : Target) → Chooses after r (front ++ back) t
+    → (Chooses behind r front t × (same t behind ≡ false)) ⊎ (Chooses behind r front behind × Chooses after r back t)
+chosen_first after r [] back t h = inr (chosen_after, h)
+chosen_first after r (d ∷ front) back t (chosen_here x rest holds) = inl (chosen_here d front holds, refl)
+chosen_first after r (d ∷ front) back t (chosen_behind x rest u not h) = elim (chosen_first after r front back t h) [
+  | inl c ↦ inl (chosen_behind d front t not c.0, c.1)
+  | inr c ↦ inr (chosen_behind d front behind not c.0, c.1)
+]
+
+-- the steps of two parts of a run, merged
+pub run_two : (c : Condition) (n : ℕ) (rulings : List Ruling) (after : Target) (one two steps : List Step) → n ≤ length rulings
+    → AreRunSteps c (take n rulings) behind one → AreRunSteps c (drop n rulings) after two → AreMerged (numbers_of c.arg_len) one two steps
+    → AreRunSteps c rulings after steps
+run_two c n rulings after one two steps le f b h = record {
+  are = h.are;
+  few = omega (arith, h.few, f.few, b.few, length_take n rulings le, length-drop n rulings);
+  each = λ r rec t chosen.
+      let p = part_of c.arg_len (argument_at r c.arg_index) in
+      let here = h.found p (part_fits c.arg_len r c.arg_index rec) in
+      elim (chosen_first after r (take n rulings) (drop n rulings) t
+      (subst (λ (l : List Ruling). Chooses after r l t) (sym (take-append-drop n rulings)) chosen)) [
+        | inl k ↦
+            let no = k.1 in
+            here ∙ ap (λ u. over u (found_in two p)) (f.each r rec t k.0) ∙ rw no refl
+        | inr k ↦ here ∙ ap (λ u. over u (found_in two p)) (f.each r rec behind k.0) ∙ b.each r rec t k.1
+      ];
+  inside = λ code a lt. subst (λ u. IsIn code u ⊎ (u ≡ after)) (sym (h.found a lt)) (either code a lt (f.inside code a lt));
+}
+  where
+    either : (code : List sock_filter) (a : ℕ) → a < numbers_of c.arg_len → IsIn code (found_in one a) ⊎ (found_in one a ≡ behind)
+        → IsIn code (over (found_in one a) (found_in two a)) ⊎ (over (found_in one a) (found_in two a) ≡ after)
+    either code a lt (inr is) = subst (λ u. IsIn code (over u (found_in two a)) ⊎ (over u (found_in two a) ≡ after)) (sym is) (b.inside code a lt)
+    either code a lt (inl own) = go (same (found_in one a) behind)
+      where
+        go : (v : Bool) → IsIn code (if v then found_in two a else found_in one a) ⊎ ((if v then found_in two a else found_in one a) ≡ after)
+        go true = b.inside code a lt
+        go false = inl own
 
 pub run_in : (code : List sock_filter) (c : Condition) (rulings : List Ruling) (after : Target) (steps : List Step) → AreRunSteps c rulings
     after steps
     → IsIn code after → AreIn code steps
 run_in code c rulings after steps h inside =
-    are_in_below code (numbers_of c.arg_len) steps (some c.arg_len) h.are (λ a lt. h.inside code inside a lt)
-  where
-    some : (l : SeccompCmpArgLen) → 1 ≤ numbers_of l
-    some Dword = omega arith
-    some Qword = omega arith
+    are_in_below code (numbers_of c.arg_len) steps (omega (arith, numbers_many c.arg_len)) h.are (λ a lt. elim (h.inside code a lt) [
+      | inl in_code ↦ in_code
+      | inr is ↦ subst (IsIn code) (sym is) inside
+    ])
 
 pub run_by_steps : (old new : List sock_filter) (c : Condition) (rulings : List Ruling) (after t : Target) (steps : List Step)
     → only (head rulings) ≡ Some c → AreRunSteps c rulings after steps → IsPart old c.arg_len c.arg_index steps t new
@@ -308,7 +289,7 @@ run_head (d ∷ rest) x run is = ap (λ (y : Ruling). y.conditions) (sym is)
 
 pub run_single : (old new : List sock_filter) (rulings : List Ruling) (x : Ruling) (after t : Target) → IsRun rulings → x ≡ get_or rulings
     0 x
-    → only (head rulings) ≡ None → IsRulingMet old x after t new → IsRunMet old rulings after t new
+    → only (head rulings) ≡ None → IsRulingMet old x.conditions x.value after t new → IsRunMet old rulings after t new
 run_single old new [] x after t run is none h = absurd run
 run_single old new (d ∷ rest) x after t run is none h =
-    run_of_one old new d rest after t run none (subst (λ (y : Ruling). IsRulingMet old y after t new) is h)
+    run_of_one old new d rest after t run none (subst (λ (y : Ruling). IsRulingMet old y.conditions y.value after t new) is h)

@@ -1,16 +1,16 @@
 -- Default values as steps.
 use Rattle.std.proofs.lemmas.List.{take_all}
 use Rattle.std.proofs.Common.{◌≡◌, ℕ, suc, take, get_or, ◌-◌, ◌+◌, ◌<◌, ◌≤◌, ◌^◌, List, [], ◌∷◌, length, drop, true, false, nat_le}
-use Rattle.std.proofs.Common.{if◌then◌else◌, refl, sym, ap, ◌∙◌, subst, ⊎_elim, arith}
+use Rattle.std.proofs.Common.{if◌then◌else◌, sym, ap, ◌∙◌, subst, ⊎_elim, arith}
 use Rattle.std.proofs.lemmas.Bool.Decides.{nat_tests}
 use Rattle.std.proofs.lemmas.Bool.{cases_lt}
 use Rattle.seccomp_tree.specs.declared.decisions.DefaultValue.{DefaultValue}
 use Rattle.seccomp_tree.specs.declared.steps.Target.TheVariants.{Give}
 use Rattle.seccomp_tree.specs.declared.steps.Step.{Step}
-use Rattle.seccomp_tree.specs.Steps.{found_in, AreSteps, Precede, from_some, IsPushed}
+use Rattle.seccomp_tree.specs.Steps.{found_in, AreSteps, IsPushed}
 use Rattle.seccomp_tree.specs.Decided.{StartAbove, AscendFromZero, default_from, default_for}
 use Rattle.seccomp_tree.specs.CallSteps.{AreDefaults}
-use Rattle.seccomp_tree.proofs.StepLists.{steps_more}
+use Rattle.seccomp_tree.proofs.Begun.{steps_more}
 use Rattle.seccomp_tree.proofs.Deciding.{drop_end}
 
 -- What stands for a default that there is not.
@@ -68,10 +68,10 @@ defaults_next defaults items i x steps new cons h small fits pushed =
     }
 
 pub defaults_room : (defaults items : List DefaultValue) (i : ℕ) (x : DefaultValue) (steps : List Step)
-    → drop i items ≡ x ∷ drop (i + 1) items → DefaultsOn defaults items i steps → Precede x.start steps
+    → drop i items ≡ x ∷ drop (i + 1) items → DefaultsOn defaults items i steps → AreSteps x.start steps
 defaults_room defaults items i x steps cons h =
     let rest : StartAbove h.last (x ∷ drop (i + 1) items) = subst (StartAbove h.last) cons h.rest in
-    from_some (steps_more (h.last + 1) x.start steps (omega (arith, rest.0)) h.are)
+    steps_more (h.last + 1) x.start steps (omega arith) (omega (arith, rest.0)) h.are
 
 pub defaults_all : (defaults items : List DefaultValue) (i : ℕ) (steps : List Step) → length items ≤ i → DefaultsOn defaults items i steps
     → AreDefaults defaults steps
@@ -80,7 +80,7 @@ defaults_all defaults items i steps all h =
     let whole : (n : ℕ) → h.value n ≡ default_for defaults n
     = λ n. sym (ap (λ (l : List DefaultValue). default_from (h.value n) l n) end) ∙ h.left n in
     record {
-      are = steps_more (h.last + 1) (2 ^ 32) steps (omega (arith, h.below)) h.are;
+      are = steps_more (h.last + 1) (2 ^ 32) steps (omega arith) (omega (arith, h.below)) h.are;
       found = λ n. h.found n ∙ ap Give (whole n);
       words = λ n. subst (λ v. v < 2 ^ 32) (whole n) (h.words n);
     }

@@ -1,29 +1,28 @@
 -- Steps without alike neighbours are as few as can be: at most as many as any ranges of the decisions.
-use Rattle.std.proofs.Common.{◌≡◌, ◌≢◌, ℕ, suc, ◌+◌, ◌-◌, ◌<◌, ◌≤◌, ◌||◌, ◌^◌, List, [], ◌∷◌, length, Bool, true, false, Some, refl, sym}
-use Rattle.std.proofs.Common.{ap, ◌∙◌, subst, ◌⊎◌, inl, inr, ⊎_elim, arith, map}
+use Rattle.std.proofs.Common.{◌≡◌, ℕ, suc, ◌+◌, ◌-◌, ◌<◌, ◌≤◌, ◌||◌, ◌^◌, List, [], ◌∷◌, length, Bool, true, false, refl, sym}
+use Rattle.std.proofs.Common.{ap, ◌∙◌, subst, ⊎_elim, arith, map}
 use Rattle.std.proofs.Common.{nat_eq, nat_le, if◌then◌else◌}
 use Rattle.std.proofs.lemmas.Bool.Decides.{nat_tests}
-use Rattle.std.proofs.lemmas.Bool.{cases_lt, cases_Bool}
+use Rattle.std.proofs.lemmas.Bool.{cases_Bool}
 use Rattle.std.proofs.lemmas.Map.Made.{length-le_from_is_member}
 use Rattle.std.specs.Cmp.{nat_eq_equiv}
 use Rattle.std.specs.List.{IsDistinct, AllByRecursion}
 use Rattle.std.specs.Set.{is_member}
 use Rattle.seccompiler.specs.declared.bpf.sock_filter.{sock_filter}
 use Rattle.seccomp_tree.specs.declared.steps.Target.{Target}
-use Rattle.seccomp_tree.specs.declared.steps.Target.TheVariants.{Give}
 use Rattle.seccomp_tree.specs.declared.steps.Step.{Step}
-use Rattle.seccomp_tree.specs.Steps.{found_from, found_in, AscendFrom, AreSteps, AreTight, TightFrom, Precede, from_none, from_some}
+use Rattle.seccomp_tree.specs.Steps.{found_from, found_in, AscendFrom, AreSteps, AreTight, TightFrom}
 use Rattle.seccomp_tree.specs.Decided.{DecisionSet, default_for, rulings_for}
-use Rattle.seccomp_tree.specs.TreeProgram.{value_for, AreRanges}
+use Rattle.seccomp_tree.specs.TreeProgram.{AreRanges}
 use Rattle.seccomp_tree.specs.CallSteps.{IsAnswer, AreAnswers}
-use Rattle.seccomp_tree.proofs.StepLists.{found_above}
+use Rattle.seccomp_tree.proofs.Begun.{found_before}
 
 starts_of : List Step → List ℕ
 starts_of steps = map (λ (x : Step). x.start) steps
 
 -- where each step starts, ranges start
 members : (d : DecisionSet) (code : List sock_filter) (starts : List ℕ) (start : ℕ) (t : Target) (steps : List Step) → AreRanges d starts
-    → AscendFrom (2 ^ 32) start steps → TightFrom t steps
+    → AscendFrom (2 ^ 32) (start + 1) steps → TightFrom t steps
     → ((n : ℕ) → start ≤ n → n < 2 ^ 32 → IsAnswer code (default_for d.defaults n) (rulings_for d.calls n) (found_from t steps n))
     → (q : ℕ) → is_member nat_eq (starts_of steps) q ≡ true → is_member nat_eq starts q ≡ true
 unfolding starts_of
@@ -48,7 +47,7 @@ members d code starts start t (x ∷ steps) ranges ascend tight each q h =
     at : found_from t (x ∷ steps) (x.start - 1 + 1) ≡ x.target
     at =
         let yes : nat_le x.start (x.start - 1 + 1) ≡ true = grind (arith, nat_tests, ascend.0) in
-        rw yes (found_above (2 ^ 32) x.start x.target steps (x.start - 1 + 1) ascend.1.1 (omega (arith, ascend.0)))
+        rw yes (found_before (2 ^ 32) (x.start + 1) x.target steps (x.start - 1 + 1) ascend.1.1 (omega (arith, ascend.0)))
 
     begins : (b : Bool) → is_member nat_eq starts (x.start - 1 + 1) ≡ b → is_member nat_eq starts x.start ≡ true
     begins true e = let same : x.start - 1 + 1 ≡ x.start = omega (arith, ascend.0) in ap (is_member nat_eq starts) (sym same) ∙ e
@@ -58,37 +57,36 @@ members d code starts start t (x ∷ steps) ranges ascend tight each q h =
         let high = (each (x.start - 1 + 1) (omega (arith, ascend.0)) (omega (arith, ascend.0, ascend.1.0))).one alike.0 alike.2 in
         absurd (tight.0 (sym below ∙ low ∙ sym high ∙ at))
 
-apart : (start : ℕ) (steps : List Step) (low : ℕ) → low ≤ start → AscendFrom (2 ^ 32) start steps
+apart : (start : ℕ) (steps : List Step) (low : ℕ) → low < start → AscendFrom (2 ^ 32) start steps
     → AllByRecursion (λ y. nat_eq low y ≡ false) (starts_of steps)
 unfolding starts_of
 apart start [] low le h = tt
-apart start (x ∷ steps) low le h = (grind (arith, nat_tests, h.0), apart x.start steps low (omega (arith, h.0)) h.1.1)
+apart start (x ∷ steps) low le h = (grind (arith, nat_tests, h.0), apart (x.start + 1) steps low (omega (arith, h.0)) h.1.1)
 
 distinct : (start : ℕ) (steps : List Step) → AscendFrom (2 ^ 32) start steps → IsDistinct nat_eq (starts_of steps)
 unfolding starts_of IsDistinct
 distinct start [] h = tt
-distinct start (x ∷ steps) h = (apart x.start steps x.start (omega arith) h.1.1, distinct x.start steps h.1.1)
+distinct start (x ∷ steps) h = (apart (x.start + 1) steps x.start (omega arith) h.1.1, distinct (x.start + 1) steps h.1.1)
 
 starts_long : (steps : List Step) → length (starts_of steps) ≡ length steps
 unfolding starts_of
 starts_long [] = refl
 starts_long (x ∷ steps) = ap (λ n. suc n) (starts_long steps)
 
-few_from : (d : DecisionSet) (code : List sock_filter) (starts : List ℕ) (steps : List Step) → AreRanges d starts → Precede (2 ^ 32) steps
+few_from : (d : DecisionSet) (code : List sock_filter) (starts : List ℕ) (steps : List Step) → AreRanges d starts → AreSteps (2 ^ 32) steps
     → AreTight steps → ((n : ℕ) → n < 2 ^ 32 → IsAnswer code (default_for d.defaults n) (rulings_for d.calls n) (found_in steps n))
     → length steps ≤ length starts
 unfolding starts_of IsDistinct
-few_from d code starts steps ranges (from_none z e) tight each = absurd (omega arith)
-few_from d code starts [] ranges (from_some are) tight each = absurd are.first
-few_from d code starts (x ∷ steps) ranges (from_some are) tight each =
+few_from d code starts [] ranges are tight each = absurd (are.first (omega arith))
+few_from d code starts (x ∷ steps) ranges are tight each =
     let long = starts_long (x ∷ steps) in
     let few = length-le_from_is_member nat_eq_equiv (starts_of (x ∷ steps)) starts
-    (apart x.start steps x.start (omega arith) are.ascend.1, distinct x.start steps are.ascend.1)
+    (apart (x.start + 1) steps x.start (omega arith) are.ascend.1.1, distinct (x.start + 1) steps are.ascend.1.1)
     (λ q h. ⊎_elim
     (λ (e : nat_eq q x.start ≡ true).
-    let same : q ≡ 0 = grind (arith, nat_tests, are.first) in ap (is_member nat_eq starts) same ∙ ranges.zero)
+    let same : q ≡ 0 = grind (arith, nat_tests, are.first (omega arith)) in ap (is_member nat_eq starts) same ∙ ranges.zero)
     (λ (e : nat_eq q x.start ≡ false).
-    members d code starts x.start x.target steps ranges are.ascend.1 tight (λ n le lt. each n lt) q
+    members d code starts x.start x.target steps ranges are.ascend.1.1 tight (λ n le lt. each n lt) q
     (ap (λ b. b || is_member nat_eq (starts_of steps) q) (sym e) ∙ h))
     (cases_Bool (nat_eq q x.start))) in
     omega (arith, long, few)

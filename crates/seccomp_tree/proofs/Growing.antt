@@ -5,7 +5,6 @@ use Rattle.seccompiler.specs.declared.bpf.sock_filter.{sock_filter}
 use Rattle.seccomp_tree.specs.declared.steps.Target.{Target}
 use Rattle.seccomp_tree.specs.declared.steps.Target.TheVariants.{Give, At}
 use Rattle.seccomp_tree.specs.declared.steps.Step.{Step}
-use Rattle.seccomp_tree.specs.Steps.{found_in}
 use Rattle.seccomp_tree.specs.Code.{IsIn, AreIn, Grows}
 
 pub grows_not : (code : List sock_filter) (most : ℕ) → Grows code most code
@@ -33,7 +32,7 @@ is_in_grown old new most (Give w) g h = h
 is_in_grown old new most (At m) g h = let long = grown_long old new most g in omega (arith, long.0)
 
 pub are_in_grown : (old new : List sock_filter) (most : ℕ) (steps : List Step) → Grows old most new → AreIn old steps → AreIn new steps
-are_in_grown old new most steps g h = λ a. is_in_grown old new most (found_in steps a) g (h a)
+are_in_grown old new most steps g h = λ k d lt. is_in_grown old new most _ g (h k d lt)
 
 -- the place that was written last is inside
 pub last_in : (code : List sock_filter) (t : Target) → t ≡ At (length code - 1) → 1 ≤ length code → IsIn code t

@@ -1,34 +1,33 @@
 -- Conditions as targets: what choices and masks make of them.
-use Rattle.std.proofs.Common.{◌≡◌, ℕ, zero, suc, ◌+◌, ◌-◌, ◌*◌, ◌/◌, ◌%◌, ◌<◌, ◌≤◌, ◌^◌, List, [], ◌∷◌, length, drop, true, false, refl}
-use Rattle.std.proofs.Common.{sym, ap, ◌∙◌, subst, ◌⊎◌, inl, inr, arith}
-use Rattle.std.proofs.Common.{nat_eq, if◌then◌else◌}
-use Rattle.std.specs.Prelude.{bit_and}
+use Rattle.std.proofs.Common.{◌≡◌, ℕ, suc, ◌+◌, ◌-◌, ◌*◌, ◌/◌, ◌%◌, ◌<◌, ◌≤◌, ◌^◌, List, ◌∷◌, length, true, refl}
+use Rattle.std.proofs.Common.{sym, ap, ◌∙◌, subst, inl, inr, arith}
+use Rattle.std.specs.Prelude.{bit_and, ◌⊎◌, if◌then◌else◌}
 use Rattle.std.specs.Int.Bits.{and_lt, and_zero_r}
-use Rattle.std.proofs.lemmas.Bool.{cases_eq, cases_lt, eq-eqb, ne_eqb}
+use Rattle.std.proofs.lemmas.Bool.{cases_eq, eq-eqb, ne_eqb}
 use Rattle.seccompiler.specs.declared.bpf.sock_filter.{sock_filter}
 use Rattle.seccompiler.specs.declared.backend.SeccompCmpArgLen.{SeccompCmpArgLen}
 use Rattle.seccompiler.specs.declared.backend.SeccompCmpArgLen.TheVariants.{Dword, Qword}
 use Rattle.seccompiler.specs.declared.backend.SeccompCmpOp.{SeccompCmpOp}
 use Rattle.seccompiler.specs.declared.backend.SeccompCmpOp.TheVariants.{Eq, Ge, Gt, Le, Lt, MaskedEq, Ne}
-use Rattle.seccompiler.specs.Machine.{IsRecord, word_at, argument_at, Does, loads, masks}
+use Rattle.seccompiler.specs.Machine.{IsRecord, word_at, argument_at, loads, masks}
 use Rattle.seccompiler.specs.Policy.{Condition, Compares, Holds, part_of, operator_part}
 use Rattle.seccompiler.specs.Code.{load, mask}
 use Rattle.seccompiler.proofs.Words.{word_fits, number_halves, mask_halves}
-use Rattle.seccomp_tree.specs.declared.code.Test.{Test}
 use Rattle.seccomp_tree.specs.declared.code.Test.TheVariants.{Equal}
 use Rattle.seccomp_tree.specs.declared.steps.Target.{Target}
-use Rattle.seccomp_tree.specs.declared.steps.Target.TheVariants.{Give, At}
+use Rattle.seccomp_tree.specs.declared.steps.Target.TheVariants.{At}
 use Rattle.seccomp_tree.specs.declared.steps.Step.{Step}
-use Rattle.seccomp_tree.specs.Steps.{found_in, AreSteps, IsPushed}
-use Rattle.seccomp_tree.specs.Intervals.{numbers_of, is_plain, AreLaidOver, IsLaid}
-use Rattle.seccomp_tree.specs.Code.{tail_at, Returns, goes_on, Starts, by_return, at_place, Leads, LeadsAlways, StartsAlways, IsIn, AreIn}
-use Rattle.seccomp_tree.specs.Code.{Grows, chosen, IsTested, IsWord, IsArgument}
-use Rattle.seccomp_tree.specs.Conditions.{part_length, part_steps, condition_length, condition_steps, IsPart, IsMasked, AreChoices}
+use Rattle.seccomp_tree.specs.Steps.{found_in}
+use Rattle.seccomp_tree.specs.Intervals.{numbers_of, is_plain, IsChosen, AreChoices}
+use Rattle.seccomp_tree.specs.Code.{Starts, Leads, LeadsAlways, StartsAlways, IsIn, AreIn}
+use Rattle.seccomp_tree.specs.Code.{chosen, IsTested, IsWord, IsArgument}
+use Rattle.seccomp_tree.specs.Conditions.{part_length, part_steps, condition_length, condition_steps, IsPart, IsMasked}
 use Rattle.seccomp_tree.specs.Conditions.{IsConditionMet}
-use Rattle.seccomp_tree.proofs.Tails.{tail_whole}
-use Rattle.seccomp_tree.proofs.Growing.{grows_not, grows_one, grows_on, is_in_grown, last_in}
+use Rattle.seccomp_tree.proofs.Growing.{grows_not, grows_one, grows_on}
 use Rattle.seccomp_tree.proofs.Runs.{starts_more, starts_by, leads_by, leads_grown}
-use Rattle.seccomp_tree.proofs.LowHalves.{are_in_below}
+use Rattle.seccomp_tree.proofs.Begun.{are_in_below}
+use Rattle.seccomp_tree.proofs.Choices.{compares_or_not, numbers_many, chosen_alike, chosen_yes, chosen_no}
+use Rattle.seccomp_tree.proofs.Reaching.{stepped, starts_at}
 
 -- ---- numbers of an argument
 
@@ -50,6 +49,11 @@ part_fits Qword r index rec =
     let low = word_fits r (16 + 8 * index) rec in
     let high = word_fits r (16 + 8 * index + 4) rec in
     omega (arith, number_halves r (16 + 8 * index))
+
+-- each condition holds or doesn't
+pub holds_or_not : (c : Condition) (r : List ℕ) → Holds c r ⊎ (Holds c r → ⊥)
+holds_or_not c r =
+    compares_or_not (operator_part c.arg_len c.operator) (part_of c.arg_len (argument_at r c.arg_index)) (part_of c.arg_len c.value)
 
 -- ---- parts
 
@@ -76,29 +80,15 @@ part_of_argument old new index steps t argument = record {
 
 -- ---- conditions without a mask
 
--- each comparison holds or doesn't
-pub compares_or_not : (o : SeccompCmpOp) (a v : ℕ) → is_plain o ≡ true → Compares o a v ⊎ (Compares o a v → ⊥)
-compares_or_not Eq a v plain = cases_eq a v
-compares_or_not Ne a v plain = elim (cases_eq a v) [ inl e ↦ inr (λ not. not e) | inr not ↦ inl not ]
-compares_or_not Ge a v plain = elim (cases_lt a v) [ inl lt ↦ inr (λ h. absurd (omega arith)) | inr le ↦ inl le ]
-compares_or_not Gt a v plain = elim (cases_lt v a) [ inl lt ↦ inl lt | inr le ↦ inr (λ h. absurd (omega arith)) ]
-compares_or_not Le a v plain = elim (cases_lt v a) [ inl lt ↦ inr (λ h. absurd (omega arith)) | inr le ↦ inl le ]
-compares_or_not Lt a v plain = elim (cases_lt a v) [ inl lt ↦ inl lt | inr le ↦ inr (λ h. absurd (omega arith)) ]
-compares_or_not (MaskedEq m) a v plain = cases_eq (bit_and a m) (bit_and v m)
-
 -- one of two targets is inside where both are
-pub choices_in : (code : List sock_filter) (c : Condition) (fit unfit : Target) (steps : List Step) → is_plain c.operator ≡ true
+pub choices_in : (code : List sock_filter) (c : Condition) (fit unfit : Target) (steps : List Step)
     → AreChoices c fit unfit steps → IsIn code fit → IsIn code unfit → AreIn code steps
-choices_in code c fit unfit steps plain h in_yes in_no =
-    are_in_below code (numbers_of c.arg_len) steps (some c.arg_len) h.are
-    (λ a lt. elim (compares_or_not c.operator a (part_of c.arg_len c.value) plain) [
-      | inl met ↦ subst (IsIn code) (sym (h.met a lt met)) in_yes
-      | inr not ↦ subst (IsIn code) (sym (h.unmet a lt not)) in_no
+choices_in code c fit unfit steps h in_yes in_no =
+    are_in_below code (numbers_of c.arg_len) steps (omega (arith, numbers_many c.arg_len)) h.are
+    (λ a lt. elim (compares_or_not c.operator a (part_of c.arg_len c.value)) [
+      | inl met ↦ subst (IsIn code) (sym ((h.each a lt).met met)) in_yes
+      | inr not ↦ subst (IsIn code) (sym ((h.each a lt).unmet not)) in_no
     ])
-  where
-    some : (l : SeccompCmpArgLen) → 1 ≤ numbers_of l
-    some Dword = omega arith
-    some Qword = omega arith
 
 plain_operator : (l : SeccompCmpArgLen) (o : SeccompCmpOp) → is_plain o ≡ true → operator_part l o ≡ o
 plain_operator l Eq plain = refl
@@ -131,33 +121,35 @@ shorter_part Dword n m le = omega arith
 shorter_part Qword n m le = omega arith
 
 -- whether a condition without a mask holds is what its comparison says of the argument's part
-pub holds_plain : (c : Condition) (r : List ℕ) → is_plain c.operator ≡ true
-    → (Holds c r → Compares c.operator (part_of c.arg_len (argument_at r c.arg_index)) (part_of c.arg_len c.value))
-    × (Compares c.operator (part_of c.arg_len (argument_at r c.arg_index)) (part_of c.arg_len c.value) → Holds c r)
-holds_plain c r plain =
-    let e = plain_operator c.arg_len c.operator plain in
-    let P = λ (o : SeccompCmpOp). Compares o (part_of c.arg_len (argument_at r c.arg_index)) (part_of c.arg_len c.value) in
-    (λ h. subst P e h, λ h. subst P (sym e) h)
+pub chosen_plain : (c : Condition) (r : List ℕ) (fit unfit t : Target) → is_plain c.operator ≡ true
+    → IsChosen (Compares c.operator (part_of c.arg_len (argument_at r c.arg_index)) (part_of c.arg_len c.value)) fit unfit t
+    → IsChosen (Holds c r) fit unfit t
+chosen_plain c r fit unfit t plain h =
+    subst (λ o. IsChosen (Compares o (part_of c.arg_len (argument_at r c.arg_index)) (part_of c.arg_len c.value)) fit unfit t)
+    (sym (plain_operator c.arg_len c.operator plain)) h
 
-pub met_by_choices : (old new : List sock_filter) (c : Condition) (fit unfit t : Target) (steps : List Step) → is_plain c.operator ≡ true
-    → AreChoices c fit unfit steps → IsPart old c.arg_len c.arg_index steps t new → IsConditionMet old c fit unfit t new
-met_by_choices old new c fit unfit t steps plain h part =
-    let cost = plain_cost c.arg_len c.operator plain in
+-- what is chosen is one
+pub chosen_one : (c : Condition) (r : List ℕ) (fit unfit t u : Target) → IsChosen (Holds c r) fit unfit t → IsChosen (Holds c r) fit unfit u
+    → t ≡ u
+chosen_one c r fit unfit t u h k = elim (holds_or_not c r) [
+  | inl is ↦ h.met is ∙ sym (k.met is)
+  | inr not ↦ h.unmet not ∙ sym (k.unmet not)
+]
+
+pub met_by_choices : (old new : List sock_filter) (c : Condition) (fit unfit t : Target) (steps : List Step) → AreChoices c fit unfit steps
+    → IsPart old c.arg_len c.arg_index steps t new → IsConditionMet old c fit unfit t new
+met_by_choices old new c fit unfit t steps h part =
+    let cost = plain_cost c.arg_len c.operator h.plain in
     let less = shorter_part c.arg_len (length steps) 3 h.few in
-    let four : length steps ≤ 2 ^ 2 = omega (arith, h.few) in
     record {
       grows = record { front = part.grows.front; whole = part.grows.whole; few = omega (arith, part.grows.few, cost.1) };
       inside = part.inside;
-      met = λ r rec holds w n lead.
+      leads = λ r rec u chosen w n lead.
           let x = part_of c.arg_len (argument_at r c.arg_index) in
-          let same = h.met x (part_fits c.arg_len r c.arg_index rec) ((holds_plain c r plain).0 holds) in
+          let own = chosen_plain c r fit unfit (found_in steps x) h.plain (h.each x (part_fits c.arg_len r c.arg_index rec)) in
+          let same = chosen_one c r fit unfit u (found_in steps x) chosen own in
           subst (λ k. StartsAlways new r t w (n + k)) (sym cost.0)
-          (part.leads r rec w n 2 four (subst (λ u. LeadsAlways old r u w n) (sym same) lead));
-      unmet = λ r rec not w n lead.
-          let x = part_of c.arg_len (argument_at r c.arg_index) in
-          let same = h.unmet x (part_fits c.arg_len r c.arg_index rec) (λ m. not ((holds_plain c r plain).1 m)) in
-          subst (λ k. StartsAlways new r t w (n + k)) (sym cost.0)
-          (part.leads r rec w n 2 four (subst (λ u. LeadsAlways old r u w n) (sym same) lead));
+          (part.leads r rec w n 2 (omega (arith, h.few)) (subst (λ u. LeadsAlways old r u w n) same lead));
     }
 
 -- where both targets are one, it is met at once
@@ -166,33 +158,12 @@ pub met_alike : (old : List sock_filter) (c : Condition) (fit unfit : Target) �
 met_alike old c fit unfit same inside = record {
   grows = grows_not old (condition_length c.arg_len c.operator);
   inside = inside;
-  met = λ r rec holds w n lead. λ a fits. starts_more (n + condition_steps c.arg_len c.operator) (omega arith) (starts_by (lead a fits));
-  unmet = λ r rec not w n lead. λ a fits.
-      starts_more (n + condition_steps c.arg_len c.operator) (omega arith)
-      (starts_by (subst (λ u. Leads old r u a w n) (sym same) (lead a fits)));
+  leads = λ r rec u chosen w n lead a fits.
+      let is = chosen_one c r fit unfit u fit chosen (record { met = λ _. refl; unmet = λ _. same }) in
+      starts_more (n + condition_steps c.arg_len c.operator) (omega arith) (starts_by (subst (λ v. Leads old r v a w n) is (lead a fits)));
 }
 
 -- ---- masks
-
-returns_at : {code : List sock_filter} {r : List ℕ} {t : Target} {a w n : ℕ} (m : ℕ) → t ≡ At m → Starts code r t a w n
-    → Returns r (tail_at code m) a w n
-returns_at m is (by_return w a n some) = absurd (cc)
-returns_at m is (at_place p w a n inside h) = let e : p ≡ m = cc in rw (← e) h
-
--- an instruction in front of the code goes on to its first place
-pub starts_behind : (code : List sock_filter) (i : sock_filter) (r : List ℕ) (t : Target) (a a' w n : ℕ) → t ≡ At (length code - 1)
-    → 1 ≤ length code → Does i r 0 a 1 a' → a' < 2 ^ 32 → Starts code r t a' w n
-    → Starts (i ∷ code) r (At (length (i ∷ code) - 1)) a w (n + 1)
-starts_behind code i r t a a' w n is some does fits h =
-    let run = returns_at (length code - 1) is h in
-    let whole : Returns r code a' w n = subst (λ (l : List sock_filter). Returns r l a' w n) (tail_whole code (length code - 1) (omega
-    arith)) run in
-    let count : n + 1 ≡ suc n = omega arith in
-    let first : Returns r (i ∷ code) a w (suc n) = goes_on i code a a' w n 0 does fits whole in
-    let here = tail_whole (i ∷ code) (length (i ∷ code) - 1) (omega arith) in
-    subst (λ m. Starts (i ∷ code) r (At (length (i ∷ code) - 1)) a w m) (sym count)
-    (at_place (length (i ∷ code) - 1) w a (suc n) (omega arith) (subst (λ (l : List sock_filter). Returns r l a w (suc n)) (sym here)
-    first))
 
 -- a mask of nothing is met by each word
 pub masked_none : (old : List sock_filter) (byte m value : ℕ) (fit unfit : Target) → m ≡ 0 → IsIn old fit → IsMasked old byte m value fit
@@ -200,8 +171,8 @@ pub masked_none : (old : List sock_filter) (byte m value : ℕ) (fit unfit : Tar
 masked_none old byte m value fit unfit z inside = record {
   grows = grows_not old 5;
   inside = inside;
-  met = λ r rec e w n lead a fits. starts_more (n + 3) (omega arith) (starts_by (lead a fits));
-  unmet = λ r rec not w n lead. absurd (not (both r));
+  leads = λ r rec u chosen w n lead a fits.
+      starts_more (n + 3) (omega arith) (starts_by (subst (λ v. Leads old r v a w n) (chosen.met (both r)) (lead a fits)));
 }
   where
     both : (r : List ℕ) → bit_and (word_at r byte) m ≡ bit_and value m
@@ -217,32 +188,27 @@ masked_some old mid new byte m value fit unfit t low small tested is = rw is rec
       arith))
       (omega arith);
   inside = omega arith;
-  met = λ r rec e w n lead a fits. go r rec w n a (yes_by r e) (λ b f. lead b f);
-  unmet = λ r rec not w n lead a fits. go r rec w n a (no_by r not) (λ b f. lead b f);
+  leads = λ r rec u chosen w n lead a fits.
+      let word = word_at r byte in
+      let word_small = word_fits r byte rec in
+      let kept = bit_and word m in
+      let kept_small : kept < 2 ^ 32 = and_lt 32 word m word_small small in
+      let which = picked kept (bit_and value m) u chosen in
+      let start = tested.leads r kept w n kept_small (subst (λ v. Leads old r v kept w n) which (lead kept kept_small)) in
+      let at = starts_at r mid (length mid - 1) kept w (n + 1) (subst (λ v. Starts mid r v kept w (n + 1)) tested.last start) in
+      let masked = stepped (mask m) mid r word kept w (n + 1) 0 (length mid - 1) kept_small (omega (arith, at.0)) (masks refl refl refl) at.1 in
+      let next = starts_at r (mask m ∷ mid) (length mid) word w (n + 1 + 1) masked in
+      let loaded = stepped (load byte) (mask m ∷ mid) r a word w (n + 1 + 1) 0 (length mid) word_small (omega arith)
+      (loads refl (omega (arith, rec.long)) refl refl) next.1 in
+      let place : length (mask m ∷ mid) ≡ length (load byte ∷ mask m ∷ mid) - 1 = omega arith in
+      starts_more (n + 3) (omega arith) (subst (λ p. Starts (load byte ∷ mask m ∷ mid) r (At p) a w (n + 1 + 1 + 1)) place loaded);
 }
   where
-    yes_by : (r : List ℕ) → bit_and (word_at r byte) m ≡ bit_and value m → chosen Equal (bit_and value m) fit unfit (bit_and (word_at r
-        byte) m) ≡ fit
-    yes_by r e = let same = eq-eqb (bit_and (word_at r byte) m) (bit_and value m) e in rw same refl
-
-    no_by : (r : List ℕ) → (bit_and (word_at r byte) m ≡ bit_and value m → ⊥) → chosen Equal (bit_and value m) fit unfit (bit_and (word_at
-        r byte) m) ≡ unfit
-    no_by r not = let other = ne_eqb (bit_and (word_at r byte) m) (bit_and value m) not in rw other refl
-
-    go : {u : Target} (r : List ℕ) → IsRecord r → (w n a : ℕ) → chosen Equal (bit_and value m) fit unfit (bit_and (word_at r byte) m) ≡ u
-        → ((b : ℕ) → b < 2 ^ 32 → Leads old r u b w n)
-        → Starts (load byte ∷ mask m ∷ mid) r (At (length (load byte ∷ mask m ∷ mid) - 1)) a w (n + 3)
-    go {u} r rec w n a which lead =
-        let word = word_at r byte in
-        let word_small = word_fits r byte rec in
-        let kept = bit_and word m in
-        let kept_small : kept < 2 ^ 32 = and_lt 32 word m word_small small in
-        let start = tested.leads r kept w n kept_small (subst (λ v. Leads old r v kept w n) (sym which) (lead kept kept_small)) in
-        let masked = starts_behind mid (mask m) r t word kept w (n + 1) tested.last tested.some (masks refl refl refl) kept_small start in
-        let loaded = starts_behind (mask m ∷ mid) (load byte) r (At (length (mask m ∷ mid) - 1)) a word w (n + 1 + 1) refl (omega arith)
-        (loads refl (omega (arith, rec.long)) refl refl) word_small masked in
-        let count : n + 1 + 1 + 1 ≡ n + 3 = omega arith in
-        subst (λ k. Starts (load byte ∷ mask m ∷ mid) r (At (length (load byte ∷ mask m ∷ mid) - 1)) a w k) count loaded
+    picked : (a b : ℕ) (u : Target) → IsChosen (a ≡ b) fit unfit u → u ≡ chosen Equal b fit unfit a
+    picked a b u h = elim (cases_eq a b) [
+      | inl e ↦ let same = eq-eqb a b e in h.met e ∙ sym (ap (λ v. if v then fit else unfit) same)
+      | inr not ↦ let other = ne_eqb a b not in h.unmet not ∙ sym (ap (λ v. if v then fit else unfit) other)
+    ]
 
 with_parts : (old new : List sock_filter) (c : Condition) (m : ℕ) (fit unfit t : Target) (l : SeccompCmpArgLen) → c.arg_len ≡ l →
     c.operator ≡ MaskedEq m
@@ -265,13 +231,9 @@ masked_dword old new c m fit unfit t short is h =
     new = record {
       grows = h.grows;
       inside = h.inside;
-      met = λ r rec e w n lead.
-          h.met r rec (subst (λ x. bit_and x (m % 2 ^ 32) ≡ bit_and (c.value % 2 ^ 32) (m % 2 ^ 32)) (low_word r c.arg_index rec) e) w n
-          lead;
-      unmet = λ r rec not w n lead.
-          h.unmet r rec
-          (λ e. not (subst (λ x. bit_and x (m % 2 ^ 32) ≡ bit_and (c.value % 2 ^ 32) (m % 2 ^ 32)) (sym (low_word r c.arg_index rec)) e)) w
-          n lead;
+      leads = λ r rec u chosen.
+          let low = low_word r c.arg_index rec in
+          h.leads r rec u (subst (λ x. IsChosen (bit_and x (m % 2 ^ 32) ≡ bit_and (c.value % 2 ^ 32) (m % 2 ^ 32)) fit unfit u) low chosen);
     } in
     with_parts old new c m fit unfit t Dword short is base
 
@@ -302,28 +264,25 @@ masked_qword old mid new c m fit unfit one t long is low high =
     new = record {
       grows = grows_on old mid new 5 5 10 low.grows high.grows (omega arith);
       inside = high.inside;
-      met = λ r rec e w n lead.
-          let parts = mask_parts (argument_at r c.arg_index) c.value m e in
-          let first = low.met r rec (subst (λ x. bit_and x (m % 2 ^ 32) ≡ bit_and (c.value % 2 ^ 32) (m % 2 ^ 32)) (low_word r c.arg_index
-          rec) parts.1)
-          w n lead in
-          let second = high.met r rec
-          (subst (λ x. bit_and x (m / 2 ^ 32) ≡ bit_and (c.value / 2 ^ 32) (m / 2 ^ 32)) (high_word r c.arg_index rec) parts.0)
-          w (suc (n + 3)) (λ a fits. leads_by (first a fits)) in
-          λ a fits. starts_more (n + 7) (omega arith) (second a fits);
-      unmet = λ r rec not w n lead. elim (cases_eq (bit_and (word_at r (20 + 8 * c.arg_index)) (m / 2 ^ 32)) (bit_and (c.value / 2 ^ 32) (m
-          / 2 ^ 32))) [
+      leads = λ r rec u chosen w n lead a fits.
+          let x = argument_at r c.arg_index in
+          let top = word_at r (20 + 8 * c.arg_index) in
+          let up = high_word r c.arg_index rec in
+          let down = low_word r c.arg_index rec in
+          let High = λ (y : ℕ). bit_and y (m / 2 ^ 32) ≡ bit_and (c.value / 2 ^ 32) (m / 2 ^ 32) in
+          let Low = λ (y : ℕ). bit_and y (m % 2 ^ 32) ≡ bit_and (c.value % 2 ^ 32) (m % 2 ^ 32) in
+          elim (cases_eq (bit_and top (m / 2 ^ 32)) (bit_and (c.value / 2 ^ 32) (m / 2 ^ 32))) [
             | inl same ↦
-                let first = low.unmet r rec
-                (λ e. not (mask_whole (argument_at r c.arg_index) c.value m
-                (subst (λ x. bit_and x (m / 2 ^ 32) ≡ bit_and (c.value / 2 ^ 32) (m / 2 ^ 32)) (sym (high_word r c.arg_index rec)) same)
-                (subst (λ x. bit_and x (m % 2 ^ 32) ≡ bit_and (c.value % 2 ^ 32) (m % 2 ^ 32)) (sym (low_word r c.arg_index rec)) e)))
-                w n lead in
-                let second = high.met r rec same w (suc (n + 3)) (λ a fits. leads_by (first a fits)) in
-                λ a fits. starts_more (n + 7) (omega arith) (second a fits)
+                let first = low.leads r rec u (chosen_alike (Low (word_at r (16 + 8 * c.arg_index))) (bit_and x m ≡ bit_and c.value m) fit
+                unfit u
+                (λ e. mask_whole x c.value m (subst High (sym up) same) (subst Low (sym down) e))
+                (λ e. subst Low down (mask_parts x c.value m e).1) chosen) w n lead in
+                starts_more (n + 7) (omega arith) (high.leads r rec one (chosen_yes (High top) one unfit same) w (suc (n + 3))
+                (λ b fits'. leads_by (first b fits')) a fits)
             | inr other ↦
-                let second = high.unmet r rec other w n (λ a fits. leads_grown old mid 5 low.grows (lead a fits)) in
-                λ a fits. starts_more (n + 7) (omega arith) (second a fits)
+                let is = chosen.unmet (λ e. other (subst High up (mask_parts x c.value m e).0)) in
+                starts_more (n + 7) (omega arith) (high.leads r rec unfit (chosen_no (High top) one unfit other) w n
+                (λ b fits'. leads_grown old mid 5 low.grows (subst (λ v. Leads old r v b w n) is (lead b fits'))) a fits)
           ];
     } in
     with_parts old new c m fit unfit t Qword long is base

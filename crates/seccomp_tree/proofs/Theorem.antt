@@ -1,7 +1,7 @@
 -- The theorem: what is written answers every record as is decided.
-use Rattle.std.proofs.Common.{◌≡◌, ◌≢◌, ℕ, suc, zero, ◌+◌, ◌-◌, ◌*◌, ◌<◌, ◌≤◌, ◌^◌, List, [], ◌∷◌, length, Bool, true, false, Option, Some}
-use Rattle.std.proofs.Common.{None, refl, sym, ap, ◌∙◌, subst, ◌⊎◌, inl, inr, ⊎_elim, arith}
-use Rattle.std.proofs.Common.{nat_eq, if◌then◌else◌, All}
+use Rattle.std.proofs.Common.{◌≡◌, ◌≢◌, ℕ, suc, zero, ◌+◌, ◌-◌, ◌*◌, ◌≤◌, ◌^◌, List, [], ◌∷◌, length, Bool, true, false, Option, Some}
+use Rattle.std.proofs.Common.{None, refl, sym, ap, ◌∙◌, subst, ◌⊎◌, inl, inr, arith}
+use Rattle.std.proofs.Common.{nat_eq, if◌then◌else◌}
 use Rattle.std.proofs.Math.Nat.{pow-succ'}
 use Rattle.std.proofs.lemmas.Bool.Decides.{nat_tests}
 use Rattle.std.proofs.lemmas.Bool.{cases_eq}
@@ -14,21 +14,21 @@ use Rattle.seccompiler.specs.Code.{load, give}
 use Rattle.seccomp_tree.specs.declared.steps.Target.{Target}
 use Rattle.seccomp_tree.specs.declared.steps.Target.TheVariants.{Give, At}
 use Rattle.seccomp_tree.specs.declared.code.Test.TheVariants.{Equal}
-use Rattle.seccomp_tree.specs.Code.{IsSound, Returns, goes_on, Starts, Leads, to_return, IsTested, Grows, tail_at, chosen}
+use Rattle.seccomp_tree.specs.Code.{IsSound, Returns, goes_on, Starts, Leads, to_return, chosen}
 use Rattle.seccomp_tree.specs.Conditions.{part_steps}
 use Rattle.seccomp_tree.specs.Decisions.{Ruling, First, here, behind, nothing, Takes, stops, passes, ends, Enters, begins, RunTakes}
 use Rattle.seccomp_tree.specs.Decisions.{by_steps, by_conditions, only, joins, joined, conditions_steps}
 use Rattle.seccomp_tree.specs.Decisions.{goes_on as runs_on}
 use Rattle.seccomp_tree.specs.Decided.{DecisionSet, default_for, rulings_for, IsDecided, other_architecture, decided}
-use Rattle.seccomp_tree.specs.TreeProgram.{calls_length, length_by, AreRanges, TakesOwn, other, one, own, EndsWithin, EndsAsDecided}
+use Rattle.seccomp_tree.specs.TreeProgram.{calls_length, TakesOwn, other, own, EndsAsDecided}
 use Rattle.seccomp_tree.specs.TreeProgram.{IsTreeProgram}
-use Rattle.seccomp_tree.specs.CallSteps.{IsEntered, near, far, IsCallsTarget, IsWritten}
+use Rattle.seccomp_tree.specs.CallSteps.{IsEntered, near, far, IsWritten}
 use Rattle.seccomp_tree.proofs.Growing.{grown_long}
 use Rattle.seccomp_tree.proofs.Runs.{returns_more}
 use Rattle.seccomp_tree.proofs.Tails.{tail_whole}
 use Rattle.seccomp_tree.proofs.Reaching.{starts_at}
 use Rattle.seccomp_tree.proofs.Words.{word_small}
-use Rattle.seccomp_tree.proofs.Choosing.{holds_or_not}
+use Rattle.seccomp_tree.proofs.Meeting.{holds_or_not}
 use Rattle.seccomp_tree.proofs.ProgramEnds.{program_ends, sound_checked}
 
 -- ---- what there is for every record

@@ -1,29 +1,28 @@
 -- The theorem: what is written answers every record as is decided.
-use Rattle.std.proofs.Common.{◌≡◌, ◌≢◌, ℕ, suc, zero, ◌+◌, ◌-◌, ◌*◌, ◌<◌, ◌≤◌, ◌^◌, List, [], ◌∷◌, length, Bool, true, false, Option, Some}
-use Rattle.std.proofs.Common.{None, refl, sym, ap, ◌∙◌, subst, ◌⊎◌, inl, inr, ⊎_elim, arith}
-use Rattle.std.proofs.Common.{nat_eq, if◌then◌else◌, All}
+use Rattle.std.proofs.Common.{◌≡◌, ℕ, ◌+◌, ◌-◌, ◌*◌, ◌<◌, ◌≤◌, ◌^◌, List, [], ◌∷◌, length, Bool, true, false, Option, Some}
+use Rattle.std.proofs.Common.{None, refl, sym, ap, ◌∙◌, subst, ◌⊎◌, inl, inr, arith}
+use Rattle.std.proofs.Common.{nat_eq, if◌then◌else◌}
 use Rattle.std.proofs.lemmas.Bool.Decides.{nat_tests}
-use Rattle.std.proofs.lemmas.Bool.{cases_eq, cases_Bool, cases_lt}
+use Rattle.std.proofs.lemmas.Bool.{cases_lt}
 use Rattle.std.proofs.lemmas.List.Elements.{All-nil}
 use Rattle.seccompiler.specs.declared.bpf.sock_filter.{sock_filter}
 use Rattle.seccompiler.specs.Machine.{IsRecord, word_at}
 use Rattle.seccompiler.specs.Architecture.{audit_word}
 use Rattle.seccompiler.specs.Policy.{Condition, Holds, RuleHolds}
 use Rattle.seccomp_tree.specs.declared.steps.Target.{Target}
-use Rattle.seccomp_tree.specs.declared.steps.Target.TheVariants.{Give, At}
+use Rattle.seccomp_tree.specs.declared.steps.Target.TheVariants.{Give}
 use Rattle.seccomp_tree.specs.declared.steps.Step.{Step}
-use Rattle.seccomp_tree.specs.Steps.{found_in, Ascend, AreSteps, Precede, from_none, from_some}
-use Rattle.seccomp_tree.specs.Code.{IsIn, AreIn, IsFullBy, Starts, Leads, to_return, LeadsAlways, IsWord, Grows}
-use Rattle.seccomp_tree.specs.Decisions.{Ruling, First, here, behind, nothing}
+use Rattle.seccomp_tree.specs.Steps.{found_in, AreSteps}
+use Rattle.seccomp_tree.specs.Code.{AreIn, IsFullBy, Starts, Leads, to_return, LeadsAlways, IsWord}
+use Rattle.seccomp_tree.specs.Decisions.{Ruling, First, nothing}
 use Rattle.seccomp_tree.specs.Decided.{DecisionSet, default_for, rulings_for}
-use Rattle.seccomp_tree.specs.TreeProgram.{one_value, value_for, calls_length, AreRanges, TakesOwn, other, one, own}
-use Rattle.seccomp_tree.specs.CallSteps.{IsAnswer, AreAnswers, AreCallSteps, IsEntered, near, far, IsCallsTarget, IsTooFull}
+use Rattle.seccomp_tree.specs.TreeProgram.{one_value, value_for, calls_length, TakesOwn, other, one, own}
+use Rattle.seccomp_tree.specs.CallSteps.{IsAnswer, AreCallSteps, IsEntered, near, far, IsCallsTarget, IsTooFull}
 use Rattle.seccomp_tree.specs.declared.error.TreeError.{TreeError}
 use Rattle.seccomp_tree.proofs.Deciding.{first_here}
-use Rattle.seccomp_tree.proofs.LowHalves.{are_in_below}
+use Rattle.seccomp_tree.proofs.Begun.{are_in_below, not_none}
 use Rattle.seccomp_tree.proofs.Growing.{grows_on, grown_long}
-use Rattle.seccomp_tree.proofs.Runs.{leads_grown}
-use Rattle.seccomp_tree.proofs.HighHalves.{leads_more}
+use Rattle.seccomp_tree.proofs.Runs.{leads_grown, leads_more}
 use Rattle.seccomp_tree.proofs.Words.{word_small}
 use Rattle.seccomp_tree.proofs.FewestSteps.{fewest}
 
@@ -66,28 +65,18 @@ answer_leads d code t r w n rec h arch first (own m takes) =
         let gives : Give w ≡ t = ap Give value ∙ sym (h.one v is) in
         λ a small. subst (λ u. Leads code r u a w (m + 1)) gives (to_return w a (m + 1) (omega arith))
 
-some_precede : (steps : List Step) → Precede (2 ^ 32) steps → 1 ≤ length steps
-some_precede steps (from_none z e) = absurd (omega arith)
-some_precede [] (from_some are) = absurd are.first
-some_precede (x ∷ steps) (from_some are) = omega arith
-
-steps_all : (steps : List Step) → Precede (2 ^ 32) steps → AreSteps (2 ^ 32) steps
-steps_all steps (from_none z e) = absurd (omega arith)
-steps_all steps (from_some are) = are
-
 -- what `word` needs
 pub calls_room : (d : DecisionSet) (old mid : List sock_filter) (steps : List Step) → AreCallSteps old d steps mid
-    → Ascend (2 ^ 32) steps × AreIn mid steps
+    → AreSteps (2 ^ 32) steps × AreIn mid steps
 calls_room d old mid steps h =
-    let are = steps_all steps h.answers.are in
-    (are.ascend, are_in_below mid (2 ^ 32) steps (omega arith) are (λ a lt. (h.answers.each a lt).inside))
+    (h.answers.are, are_in_below mid (2 ^ 32) steps (omega arith) h.answers.are (λ a lt. (h.answers.each a lt).inside))
 
 pub calls_full : (d : DecisionSet) (old mid : List sock_filter) (steps : List Step) (e : TreeError) → AreCallSteps old d steps mid
     → IsFullBy mid (3 * length steps - 2) e → IsTooFull d old 0 e
 calls_full d old mid steps e h full = λ is starts ranges.
     let long = grown_long old mid (calls_length d.calls) h.grows in
     let few = fewest d mid steps starts h.answers ranges in
-    let some = some_precede steps h.answers.are in
+    let some = not_none (2 ^ 32) steps h.answers.are (omega arith) in
     let more = full is in
     omega (arith, long.1, few, some, more)
 
@@ -95,7 +84,7 @@ calls_full d old mid steps e h full = λ is starts ranges.
 pub calls_target : (d : DecisionSet) (old mid new : List sock_filter) (steps : List Step) (t : Target) → AreCallSteps old d steps mid
     → IsWord mid 0 steps t new → IsCallsTarget old d t new
 calls_target d old mid new steps t h word =
-    let some = some_precede steps h.answers.are in
+    let some = not_none (2 ^ 32) steps h.answers.are (omega arith) in
     record {
       ranges = length steps;
       some = some;
@@ -124,7 +113,7 @@ calls_target d old mid new steps t h word =
         near (n + 2 + 2 * k) (word.last (omega arith)) (λ a small. subst (λ m. Starts new r t a w m) count (word.leads r rec w (n + 1) k
         few leads a small))
     enter r rec w n k few leads (inr less) =
-        let same = alone steps less (some_precede steps h.answers.are) (word_at r 0) word.alone in
+        let same = alone steps less (not_none (2 ^ 32) steps h.answers.are (omega arith)) (word_at r 0) word.alone in
         far (n + 2 + 2 * k) (λ a small.
         leads_more (n + 2 + 2 * k) (omega arith) (leads_grown mid new (3 * length steps - 2) word.grows
         (subst (λ u. Leads mid r u a w (n + 1)) same (leads a small))))

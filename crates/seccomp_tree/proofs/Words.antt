@@ -38,7 +38,7 @@ word_one old new byte steps t one h = record {
   leads = λ r is w n k le always a small.
       let same = found_one steps (word_at r byte) a (omega arith) in
       starts_more (n + 1 + 2 * k) (omega arith)
-      (h.leads r a w n k small le (subst (λ u. Leads old r u a w n) same (always a small)));
+      (h.leads k le r a w n small (subst (λ u. Leads old r u a w n) same (always a small)));
 }
 
 pub word_more : (old mid new : List sock_filter) (byte : ℕ) (steps : List Step) (u t : Target) → byte ≤ 60 → 2 ≤ length steps
@@ -58,7 +58,7 @@ word_more old mid new byte steps u t inside some h written last = record {
     run r is w n k le always a small =
         let v = word_at r byte in
         let fits = word_small r byte is inside in
-        let begins = h.leads r v w n k fits le (always v fits) in
+        let begins = h.leads k le r v w n fits (always v fits) in
         let at = starts_at r mid (length mid - 1) v w (n + 2 * k) (subst (λ s. Starts mid r s v w (n + 2 * k)) (h.last some) begins) in
         let does : Does (load byte) r 0 a (1 + 0) v = loads refl (omega (arith, is.long)) (omega arith) refl in
         let start = stepped (load byte) mid r a v w (n + 2 * k) 0 (length mid - 1) fits (omega (arith, at.0)) does at.1 in

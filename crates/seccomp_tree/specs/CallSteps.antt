@@ -6,7 +6,7 @@ use Rattle.seccomp_tree.specs.declared.steps.Target.{Target}
 use Rattle.seccomp_tree.specs.declared.steps.Target.TheVariants.{Give, At}
 use Rattle.seccomp_tree.specs.declared.steps.Step.{Step}
 use Rattle.seccomp_tree.specs.declared.decisions.DefaultValue.{DefaultValue}
-use Rattle.seccomp_tree.specs.Steps.{found_in, AreSteps, AreTight, Precede}
+use Rattle.seccomp_tree.specs.Steps.{found_in, AreSteps, AreTight}
 use Rattle.seccomp_tree.specs.Code.{IsIn, IsTested, Grows, LeadsAlways, StartsAlways}
 use Rattle.seccomp_tree.specs.Decisions.{Ruling, First, Takes, rules_length}
 use Rattle.seccomp_tree.specs.Decided.{DecisionSet, default_for, rulings_for}
@@ -37,14 +37,14 @@ pub record AreDefaults (defaults : List DefaultValue) (steps : List Step) : Type
 
 -- From the start up to the end the steps have what the others have, and below what they had.
 pub record IsRangePushed (old others : List Step) (start end : ℕ) (new : List Step) : Type 0 where
-  pub are : Precede end new
+  pub are : AreSteps end new
   pub inside : (n : ℕ) → start ≤ n → n < end → found_in new n ≡ found_in others n
   pub below : (n : ℕ) → n < start → found_in new n ≡ found_in old n
   pub tight : AreTight old → AreTight new
 
 -- The steps over the numbers below one answer each of them.
 pub record AreAnswers (d : DecisionSet) (next : ℕ) (code : List sock_filter) (steps : List Step) : Type 0 where
-  pub are : Precede next steps
+  pub are : AreSteps next steps
   pub tight : AreTight steps
   pub each : (n : ℕ) → n < next → IsAnswer code (default_for d.defaults n) (rulings_for d.calls n) (found_in steps n)
 

@@ -1,5 +1,5 @@
 -- Code that is written from its end to its front: what a run from a place of it returns, and what stays so.
-use Rattle.std.specs.Prelude.{◌≡◌, ℕ, suc, ◌+◌, ◌-◌, ◌*◌, ◌<◌, ◌≤◌, ◌^◌, List, [], ◌∷◌, ◌++◌, length, drop, ⊤, nat_eq, nat_le}
+use Rattle.std.specs.Prelude.{◌≡◌, ℕ, suc, ◌+◌, ◌-◌, ◌*◌, ◌<◌, ◌≤◌, ◌^◌, List, [], ◌∷◌, ◌++◌, length, drop, ⊤, nat_eq, nat_le, slice_index_or}
 use Rattle.std.specs.Prelude.{if◌then◌else◌}
 use Rattle.seccompiler.specs.declared.bpf.sock_filter.{sock_filter}
 use Rattle.seccompiler.specs.Machine.{IsRecord, word_at, argument_at, Does, IsFine, IsInRange, greatest_length}
@@ -60,7 +60,7 @@ IsIn code (At m) = m < length code
 
 -- All targets of steps are.
 abbrev pub AreIn : List sock_filter → List Step → Type 0
-AreIn code steps = (a : ℕ) → IsIn code (found_in steps a)
+AreIn code steps = (k : ℕ) (d : Step) → k < length steps → IsIn code (slice_index_or steps k d).target
 
 -- Instructions were put in front of the code, at most so many. (What starts at a place of the old code stays what it was.)
 pub record Grows (old : List sock_filter) (most : ℕ) (new : List sock_filter) : Type 0 where
@@ -103,17 +103,18 @@ pub record IsTested (old : List sock_filter) (test : Test) (k : ℕ) (yes no t :
   pub fresh : (r : List ℕ) (a w n : ℕ) → a < 2 ^ 32 → chosen test k yes no a ≡ At (length old - 1)
       → Starts old r (chosen test k yes no a) a w n → Starts new r t a w (n + 1)
 
--- The target goes on as the steps say for the accumulator, in two steps for each halving more than what they say takes; in
--- as many as it has tests where it is a row of few.
+-- The target goes on as the steps say for the accumulator, in so many steps more than what they say takes.
+abbrev pub GoesOn : List sock_filter → List Step → ℕ → Target → List sock_filter → Type 0
+GoesOn old steps m t new = (r : List ℕ) (a w n : ℕ) → a < 2 ^ 32 → Leads old r (found_in steps a) a w n → Starts new r t a w (n + m)
+
+-- It takes two steps for each halving; as many as it has tests where it is a row of few.
 pub record IsTree (old : List sock_filter) (steps : List Step) (t : Target) (new : List sock_filter) : Type 0 where
   pub grows : Grows old (3 * (length steps - 1)) new
   pub inside : IsIn new t
   pub last : 2 ≤ length steps → t ≡ At (length new - 1)
   pub alone : (x : Step) → steps ≡ x ∷ [] → t ≡ x.target
-  pub leads : (r : List ℕ) (a w n k : ℕ) → a < 2 ^ 32 → length steps ≤ 2 ^ k → Leads old r (found_in steps a) a w n
-      → Starts new r t a w (n + 2 * k)
-  pub soon : (r : List ℕ) (a w n : ℕ) → a < 2 ^ 32 → row steps ≤ 6 → Leads old r (found_in steps a) a w n
-      → Starts new r t a w (n + row steps)
+  pub leads : (k : ℕ) → length steps ≤ 2 ^ k → GoesOn old steps (2 * k) t new
+  pub soon : row steps ≤ 6 → GoesOn old steps (row steps) t new
 
 -- The target goes on as the steps say for the record's word at this byte, whatever the accumulator holds.
 pub record IsWord (old : List sock_filter) (byte : ℕ) (steps : List Step) (t : Target) (new : List sock_filter) : Type 0 where

@@ -1,16 +1,16 @@
 -- Conditions as targets: where one holds, the one target; else the other.
-use Rattle.std.specs.Prelude.{◌≡◌, ℕ, ◌+◌, ◌-◌, ◌*◌, ◌<◌, ◌≤◌, ◌^◌, List, length, bit_and, true}
+use Rattle.std.specs.Prelude.{◌≡◌, ℕ, ◌+◌, ◌-◌, ◌*◌, ◌≤◌, ◌^◌, List, length, bit_and}
 use Rattle.seccompiler.specs.declared.bpf.sock_filter.{sock_filter}
 use Rattle.seccompiler.specs.declared.backend.SeccompCmpArgLen.{SeccompCmpArgLen}
 use Rattle.seccompiler.specs.declared.backend.SeccompCmpArgLen.TheVariants.{Dword, Qword}
 use Rattle.seccompiler.specs.declared.backend.SeccompCmpOp.{SeccompCmpOp}
-use Rattle.seccompiler.specs.declared.backend.SeccompCmpOp.TheVariants.{Eq, Ge, Gt, Le, Lt, MaskedEq, Ne}
+use Rattle.seccompiler.specs.declared.backend.SeccompCmpOp.TheVariants.{MaskedEq}
 use Rattle.seccompiler.specs.Machine.{IsRecord, word_at, argument_at}
-use Rattle.seccompiler.specs.Policy.{Condition, Compares, Holds, part_of}
+use Rattle.seccompiler.specs.Policy.{Condition, Holds, part_of}
 use Rattle.seccomp_tree.specs.declared.steps.Target.{Target}
 use Rattle.seccomp_tree.specs.declared.steps.Step.{Step}
-use Rattle.seccomp_tree.specs.Steps.{found_in, AreSteps}
-use Rattle.seccomp_tree.specs.Intervals.{numbers_of, is_plain}
+use Rattle.seccomp_tree.specs.Steps.{found_in}
+use Rattle.seccomp_tree.specs.Intervals.{IsChosen}
 use Rattle.seccomp_tree.specs.Code.{IsIn, Grows, LeadsAlways, StartsAlways}
 
 -- ---- what a promise counts
@@ -52,24 +52,12 @@ pub record IsPart (old : List sock_filter) (l : SeccompCmpArgLen) (index : ℕ) 
 pub record IsMasked (old : List sock_filter) (byte mask value : ℕ) (yes no t : Target) (new : List sock_filter) : Type 0 where
   pub grows : Grows old 5 new
   pub inside : IsIn new t
-  pub met : (r : List ℕ) → IsRecord r → bit_and (word_at r byte) mask ≡ bit_and value mask → (w n : ℕ) → LeadsAlways old r yes w n
-      → StartsAlways new r t w (n + 3)
-  pub unmet : (r : List ℕ) → IsRecord r → (bit_and (word_at r byte) mask ≡ bit_and value mask → ⊥) → (w n : ℕ)
-      → LeadsAlways old r no w n → StartsAlways new r t w (n + 3)
-
--- The steps have the first target where the condition's comparison holds, and else the second.
-pub record AreChoices (c : Condition) (yes no : Target) (steps : List Step) : Type 0 where
-  pub are : AreSteps (numbers_of c.arg_len) steps
-  pub met : (a : ℕ) → a < numbers_of c.arg_len → Compares c.operator a (part_of c.arg_len c.value) → found_in steps a ≡ yes
-  pub unmet : (a : ℕ) → a < numbers_of c.arg_len → (Compares c.operator a (part_of c.arg_len c.value) → ⊥) → found_in steps a ≡ no
-  pub few : length steps ≤ 3
-  pub plain : is_plain c.operator ≡ true
+  pub leads : (r : List ℕ) → IsRecord r → (u : Target) → IsChosen (bit_and (word_at r byte) mask ≡ bit_and value mask) yes no u → (w n : ℕ)
+      → LeadsAlways old r u w n → StartsAlways new r t w (n + 3)
 
 -- The target goes on as the first where the condition holds, and else as the second, whatever the accumulator holds.
 pub record IsConditionMet (old : List sock_filter) (c : Condition) (yes no t : Target) (new : List sock_filter) : Type 0 where
   pub grows : Grows old (condition_length c.arg_len c.operator) new
   pub inside : IsIn new t
-  pub met : (r : List ℕ) → IsRecord r → Holds c r → (w n : ℕ) → LeadsAlways old r yes w n
-      → StartsAlways new r t w (n + condition_steps c.arg_len c.operator)
-  pub unmet : (r : List ℕ) → IsRecord r → (Holds c r → ⊥) → (w n : ℕ) → LeadsAlways old r no w n
+  pub leads : (r : List ℕ) → IsRecord r → (u : Target) → IsChosen (Holds c r) yes no u → (w n : ℕ) → LeadsAlways old r u w n
       → StartsAlways new r t w (n + condition_steps c.arg_len c.operator)

@@ -1,17 +1,16 @@
 // Conditions as targets: where one holds, the one target; else the other.
 
-ghost use Rattle.std.specs.Prelude.{◌≡◌, ◌≤◌, ◌<◌, ◌+◌, ◌%◌, ◌^◌, IfOk, IfErr, IsOkUnless, length, true};
+ghost use Rattle.std.specs.Prelude.{◌≡◌, ◌≤◌, ◌%◌, IfOk, IfErr, length};
 ghost use Rattle.seccompiler.specs.declared.backend.SeccompCmpOp.TheVariants.{MaskedEq};
 ghost use Rattle.seccomp_tree.specs.Steps.{AreSteps};
-ghost use Rattle.seccomp_tree.specs.Intervals.{is_plain, numbers_of};
+ghost use Rattle.seccomp_tree.specs.Intervals.{numbers_of};
 ghost use Rattle.seccomp_tree.specs.Code.{AreIn, IsIn, IsFullBy};
-ghost use Rattle.seccomp_tree.specs.Conditions.{AreChoices, IsConditionMet, IsMasked, IsPart, condition_length, part_length};
-ghost use Rattle.seccomp_tree.specs.declared.error.TreeError.TheVariants.{OutOfMemory};
+ghost use Rattle.seccomp_tree.specs.Conditions.{IsConditionMet, IsMasked, IsPart, condition_length, part_length};
 
 use crate::code::{Code, Test};
 use crate::error::TreeError;
-use crate::intervals::lay_condition;
-use crate::steps::{Step, Target, push_step};
+use crate::intervals::choices;
+use crate::steps::{Step, Target};
 use seccompiler::bpf::{LOAD, MASK, bpf_stmt};
 use seccompiler::{SeccompCmpArgLen, SeccompCmpOp, SeccompCondition};
 use std::alloc::Global;
@@ -124,21 +123,4 @@ impl Code {
         self.push(bpf_stmt(LOAD, u32::from(byte)))?;
         Ok(Target::At(self.len() - 1))
     }
-}
-
-// Steps that have the one target where the condition's comparison holds, and else the other.
-fn choices(
-    alloc: Global,
-    condition: &SeccompCondition,
-    yes: Target,
-    no: Target,
-) -> Result<Vec<Step>, TreeError>
-    requires plain { is_plain condition.now.operator ≡ true }
-    ensures ok { IfOk result (λ steps. AreChoices condition.now yes no steps.items) }
-    ensures memory { IsOkUnless result OutOfMemory }
-{
-    let mut steps = Vec::new(alloc);
-    push_step(&mut steps, 0, no)?;
-    lay_condition(alloc, &mut steps, condition, yes)?;
-    Ok(steps)
 }

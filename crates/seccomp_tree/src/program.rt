@@ -1,7 +1,7 @@
 // The program of decisions.
 
 ghost use Rattle.std.specs.Prelude.{◌≡◌, ℕ, ◌≤◌, ◌<◌, ◌+◌, ◌*◌, ◌-◌, ◌^◌, IfOk, IfErr, IsOkUnless, length};
-ghost use Rattle.seccomp_tree.specs.Steps.{AreSteps, Precede};
+ghost use Rattle.seccomp_tree.specs.Steps.{AreSteps};
 ghost use Rattle.seccomp_tree.specs.Code.{IsFullBy};
 ghost use Rattle.seccomp_tree.specs.Decisions.{rules_length};
 ghost use Rattle.seccomp_tree.specs.Decided.{AscendFromZero};
@@ -12,7 +12,7 @@ ghost use Rattle.seccomp_tree.specs.declared.error.TreeError.TheVariants.{OutOfM
 use crate::code::{Code, Test};
 use crate::decisions::{Decision, Decisions, DefaultValue, KILL_PROCESS, default_for};
 use crate::error::TreeError;
-use crate::steps::{Step, Target, found, push_step, until};
+use crate::steps::{Step, Target, push_part, push_step};
 use seccompiler::BpfProgram;
 use seccompiler::bpf::{LOAD, SECCOMP_DATA_ARCH_OFFSET, SECCOMP_DATA_NR_OFFSET, bpf_stmt};
 use std::alloc::Global;
@@ -167,7 +167,7 @@ fn value_of(default: &DefaultValue) -> u32
 
 // Gives the numbers from `start` up to `end` the targets that the others have.
 fn push_range(steps: &mut Vec<Step>, others: &[Step], start: u64, end: u64) -> Result<(), TreeError>
-    requires below { Precede start steps.old.items }
+    requires below { AreSteps start steps.old.items }
     requires others { AreSteps (2 ^ 32) others.now }
     requires order { start ≤ end }
     requires within { end ≤ 2 ^ 32 }
@@ -177,9 +177,5 @@ fn push_range(steps: &mut Vec<Step>, others: &[Step], start: u64, end: u64) -> R
     if start == end {
         return Ok(());
     }
-    push_step(steps, start, found(others, start))?;
-    for step in &others[until(others, start)..until(others, end - 1)] {
-        push_step(steps, step.start, step.target)?;
-    }
-    Ok(())
+    push_part(steps, others, start, end - 1, 0)
 }

@@ -1,16 +1,16 @@
 // Rulings as a target: what the first that holds says.
 
-ghost use Rattle.std.specs.Prelude.{◌≡◌, ◌≤◌, ◌<◌, ◌+◌, ◌*◌, ◌^◌, IfOk, IfErr, length, Some, None};
+ghost use Rattle.std.specs.Prelude.{◌≡◌, ◌≤◌, ◌<◌, IfOk, IfErr, IsOkUnless, length};
 ghost use Rattle.seccomp_tree.specs.Code.{IsFullBy, IsIn};
 ghost use Rattle.seccomp_tree.specs.Decisions.{joins, only, rules_length, run_length, conditions_length, same_length};
-ghost use Rattle.seccomp_tree.specs.Rules.{AreRules, AreRunSteps, IsRulingMet, IsRun, IsRunFrom, IsRunMet, head};
-ghost use Rattle.seccomp_tree.specs.declared.error.TreeError.TheVariants.{TooLarge};
+ghost use Rattle.seccomp_tree.specs.Rules.{AreLike, AreRules, AreRunSteps, IsRulingMet, IsRun, IsRunFrom, IsRunMet, head};
+ghost use Rattle.seccomp_tree.specs.declared.error.TreeError.TheVariants.{OutOfMemory};
 
 use crate::code::Code;
 use crate::decisions::Decision;
 use crate::error::TreeError;
-use crate::intervals::lay_condition;
-use crate::steps::{Step, Target, push_step};
+use crate::intervals::{BEHIND, choices, greatest, merged};
+use crate::steps::{Step, Target};
 use seccompiler::{SeccompCmpArgLen, SeccompCmpOp, SeccompCondition};
 use std::alloc::Global;
 
@@ -69,7 +69,7 @@ impl Code {
         after: Target,
     ) -> Result<Target, TreeError>
         requires after { IsIn self.old after }
-        ensures ok { IfOk result (λ t. IsRulingMet self.old ruling.now after t self.new) }
+        ensures ok { IfOk result (λ t. IsRulingMet self.old ruling.now.conditions ruling.now.value after t self.new) }
         ensures err { IfErr result (IsFullBy self.old (conditions_length ruling.now.conditions)) }
     {
         let mut target = Target::Give(ruling.value);
@@ -82,32 +82,31 @@ impl Code {
     }
 }
 
-// Steps that have for a number the target of the first of the rulings that holds on it: the last of them is laid first.
+// Steps that have for a number the target of the first of the rulings that holds on it: those of each half, merged.
 fn run_steps(
     alloc: Global,
     condition: &SeccompCondition,
     rulings: &[Decision],
     after: Target,
 ) -> Result<Vec<Step>, TreeError>
-    requires run { IsRun rulings.now }
-    requires first { only (head rulings.now) ≡ Some condition.now }
+    requires some { 1 ≤ length rulings.now }
+    requires run { AreLike condition.now rulings.now }
     ensures ok { IfOk result (λ steps. AreRunSteps condition.now rulings.now after steps.items) }
-    ensures large { IfErr result (λ e. e ≡ TooLarge → 8189 < 2 * length rulings.now + 1) }
+    ensures memory { IsOkUnless result OutOfMemory }
 {
-    let mut steps = Vec::new(alloc);
-    push_step(&mut steps, 0, after)?;
-    let mut left = rulings.len();
-    while left > 0 {
-        left -= 1;
-        let ruling = &rulings[left];
-        lay_condition(
+    if rulings.len() == 1 {
+        let ruling = &rulings[0];
+        return choices(
             alloc,
-            &mut steps,
             &ruling.conditions[0],
             Target::Give(ruling.value),
-        )?;
+            after,
+        );
     }
-    Ok(steps)
+    let (front, back) = rulings.split_at(rulings.len() / 2);
+    let front = run_steps(alloc, condition, front, BEHIND)?;
+    let back = run_steps(alloc, condition, back, after)?;
+    merged(alloc, &front, &back, greatest(condition.arg_len()))
 }
 
 // Where the run begins that ends here.

@@ -1,7 +1,7 @@
 // The tree of tests of steps.
 
-ghost use Rattle.std.specs.Prelude.{◌≡◌, ◌≤◌, ◌+◌, ◌-◌, ◌*◌, ◌%◌, ◌^◌, IfOk, IfErr, length};
-ghost use Rattle.seccomp_tree.specs.Steps.{Ascend};
+ghost use Rattle.std.specs.Prelude.{◌≡◌, ◌≤◌, ◌-◌, ◌*◌, ◌%◌, ◌^◌, ◌↔◌, IsTrue, IfOk, IfErr, length};
+ghost use Rattle.seccomp_tree.specs.Steps.{AreSteps, AscendFrom};
 ghost use Rattle.seccomp_tree.specs.Rows.{row, second_stands_out, settled};
 ghost use Rattle.seccomp_tree.specs.Code.{AreIn, IsFullBy, IsTree, IsWord};
 
@@ -29,23 +29,24 @@ fn settled(steps: &[Step]) -> usize
     if stands_out(steps) { 2 } else { 1 }
 }
 
-// How many tests tell the steps apart, one after the other.
-fn row(steps: &[Step]) -> usize
-    ensures { result ≡ row steps.now }
+// Whether at most so many tests tell the steps apart, one after the other.
+fn is_row(steps: &[Step], tests: usize) -> bool
+    ensures { IsTrue result ↔ (row steps.now ≤ tests) }
 {
-    let mut tests = 0;
-    let mut done = 0;
-    while steps.len() - done > 1 {
-        tests += 1;
-        done += settled(&steps[done..]);
+    if steps.len() < 2 {
+        return true;
     }
-    tests
+    if tests == 0 {
+        return false;
+    }
+    is_row(&steps[settled(steps)..], tests - 1)
 }
 
 impl Code {
     /// Goes on as the steps say for the accumulator. A row of few tests is written as it is, others are halved.
     pub(crate) fn tree(&mut self, steps: &[Step]) -> Result<Target, TreeError>
-        requires ascend { Ascend (2 ^ 32) steps.now }
+        requires some { 1 ≤ length steps.now }
+        requires ascend { AscendFrom (2 ^ 32) 0 steps.now }
         requires inside { AreIn self.old steps.now }
         ensures ok { IfOk result (λ t. IsTree self.old steps.now t self.new) }
         ensures err { IfErr result (IsFullBy self.old (3 * (length steps.now - 1))) }
@@ -53,26 +54,25 @@ impl Code {
         if steps.len() == 1 {
             return Ok(steps[0].target);
         }
-        if row(steps) > MOST {
-            let (low, high) = steps.split_at(steps.len() / 2);
-            let upper = self.tree(high)?;
-            let lower = self.tree(low)?;
-            return self.test(Test::AtLeast, high[0].start as u32, upper, lower);
+        if !is_row(steps, MOST) {
+            let half = steps.len() / 2;
+            let upper = self.tree(&steps[half..])?;
+            let lower = self.tree(&steps[..half])?;
+            return self.test(Test::AtLeast, steps[half].start as u32, upper, lower);
         }
-        let border = steps[1].start as u32;
         if stands_out(steps) {
             let rest = self.tree(&steps[2..])?;
-            return self.test(Test::Equal, border, steps[1].target, rest);
+            return self.test(Test::Equal, steps[1].start as u32, steps[1].target, rest);
         }
         let rest = self.tree(&steps[1..])?;
-        self.test(Test::AtLeast, border, rest, steps[0].target)
+        self.test(Test::AtLeast, steps[1].start as u32, rest, steps[0].target)
     }
 
     /// Goes on as the steps say for the 32 bits of the record from this byte on, whatever is in the accumulator.
     pub(crate) fn word(&mut self, byte: u8, steps: &[Step]) -> Result<Target, TreeError>
         requires aligned { byte % 4 ≡ 0 }
         requires inside_record { byte ≤ 60 }
-        requires ascend { Ascend (2 ^ 32) steps.now }
+        requires are { AreSteps (2 ^ 32) steps.now }
         requires inside { AreIn self.old steps.now }
         ensures ok { IfOk result (λ t. IsWord self.old byte steps.now t self.new) }
         ensures err { IfErr result (IsFullBy self.old (3 * length steps.now - 2)) }

@@ -1,4 +1,4 @@
-use Rattle.std.proofs.Common.{◌≡◌, ◌∷◌, ◌+◌, drop, [], refl, sym, ap, ◌∙◌, subst, List}
+use Rattle.std.proofs.Common.{◌≡◌, ◌+◌, drop, sym, ap, ◌∙◌, subst, List}
 use Rattle.std.proofs.lemmas.Bool.{false≢true}
 use Rattle.seccompiler.specs.Policy.{Condition, RuleHolds}
 use Rattle.seccomp_tree.specs.Decisions.{Ruling, First, here, behind, nothing}

@@ -1,9 +1,8 @@
-use Rattle.std.proofs.Common.{◌≡◌, ◌+◌, ◌-◌, ◌<◌, ◌^◌, [], length, take, drop, get_or, sym, ◌∙◌, subst, List, ℕ}
+use Rattle.std.proofs.Common.{◌-◌, ◌<◌, ◌^◌, length, take, drop, get_or, sym, ◌∙◌, subst, List}
 use Rattle.std.proofs.lemmas.List.{drop_more}
-use Rattle.seccomp_tree.specs.declared.decisions.DefaultValue.{DefaultValue}
 use Rattle.seccomp_tree.specs.declared.steps.Target.TheVariants.{Give}
 use Rattle.seccomp_tree.specs.declared.steps.Step.{Step}
-use Rattle.seccomp_tree.specs.Steps.{IsPushed, Precede}
+use Rattle.seccomp_tree.specs.Steps.{IsPushed, AreSteps}
 use Rattle.seccomp_tree.proofs.Defaults.{defaults_first, defaults_next, defaults_room, defaults_all, opened, zero}
 use Rattle.seccomp_tree.proofs.program.default_steps.Goals as goal
 
@@ -22,7 +21,7 @@ push_step-requires-in-loop-default c =
     let i = c.loop-default.default-index in
     let steps = c.loop-default.steps.items in
     record {
-      below = subst (λ n. Precede n steps) (sym (c.from.ensures ∙ c.start_of-start.ensures))
+      below = subst (λ n. AreSteps n steps) (sym (c.from.ensures ∙ c.start_of-start.ensures))
           (defaults_room c.args.defaults.now items i (get_or items i zero) steps (drop_more items i zero c.loop-default-test.true)
           c.loop-default.invariant);
     }

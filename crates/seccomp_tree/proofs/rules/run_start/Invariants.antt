@@ -1,4 +1,3 @@
-use Rattle.std.proofs.Common.{ℕ}
 use Rattle.seccomp_tree.proofs.Ruled.{RunBack}
 use Rattle.seccomp_tree.proofs.rules.run_start.Given as goal
 

@@ -1,14 +1,18 @@
-use Rattle.std.proofs.Common.{◌^◌, leb, rules}
+use Rattle.std.proofs.Common.{◌^◌, leb, rules, arith}
 use Rattle.std.proofs.lemmas.List.Sorted.{IsPartitionPoint-from_clause, IsPartitionedBy-leb}
 use Rattle.seccomp_tree.specs.declared.steps.Step.{Step}
-use Rattle.seccomp_tree.proofs.Overlays.{until_cut, steps_rise}
+use Rattle.seccomp_tree.proofs.Begun.{begun_point, begun_some, starts_sorted}
 use Rattle.seccomp_tree.proofs.steps.until.Goals as goal
 
-pub returns : goal.returns
-returns c =
+pub returns-clause-count : goal.returns-clause-count
+returns-clause-count c =
     let steps = c.args.steps.now in
     let n = c.partition_point.result in
-    let point = IsPartitionPoint-from_clause (λ (x : Step). leb x.start c.args.number) steps n c.partition_point.ensures.partitioned
-    (IsPartitionedBy-leb (λ (x : Step). x.start) steps c.args.number (λ i j d le lt. steps_rise (2 ^ 64) steps i j d c.requires le lt))
-    (λ a r f h. search rules) in
-    until_cut (2 ^ 64) steps c.args.number n c.requires c.partition_point.ensures.bound point
+    begun_point steps c.args.number n c.partition_point.ensures.bound
+    (IsPartitionPoint-from_clause (λ (x : Step). leb x.start c.args.number) steps n c.partition_point.ensures.partitioned
+    (IsPartitionedBy-leb (λ (x : Step). x.start) steps c.args.number (starts_sorted (2 ^ 64) 0 steps c.requires.ascend))
+    (λ a r f h. search rules))
+
+pub returns-clause-some : goal.returns-clause-some
+returns-clause-some c =
+    omega (arith, returns-clause-count c, begun_some (2 ^ 64) c.args.steps.now c.args.number c.requires (omega arith))

@@ -1,29 +1,34 @@
-use Rattle.std.proofs.Common.{◌+◌, ◌*◌, ◌≤◌, ap, length, sym, subst, List, arith}
-use Rattle.seccomp_tree.specs.declared.steps.Step.{Step}
-use Rattle.seccomp_tree.specs.Code.{AreIn, IsWord}
-use Rattle.seccomp_tree.specs.Arguments.{IsHalfFullBy}
-use Rattle.seccomp_tree.proofs.Overlays.{ok_weaker, err_weaker}
-use Rattle.seccomp_tree.proofs.HighHalves.{half_in, half_of_word, half_long}
+use Rattle.std.proofs.Common.{◌^◌, sym, subst, arith}
+use Rattle.std.proofs.lemmas.Result.{IfOk-weaker}
+use Rattle.seccomp_tree.specs.Steps.{AreSteps}
+use Rattle.seccomp_tree.specs.Code.{AreIn}
+use Rattle.seccomp_tree.proofs.Common.{IfErr-weaker}
+use Rattle.seccomp_tree.proofs.Halves.{half_in, half_of_word, half_room}
 use Rattle.seccomp_tree.proofs.code.Code.half.Goals as goal
 
-pub word-requires-clause-inside : goal.word-requires-clause-inside
-word-requires-clause-inside c =
-    subst (λ (l : List Step). AreIn c.args.self.now l) (sym c.deref.ensures.value)
-    (half_in c.args.self.now c.args.steps.now c.in_ok-lows.lows.items c.args.high c.in_ok-lows.ensures.ok c.requires.inside)
+pub word-requires : goal.word-requires
+word-requires c =
+    let a = c.args in
+    let part = rw c.new-lows.ensures.items at c.in_ok-push_part.ensures.part in
+    let lows = half_in a.self.now a.steps.now c.push_part.new.steps.items a.high c.requires.are c.requires.inside part in
+    record {
+      aligned = omega arith;
+      inside_record = omega (arith, c.requires.index);
+      are = subst (AreSteps (2 ^ 32)) (sym c.deref.ensures.value) lows.0;
+      inside = subst (AreIn a.self.now) (sym c.deref.ensures.value) lows.1;
+    }
 
 pub returns-clause-ok : goal.returns-clause-ok
 returns-clause-ok c =
-    ok_weaker c.word.result _ _
-    (λ t h. half_of_word c.args.self.now c.word.new.self c.args.index c.args.steps.now c.in_ok-lows.lows.items c.args.high t c.requires.are
-    c.in_ok-lows.ensures.ok
-    (subst (λ (l : List Step). IsWord c.args.self.now (16 + 8 * c.args.index) l t c.word.new.self) c.deref.ensures.value h))
+    let a = c.args in
+    let part = rw c.new-lows.ensures.items at c.in_ok-push_part.ensures.part in
+    let e = c.deref.ensures.value in
+    IfOk-weaker c.word.result _ _
+    (λ t h. half_of_word a.self.now c.word.new.self a.index a.steps.now c.push_part.new.steps.items a.high t c.requires.are part (rw e at h))
     c.word.ensures.ok
 
 pub returns-clause-err : goal.returns-clause-err
 returns-clause-err c =
-    err_weaker c.word.result _ (IsHalfFullBy c.args.self.now c.args.steps.now c.args.high)
-    (λ e h begin end within is.
-    let long = half_long c.args.steps.now c.in_ok-lows.lows.items c.args.high begin end c.requires.are c.in_ok-lows.ensures.ok within in
-    let same = ap length c.deref.ensures.value in
-    omega (arith, h is))
-    c.word.ensures.err
+    let part = rw c.new-lows.ensures.items at c.in_ok-push_part.ensures.part in
+    let room = half_room c.args.steps.now c.push_part.new.steps.items c.args.high part in
+    IfErr-weaker c.word.result _ _ (λ e h is. omega (arith, h is, c.deref.ensures.len, room)) c.word.ensures.err

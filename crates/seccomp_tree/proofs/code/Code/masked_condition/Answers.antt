@@ -1,6 +1,6 @@
 use Rattle.std.proofs.Common.{sym}
 use Rattle.seccomp_tree.specs.Conditions.{IsConditionMet}
-use Rattle.seccomp_tree.proofs.Overlays.{ok_weaker}
+use Rattle.std.proofs.lemmas.Result.{IfOk-weaker}
 use Rattle.seccomp_tree.proofs.Meeting.{masked_dword, masked_qword}
 use Rattle.seccomp_tree.proofs.code.Code.masked_condition.Goals as goal
 
@@ -13,7 +13,7 @@ returns-in-Dword-clause-ok c =
 pub returns-in-Qword-clause-ok : goal.returns-in-Qword-clause-ok
 returns-in-Qword-clause-ok c =
     let h = rw (c.arg_index-index.ensures.index, c.split_value-high_value.ensures) at c.in_ok-yes.ensures.ok in
-    ok_weaker c.masked-in-Qword.result _
+    IfOk-weaker c.masked-in-Qword.result _
     (λ t. IsConditionMet c.args.self.now c.args.condition.now c.args.yes c.args.no t c.masked-in-Qword.new.self)
     (λ t k. masked_qword c.args.self.now c.masked.new.self c.masked-in-Qword.new.self c.args.condition.now c.args.mask c.args.yes c.args.no
     c.in_ok-yes.yes t (sym c.in-Qword.ensures) c.requires.masked h

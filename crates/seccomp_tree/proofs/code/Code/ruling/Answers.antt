@@ -4,7 +4,8 @@ use Rattle.std.proofs.lemmas.Result.{err_from_is_err_and}
 use Rattle.seccompiler.specs.Policy.{Condition}
 use Rattle.seccomp_tree.specs.declared.steps.Target.TheVariants.{Give}
 use Rattle.seccomp_tree.specs.Decisions.{Ruling}
-use Rattle.seccomp_tree.proofs.Choosing.{RulingOn, ruling_none, ruling_one, ruling_all, ruling_room}
+use Rattle.seccomp_tree.proofs.Choosing.{ruling_none, ruling_one, ruling_room}
+use Rattle.seccomp_tree.specs.Rules.{IsRulingMet}
 use Rattle.seccomp_tree.proofs.code.Code.ruling.Goals as goal
 
 pub loop-left-init : goal.loop-left-init
@@ -15,8 +16,8 @@ loop-left-init c =
     let n : c.len-left.result ≡ length d.conditions = omega (arith, ap length e, c.ruling.inside.conditions.ok.0) in
     let fits : d.value < 2 ^ 32 = subst (λ v. v < 2 ^ 32) value c.ruling.invariant in (
       omega arith,
-      subst (λ v. RulingOn c.args.self.now d c.args.after (drop c.len-left.result d.conditions) (Give v) c.args.self.now) (sym value)
-          (ruling_none c.args.self.now d c.args.after (drop c.len-left.result d.conditions) (drop_all c.len-left.result d.conditions (omega
+      subst (λ v. IsRulingMet c.args.self.now (drop c.len-left.result d.conditions) d.value c.args.after (Give v) c.args.self.now) (sym value)
+          (ruling_none c.args.self.now d.value c.args.after (drop c.len-left.result d.conditions) (drop_all c.len-left.result d.conditions (omega
           arith)) fits),
     )
 
@@ -34,7 +35,7 @@ returns-in_err-target-clause-err c =
     let cons : drop k d.conditions ≡ x ∷ drop l.left d.conditions =
     drop_more d.conditions k x lt ∙ ap (λ (y : Condition). y ∷ drop (k + 1) d.conditions) (sym item)
     ∙ ap (λ n. x ∷ drop n d.conditions) more in
-    let room = ruling_room c.args.self.now l.self d c.args.after l.target d.conditions k x (drop l.left d.conditions) cons l.invariant.1 in
+    let room = ruling_room c.args.self.now l.self d.value c.args.after l.target d.conditions k x (drop l.left d.conditions) cons l.invariant.1 in
     rw (p.1, p.2) (λ is. let full = c.in_err-target.ensures.err is in omega (arith, full, room))
 
 pub loop-left-preserved : goal.loop-left-preserved
@@ -51,8 +52,8 @@ loop-left-preserved c =
     drop_more d.conditions k x lt ∙ ap (λ (y : Condition). y ∷ drop (k + 1) d.conditions) (sym item)
     ∙ ap (λ n. x ∷ drop n d.conditions) more in (
       omega (arith, l.invariant.0),
-      subst (λ (q : List Condition). RulingOn c.args.self.now d c.args.after q c.in_ok-target.target c.condition.new.self) (sym cons)
-          (ruling_one c.args.self.now l.self c.condition.new.self d c.args.after l.target c.in_ok-target.target x (drop l.left d.conditions)
+      subst (λ (q : List Condition). IsRulingMet c.args.self.now q d.value c.args.after c.in_ok-target.target c.condition.new.self) (sym cons)
+          (ruling_one c.args.self.now l.self c.condition.new.self d.value c.args.after l.target c.in_ok-target.target x (drop l.left d.conditions)
           l.invariant.1 c.in_ok-target.ensures.ok),
     )
 
@@ -61,4 +62,4 @@ returns-clause-ok c =
     let l = c.loop-left in
     let d : Ruling = c.args.ruling.now in
     let none : l.left ≡ 0 = omega arith in
-    ruling_all c.args.self.now l.self d c.args.after l.target (drop l.left d.conditions) (ap (λ n. drop n d.conditions) none) l.invariant.1
+    rw none at l.invariant.1

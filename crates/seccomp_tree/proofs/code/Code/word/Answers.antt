@@ -1,9 +1,16 @@
-use Rattle.std.proofs.Common.{◌-◌, ◌∷◌, ap, ◌∙◌, arith}
+use Rattle.std.proofs.Common.{◌-◌, ◌∷◌, ◌^◌, ap, ◌∙◌, arith}
 use Rattle.seccompiler.specs.Code.{load}
 use Rattle.seccomp_tree.specs.declared.steps.Target.TheVariants.{At}
-use Rattle.seccomp_tree.proofs.Cuts.{some_steps}
+use Rattle.seccomp_tree.proofs.Begun.{not_none}
 use Rattle.seccomp_tree.proofs.Words.{word_one, word_more}
 use Rattle.seccomp_tree.proofs.code.Code.word.Goals as goal
+
+pub tree-requires : goal.tree-requires
+tree-requires c = record {
+  some = not_none (2 ^ 32) c.args.steps.now c.requires.are (omega arith);
+  ascend = c.requires.are.ascend;
+  inside = c.requires.inside;
+}
 
 pub returns-then-steps-eq1-clause-ok : goal.returns-then-steps-eq1-clause-ok
 returns-then-steps-eq1-clause-ok c =
@@ -12,7 +19,7 @@ returns-then-steps-eq1-clause-ok c =
 
 pub returns-clause-ok : goal.returns-clause-ok
 returns-clause-ok c =
-    let some = some_steps _ c.args.steps.now c.requires.ascend in
+    let some = not_none (2 ^ 32) c.args.steps.now c.requires.are (omega arith) in
     let written = c.in_ok-push.ensures.ok ∙ ap (λ i. i ∷ c.tree.new.self) (c.bpf_stmt.ensures ∙ ap load c.from.ensures) in
     word_more c.args.self.now c.tree.new.self c.push.new.self c.args.byte c.args.steps.now c.in_ok-tested.tested _
     c.requires.inside_record (omega arith) c.in_ok-tested.ensures.ok written (ap (λ n. At (n - 1)) c.len.ensures.len)

@@ -1,7 +1,7 @@
-use Rattle.std.proofs.Common.{◌≡◌, [], sym, ap, ◌∙◌, subst, List}
+use Rattle.std.proofs.Common.{◌≡◌, [], sym, ap, ◌∙◌}
 use Rattle.seccompiler.specs.Machine.{word_at}
 use Rattle.seccompiler.specs.Architecture.{audit_word}
-use Rattle.seccomp_tree.specs.Decisions.{Ruling, First, nothing}
+use Rattle.seccomp_tree.specs.Decisions.{nothing}
 use Rattle.seccomp_tree.specs.Decided.{DecisionSet, default_for, rulings_for}
 use Rattle.seccomp_tree.proofs.Deciding.{IsOnly, decided_by, found_some, found_none, first_nothing}
 use Rattle.seccomp_tree.proofs.decisions.Decisions.decide.Goals as goal

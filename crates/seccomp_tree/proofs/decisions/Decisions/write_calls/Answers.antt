@@ -1,16 +1,12 @@
-use Rattle.std.proofs.Common.{◌-◌, ◌*◌, ◌^◌, length, refl, sym, subst, List, Ok, Err, Result, arith}
-use Rattle.std.specs.Prelude.{IfErr}
+use Rattle.std.proofs.Common.{◌-◌, ◌*◌, ◌^◌, length, refl, sym, subst, List, arith}
 use Rattle.seccomp_tree.specs.declared.steps.Step.{Step}
-use Rattle.seccomp_tree.specs.Steps.{Ascend}
+use Rattle.seccomp_tree.specs.Steps.{AreSteps}
 use Rattle.seccomp_tree.specs.Code.{AreIn, IsFullBy, IsWord}
 use Rattle.seccomp_tree.specs.CallSteps.{AreCallSteps, IsCallsTarget, IsTooFull}
-use Rattle.seccomp_tree.proofs.Overlays.{ok_weaker}
+use Rattle.std.proofs.lemmas.Result.{IfOk-weaker}
+use Rattle.seccomp_tree.proofs.Common.{IfErr-weaker}
 use Rattle.seccomp_tree.proofs.WholeProgram.{calls_target, calls_room, calls_full}
 use Rattle.seccomp_tree.proofs.decisions.Decisions.write_calls.Goals as goal
-
-err_weaker : {T E : Type 0} (r : Result T E) (P Q : E → Type 0) → ((e : E) → P e → Q e) → IfErr r P → IfErr r Q
-err_weaker (Ok x) P Q f h = tt
-err_weaker (Err e) P Q f h = f e h
 
 pub word-requires : goal.word-requires
 word-requires c =
@@ -20,7 +16,7 @@ word-requires c =
     record {
       aligned = refl;
       inside_record = omega arith;
-      ascend = subst (λ (l : List Step). Ascend (2 ^ 32) l) (sym c.deref.ensures.value) room.0;
+      are = subst (λ (l : List Step). AreSteps (2 ^ 32) l) (sym c.deref.ensures.value) room.0;
       inside = subst (λ (l : List Step). AreIn mid l) (sym c.deref.ensures.value) room.1;
     }
 
@@ -32,7 +28,7 @@ returns-clause-ok c =
     let new = c.word.new.self in
     let steps = c.deref.result.now in
     let h = subst (λ (l : List Step). AreCallSteps old d l mid) (sym c.deref.ensures.value) c.in_ok-steps.ensures.ok in
-    ok_weaker c.word.result (λ t. IsWord mid 0 steps t new) (λ t. IsCallsTarget old d t new) (λ t w. calls_target d old mid new steps t h w)
+    IfOk-weaker c.word.result (λ t. IsWord mid 0 steps t new) (λ t. IsCallsTarget old d t new) (λ t w. calls_target d old mid new steps t h w)
     c.word.ensures.ok
 
 pub returns-clause-err : goal.returns-clause-err
@@ -42,5 +38,5 @@ returns-clause-err c =
     let mid = c.call_steps.new.code in
     let steps = c.deref.result.now in
     let h = subst (λ (l : List Step). AreCallSteps old d l mid) (sym c.deref.ensures.value) c.in_ok-steps.ensures.ok in
-    err_weaker c.word.result (IsFullBy mid (3 * length steps - 2)) (IsTooFull d old 0) (λ e full. calls_full d old mid steps e h full)
+    IfErr-weaker c.word.result (IsFullBy mid (3 * length steps - 2)) (IsTooFull d old 0) (λ e full. calls_full d old mid steps e h full)
     c.word.ensures.err

@@ -1,0 +1,368 @@
+-- How many steps start below a number, and what that says of their targets.
+use Rattle.std.proofs.Common.{◌≡◌, ℕ, zero, suc, ◌+◌, ◌-◌, ◌^◌, ◌<◌, ◌≤◌, ◌≢◌, List, [], ◌∷◌, ◌++◌, length, get_or, true, false, refl, sym, ap, ◌∙◌}
+use Rattle.std.proofs.Common.{subst, nat_le, if◌then◌else◌, leb, arith, inl, inr, length-append}
+use Rattle.std.specs.Prelude.{nat_lt}
+use Rattle.std.proofs.lemmas.Bool.Decides.{nat_tests}
+use Rattle.std.proofs.lemmas.Bool.{cases_lt, leb-true, leb-false}
+use Rattle.std.specs.List.Sorted.{IsPartitionPoint}
+use Rattle.seccompiler.specs.declared.bpf.sock_filter.{sock_filter}
+use Rattle.seccomp_tree.specs.declared.steps.Target.{Target}
+use Rattle.seccomp_tree.specs.declared.steps.Step.{Step}
+use Rattle.seccomp_tree.specs.Steps.{StartsAtZero, found_from, found_in, AscendFrom, AreSteps, begun, TightFrom, AreTight, IsPushed}
+use Rattle.seccomp_tree.specs.Steps.{IsPartPushed}
+use Rattle.seccomp_tree.specs.Code.{IsIn, AreIn}
+
+-- ---- ascending
+
+pub ascend_more : (m n from to : ℕ) (steps : List Step) → m ≤ n → to ≤ from → AscendFrom m from steps → AscendFrom n to steps
+ascend_more m n from to [] le le' h = tt
+ascend_more m n from to (x ∷ steps) le le' h =
+    (omega (arith, h.0), (omega (arith, h.1.0), ascend_more m n (x.start + 1) (x.start + 1) steps le (omega arith) h.1.1))
+
+pub not_none : (m : ℕ) (steps : List Step) → AreSteps m steps → 0 < m → 1 ≤ length steps
+not_none m [] h some = absurd (h.first some)
+not_none m (x ∷ steps) h some = omega arith
+
+pub above_none : (m from : ℕ) (steps : List Step) → AscendFrom m from steps → 1 ≤ length steps → 0 < m
+above_none m from [] h some = absurd (omega arith)
+above_none m from (x ∷ steps) h some = omega (arith, h.1.0)
+
+-- steps below a number are below a greater one
+pub steps_more : (m n : ℕ) (steps : List Step) → 0 < m → m ≤ n → AreSteps m steps → AreSteps n steps
+steps_more m n steps some le h = record { first = λ _. h.first some; ascend = ascend_more m n 0 0 steps le (omega arith) h.ascend }
+
+-- starts rise
+pub starts_rise : (m from : ℕ) (steps : List Step) (k : ℕ) (d : Step) → AscendFrom m from steps → k < length steps
+    → (from + k ≤ (get_or steps k d).start) × ((get_or steps k d).start < m)
+starts_rise m from [] k d h lt = absurd (omega arith)
+starts_rise m from (x ∷ steps) zero d h lt = (omega (arith, h.0), h.1.0)
+starts_rise m from (x ∷ steps) (suc k) d h lt =
+    let up = starts_rise m (x.start + 1) steps k d h.1.1 (omega arith) in (omega (arith, up.0, h.0), up.1)
+
+pub starts_sorted : (m from : ℕ) (steps : List Step) → AscendFrom m from steps → (i j : ℕ) (d : Step) → i ≤ j → j < length steps
+    → (get_or steps i d).start ≤ (get_or steps j d).start
+starts_sorted m from [] h i j d le lt = absurd (omega arith)
+starts_sorted m from (x ∷ steps) h zero zero d le lt = omega arith
+starts_sorted m from (x ∷ steps) h zero (suc j) d le lt = omega (arith, (starts_rise m (x.start + 1) steps j d h.1.1 (omega arith)).0)
+starts_sorted m from (x ∷ steps) h (suc i) zero d le lt = absurd (omega arith)
+starts_sorted m from (x ∷ steps) h (suc i) (suc j) d le lt =
+    starts_sorted m (x.start + 1) steps h.1.1 i j d (omega arith) (omega arith)
+
+-- ---- counting
+
+pub begun_few : (steps : List Step) (a : ℕ) → begun steps a ≤ length steps
+begun_few [] a = omega arith
+begun_few (x ∷ steps) a = elim (cases_lt x.start a) [
+  | inl lt ↦ let yes : nat_lt x.start a ≡ true = grind (arith, nat_tests) in rw yes (omega (arith, begun_few steps a))
+  | inr le ↦ let no : nat_lt x.start a ≡ false = grind (arith, nat_tests) in rw no (omega arith)
+]
+
+-- what is counted starts below the number
+pub begun_below : (steps : List Step) (a k : ℕ) (d : Step) → k < begun steps a → (get_or steps k d).start < a
+begun_below [] a k d lt = absurd (omega arith)
+begun_below (x ∷ steps) a zero d lt = elim (cases_lt x.start a) [
+  | inl below ↦ below
+  | inr le ↦
+      let no : nat_lt x.start a ≡ false = grind (arith, nat_tests) in
+      let none : 0 < 0 = rw no at lt in
+      absurd (omega arith)
+]
+begun_below (x ∷ steps) a (suc k) d lt = elim (cases_lt x.start a) [
+  | inl below ↦
+      let yes : nat_lt x.start a ≡ true = grind (arith, nat_tests) in
+      let more : suc k < 1 + begun steps a = rw yes at lt in
+      begun_below steps a k d (omega arith)
+  | inr le ↦
+      let no : nat_lt x.start a ≡ false = grind (arith, nat_tests) in
+      let none : suc k < 0 = rw no at lt in
+      absurd (omega arith)
+]
+
+-- and what starts below the number is counted
+pub begun_counts : (m from : ℕ) (steps : List Step) (a k : ℕ) (d : Step) → AscendFrom m from steps → k < length steps
+    → (get_or steps k d).start < a → k < begun steps a
+begun_counts m from [] a k d h lt below = absurd (omega arith)
+begun_counts m from (x ∷ steps) a zero d h lt below = let yes : nat_lt x.start a ≡ true = grind (arith, nat_tests) in rw yes (omega arith)
+begun_counts m from (x ∷ steps) a (suc k) d h lt below =
+    let up = starts_rise m (x.start + 1) steps k d h.1.1 (omega arith) in
+    let yes : nat_lt x.start a ≡ true = grind (arith, nat_tests, up.0) in
+    rw yes (omega (arith, begun_counts m (x.start + 1) steps a k d h.1.1 (omega arith) below))
+
+pub begun_more : (steps : List Step) (a b : ℕ) → a ≤ b → begun steps a ≤ begun steps b
+begun_more [] a b le = omega arith
+begun_more (x ∷ steps) a b le = elim (cases_lt x.start a) [
+  | inl lt ↦
+      let yes : nat_lt x.start a ≡ true = grind (arith, nat_tests) in
+      let too : nat_lt x.start b ≡ true = grind (arith, nat_tests) in
+      rw (yes, too) (omega (arith, begun_more steps a b le))
+  | inr ge ↦ let no : nat_lt x.start a ≡ false = grind (arith, nat_tests) in rw no (omega arith)
+]
+
+-- all of them start below the size
+pub begun_all : (m from : ℕ) (steps : List Step) (a : ℕ) → AscendFrom m from steps → m ≤ a → begun steps a ≡ length steps
+begun_all m from [] a h le = refl
+begun_all m from (x ∷ steps) a h le =
+    let yes : nat_lt x.start a ≡ true = grind (arith, nat_tests, h.1.0) in
+    rw yes (omega (arith, begun_all m (x.start + 1) steps a h.1.1 le))
+
+pub begun_some : (m : ℕ) (steps : List Step) (a : ℕ) → AreSteps m steps → 0 < m → 1 ≤ begun steps (a + 1)
+begun_some m [] a h some = absurd (h.first some)
+begun_some m (x ∷ steps) a h some =
+    let yes : nat_lt x.start (a + 1) ≡ true = grind (arith, nat_tests, h.first some) in rw yes (omega arith)
+
+-- a step is the last of those that start up to its start
+pub begun_at : (m from : ℕ) (steps : List Step) (k : ℕ) (d : Step) → AscendFrom m from steps → k < length steps
+    → begun steps ((get_or steps k d).start + 1) ≡ k + 1
+begun_at m from [] k d h lt = absurd (omega arith)
+begun_at m from (x ∷ steps) zero d h lt =
+    let yes : nat_lt x.start (x.start + 1) ≡ true = grind (arith, nat_tests) in
+    rw yes (omega (arith, none steps h.1.1))
+  where
+    none : (l : List Step) → AscendFrom m (x.start + 1) l → begun l (x.start + 1) ≡ 0
+    none [] h = refl
+    none (y ∷ l) h = let no : nat_lt y.start (x.start + 1) ≡ false = grind (arith, nat_tests, h.0) in rw no refl
+begun_at m from (x ∷ steps) (suc k) d h lt =
+    let up = starts_rise m (x.start + 1) steps k d h.1.1 (omega arith) in
+    let yes : nat_lt x.start ((get_or steps k d).start + 1) ≡ true = grind (arith, nat_tests, up.0) in
+    rw yes (omega (arith, begun_at m (x.start + 1) steps k d h.1.1 (omega arith)))
+
+-- where the tests of a search part the steps
+pub begun_point : (steps : List Step) (number n : ℕ) → n ≤ length steps
+    → IsPartitionPoint (λ (x : Step). leb x.start number ≡ true) (λ (x : Step). leb x.start number ≡ false) steps n
+    → n ≡ begun steps (number + 1)
+begun_point [] number n le point = omega arith
+begun_point (x ∷ steps) number zero le point =
+    let above = leb-false x.start number (point.1 0 x (omega arith) (omega arith)) in
+    let no : nat_lt x.start (number + 1) ≡ false = grind (arith, nat_tests, above) in rw no refl
+begun_point (x ∷ steps) number (suc n) le point =
+    let low = leb-true x.start number (point.0 0 x (omega arith) (omega arith)) in
+    let yes : nat_lt x.start (number + 1) ≡ true = grind (arith, nat_tests, low) in
+    rw yes (omega (
+      arith,
+      begun_point steps number n (omega arith) (
+        (λ k d lt lt'. point.0 (suc k) d (omega arith) (omega arith)),
+        (λ k d lt lt'. point.1 (suc k) d (omega arith) (omega arith)),
+      ),
+    ))
+
+-- ---- targets
+
+-- the last step that starts up to a number decides
+from_begun : (t : Target) (steps : List Step) (a : ℕ) (y d : Step) → y.target ≡ t
+    → found_from t steps a ≡ (get_or (y ∷ steps) (begun steps (a + 1)) d).target
+from_begun t [] a y d is = sym is
+from_begun t (x ∷ steps) a y d is = elim (cases_lt a x.start) [
+  | inl lt ↦
+      let no : nat_le x.start a ≡ false = grind (arith, nat_tests) in
+      let none : nat_lt x.start (a + 1) ≡ false = grind (arith, nat_tests) in
+      rw (no, none) (sym is)
+  | inr le ↦
+      let yes : nat_le x.start a ≡ true = grind (arith, nat_tests) in
+      let too : nat_lt x.start (a + 1) ≡ true = grind (arith, nat_tests) in
+      let at : 1 + begun steps (a + 1) ≡ suc (begun steps (a + 1)) = omega arith in
+      rw (yes, too, at) (from_begun x.target steps a x d refl)
+]
+
+pub found_begun : (m : ℕ) (steps : List Step) (a : ℕ) (d : Step) → AreSteps m steps → 0 < m
+    → found_in steps a ≡ (get_or steps (begun steps (a + 1) - 1) d).target
+found_begun m [] a d h some = absurd (h.first some)
+found_begun m (x ∷ steps) a d h some =
+    let yes : nat_lt x.start (a + 1) ≡ true = grind (arith, nat_tests, h.first some) in
+    let at : 1 + begun steps (a + 1) - 1 ≡ begun steps (a + 1) = omega arith in
+    rw (yes, at) (from_begun x.target steps a x d refl)
+
+-- a number in front of all starts has what there is
+pub found_before : (m from : ℕ) (t : Target) (steps : List Step) (a : ℕ) → AscendFrom m from steps → a < from → found_from t steps a ≡ t
+found_before m from t [] a h lt = refl
+found_before m from t (x ∷ steps) a h lt = let no : nat_le x.start a ≡ false = grind (arith, nat_tests, h.0) in rw no refl
+
+-- what doesn't start between two numbers doesn't part them
+pub found_same : (m : ℕ) (steps : List Step) (a b : ℕ) → AreSteps m steps → 0 < m → begun steps (a + 1) ≡ begun steps (b + 1)
+    → found_in steps a ≡ found_in steps b
+found_same m [] a b h some same = absurd (h.first some)
+found_same m (x ∷ steps) a b h some same =
+    found_begun m (x ∷ steps) a x h some ∙ ap (λ n. (get_or (x ∷ steps) (n - 1) x).target) same ∙ sym (found_begun m (x ∷ steps) b x h some)
+
+-- targets for all numbers below the size are all targets, and the other way round
+pub are_in_below : (code : List sock_filter) (m : ℕ) (steps : List Step) → 0 < m → AreSteps m steps
+    → ((a : ℕ) → a < m → IsIn code (found_in steps a)) → AreIn code steps
+are_in_below code m steps some are h k d lt =
+    let at = begun_at m 0 steps k d are.ascend lt in
+    let same : begun steps ((get_or steps k d).start + 1) - 1 ≡ k = omega (arith, at) in
+    let here = found_begun m steps ((get_or steps k d).start) d are some ∙ ap (λ n. (get_or steps n d).target) same in
+    subst (IsIn code) here (h ((get_or steps k d).start) (starts_rise m 0 steps k d are.ascend lt).1)
+
+pub found_in_code : (code : List sock_filter) (m : ℕ) (steps : List Step) (d : Step) (a : ℕ) → 0 < m → AreSteps m steps → AreIn code steps
+    → IsIn code (found_in steps a)
+found_in_code code m steps d a some are h =
+    let one = begun_some m steps a are some in
+    subst (IsIn code) (sym (found_begun m steps a d are some)) (h (begun steps (a + 1) - 1) d (omega (arith, one, begun_few steps (a + 1))))
+
+-- ---- one step more
+
+ascend_push : (from : ℕ) (steps : List Step) (x : Step) → from ≤ x.start → AscendFrom x.start from steps
+    → AscendFrom (x.start + 1) from (steps ++ x ∷ [])
+ascend_push from [] x le h = (le, (omega arith, tt))
+ascend_push from (y ∷ steps) x le h = (h.0, (omega (arith, h.1.0), ascend_push (y.start + 1) steps x (omega (arith, h.1.0)) h.1.1))
+
+below_push : (t : Target) (steps : List Step) (x : Step) (a : ℕ) → a < x.start → found_from t (steps ++ x ∷ []) a ≡ found_from t steps a
+below_push t [] x a below = let no : nat_le x.start a ≡ false = grind (arith, nat_tests) in rw no refl
+below_push t (y ∷ steps) x a below = ap (λ v. if nat_le y.start a then v else t) (below_push y.target steps x a below)
+
+from_push : (t : Target) (from : ℕ) (steps : List Step) (x : Step) (a : ℕ) → AscendFrom x.start from steps → x.start ≤ a
+    → found_from t (steps ++ x ∷ []) a ≡ x.target
+from_push t from [] x a h le = let yes : nat_le x.start a ≡ true = grind (arith, nat_tests) in rw yes refl
+from_push t from (y ∷ steps) x a h le =
+    let yes : nat_le y.start a ≡ true = grind (arith, nat_tests, h.1.0) in
+    rw yes (from_push y.target (y.start + 1) steps x a h.1.1 le)
+
+pub pushed_more : (old : List Step) (x : Step) → AreSteps x.start old → IsPushed old x.start x.target (old ++ x ∷ [])
+pushed_more old x h = record {
+  are = record { first = λ _. zero_first old h; ascend = ascend_push 0 old x (omega arith) h.ascend };
+  from = λ a le. from old a h.ascend le;
+  below = λ a lt. below old a h lt;
+  few = omega (arith, length-append old (x ∷ []));
+}
+  where
+    zero_first : (old : List Step) → AreSteps x.start old → StartsAtZero (old ++ x ∷ [])
+    zero_first [] h = elim (cases_lt 0 x.start) [ inl some ↦ absurd (h.first some) | inr none ↦ omega arith ]
+    zero_first (y ∷ old) h = h.first (omega (arith, h.ascend.1.0))
+
+    from : (old : List Step) (a : ℕ) → AscendFrom x.start 0 old → x.start ≤ a → found_in (old ++ x ∷ []) a ≡ x.target
+    from [] a h le = refl
+    from (y ∷ old) a h le = from_push y.target (y.start + 1) old x a h.1.1 le
+
+    below : (old : List Step) (a : ℕ) → AreSteps x.start old → a < x.start → found_in (old ++ x ∷ []) a ≡ found_in old a
+    below [] a h lt = absurd (h.first (omega arith))
+    below (y ∷ old) a h lt = below_push y.target old x a lt
+
+-- steps that end in the target need no step more
+pub pushed_same : (old : List Step) (start : ℕ) (target : Target) → AreSteps start old → 1 ≤ length old → found_in old start ≡ target
+    → IsPushed old start target old
+pushed_same old start target h some same =
+    let above = above_none start 0 old h.ascend some in
+    record {
+      are = steps_more start (start + 1) old above (omega arith) h;
+      from = λ a le.
+          found_same start old a start h above
+          (begun_all start 0 old (a + 1) h.ascend (omega arith) ∙ sym (begun_all start 0 old (start + 1) h.ascend (omega arith))) ∙ same;
+      below = λ a lt. refl;
+      few = omega arith;
+    }
+
+-- ---- neighbours that differ
+
+tight_from : (t : Target) (from : ℕ) (steps : List Step) (x : Step) → AscendFrom x.start from steps → (found_from t steps x.start ≢ x.target)
+    → TightFrom t steps → TightFrom t (steps ++ x ∷ [])
+tight_from t from [] x h not tight = (not, tt)
+tight_from t from (y ∷ steps) x h not tight =
+    let yes : nat_le y.start x.start ≡ true = grind (arith, nat_tests, h.1.0) in
+    (tight.0, tight_from y.target (y.start + 1) steps x h.1.1 (rw yes at not) tight.1)
+
+pub tight_pushed : (old : List Step) (x : Step) → AreSteps x.start old → (1 ≤ length old → found_in old x.start ≢ x.target) → AreTight old
+    → AreTight (old ++ x ∷ [])
+tight_pushed [] x h not tight = tt
+tight_pushed (y ∷ old) x h not tight = tight_from y.target (y.start + 1) old x h.ascend.1.1 (not (omega arith)) tight
+
+-- ---- the loop of `push_part`
+
+pub record PartOn (old others : List Step) (first last base i : ℕ) (new : List Step) : Type 0 where
+  pub at : ℕ
+  pub are : AreSteps (at + 1) new
+  pub low : first ≤ base + at
+  pub high : base + at ≤ last
+  pub done : begun others (base + at + 1) ≤ i
+  pub found : (a : ℕ) → first ≤ base + a → begun others (base + a + 1) ≤ i → found_in new a ≡ found_in others (base + a)
+  pub below : (a : ℕ) → base + a < first → found_in new a ≡ found_in old a
+  pub tight : AreTight old → AreTight new
+  pub few : length new + begun others (first + 1) ≤ length old + 1 + i
+
+module _ (old others : List Step) (first last base : ℕ) (are : AreSteps (2 ^ 64) others) (order : base ≤ first) (some : first ≤ last) where
+  pub part_begins : (new : List Step) → (AreTight old → AreTight new) → IsPushed old (first - base) (found_in others first) new
+      → PartOn old others first last base (begun others (first + 1)) new
+  part_begins new tight pushed =
+      let back : base + (first - base) ≡ first = omega arith in
+      record {
+        at = first - base;
+        are = pushed.are;
+        low = omega arith;
+        high = omega arith;
+        done = let e = ap (λ n. begun others (n + 1)) back in omega (arith, e);
+        found = λ a le few.
+            let more = begun_more others (first + 1) (base + a + 1) (omega arith) in
+            pushed.from a (omega arith) ∙ found_same (2 ^ 64) others first (base + a) are (omega arith) (omega (arith, more));
+        below = λ a lt. pushed.below a (omega arith);
+        tight = tight;
+        few = omega (arith, pushed.few);
+      }
+
+  -- the next of the others starts behind what is pushed, and within the part
+  pub part_room : (i : ℕ) (d : Step) (new : List Step) → i < begun others (last + 1) → PartOn old others first last base i new
+      → (base ≤ (get_or others i d).start) × AreSteps ((get_or others i d).start - base) new
+  part_room i d new lt h =
+      let s = (get_or others i d).start in
+      let within = begun_few others (last + 1) in
+      let above : base + h.at < s = elim (cases_lt s (base + h.at + 1)) [
+        | inl low ↦ absurd (omega (arith, begun_counts (2 ^ 64) 0 others (base + h.at + 1) i d are.ascend (omega arith) low, h.done))
+        | inr up ↦ omega arith
+      ] in
+      (omega arith, steps_more (h.at + 1) (s - base) new (omega arith) (omega arith) h.are)
+
+  pub part_turn : (i : ℕ) (d : Step) (mid new : List Step) → i < begun others (last + 1) → PartOn old others first last base i mid
+      → (AreTight mid → AreTight new) → IsPushed mid ((get_or others i d).start - base) ((get_or others i d).target) new
+      → PartOn old others first last base (i + 1) new
+  part_turn i d mid new lt h tight pushed =
+      let s = (get_or others i d).start in
+      let room = part_room i d mid lt h in
+      let within = begun_few others (last + 1) in
+      let inside = begun_below others (last + 1) i d lt in
+      let back : base + (s - base) ≡ s = omega (arith, room.0) in
+      let here : begun others (s + 1) ≡ i + 1 = begun_at (2 ^ 64) 0 others i d are.ascend (omega arith) in
+      record {
+        at = s - base;
+        are = pushed.are;
+        low = omega (arith, room.0, above i d mid lt h);
+        high = omega (arith, inside);
+        done = let e = ap (λ n. begun others (n + 1)) back in omega (arith, e, here);
+        found = λ a le few. elim (cases_lt (base + a) s) [
+          | inl lower ↦
+              let less : begun others (base + a + 1) ≤ i = elim (cases_lt i (begun others (base + a + 1))) [
+                | inl more ↦ absurd (omega (arith, begun_below others (base + a + 1) i d more))
+                | inr le ↦ le
+              ] in
+              pushed.below a (omega arith) ∙ h.found a le less
+          | inr upper ↦
+              let more = begun_more others (s + 1) (base + a + 1) (omega arith) in
+              let same : begun others (base + a + 1) - 1 ≡ i = omega (arith, here, more) in
+              pushed.from a (omega arith) ∙ sym (ap (λ n. (get_or others n d).target) same)
+              ∙ sym (found_begun (2 ^ 64) others (base + a) d are (omega arith))
+        ];
+        below = λ a less. pushed.below a (omega (arith, above i d mid lt h)) ∙ h.below a less;
+        tight = λ t. tight (h.tight t);
+        few = omega (arith, h.few, pushed.few);
+      }
+    where
+      above : (i : ℕ) (d : Step) (new : List Step) → i < begun others (last + 1) → PartOn old others first last base i new
+          → first ≤ (get_or others i d).start
+      above i d new lt h =
+          let room = part_room i d new lt h in
+          elim (cases_lt ((get_or others i d).start) (base + h.at + 1)) [
+            | inl low ↦
+                absurd (omega (
+                  arith,
+                  begun_counts (2 ^ 64) 0 others (base + h.at + 1) i d are.ascend
+                      (omega (arith, begun_few others (last + 1))) low,
+                  h.done,
+                ))
+            | inr up ↦ omega (arith, h.low)
+          ]
+
+  pub part_ends : (i : ℕ) (new : List Step) → begun others (last + 1) ≤ i → i ≤ begun others (last + 1) → PartOn old others first last base i new
+      → IsPartPushed old others first last base new
+  part_ends i new ge le h = record {
+    are = steps_more (h.at + 1) (last + 1 - base) new (omega arith) (omega (arith, h.high)) h.are;
+    inside = λ a from to. h.found a from (omega (arith, begun_more others (base + a + 1) (last + 1) (omega arith)));
+    below = h.below;
+    tight = h.tight;
+    few = omega (arith, h.few);
+  }

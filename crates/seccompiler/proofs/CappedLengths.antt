@@ -1,34 +1,15 @@
 -- Lengths that stop at the greatest number that a machine's number holds.
-use Rattle.std.proofs.Common.{List, ℤ, refl, ◌++◌, map, Bor, Vec, Global, sum_by, ◌≡◌, ◌==◌, ℕ, ◌+◌, ◌≤◌, [], ◌∷◌, length}
-use Rattle.std.proofs.Common.{min, false, sym, ap, ◌∙◌, arith}
-use Rattle.std.proofs.lemmas.List.Sums.{sum_by_push, sum_by-cons}
+use Rattle.std.proofs.Common.{List, ℤ, refl, map, Bor, Vec, Global, sum_by, ◌≡◌, ℕ, ◌+◌, ◌≤◌, [], ◌∷◌, length}
+use Rattle.std.proofs.Common.{min, sym, ap, ◌∙◌, arith}
+use Rattle.std.proofs.lemmas.List.Sums.{sum_by-cons}
 use Rattle.std.specs.Map.{values_of}
 use Rattle.std.specs.Map.Iter.{deref}
 use Rattle.seccompiler.specs.Policy.{Rule, Chain, Filter, chains_of}
-use Rattle.seccompiler.specs.Layout.{chain_length, chains_length, counted_length, counted_length_of, rules_length}
-
--- A chain that has some.
-pub capped_chain : (m : ℕ) (chain : Chain) (rules more : ℕ) → false ≡ (length chain == 0)
-    → rules ≡ min (rules_length chain) m → more ≡ min (rules + 2) m → more ≡ min (chain_length chain) m
-capped_chain m [] rules more some first second = cc
-capped_chain m (q ∷ chain) rules more some first second = second ∙ ap (λ n. min (n + 2) m) first ∙ omega arith
+use Rattle.seccompiler.specs.Layout.{chain_length, chains_length, counted_length, counted_length_of}
 
 -- The length of chains that are lent.
 abbrev pub lent_length : List (Bor (Vec Rule Global)) → ℕ
 lent_length lent = sum_by (λ chain. chain_length chain.now.items) lent
-
--- The same of two terms and the length around them.
-capped_sum_of_two : (m a b : ℕ) → min (min (5 + a) m + min b m) m ≡ min (5 + (a + b)) m
-capped_sum_of_two m a b = omega arith
-
--- One chain more.
-pub capped_chain_more : (m : ℕ) (lent : List (Bor (Vec Rule Global))) (chain : Bor (Vec Rule Global)) (rules : Chain) (so_far size more : ℕ)
-    → rules ≡ chain.now.items → so_far ≡ min (5 + lent_length lent) m → size ≡ min (chain_length rules) m
-    → more ≡ min (so_far + size) m → more ≡ min (5 + lent_length (lent ++ chain ∷ [])) m
-capped_chain_more m lent chain rules so_far size more same first second third =
-    let sum : lent_length (lent ++ chain ∷ []) ≡ lent_length lent + chain_length chain.now.items =
-    sum_by_push (λ c. chain_length c.now.items) lent chain in
-    rw (third, first, second, same, capped_sum_of_two m (lent_length lent) (chain_length chain.now.items), sum) refl
 
 -- The chains that a map lends are its chains.
 lent_chains : (entries : List (ℤ × Vec Rule Global)) (lent : List (Bor (Vec Rule Global)))

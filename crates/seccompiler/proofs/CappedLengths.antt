@@ -1,53 +1,15 @@
 -- Lengths that stop at the greatest number that a machine's number holds.
-use Rattle.std.proofs.Common.{List, ℤ, refl, ◌++◌, map, Bor, Vec, Global, sum_by, ◌≡◌, ◌==◌, ℕ, ◌+◌, ◌<◌, ◌≤◌, [], ◌∷◌, length, get_or}
-use Rattle.std.proofs.Common.{take, min, false, sym, ap, ◌∙◌, arith}
-use Rattle.std.proofs.lemmas.List.{take_all}
-use Rattle.std.proofs.lemmas.List.Sums.{sum_by_more, sum_by_push, sum_by-cons}
+use Rattle.std.proofs.Common.{List, ℤ, refl, map, Bor, Vec, Global, sum_by, ◌≡◌, ℕ, ◌+◌, ◌≤◌, [], ◌∷◌, length}
+use Rattle.std.proofs.Common.{min, sym, ap, ◌∙◌, arith}
+use Rattle.std.proofs.lemmas.List.Sums.{sum_by-cons}
 use Rattle.std.specs.Map.{values_of}
 use Rattle.std.specs.Map.Iter.{deref}
 use Rattle.seccompiler.specs.Policy.{Rule, Chain, Filter, chains_of}
-use Rattle.seccompiler.specs.Layout.{rule_length, chain_length, chains_length, counted_length, counted_length_of, rules_length}
-
--- Where each sum stops at m, a sum of sums stops there too.
-capped_sum : (m a b : ℕ) → min (min (min a m + min b m) m + 1) m ≡ min (a + (b + 1)) m
-capped_sum m a b = omega arith
-
--- One rule more.
-pub capped_rule : (m : ℕ) (chain : Chain) (i : ℕ) (rule : Rule) (so_far size both more : ℕ)
-    → i < length chain → rule ≡ get_or chain i rule → so_far ≡ min (rules_length (take i chain)) m → size ≡ min (rule_length rule) m
-    → both ≡ min (so_far + size) m → more ≡ min (both + 1) m → more ≡ min (rules_length (take (i + 1) chain)) m
-capped_rule m chain i rule so_far size both more within is first second third fourth =
-    let sum : rules_length (take (i + 1) chain) ≡ rules_length (take i chain) + (rule_length rule + 1) =
-    sum_by_more (λ q. rule_length q + 1) chain i rule within ∙ ap (λ q. rules_length (take i chain) + (rule_length q + 1)) (sym is) in
-    rw (fourth, third, first, second, capped_sum m (rules_length (take i chain)) (rule_length rule)) (ap (λ n. min n m) (sym sum))
-
--- All rules of a chain.
-pub capped_rules : (m : ℕ) (chain : Chain) (i so_far : ℕ) → length chain ≤ i → so_far ≡ min (rules_length (take i chain)) m
-    → so_far ≡ min (rules_length chain) m
-capped_rules m chain i so_far long first = first ∙ ap (λ rules. min (rules_length rules) m) (take_all i chain long)
-
--- A chain that has some.
-pub capped_chain : (m : ℕ) (chain : Chain) (rules more : ℕ) → false ≡ (length chain == 0)
-    → rules ≡ min (rules_length chain) m → more ≡ min (rules + 2) m → more ≡ min (chain_length chain) m
-capped_chain m [] rules more some first second = cc
-capped_chain m (q ∷ chain) rules more some first second = second ∙ ap (λ n. min (n + 2) m) first ∙ omega arith
+use Rattle.seccompiler.specs.Layout.{chain_length, chains_length, counted_length, counted_length_of}
 
 -- The length of chains that are lent.
 abbrev pub lent_length : List (Bor (Vec Rule Global)) → ℕ
 lent_length lent = sum_by (λ chain. chain_length chain.now.items) lent
-
--- The same of two terms and the length around them.
-capped_sum_of_two : (m a b : ℕ) → min (min (5 + a) m + min b m) m ≡ min (5 + (a + b)) m
-capped_sum_of_two m a b = omega arith
-
--- One chain more.
-pub capped_chain_more : (m : ℕ) (lent : List (Bor (Vec Rule Global))) (chain : Bor (Vec Rule Global)) (rules : Chain) (so_far size more : ℕ)
-    → rules ≡ chain.now.items → so_far ≡ min (5 + lent_length lent) m → size ≡ min (chain_length rules) m
-    → more ≡ min (so_far + size) m → more ≡ min (5 + lent_length (lent ++ chain ∷ [])) m
-capped_chain_more m lent chain rules so_far size more same first second third =
-    let sum : lent_length (lent ++ chain ∷ []) ≡ lent_length lent + chain_length chain.now.items =
-    sum_by_push (λ c. chain_length c.now.items) lent chain in
-    rw (third, first, second, same, capped_sum_of_two m (lent_length lent) (chain_length chain.now.items), sum) refl
 
 -- The chains that a map lends are its chains.
 lent_chains : (entries : List (ℤ × Vec Rule Global)) (lent : List (Bor (Vec Rule Global)))

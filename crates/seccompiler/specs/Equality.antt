@@ -98,7 +98,8 @@ same_refusal e.EmptyRule e.EmptyRule h = same refl
 same_refusal (e.FilterTooLarge m) (e.FilterTooLarge n) h = same (ap e.FilterTooLarge ((unsigned_Decides m n).0 h))
 same_refusal e.IdenticalActions e.IdenticalActions h = same refl
 same_refusal e.InvalidArgumentNumber e.InvalidArgumentNumber h = same refl
-same_refusal (e.InvalidTargetArch s) (e.InvalidTargetArch t) h = same_name s t refl refl ((bytes_decides (string_bytes s) (string_bytes t)).0 h)
+same_refusal (e.InvalidTargetArch s) (e.InvalidTargetArch t) h =
+    same_name s t refl refl ((bytes_decides (string_bytes s) (string_bytes t)).0 h)
 same_refusal (e.InvalidSyscallNumber m) (e.InvalidSyscallNumber n) h = same (ap e.InvalidSyscallNumber ((signed_Decides m n).0 h))
 same_refusal e.OutOfMemory e.OutOfMemory h = same refl
 same_refusal _ _ h = absurd (true≢false (sym h))

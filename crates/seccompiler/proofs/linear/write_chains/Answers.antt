@@ -1,5 +1,4 @@
 use Rattle.std.proofs.Common.{◌≡◌, ℕ, ◌+◌, ◌-◌, ◌≤◌, ◌++◌, ◌∷◌, [], List, length, take, sym, ap, ◌∙◌, arith}
-use Rattle.std.proofs.lemmas.Grind.{common_steps}
 use lib.Seq.{length-take-le}
 use borrow.Rule.Slice.PartMut.{same_len_mid}
 use Rattle.seccompiler.specs.declared.bpf.sock_filter.{sock_filter}
@@ -62,6 +61,3 @@ loop-number-preserved c =
         same_len_mid l.start count l.part c.write_chain-start.new.part (long ∙ sym part),
       );
     }
-
-pub returns : goal.returns
-returns c = grind (arith, common_steps)

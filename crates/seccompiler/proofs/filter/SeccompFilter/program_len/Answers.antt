@@ -5,7 +5,7 @@ use Rattle.std.specs.Map.Iter.{deref}
 use Rattle.std.specs.Map.{values_of}
 use Rattle.seccompiler.specs.Policy.{Filter}
 use Rattle.seccompiler.proofs.ChainNumbers.{numbers_ascend, no_numbers_ascend}
-use Rattle.seccompiler.proofs.CappedLengths.{capped_chain_more, capped_filter, empty_filter}
+use Rattle.seccompiler.proofs.CappedLengths.{capped_filter, empty_filter}
 use Rattle.seccompiler.proofs.filter.SeccompFilter.program_len.Goals as goal
 
 pub returns-then-is_empty : goal.returns-then-is_empty
@@ -15,12 +15,6 @@ returns-then-is_empty c =
     let chains = ap (λ (g : Filter). g.chains) c.self.view_is in
     let none = c.if-is_empty.ensures.0 refl in
     record { length = empty_filter (2 ^ 64 - 1) f entries (lit≤ tt) chains none; ordered = no_numbers_ascend f entries chains none }
-
-pub loop-chain-preserved : goal.loop-chain-preserved
-loop-chain-preserved c =
-    capped_chain_more (2 ^ 64 - 1) c.loop-chain.yielded c.in-Some.chain c.deref.result.now c.loop-chain.length
-    c.chain_len.result c.saturating_add-length.result c.deref.ensures.value c.loop-chain.invariant
-    c.chain_len.ensures c.saturating_add-length.ensures
 
 pub returns : goal.returns
 returns c =

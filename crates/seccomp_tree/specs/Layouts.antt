@@ -1,10 +1,11 @@
 -- What is said of a filter and its program in either layout.
-use Rattle.std.specs.Prelude.{ℕ, List}
+use Rattle.std.specs.Prelude.{ℕ, List, codes}
 use Rattle.seccompiler.specs.declared.backend.BackendError.{BackendError}
 use Rattle.seccompiler.specs.declared.backend.BackendError.TheVariants as backend
 use Rattle.seccompiler.specs.declared.bpf.sock_filter.{sock_filter}
 use Rattle.seccompiler.specs.Machine.{IsRecord, Ends}
 use Rattle.seccompiler.specs.Policy.{Filter}
+use Rattle.seccompiler.specs.Texts.{backend_text}
 use Rattle.seccompiler.specs.Compiled.{AreCallNumbers, EndsAtDecision, IsCompilable, IsCompiled, IsLeastUnfit, IsTooLarge, numbers_of}
 use Rattle.seccomp_tree.specs.declared.error.FilterError.{FilterError}
 use Rattle.seccomp_tree.specs.declared.error.FilterError.TheVariants.{FilterTooLarge, InvalidSyscallNumber, OutOfMemory, TreeTooLarge}
@@ -65,3 +66,10 @@ IsFittingRefusal f (backend.FilterTooLarge n) = IsTreeTooLarge f × IsTooLarge f
 IsFittingRefusal f (backend.InvalidSyscallNumber n) = IsLeastUnfit (numbers_of f.chains) n
 IsFittingRefusal f backend.OutOfMemory = AreCallNumbers (numbers_of f.chains)
 IsFittingRefusal f _ = ⊥
+
+-- The text of a filter's refusal: the library's own, but for a tree.
+abbrev pub filter_text : FilterError → List ℕ
+filter_text (InvalidSyscallNumber n) = backend_text (backend.InvalidSyscallNumber n)
+filter_text (FilterTooLarge n) = backend_text (backend.FilterTooLarge n)
+filter_text TreeTooLarge = codes "The seccomp filter contains too many BPF instructions as a tree. Max length is 4096."
+filter_text OutOfMemory = backend_text backend.OutOfMemory

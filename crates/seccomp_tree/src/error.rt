@@ -49,6 +49,11 @@ pub enum FilterError {
 
 /// The error's text.
 impl fmt::Display for FilterError {
+    ghost use Rattle.std.specs.Prelude.{Some};
+    ghost use Rattle.seccomp_tree.specs.Layouts.{filter_text};
+
+    ghost output = { λ error. Some (filter_text error) };
+
     fn fmt<W: fmt::Write>(&self, f: &mut fmt::Formatter<W>) -> fmt::Result {
         match self {
             FilterError::InvalidSyscallNumber(number) => {

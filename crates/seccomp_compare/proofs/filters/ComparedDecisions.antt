@@ -40,8 +40,8 @@ related_decisions relation f g p q r of_f of_g rec answers = record {
 }
 
 -- so it is with words that aren't
-unrelated_decisions : (relation : Relation) (f g : Filter) (p q : List sock_filter) (r : List ℕ) → IsFitting f p → IsFitting g q → IsRecord r
-    → AnswersUnrelated relation p q r → DecisionsUnrelated relation f g r
+unrelated_decisions : (relation : Relation) (f g : Filter) (p q : List sock_filter) (r : List ℕ) → IsFitting f p → IsFitting g q
+    → IsRecord r → AnswersUnrelated relation p q r → DecisionsUnrelated relation f g r
 unrelated_decisions relation f g p q r of_f of_g rec answers = record {
   word = answers.word;
   decision = ends_at_decision f p r answers.steps answers.word of_f rec answers.ends;

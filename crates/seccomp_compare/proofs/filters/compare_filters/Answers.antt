@@ -12,7 +12,8 @@ use Rattle.seccomp_compare.proofs.filters.compare_filters.Goals as goal
 
 -- what an answer says of the programs it says of the filters
 of_answer : (calls : CallSet) (relation : Relation) (f g : Filter) (p q : List sock_filter) (answer : Result Comparison BackendError)
-    → IsFitting f p → IsFitting g q → IfOk answer (λ a. Compares calls relation p q a) → IfOk answer (λ a. ComparesFilters calls relation f g a)
+    → IsFitting f p → IsFitting g q → IfOk answer (λ a. Compares calls relation p q a)
+    → IfOk answer (λ a. ComparesFilters calls relation f g a)
 of_answer calls relation f g p q (Ok answer) of_f of_g known = compares_filters calls relation f g p q answer of_f of_g known
 of_answer calls relation f g p q (Err e) of_f of_g known = tt
 

@@ -50,16 +50,6 @@ leads_grown old new most g (to_place m w a n inside h) =
     let long = grown_long old new most g in
     to_place m w a n (omega (arith, long.0)) (returns_grown old new most m g inside h)
 
--- what a place does, it does in the code that has grown
-pub does_grown : (code old new : List sock_filter) (most : ℕ) (t : Target) (place : ℕ) → Grows old most new → DoesAs code t place old
-    → DoesAs code t place new
-does_grown code old new most t place g h =
-    let long = grown_long old new most g in
-    record {
-      inside = omega (arith, long.0, h.inside);
-      leads = λ r a w n small k. returns_grown old new most place g h.inside (h.leads r a w n small k);
-    }
-
 -- what a target of the old code is, the place does too
 pub does_of_old : (code old new : List sock_filter) (most : ℕ) (t : Target) (place : ℕ) → Grows code most old → DoesAs old t place new
     → DoesAs code t place new

@@ -135,8 +135,7 @@ pub(crate) fn default_for(defaults: &[DefaultValue], number: u32) -> u32
 
 // The word of the first of the decisions that holds, or the default.
 fn first_value(rulings: &[Decision], default: u32, call: &[u8; 64]) -> u32
-    ensures first { First default call.now rulings.now result }
-    ensures only { (w : ℕ) → First default call.now rulings.now w → w ≡ result }
+    ensures { (w : ℕ) → First default call.now rulings.now w ↔ (w ≡ result) }
 {
     for ruling in rulings {
         if all_hold(&ruling.conditions, call) {

@@ -1,10 +1,8 @@
 use Rattle.std.proofs.Common.{ℕ, drop}
+use Rattle.std.specs.Prelude.{◌↔◌}
 use Rattle.seccomp_tree.specs.Decisions.{First}
 use Rattle.seccomp_tree.proofs.decisions.first_value.Given as goal
 
 -- what those that are left name is what all name, and nothing else is
 abbrev pub invariant-loop-ruling : goal.invariant-loop-ruling
-invariant-loop-ruling l = record {
-  first : (w : ℕ) → First l.default l.call (drop l.ruling-index l.rulings) w → First l.default l.call l.rulings w;
-  only : (w : ℕ) → First l.default l.call l.rulings w → First l.default l.call (drop l.ruling-index l.rulings) w;
-}
+invariant-loop-ruling l = (w : ℕ) → First l.default l.call (drop l.ruling-index l.rulings) w ↔ First l.default l.call l.rulings w

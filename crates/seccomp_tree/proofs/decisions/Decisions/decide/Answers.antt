@@ -1,7 +1,7 @@
-use Rattle.std.proofs.Common.{◌≡◌, [], sym, ap, ◌∙◌}
+use Rattle.std.proofs.Common.{◌≡◌, [], sym, ap, ◌∙◌, subst}
 use Rattle.seccompiler.specs.Machine.{word_at}
 use Rattle.seccompiler.specs.Architecture.{audit_word}
-use Rattle.seccomp_tree.specs.Decisions.{nothing}
+use Rattle.seccomp_tree.specs.Decisions.{First, nothing}
 use Rattle.seccomp_tree.specs.Decided.{DecisionSet, default_for, rulings_for}
 use Rattle.seccomp_tree.proofs.Deciding.{IsOnly, decided_by, found_some, found_none, first_nothing}
 use Rattle.seccomp_tree.proofs.decisions.Decisions.decide.Goals as goal
@@ -21,7 +21,7 @@ in_some c =
     c.deref-in-Some.ensures.value ∙ sym (found_some c.self.inside.calls.entries number c.in-Some.rulings.now c.in-Some.ensures.value)
     ∙ ap (λ (x : DecisionSet). rulings_for x.calls number) c.self.view_is in
     decided_by d c.args.call.now number c.default_for-default.result c.first_value.result c.deref-in-Some.result.now own
-    c.word_at-number.ensures value found c.first_value.ensures.first c.first_value.ensures.only
+    c.word_at-number.ensures value found c.first_value.ensures
 
 in_none : (c : In-None) → IsOnly c.args.self.now c.args.call.now c.default_for-default.result
 in_none c =
@@ -37,7 +37,8 @@ in_none c =
     sym (found_none c.self.inside.calls.entries number c.in-None.ensures.value)
     ∙ ap (λ (x : DecisionSet). rulings_for x.calls number) c.self.view_is in
     decided_by d c.args.call.now number c.default_for-default.result c.default_for-default.result [] own
-    c.word_at-number.ensures value found nothing (λ v h. first_nothing h)
+    c.word_at-number.ensures value found
+    (λ v. (λ h. first_nothing h, λ e. subst (λ x. First c.default_for-default.result c.args.call.now [] x) (sym e) nothing))
 
 pub returns-in-Some-clause-decision : goal.returns-in-Some-clause-decision
 returns-in-Some-clause-decision c = (in_some c).decision

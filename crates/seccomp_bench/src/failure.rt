@@ -1,20 +1,17 @@
 // What ends the program early.
 
-use seccompiler::{BackendError, JsonFrontendError};
-use std::alloc::{AllocError, AllocFailed};
+use seccompiler::{BackendError, Error, JsonFrontendError};
+use std::alloc::AllocError;
 use std::io;
 
 #[derive(Debug, Drop)]
 pub(crate) enum Failure {
     Io(io::Error),
-    Backend(BackendError),
-    Policy(seccompiler::Error),
+    Policy(Error),
     Json(serde_json::Error),
     OutOfMemory,
-    // A comparison is left undecided, or of a program that isn't checked.
-    Undecided,
-    // A word is missing behind the program's name.
-    Words,
+    // A program isn't checked.
+    Unchecked,
 }
 
 impl From<io::Error> for Failure {
@@ -23,21 +20,21 @@ impl From<io::Error> for Failure {
     }
 }
 
-impl From<BackendError> for Failure {
-    fn from(error: BackendError) -> Self {
-        Failure::Backend(error)
+impl From<Error> for Failure {
+    fn from(error: Error) -> Self {
+        Failure::Policy(error)
     }
 }
 
-impl From<seccompiler::Error> for Failure {
-    fn from(error: seccompiler::Error) -> Self {
-        Failure::Policy(error)
+impl From<BackendError> for Failure {
+    fn from(error: BackendError) -> Self {
+        Failure::Policy(Error::from(error))
     }
 }
 
 impl From<JsonFrontendError> for Failure {
     fn from(error: JsonFrontendError) -> Self {
-        Failure::Policy(seccompiler::Error::from(error))
+        Failure::Policy(Error::from(error))
     }
 }
 
@@ -49,12 +46,6 @@ impl From<serde_json::Error> for Failure {
 
 impl From<AllocError> for Failure {
     fn from(_error: AllocError) -> Self {
-        Failure::OutOfMemory
-    }
-}
-
-impl<T: Drop> From<AllocFailed<T>> for Failure {
-    fn from(_error: AllocFailed<T>) -> Self {
         Failure::OutOfMemory
     }
 }

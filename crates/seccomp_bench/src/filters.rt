@@ -1,116 +1,118 @@
-// Filter to program.
+// Filters to programs, and comparisons of a filter's two programs: in how many sets of records one ends, and in what time.
+
+ghost use Rattle.seccompiler.specs.Machine.{IsChecked};
 
 use crate::failure::Failure;
-use crate::times::Each;
-use seccompiler::SeccompAction::{Allow, KillProcess};
-use seccompiler::SeccompCmpArgLen::{Dword, Qword};
-use seccompiler::SeccompCmpOp::{Eq, MaskedEq};
-use seccompiler::{SeccompCondition, SeccompFilter, SeccompRule, TargetArch};
+use seccomp_compare::{Calls, Comparison, Relation, compare};
+use seccompiler::machine::check;
+use seccompiler::{BpfProgramRef, JsonCompiler, SeccompFilter, TargetArch};
 use std::alloc::Global;
-use std::collections::BTreeMap;
 use std::time::{Clock, Instant};
+
+// A comparison looks at so many sets at most: two to so many halvings.
+const MOST: usize = 1 << HALVINGS;
+
+const HALVINGS: usize = 20;
 
 // How often a filter is compiled in a run, and how many runs there are, of which the fastest counts.
 const ROUNDS: usize = 200;
 
 const RUNS: usize = 20;
 
-#[derive(Clone, Copy)]
-enum Kind {
-    Calls,
-    Rules,
-    Conditions,
+// Whether both programs answer alike, so far as so many sets tell.
+fn answer_of(
+    alloc: Global,
+    p: BpfProgramRef<'_>,
+    q: BpfProgramRef<'_>,
+    most: usize,
+) -> Result<Comparison, Failure>
+    requires p_checked { IsChecked p.now }
+    requires q_checked { IsChecked q.now }
+{
+    Ok(compare(alloc, p, q, &Calls::all(), Relation::Alike, most)?)
 }
 
-// So many calls without rules.
-pub(crate) fn calls(alloc: Global, count: u32) -> Result<SeccompFilter, Failure> {
-    let mut chains = BTreeMap::new(alloc);
-    for number in 0..count {
-        drop(chains.insert(i64::from(number), Vec::new(alloc))?);
+// How many sets a comparison looks at until it knows, or `MOST` twice if that is less.
+fn sets_of(alloc: Global, p: BpfProgramRef<'_>, q: BpfProgramRef<'_>) -> Result<usize, Failure>
+    requires p_checked { IsChecked p.now }
+    requires q_checked { IsChecked q.now }
+{
+    // So many are too few.
+    let mut too_few = 0usize;
+    let mut step = MOST;
+    for _ in 0..=HALVINGS {
+        let more = too_few.saturating_add(step);
+        if let Comparison::Undecided = answer_of(alloc, p, q, more)? {
+            too_few = more;
+        }
+        step /= 2;
     }
-    filter_of(chains)
+    Ok(too_few.saturating_add(1))
 }
 
-// One call with so many rules of one condition.
-pub(crate) fn rules(alloc: Global, count: u32) -> Result<SeccompFilter, Failure> {
-    let mut chain = Vec::new(alloc);
-    for value in 0..count {
-        let condition = SeccompCondition::new(0, Dword, Eq, u64::from(value))?;
-        chain.push(SeccompRule::new(vec![in alloc; condition]?)?)?;
+// The least time of a comparison, in nanoseconds.
+fn least_of_comparison(
+    rt: &(impl Clock + AllocGlobal),
+    p: BpfProgramRef<'_>,
+    q: BpfProgramRef<'_>,
+) -> Result<u128, Failure>
+    requires p_checked { IsChecked p.now }
+    requires q_checked { IsChecked q.now }
+{
+    let mut least = u128::MAX;
+    for _ in 0..RUNS {
+        let start = Instant::now(rt)?;
+        let _answer = answer_of(rt.alloc(), p, q, MOST)?;
+        least = least.min(start.elapsed(rt)?.as_nanos());
     }
-    let mut chains = BTreeMap::new(alloc);
-    drop(chains.insert(0, chain)?);
-    filter_of(chains)
+    Ok(least)
 }
 
-// One call with a rule of so many masked conditions.
-fn conditions(alloc: Global, count: u32) -> Result<SeccompFilter, Failure> {
-    let condition = SeccompCondition::new(0, Qword, MaskedEq(255), 1)?;
-    let rule = SeccompRule::new(vec![in alloc; condition; count as usize]?)?;
-    let mut chains = BTreeMap::new(alloc);
-    drop(chains.insert(0, vec![in alloc; rule]?)?);
-    filter_of(chains)
-}
-
-pub(crate) fn filter_of(chains: BTreeMap<i64, Vec<SeccompRule>>) -> Result<SeccompFilter, Failure> {
-    Ok(SeccompFilter::new(chains, KillProcess, Allow, TargetArch::x86_64)?)
-}
-
-// The least time of a compilation of the filter, in nanoseconds for some runs, and the program's
-// length.
-fn least_time(
+// The least time of a compilation of the filter, in nanoseconds for `ROUNDS` of them.
+fn least_of_program(
     rt: &(impl Clock + AllocGlobal),
     filter: &SeccompFilter,
-) -> Result<(u128, usize), Failure> {
+) -> Result<u128, Failure> {
     let mut least = u128::MAX;
-    let mut length = 0;
     for _ in 0..RUNS {
         let start = Instant::now(rt)?;
         for _ in 0..ROUNDS {
-            length = filter.to_bpf(rt.alloc())?.len();
+            drop(filter.to_bpf(rt.alloc())?);
         }
         least = least.min(start.elapsed(rt)?.as_nanos());
     }
-    Ok((least, length))
+    Ok(least)
 }
 
-// Writes a row of the table for one kind of filter at a size.
+// Writes the lengths of both programs, the sets of their comparison and its nanoseconds, and those of `ROUNDS` compilations.
 fn write_row(
     rt: &(impl Clock + Print + AllocGlobal),
-    kind: Kind,
-    count: u32,
+    name: &str,
+    filter: &SeccompFilter,
 ) -> Result<(), Failure> {
-    let alloc = rt.alloc();
-    let (what, filter) = match kind {
-        Kind::Calls => ("calls of an allow-list", calls(alloc, count)?),
-        Kind::Rules => ("rules of one call", rules(alloc, count)?),
-        Kind::Conditions => ("masked conditions of one rule", conditions(alloc, count)?),
-    };
-    let (nanoseconds, length) = least_time(rt, &filter)?;
+    let (program, tree) = (filter.to_bpf(rt.alloc())?, filter.to_tree_bpf(rt.alloc())?);
+    if !check(&program) || !check(&tree) {
+        return Err(Failure::Unchecked);
+    }
+    let sets = sets_of(rt.alloc(), &program, &tree)?;
+    let compared = least_of_comparison(rt, &program, &tree)?;
+    let compiled = least_of_program(rt, filter)?;
     println!(rt;
-        "| {count} {what} | {length} | {} | {} |",
-        Each {
-            nanoseconds: nanoseconds / 1000,
-            count: ROUNDS
-        },
-        Each {
-            nanoseconds,
-            count: length.saturating_mul(ROUNDS)
-        }
+        "{} {} {sets} {compared} {compiled} {name}",
+        program.len(),
+        tree.len()
     )?;
     Ok(())
 }
 
-// Writes the table of filters, each kind at two sizes, one about twice the other.
-pub(crate) fn write_times(rt: &(impl Clock + Print + AllocGlobal)) -> Result<(), Failure> {
-    println!(rt; "| filter | instructions | µs | ns an instruction |\n|---|---|---|---|")?;
-    for (kind, least, most) in [
-        (Kind::Calls, 150, 300),
-        (Kind::Rules, 408, 817),
-        (Kind::Conditions, 336, 672),
-    ] {
-        write_row(rt, kind, least)?;
-        write_row(rt, kind, most)?;
+// Writes such a line for each filter of a policy for x86_64, in byte order of names.
+pub(crate) fn write_times(
+    rt: &(impl Clock + Print + AllocGlobal),
+    text: &[u8],
+) -> Result<(), Failure> {
+    let filters = JsonCompiler::new(TargetArch::x86_64).policies_of(rt.alloc(), text)?;
+    for (name, filter) in &filters {
+        write_row(rt, name.as_str(), filter)?;
     }
     Ok(())
 }

@@ -1,26 +1,19 @@
-// Times parts of the library inside one process. Called with `times` it writes a table of look-ups of
-// call names, one of compilations of filters and one of comparisons. Called with `text` it reads a policy
-// from standard input, and writes in how many nanoseconds its programs are made, and in how many
-// `serde_json` makes and drops its value; with `value` it makes and drops that once, so that its peak of
-// memory can be seen. With `policy` it reads a policy and writes a row of the table of comparisons for
-// each filter, and with `compare` and the names of two files it compares the programs in them. Without a
-// word it compares policies and programs that it generates, and writes nothing, so that a stored run
-// doesn't depend on time. Its status is 1 where a comparison is left undecided.
+// Times parts of the library inside one process, on a policy that it reads from standard input. Called with `text` it writes in how
+// many nanoseconds the policy's programs are made, and in how many `serde_json` makes and drops its value; with `value` it makes and
+// drops that once, so that its peak of memory can be seen. With `policy` it writes a line for each filter: how long its two programs
+// are, and how long compiling and comparing them takes. Without a word it does nothing.
 #![tactic(auto)]
 
-mod comparisons;
 mod failure;
 mod filters;
-mod generated;
-mod lookups;
-mod programs;
 mod texts;
-mod times;
 
 use crate::failure::Failure;
+use serde_json::Value;
 use std::env;
+use std::io::Read;
 use std::process::ExitCode;
-use std::rt::{Env, Files};
+use std::rt::Env;
 use std::time::Clock;
 
 fn main(rt: HostRuntime) -> ExitCode {
@@ -30,22 +23,23 @@ fn main(rt: HostRuntime) -> ExitCode {
     }
 }
 
-fn carry_out(rt: &(impl Env + Files + Clock + Input + Print + AllocGlobal)) -> Result<(), Failure> {
-    let Some(word) = env::args(rt)?.nth(1) else {
-        return generated::compare_all(rt.alloc());
-    };
-    match word.as_str() {
-        "times" => {
-            lookups::write_times(rt)?;
-            println!(rt; "")?;
-            filters::write_times(rt)?;
-            println!(rt; "")?;
-            comparisons::write_times(rt)
+fn carry_out(rt: &(impl Env + Clock + Input + Print + AllocGlobal)) -> Result<(), Failure> {
+    match env::args(rt)?.nth(1) {
+        Some(word) => measure(rt, word.as_str()),
+        None => Ok(()),
+    }
+}
+
+fn measure(rt: &(impl Clock + Input + Print + AllocGlobal), word: &str) -> Result<(), Failure> {
+    let mut text = Vec::new(rt.alloc());
+    rt.reader().read_to_end(&mut text)?;
+    match word {
+        "policy" => filters::write_times(rt, text.as_slice()),
+        "text" => texts::write_times(rt, text.as_slice()),
+        "value" => {
+            drop(Value::from_slice(rt.alloc(), text.as_slice())?);
+            Ok(())
         }
-        "policy" => comparisons::write_times_of_policy(rt),
-        "compare" => programs::compare_files(rt),
-        "text" => texts::write_times(rt),
-        "value" => texts::read_value(rt),
         _ => Ok(()),
     }
 }

@@ -3,7 +3,6 @@
 use crate::failure::Failure;
 use seccompiler::{TargetArch, programs_of};
 use serde_json::Value;
-use std::io::Read;
 use std::time::{Clock, Instant};
 
 // How many runs there are, of which the fastest counts.
@@ -31,25 +30,13 @@ fn least_of_value(rt: &(impl Clock + AllocGlobal), text: &[u8]) -> Result<u128, 
     Ok(least)
 }
 
-// The text on standard input.
-pub(crate) fn whole_input(rt: &(impl Input + AllocGlobal)) -> Result<Vec<u8>, Failure> {
-    let mut text = Vec::new(rt.alloc());
-    rt.reader().read_to_end(&mut text)?;
-    Ok(text)
-}
-
-// Reads a policy for x86_64, and writes both times.
-pub(crate) fn write_times(rt: &(impl Clock + Input + Print + AllocGlobal)) -> Result<(), Failure> {
-    let text = whole_input(rt)?;
-    let programs = least_of_programs(rt, text.as_slice())?;
-    let value = least_of_value(rt, text.as_slice())?;
+// Writes both times.
+pub(crate) fn write_times(
+    rt: &(impl Clock + Print + AllocGlobal),
+    text: &[u8],
+) -> Result<(), Failure> {
+    let programs = least_of_programs(rt, text)?;
+    let value = least_of_value(rt, text)?;
     println!(rt; "{programs} {value}")?;
-    Ok(())
-}
-
-// Reads a text, and makes and drops its value once.
-pub(crate) fn read_value(rt: &(impl Input + AllocGlobal)) -> Result<(), Failure> {
-    let text = whole_input(rt)?;
-    drop(Value::from_slice(rt.alloc(), text.as_slice())?);
     Ok(())
 }

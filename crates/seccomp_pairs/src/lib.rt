@@ -1,4 +1,4 @@
-// Tests of the look-up by name, over each pair of the Rust crate's three files and over samples.
+// Tests of the look-up by name, over each pair of the Rust crate's three files.
 #![tactic(auto)]
 
 #[cfg(test)]
@@ -9,5 +9,3 @@ mod lookups;
 mod pairs;
 #[cfg(test)]
 mod reading;
-#[cfg(test)]
-mod samples;

@@ -13,21 +13,6 @@ fn stands_alone(file: &str, line: &str) -> bool {
     }
 }
 
-// Whether riscv64 has the pair of this line of aarch64's file, or lacks it if it is `renameat`.
-fn is_on_riscv64(line: &str) -> bool {
-    match pair_of(line) {
-        Some((name, number)) => {
-            let wanted = if name == "renameat" {
-                None
-            } else {
-                Some(number)
-            };
-            SyscallTable::new(TargetArch::riscv64).get_syscall_nr(name) == wanted
-        }
-        None => false,
-    }
-}
-
 #[test]
 fn no_name_stands_twice(rt: HostRuntime) {
     for arch in TargetArch::all() {
@@ -49,15 +34,4 @@ fn the_tables_are_as_long_as_the_files(rt: HostRuntime) {
             "{count} pairs and {lines} lines on {arch}"
         );
     }
-}
-
-// The file of riscv64 is that of aarch64 without `renameat` and with two names of its own.
-#[test]
-fn riscv64_is_aarch64_but_for_three_names(rt: HostRuntime) {
-    let file = file_of(TargetArch::aarch64);
-    for line in file.lines() {
-        assert_of(&rt, TargetArch::riscv64, line, is_on_riscv64(line));
-    }
-    let count = SyscallTable::new(TargetArch::riscv64).pairs().len();
-    assert!(rt; count == file.lines().count() + 1);
 }

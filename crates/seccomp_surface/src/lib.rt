@@ -1,5 +1,5 @@
-// Tests of what a user of the library meets: the examples of its pages, each public item once, policies
-// as JSON text, and the texts of errors.
+// Tests of what needs the language of the library's users: the examples of its pages, each public item by its path and its
+// traits, and JSON filters as values. What calls answer stands in rows, of crates/seccomp_vectors and of tools/rows.
 #![tactic(auto)]
 
 #[cfg(test)]
@@ -7,22 +7,6 @@ mod builders;
 #[cfg(test)]
 mod examples;
 #[cfg(test)]
-mod faults;
-#[cfg(test)]
-mod hostile_readers;
-#[cfg(test)]
-mod json_faults;
-#[cfg(test)]
 mod json_policies;
 #[cfg(test)]
-mod json_samples;
-#[cfg(test)]
-mod json_texts;
-#[cfg(test)]
-mod scripted;
-#[cfg(test)]
 mod surface;
-#[cfg(test)]
-mod texts;
-#[cfg(test)]
-mod widened;

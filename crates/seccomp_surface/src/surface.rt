@@ -188,31 +188,6 @@ fn texts_by_the_root(rt: HostRuntime) -> Result<(), Fail> {
     Ok(())
 }
 
-#[test]
-fn texts_in_order_by_the_root(rt: HostRuntime) -> Result<(), Fail> {
-    let programs = seccompiler::programs_of(rt.alloc(), NO_FILTERS, ARCHITECTURE)?;
-    assert!(rt; programs.len() == 0);
-    Ok(())
-}
-
-#[test]
-fn filters_of_a_text_by_their_module(rt: HostRuntime) -> Result<(), Fail> {
-    let text = seccompiler::json::text_of(rt.alloc(), NO_FILTERS)?;
-    let named = seccompiler::json::filters_of(rt.alloc(), text.as_slice())?;
-    assert!(rt; named.0.len() == 0);
-    Ok(())
-}
-
-#[test]
-fn policies_by_their_path(rt: HostRuntime) -> Result<(), Fail> {
-    let policies = seccompiler::JsonCompiler::new(ARCHITECTURE).policies_of(
-        rt.alloc(),
-        NO_FILTERS,
-    )?;
-    assert!(rt; policies.len() == 0);
-    Ok(())
-}
-
 // Whether the value is read as a length, and as nothing else.
 fn is_length(value: &serde_json::Value) -> bool {
     seccompiler::json::read_arg_len(value) == Some(seccompiler::SeccompCmpArgLen::Qword)
@@ -260,18 +235,9 @@ fn is_installed() -> bool {
     done.is_ok() && seccompiler::apply_filter_all_threads(&mut kernel, &program).is_ok()
 }
 
-// Whether installing no instructions is refused.
-fn is_empty_refused() -> bool {
-    matches!(
-        seccompiler::apply_filter(&mut WillingKernel, &[]),
-        Err(seccompiler::Error::EmptyFilter)
-    )
-}
-
 #[test]
 fn installing_by_the_root(rt: HostRuntime) {
     assert!(rt; is_installed());
-    assert!(rt; is_empty_refused());
 }
 
 // A backend's error, as a program passes it on.

@@ -84,14 +84,21 @@ pub(super) fn policies_in<'a>(
     alloc: Global,
     found: &ArgMatches<'a>,
 ) -> Result<Vec<Inputs<'a>>, AllocError> {
+    let Some(paths) = found.get_strs("policy") else {
+        return Ok(vec![in alloc; on_one("-")]?);
+    };
     let mut inputs = Vec::new(alloc);
-    for path in found.get_strs("policy").unwrap_or(&["-"]) {
-        inputs.push(Inputs {
-            first: Some(*path),
-            second: None,
-        })?;
+    for path in paths {
+        inputs.push(on_one(path))?;
     }
     Ok(inputs)
+}
+
+fn on_one<'a>(path: &'a str) -> Inputs<'a> {
+    Inputs {
+        first: Some(path),
+        second: None,
+    }
 }
 
 // On which terms two sides are compared.

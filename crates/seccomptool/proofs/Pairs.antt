@@ -1,6 +1,8 @@
 -- Lists whose items go together place by place: what one of them tells of the other.
-use Rattle.std.proofs.Common.{◌≡◌, List, [], ◌∷◌, All, map, refl}
+use Rattle.std.proofs.Common.{◌≡◌, ℕ, ◌+◌, ◌<◌, List, [], ◌∷◌, ◌++◌, length, take, get_or, All, map, refl, sym, ap, ◌∙◌, subst}
 use Rattle.std.specs.List.{AllZip}
+use Rattle.std.proofs.lemmas.List.{take_more}
+use Rattle.std.proofs.lemmas.Slice.Zip.{all_zipped_more}
 use Rattle.std.proofs.lemmas.List.Elements.{All-nil, All-cons, All-head, All-tail}
 
 module _ {A B : Type 0} (R : A → B → Type 0) where
@@ -19,3 +21,10 @@ module _ {A B : Type 0} (R : A → B → Type 0) where
   same_under f g same [] (y ∷ ys) h = absurd h
   same_under f g same (x ∷ xs) [] h = absurd h
   same_under f g same (x ∷ xs) (y ∷ ys) h = rw (same x y h.0, same_under f g same xs ys h.1) refl
+
+  -- One pair more.
+  pub one_more : (xs : List A) (ys : List B) (i : ℕ) (x : A) (y : B) → i < length xs → x ≡ get_or xs i x → AllZip R (take i xs) ys → R x y
+      → AllZip R (take (i + 1) xs) (ys ++ y ∷ [])
+  one_more xs ys i x y within is so_far own =
+      let more : take (i + 1) xs ≡ take i xs ++ x ∷ [] = take_more xs i x within ∙ ap (λ z. take i xs ++ z ∷ []) (sym is) in
+      subst (λ zs. AllZip R zs (ys ++ y ∷ [])) (sym more) (all_zipped_more R (take i xs) ys x y so_far own)

@@ -61,6 +61,6 @@ pub record IsProfileMeasure (target : TargetArch) (container : Container) (text 
 
 -- Between layers: the numbers are those of the programs of a filter of this name.
 pub record IsMeasured (target : TargetArch) (e : String Global × Filter) (s : FilterStats) : Type 0 where
-  pub name : s.name ≡ e.0
+  pub name : string_bytes s.name ≡ string_bytes e.0
   pub linear : IsMeasureIn Linear target e.1 s.linear
   pub tree : IsMeasureIn Tree target e.1 s.tree

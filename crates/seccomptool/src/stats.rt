@@ -39,7 +39,7 @@ pub struct FilterStats {
 /// # Errors
 ///
 /// The first of these: `Library` with what `JsonCompiler::policies_of` rejects the text for; `Library` with `FilterTooLarge` of the
-/// least name of which a program is too large. `OutOfMemory` comes in place of any of these where memory runs out.
+/// least name whose program in the linear layout is too large, or else whose tree is. `OutOfMemory` comes in place of any of these where memory runs out.
 pub fn stats_of(
     alloc: Global,
     target: TargetArch,
@@ -50,7 +50,10 @@ pub fn stats_of(
     // Its table has no number as great as that of the passing record.
     let _table = SyscallTable::new(target);
     let filters = JsonCompiler::new(target).policies_of(alloc, text)?;
-    Ok(measured(alloc, target, filters)?)
+    match measured(alloc, target, &filters) {
+        Ok(all) => Ok(all),
+        Err(cause) => Err(first_cause(alloc, &filters, cause).into()),
+    }
 }
 
 /// Measures the one program of a profile's text, in a container.
@@ -74,18 +77,40 @@ pub fn profile_stats(
 fn measured(
     alloc: Global,
     target: TargetArch,
+<<<<<<< HEAD
     filters: BTreeMap<String, SeccompFilter>,
 ) -> Result<Vec<FilterStats>, FilterError>
     ensures measured { IfOk result (λ all. AllZip (IsMeasured target) filters.entries all.items) }
     ensures ordered { IsStrictlySortedBy string_cmp (keys_of filters.entries) }
+=======
+    filters: &BTreeMap<String, SeccompFilter>,
+) -> Result<Vec<FilterStats>, BackendError>
+    ensures measured { IfOk result (λ all. AllZip (IsMeasured target) filters.now.entries all.items) }
+    ensures ordered { IsStrictlySortedBy string_cmp (keys_of filters.now.entries) }
+>>>>>>> 68c56ab2e68cd923b29058a76efdc0a432458ff3
 {
     let mut all = Vec::new(alloc);
     for (name, filter) in filters {
-        let linear = measure_in(alloc, target, &filter, Layout::Linear)?;
-        let tree = measure_in(alloc, target, &filter, Layout::Tree)?;
+        let linear = measure_in(alloc, target, filter, Layout::Linear)?;
+        let tree = measure_in(alloc, target, filter, Layout::Tree)?;
+        let name = name.clone()?;
         all.push(FilterStats { name, linear, tree })?;
     }
     Ok(all)
+}
+
+// Why the filters aren't measured: a program in the linear layout that can't be made comes before a tree that can't.
+fn first_cause(
+    alloc: Global,
+    filters: &BTreeMap<String, SeccompFilter>,
+    cause: BackendError,
+) -> BackendError {
+    for (_, filter) in filters {
+        if let Err(refusal) = program_in(alloc, filter, Layout::Linear) {
+            return refusal;
+        }
+    }
+    cause
 }
 
 // The numbers of a filter's program in a layout.

@@ -2,7 +2,7 @@ use Rattle.std.proofs.Common.{◌≡◌, [], ◌∷◌, ◌++◌, List, String, 
 use Rattle.std.specs.List.{AllZip}
 use Rattle.std.proofs.lemmas.Slice.Zip.{all_zipped_more}
 use Rattle.seccompiler.specs.JsonTypes.{JsonFilter}
-use Rattle.seccomptool.specs.Compat.{AreCallsOf}
+use Rattle.seccomptool.specs.Compat.{AreCallsOf, AreWidened}
 use Rattle.seccomptool.specs.declared.compat.FilterCalls.{FilterCalls}
 use Rattle.seccomptool.proofs.compat.calls_of.Goals as goal
 
@@ -13,12 +13,12 @@ loop-name-preserved c =
     let e : String Global × JsonFilter = (c.in-Some.name.now, c.in-Some.filter.now) in
     let calls : FilterCalls = record { name = c.in_ok-name.name; numbers = c.in_ok-numbers.numbers } in
     let own : AreCallsOf c.args.target e calls = record {
-      name = c.in_ok-name.ensures;
-      widened = record {
+      name = c.in_ok-name.ensures.cases;
+      widened = subst (λ target. AreWidened target e.1 calls.numbers.items) c.new.ensures (record {
         ascending = c.in_ok-numbers.ensures.ascending;
         widened = c.in_ok-numbers.ensures.numbers;
         alike = c.in_ok-numbers.ensures.same_elsewhere;
-      };
+      });
     } in
     record {
       done = done ++ e ∷ [];

@@ -1,11 +1,13 @@
-use Rattle.std.proofs.Common.{◌≡◌, ◌++◌}
+use Rattle.std.proofs.Common.{◌≡◌, ◌++◌, List, String, Global}
 use Rattle.std.specs.List.{AllZip}
+use Rattle.seccompiler.specs.Policy.{Filter}
 use Rattle.seccomptool.specs.Stats.{IsMeasured}
 use Rattle.seccomptool.proofs.stats.measured.Given as goal
 
 -- the filters so far are measured
 abbrev pub invariant-loop-name : goal.invariant-loop-name
 invariant-loop-name l = record {
-  whole : l.fn.filters.entries ≡ l.yielded ++ l.name-iterator;
-  measured : AllZip (IsMeasured l.target) l.yielded l.all.items;
+  done : List (String Global × Filter);
+  whole : l.fn.filters.entries ≡ done ++ l.name-iterator;
+  measured : AllZip (IsMeasured l.target) done l.all.items;
 }

@@ -1,4 +1,4 @@
-use Rattle.std.proofs.Common.{ap, string_bytes, subst}
+use Rattle.std.proofs.Common.{string_bytes, subst}
 use Rattle.std.specs.BTreeMap.{get_by_text}
 use Rattle.seccompiler.specs.Architecture.{table_of}
 use Rattle.seccompiler.specs.JsonAnswers.{ArePoliciesOf, HasPolicy}
@@ -10,8 +10,8 @@ use Rattle.seccomptool.proofs.Named.{are_named}
 use Rattle.seccomptool.proofs.stats.FilterNumbers.{has_stats}
 use Rattle.seccomptool.proofs.stats.stats_of.Goals as goal
 
-pub returns : goal.returns
-returns c =
+pub returns-in-Ok : goal.returns-in-Ok
+returns-in-Ok c =
     let target = c.args.target in
     let table = subst (λ t. IsCallTable (table_of t)) c.new-table.ensures.arch c.new-table.ensures.table in
     let filters = c.in_ok-filters.filters in
@@ -19,7 +19,7 @@ returns c =
     let are = subst (λ t. ArePoliciesOf t (get_by_text filters) of.0) c.new.ensures of.2 in (
       of.0,
       of.1,
-      are_named (HasPolicy target) (get_by_text filters) of.0 are filters.entries c.in_ok-measured.ensures.ordered
+      are_named (HasPolicy target) (get_by_text filters) of.0 are filters.entries c.in-Ok.ensures.ordered
           (λ name. by_text name filters.entries) (λ (s : FilterStats). string_bytes s.name) (IsMeasured target) (HasStats target)
-          (λ e s is. ap string_bytes is.name) (has_stats target table) c.in_ok-measured.field-0.items c.in_ok-measured.ensures.measured,
+          (λ e s is. is.name) (has_stats target table) c.in-Ok.all.items c.in-Ok.ensures.measured,
     )

@@ -77,17 +77,10 @@ pub fn profile_stats(
 fn measured(
     alloc: Global,
     target: TargetArch,
-<<<<<<< HEAD
-    filters: BTreeMap<String, SeccompFilter>,
-) -> Result<Vec<FilterStats>, FilterError>
-    ensures measured { IfOk result (λ all. AllZip (IsMeasured target) filters.entries all.items) }
-    ensures ordered { IsStrictlySortedBy string_cmp (keys_of filters.entries) }
-=======
     filters: &BTreeMap<String, SeccompFilter>,
-) -> Result<Vec<FilterStats>, BackendError>
+) -> Result<Vec<FilterStats>, FilterError>
     ensures measured { IfOk result (λ all. AllZip (IsMeasured target) filters.now.entries all.items) }
     ensures ordered { IsStrictlySortedBy string_cmp (keys_of filters.now.entries) }
->>>>>>> 68c56ab2e68cd923b29058a76efdc0a432458ff3
 {
     let mut all = Vec::new(alloc);
     for (name, filter) in filters {
@@ -103,8 +96,8 @@ fn measured(
 fn first_cause(
     alloc: Global,
     filters: &BTreeMap<String, SeccompFilter>,
-    cause: BackendError,
-) -> BackendError {
+    cause: FilterError,
+) -> FilterError {
     for (_, filter) in filters {
         if let Err(refusal) = program_in(alloc, filter, Layout::Linear) {
             return refusal;

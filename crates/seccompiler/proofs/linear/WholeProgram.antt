@@ -6,13 +6,8 @@ use Rattle.seccompiler.specs.declared.bpf.sock_filter.{sock_filter}
 use Rattle.seccompiler.specs.Machine.{IsRecord, word_at, Goes, Ends, greatest_length}
 use Rattle.seccompiler.specs.Code.{load, give, jump_equal}
 use Rattle.seccompiler.specs.Architecture.{audit_word}
-<<<<<<< HEAD
 use Rattle.seccompiler.specs.Policy.{word_of, Rule, Chain, Filter, chains_of, chain_under, IsDecision, ChainMatches}
 use Rattle.seccompiler.specs.Policy.{policy_matches, policy_differs}
-=======
-use Rattle.seccompiler.specs.Policy.{word_of, Rule, Chain, Filter, chains_of, chain_under, IsDecision, ChainMatches, policy_matches}
-use Rattle.seccompiler.specs.Policy.{policy_differs}
->>>>>>> 47b275c2a51b2dc993cb7f384715c93fdd7a0e4f
 use Rattle.seccompiler.specs.Layout.{chains_length, counted_length_of, counted_length, chains_steps, passing_steps}
 use Rattle.seccompiler.specs.ChainCode.{Dispatches, in_chain, no_chain, IsChainsCode}
 use Rattle.seccompiler.specs.Compiled.{IsCompiled}

@@ -198,8 +198,10 @@ fn matches(
     requires { AreOnArguments entry.now.args }
     ensures { IsTrue result ↔ (Concerns arch container.now default (word_at call.now 0) entry.now × AreMet call.now entry.now.args) }
 {
-    concerns(arch, container, default, number_of(call), entry)
-        && are_met(call, entry.args.as_slice())
+    if !concerns(arch, container, default, number_of(call), entry) {
+        return false;
+    }
+    are_met(call, entry.args.as_slice())
 }
 
 // Whether an entry concerns the calls of this number.
@@ -212,9 +214,13 @@ fn concerns(
 ) -> bool
     ensures { IsTrue result ↔ Concerns arch container.now default number entry.now }
 {
-    !is_same(entry.action, default)
-        && applies(arch, container, entry)
-        && is_any_name(arch, number, entry.names.as_slice())
+    if is_same(entry.action, default) {
+        return false;
+    }
+    if !applies(arch, container, entry) {
+        return false;
+    }
+    is_any_name(arch, number, entry.names.as_slice())
 }
 
 // Whether one of the texts is the name of the call of this number.

@@ -1,7 +1,7 @@
 -- For `settling`, `strictest` and `with_entry`: the entries that decide, as more of them are looked at.
-use Rattle.std.proofs.Common.{◌≡◌, ◌≢◌, ◌<◌, ◌≤◌, ◌+◌, ℕ, zero, suc, List, [], ◌∷◌, ◌++◌, All, Option, Some, None, length, get_or, take, refl, sym, subst, ap, ◌∙◌, arith}
+use Rattle.std.proofs.Common.{◌≡◌, ◌≢◌, ◌<◌, ◌≤◌, ◌+◌, ℕ, zero, suc, List, [], ◌∷◌, ◌++◌, All, Bool, IsTrue, ◌↔◌, Option, Some, None, length, get_or, take, refl, sym, subst, ap, ◌∙◌, arith}
 use Rattle.std.proofs.Common.{inl, inr}
-use Rattle.std.specs.Prelude.{IsSomeAnd}
+use Rattle.std.specs.Prelude.{Any, IsSomeAnd}
 use Rattle.std.proofs.lemmas.Bool.{cases_lt}
 use Rattle.std.proofs.lemmas.List.Elements.{All-head, All-nil, All-push, All-tail, All-weaker}
 use Rattle.seccompiler.specs.declared.backend.SeccompAction.{SeccompAction}
@@ -9,13 +9,13 @@ use Rattle.seccompiler.specs.declared.backend.TargetArch.{TargetArch}
 use Rattle.seccompiler.specs.Machine.{word_at}
 use Rattle.seccomp_oci.specs.declared.decide.Found.{Found}
 use Rattle.seccomp_oci.specs.Decided.{AreFound, IsAt, IsByEntry, IsSettling, IsStrictest}
-use Rattle.seccomp_oci.specs.Decision.{AreMet, all_met, Concerns, IsFirstLeast, first, IsMet, later, Matches, Settles, ShareArgument, strictness}
+use Rattle.seccomp_oci.specs.Decision.{Applies, AreMet, all_met, Concerns, IsFirstLeast, first, IsMet, IsNameOf, later, Matches, Settles, ShareArgument, strictness}
 use Rattle.seccomp_oci.specs.Types.{Container, Entry}
 use Rattle.seccomp_oci.proofs.Least.{Above, least_all, least_kept, least_last, NotBelow}
 
 module _ (P : Entry → Type 0) where
   pub at_kept : (xs ys : List Entry) (place : ℕ) → IsAt P xs place → IsAt P (xs ++ ys) place
-  at_kept [] ys place at = let within = at.within in omega arith
+  at_kept [] ys place at = let within = at.within in absurd (omega arith)
   at_kept (x ∷ xs) ys zero at = record { entry = at.entry; within = omega arith; there = at.there; holds = at.holds }
   at_kept (x ∷ xs) ys (suc place) at =
       let less = at.within in
@@ -25,8 +25,8 @@ module _ (P : Entry → Type 0) where
 
   pub at_last : (xs : List Entry) (x : Entry) (place : ℕ) → length xs ≡ place → P x → IsAt P (xs ++ x ∷ []) place
   at_last [] x zero long has = record { entry = x; within = omega arith; there = refl; holds = has }
-  at_last [] x (suc place) long has = omega arith
-  at_last (y ∷ xs) x zero long has = omega arith
+  at_last [] x (suc place) long has = absurd (omega arith)
+  at_last (y ∷ xs) x zero long has = absurd (omega arith)
   at_last (y ∷ xs) x (suc place) long has =
       let rest = at_last xs x place (omega arith) has in
       let more = rest.within in
@@ -40,6 +40,14 @@ pub met_without : (r : List ℕ) (e : Entry) → e.args ≡ [] → AreMet r e.ar
 met_without r e none = subst (AreMet r) (sym none) (all_met (λ share. share) (All-nil (IsMet r)))
 
 module _ (arch : TargetArch) (container : Container) (default : SeccompAction) where
+  -- An entry that applies, with another action, concerns the calls that it names.
+  pub named : (n : ℕ) (e : Entry) (names : List (List ℕ)) (b : Bool) → (e.action ≡ default → ⊥) → Applies arch container e
+      → names ≡ e.names → (IsTrue b ↔ Any (IsNameOf arch n) names) → IsTrue b ↔ Concerns arch container default n e
+  named n e names b apart applies same is = (
+    λ yes. record { applies = applies; named = subst (Any (IsNameOf arch n)) same (is.0 yes); other = apart },
+    λ concerns. is.1 (subst (Any (IsNameOf arch n)) (sym same) concerns.named),
+  )
+
   -- An entry that settles a call matches it.
   pub settles_matches : (r : List ℕ) (action : SeccompAction) (e : Entry) → Settles arch container default (word_at r 0) e action
       → Matches arch container default r e action
@@ -50,7 +58,7 @@ module _ (arch : TargetArch) (container : Container) (default : SeccompAction) w
       → Concerns arch container default n (get_or entries j d) → (get_or entries j d).args ≡ []
       → All (λ e. Concerns arch container default n e → e.args ≢ []) (take j entries)
       → IsFirstLeast (λ _. 0) (Settles arch container default n) entries (get_or entries j d).action
-  first_settles n [] j d within concerns none before = omega arith
+  first_settles n [] j d within concerns none before = absurd (omega arith)
   first_settles n (e ∷ entries) zero d within concerns none before = first (concerns, none, refl) (λ k x within w gives. omega arith)
   first_settles n (e ∷ entries) (suc j) d within concerns none before = later
       (λ w gives. absurd (All-head (λ e. Concerns arch container default n e → e.args ≢ []) e (take j entries) before gives.0 gives.1))
@@ -104,7 +112,7 @@ module _ (arch : TargetArch) (container : Container) (default : SeccompAction) w
     }
       where
         less : (f : Found) → (strictness f.action ≤ strictness e.action → ⊥) → strictness e.action < strictness f.action
-        less f not = elim (cases_lt (strictness e.action) (strictness f.action)) [ inl less ↦ less | inr most ↦ absurd (not most) ]
+        less f not = elim (cases_lt (strictness e.action) (strictness f.action)) [ inl small ↦ small | inr most ↦ absurd (not most) ]
 
         above : (found : Option Found) → (IsSomeAnd found (λ f. strictness f.action ≤ strictness e.action) → ⊥)
             → AreFound arch container default r done found → All (Above strictness (Matches arch container default r) e.action) done

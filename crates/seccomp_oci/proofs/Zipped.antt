@@ -1,7 +1,9 @@
--- For the functions of `filters`: two lists whose elements belong together one by one.
-use Rattle.std.proofs.Common.{◌≡◌, ◌<◌, ℕ, ◌+◌, List, [], ◌∷◌, ◌++◌, All, length, get_or, take, refl, ap, sym, subst, arith}
-use Rattle.std.specs.List.{AllZip, remove}
+-- For the functions of `concerns` and `decisions`: two lists whose elements belong together one by one.
+use Rattle.std.proofs.Common.{◌≡◌, ◌↔◌, ◌<◌, ℕ, ◌+◌, List, [], ◌∷◌, ◌++◌, All, length, get_or, take, sym, subst}
+use Rattle.std.specs.List.{AllZip}
 use Rattle.std.proofs.lemmas.List.Elements.{All-nil, All-cons, All-head, All-tail}
+use Rattle.seccomp_oci.specs.Decision.{IsFirstLeast, first, later}
+use Rattle.seccomp_oci.proofs.Least.{none_least, NotBelow}
 use Rattle.seccomp_oci.proofs.Quantified.{more_read}
 
 module _ {X Y : Type 0} (R : X → Y → Type 0) where
@@ -21,16 +23,6 @@ module _ {X Y : Type 0} (R : X → Y → Type 0) where
   zip_push (w ∷ xs) [] x y zip here = absurd zip
   zip_push (w ∷ xs) (z ∷ ys) x y zip here = (zip.0, zip_push xs ys x y zip.1 here)
 
-  -- The last elements of both, and those in front of them.
-  pub zip_last : (xs : List X) (x : X) (ys : List Y) → AllZip R (xs ++ x ∷ []) ys
-      → (front : List Y) × (y : Y) × (ys ≡ front ++ y ∷ []) × AllZip R xs front × R x y
-  zip_last [] x [] zip = absurd zip
-  zip_last [] x (y ∷ []) zip = ([], y, refl, tt, zip.0)
-  zip_last [] x (y ∷ z ∷ ys) zip = absurd zip.1
-  zip_last (w ∷ xs) x [] zip = absurd zip
-  zip_last (w ∷ xs) x (y ∷ ys) zip =
-      let rest = zip_last xs x ys zip.1 in (y ∷ rest.0, rest.1, ap (λ zs. y ∷ zs) rest.2, (zip.0, rest.3), rest.4)
-
   -- The elements so far and one read more.
   pub zip_read : (xs : List X) (i : ℕ) (x : X) (ys new : List Y) (y : Y) → i < length xs → x ≡ get_or xs i x → new ≡ ys ++ y ∷ []
       → AllZip R (take i xs) ys → R x y → AllZip R (take (i + 1) xs) new
@@ -38,18 +30,24 @@ module _ {X Y : Type 0} (R : X → Y → Type 0) where
       subst (λ zs. AllZip R zs new) (sym (more_read xs i x within is))
       (subst (λ zs. AllZip R (take i xs ++ x ∷ []) zs) (sym longer) (zip_push (take i xs) ys x y zip here))
 
-  -- The elements at a place belong together, and so do the others.
-  pub zip_without : (front back : List X) (x : X) (ys : List Y) (d : Y) → AllZip R (front ++ x ∷ back) ys
-      → (length front < length ys) × R x (get_or ys (length front) d) × AllZip R (front ++ back) (remove ys (length front))
-  zip_without [] back x [] d zip = absurd zip
-  zip_without [] back x (y ∷ ys) d zip = (omega arith, zip.0, zip.1)
-  zip_without (w ∷ front) back x [] d zip = absurd zip
-  zip_without (w ∷ front) back x (y ∷ ys) d zip =
-      let rest = zip_without front back x ys d zip.1 in
-      let less = rest.0 in
-      (omega arith, rest.1, (zip.0, rest.2))
+module _ {X Y : Type 0} (R : X → Y → Type 0) where
+  -- What holds of the elements of the other list gives what holds of those of the one.
+  pub zipped_back : (P : X → Type 0) (Q : Y → Type 0) → ((x : X) (y : Y) → R x y → Q y → P x) → (xs : List X) (ys : List Y)
+      → AllZip R xs ys → All Q ys → All P xs
+  zipped_back P Q step [] ys zip all = All-nil P
+  zipped_back P Q step (x ∷ xs) [] zip all = absurd zip
+  zipped_back P Q step (x ∷ xs) (y ∷ ys) zip all =
+      All-cons P x xs (step x y zip.0 (All-head Q y ys all)) (zipped_back P Q step xs ys zip.1 (All-tail Q y ys all))
 
--- What is left without an element.
-pub remove_at : {X : Type 0} (front back : List X) (x : X) → remove (front ++ x ∷ back) (length front) ≡ front ++ back
-remove_at [] back x = refl
-remove_at (w ∷ front) back x = ap (λ zs. w ∷ zs) (remove_at front back x)
+  -- Where the elements give the same, the first of the least is the same.
+  pub least_zipped : {V : Type 0} (rank_of : V → ℕ) (Gives : X → V → Type 0) (Others : Y → V → Type 0)
+      → ((x : X) (y : Y) → R x y → (v : V) → Gives x v ↔ Others y v) → (xs : List X) (ys : List Y) (v : V) → AllZip R xs ys
+      → IsFirstLeast rank_of Others ys v → IsFirstLeast rank_of Gives xs v
+  least_zipped rank_of Gives Others same [] [] v zip least = absurd (none_least rank_of Others v least)
+  least_zipped rank_of Gives Others same [] (y ∷ ys) v zip least = absurd zip
+  least_zipped rank_of Gives Others same (x ∷ xs) [] v zip least = absurd zip
+  least_zipped rank_of Gives Others same (x ∷ xs) (y ∷ ys) v zip (first gives rest) = first ((same x y zip.0 v).1 gives)
+      (zipped_back (NotBelow rank_of Gives v) (NotBelow rank_of Others v) (λ a b here more w does. more w ((same a b here w).0 does))
+      xs ys zip.1 rest)
+  least_zipped rank_of Gives Others same (x ∷ xs) (y ∷ ys) v zip (later before least) = later
+      (λ w does. before w ((same x y zip.0 w).0 does)) (least_zipped rank_of Gives Others same xs ys v zip.1 least)

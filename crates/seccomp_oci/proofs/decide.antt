@@ -1,2 +1,3 @@
 -- Lemmas for the functions of `decide`.
 pub mod Walk
+pub mod Once

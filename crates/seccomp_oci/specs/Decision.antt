@@ -1,13 +1,12 @@
 -- When an entry of a profile applies, and what a profile decides.
 use Rattle.std.specs.Prelude.{◌≡◌, ◌≢◌, ◌<◌, ◌≤◌, ℕ, pos, ◌⊎◌, List, [], ◌∷◌, Option, Some, None, All, Any, Contains, IfSome}
-use Rattle.std.specs.Prelude.{bit_and, codes, ⊤}
+use Rattle.std.specs.Prelude.{bit_and, codes, ⊤, ◌&&◌, not, nat_le, if◌then◌else◌}
 use Rattle.seccompiler.specs.declared.backend.SeccompAction.{SeccompAction}
+use Rattle.seccompiler.specs.declared.backend.SeccompAction.TheVariants.{Allow, Errno, KillThread, KillProcess, Log, Trace, Trap}
 use Rattle.seccompiler.specs.declared.backend.TargetArch.{TargetArch}
 use Rattle.seccompiler.specs.declared.backend.TargetArch.TheVariants.{x86_64, aarch64, riscv64}
 use Rattle.seccompiler.specs.Architecture.{table_of}
-use Rattle.seccomp_compare.specs.Compare.{rank}
 use Rattle.seccompiler.specs.Machine.{argument_at, word_at}
-use Rattle.seccompiler.specs.Policy.{word_of}
 use Rattle.seccompiler.specs.SyscallTable.{number_of}
 use Rattle.seccomp_oci.specs.declared.types.Argument.{Argument}
 use Rattle.seccomp_oci.specs.declared.types.Kernel.{Kernel}
@@ -62,27 +61,34 @@ abbrev pub ShareArgument : List Argument → Type 0
 ShareArgument [] = ⊥
 ShareArgument (a ∷ args) = Any (λ b. b.index ≡ a.index) args ⊎ ShareArgument args
 
--- A call record meets the conditions of an entry: all of them; or one of them, where two are on one argument (runc then
--- makes a rule of each).
+-- A call record meets the conditions of an entry: all of them; or one of them, if two are on one argument (a runtime then
+-- takes them for alternatives).
 pub data AreMet (r : List ℕ) (args : List Argument) : Type 0 where
   all_met : (ShareArgument args → ⊥) → All (IsMet r) args → AreMet r args
   one_met : ShareArgument args → Any (IsMet r) args → AreMet r args
 
--- ---- entries and profiles
+-- ---- what a profile decides
 
--- The text is the name of the record's call on the architecture.
-abbrev pub IsNameIn : TargetArch → List ℕ → List ℕ → Type 0
-IsNameIn arch r name = number_of (table_of arch) name ≡ Some (pos (word_at r 0))
+-- The text is the name of the call of this number on the architecture.
+abbrev pub IsNameOf : TargetArch → ℕ → List ℕ → Type 0
+IsNameOf arch n name = number_of (table_of arch) name ≡ Some (pos n)
 
--- The entry matches a call record: one of its names is that of the record's call, and its conditions are met.
-pub record EntryMatches (arch : TargetArch) (r : List ℕ) (e : Entry) : Type 0 where
-  pub name : Any (IsNameIn arch r) e.names
-  pub args : AreMet r e.args
-
--- The entry counts for a call record, in a container: it applies there, and matches the record.
-pub record Counts (arch : TargetArch) (container : Container) (r : List ℕ) (e : Entry) : Type 0 where
+-- The entry concerns the calls of this number, in a container: it applies there, it names the call, and its action isn't the
+-- default one. A runtime passes over an entry that says what holds without it.
+pub record Concerns (arch : TargetArch) (container : Container) (default : SeccompAction) (n : ℕ) (e : Entry) : Type 0 where
   pub applies : Applies arch container e
-  pub matches : EntryMatches arch r e
+  pub named : Any (IsNameOf arch n) e.names
+  pub other : e.action ≢ default
+
+-- How much an action permits (seccomp(2)): the strictest has the least number.
+abbrev pub strictness : SeccompAction → ℕ
+strictness KillProcess = 0
+strictness KillThread = 1
+strictness Trap = 2
+strictness (Errno n) = 3
+strictness (Trace n) = 4
+strictness Log = 5
+strictness Allow = 6
 
 -- Of what some things give, the value is the one of the least rank; of several with that rank it is the first one's.
 pub data IsFirstLeast {X V : Type 0} (rank_of : V → ℕ) (Gives : X → V → Type 0) : List X → V → Type 0 where
@@ -91,13 +97,27 @@ pub data IsFirstLeast {X V : Type 0} (rank_of : V → ℕ) (Gives : X → V → 
   later : {x : X} {xs : List X} {v : V} → ((w : V) → Gives x w → rank_of v < rank_of w) → IsFirstLeast rank_of Gives xs v
       → IsFirstLeast rank_of Gives (x ∷ xs) v
 
--- How much an action permits (seccomp(2)): the strictest has the least number.
-abbrev pub rank_of_kept : SeccompAction → ℕ
-rank_of_kept action = rank (word_of action)
+-- The entry concerns the call and has no conditions, and this is its action.
+abbrev pub Settles : TargetArch → Container → SeccompAction → ℕ → Entry → SeccompAction → Type 0
+Settles arch container default n e action = Concerns arch container default n e × (e.args ≡ []) × (action ≡ e.action)
 
--- What a profile decides of a call record, in a container: the strictest action of the entries
--- that count for it, of equally strict ones the first entry's; the default action where no entry counts.
+-- The entry concerns the record's call, the record meets its conditions, and this is its action.
+abbrev pub Matches : TargetArch → Container → SeccompAction → List ℕ → Entry → SeccompAction → Type 0
+Matches arch container default r e action = Concerns arch container default (word_at r 0) e × AreMet r e.args × (action ≡ e.action)
+
+-- The default action of a number. On x86_64 the thread is killed that makes a call by a number of x32, which has bit 30
+-- (asm/unistd.h); libseccomp takes the greatest number for none of these.
+abbrev pub default_of : TargetArch → SeccompAction → ℕ → SeccompAction
+default_of x86_64 default n = if nat_le 0x40000000 n && not (nat_le 0xffffffff n) then KillThread else default
+default_of arch default n = default
+
+-- What a profile decides of a call record of the architecture, in a container. The first entry without conditions that
+-- concerns the call settles it, whatever stands beside it. Else it is the action of the entries whose conditions are met: the
+-- strictest, if they name several, which the profile leaves open. If there are none, it is the default action.
 pub data IsProfileDecision (arch : TargetArch) (container : Container) (p : Profile) (r : List ℕ) (action : SeccompAction) : Type 0 where
-  by_entries : IsFirstLeast rank_of_kept (λ e a. Counts arch container r e × (a ≡ e.action)) p.entries action
+  settled : IsFirstLeast (λ _. 0) (Settles arch container p.default (word_at r 0)) p.entries action
       → IsProfileDecision arch container p r action
-  by_default : All (λ e. Counts arch container r e → ⊥) p.entries → action ≡ p.default → IsProfileDecision arch container p r action
+  strictest : All (λ e. Concerns arch container p.default (word_at r 0) e → e.args ≢ []) p.entries
+      → IsFirstLeast strictness (Matches arch container p.default r) p.entries action → IsProfileDecision arch container p r action
+  by_default : All (λ e. Concerns arch container p.default (word_at r 0) e → AreMet r e.args → ⊥) p.entries
+      → action ≡ default_of arch p.default (word_at r 0) → IsProfileDecision arch container p r action

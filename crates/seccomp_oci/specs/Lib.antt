@@ -1,5 +1,7 @@
--- The definitions that the contracts cite: which JSON values are which parts of a profile, which are profiles, when an
--- entry applies, and which programs are a profile's.
+-- The definitions that the contracts cite.
+
+-- What is promised: which JSON values are which parts of a profile, which are profiles, when an entry applies, what a profile
+-- decides, and which programs are a profile's.
 pub mod Types
 pub mod Shape
 pub mod Errnos
@@ -9,15 +11,11 @@ pub mod FaultParts
 pub mod Faults
 pub mod ProfileText
 pub mod Decision
-pub mod Rules
-pub mod Filters
-pub mod Join
-pub mod ProfileProgram
-pub mod PolicyText
-pub mod Import
-pub mod ImportSteps
-pub mod ImportErrors
-pub mod CompiledProfile
-pub mod JoinedSteps
+pub mod ProfileDecisions
 pub mod Decided
-pub mod DecideSteps
+
+
+pub mod LeftOut
+-- Between layers. No promise rests on how these are worded.
+pub mod Concerns
+pub mod Rulings

@@ -1,5 +1,5 @@
 -- The parts of a profile that own memory, as contracts see them: records of lists.
-use Rattle.std.specs.Prelude.{ℕ, List, Option}
+use Rattle.std.specs.Prelude.{ℕ, ◌≤◌, All, List, Option}
 use Rattle.seccompiler.specs.declared.backend.SeccompAction.{SeccompAction}
 use Rattle.seccomp_oci.specs.declared.types.Argument.{Argument}
 use Rattle.seccomp_oci.specs.declared.types.Flag.{Flag}
@@ -29,3 +29,11 @@ pub record Profile : Type 0 where
   pub default : SeccompAction
   pub flags : List Flag
   pub entries : List Entry
+
+-- Each condition is on an argument that a call has.
+abbrev pub AreOnArguments : List Argument → Type 0
+AreOnArguments args = All (λ a. a.index ≤ 5) args
+
+-- Each condition of the entries is on an argument that a call has.
+abbrev pub AllOnArguments : List Entry → Type 0
+AllOnArguments entries = All (λ e. AreOnArguments e.args) entries

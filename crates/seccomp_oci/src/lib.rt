@@ -10,42 +10,29 @@
 //! [`decision_of_profile`] what the profile decides of one call, and by which entry.
 #![tactic(auto)]
 
-pub mod compiled;
+mod concerns;
 pub mod decide;
+pub mod decisions;
 mod entries;
 mod errnos;
 mod error;
 pub mod fault;
-mod filters;
-pub mod import;
-mod join;
-mod layout;
 mod lists;
 mod members;
 mod parts;
-mod policy;
 mod profile;
-mod program;
-mod rules;
 mod scope;
-mod trees;
 pub mod types;
 mod unknown;
 mod version;
 
-pub use compiled::{CompiledProfile, compile_profile};
 pub use decide::{ProfileDecision, decision_of_profile};
+pub use decisions::decisions_of_profile;
 pub use error::ProfileError;
 pub use fault::fault_of;
-pub use filters::{filters_of_profile, json_filters_of, policies_of};
-pub use import::{Import, ImportError, import_profile};
-pub use join::joined;
 pub use lists::{arguments_under, flags_under, texts_under};
 pub use parts::{read_action, read_argument, read_flag};
-pub use policy::{PolicyTextError, policy_text};
 pub use profile::{profile_of, read_profile};
-pub use program::program_of_profile;
-pub use rules::rules_of;
 pub use scope::applies;
 pub use types::{Argument, Container, Criteria, Entry, Flag, Kernel, Operator, Profile};
 pub use unknown::unknown_names;

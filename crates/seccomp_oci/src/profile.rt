@@ -3,7 +3,7 @@
 ghost use Rattle.std.specs.Prelude.{◌↔◌, IsTrue, List, option_map, string_bytes, IfOk, IfErr, IfSome, IfNone};
 ghost use Rattle.serde_json.specs.View.{view};
 ghost use Rattle.seccompiler.specs.JsonAnswers.{IsReadAs};
-ghost use Rattle.seccomp_oci.specs.Filters.{AllOnArguments};
+ghost use Rattle.seccomp_oci.specs.Types.{AllOnArguments};
 ghost use Rattle.seccomp_oci.specs.Shape.{IsListed};
 ghost use Rattle.seccomp_oci.specs.ProfileShape.{IsList, HasProfileNames, IsEntry, IsProfile};
 ghost use Rattle.seccomp_oci.specs.ProfileText.{IsProfileFault, IsProfileText, TellsWhy};

@@ -3,7 +3,7 @@
 ghost use Rattle.std.specs.Prelude.{◌≡◌, ◌↔◌, ℕ, List, [], ◌∷◌, ◌++◌, IsSome, IsTrue, IfOk, map, string_bytes};
 ghost use Rattle.seccompiler.specs.Architecture.{table_of};
 ghost use Rattle.seccompiler.specs.SyscallTable.{number_of};
-ghost use Rattle.seccomp_oci.specs.Import.{AreLeftOut, AreUnknown};
+ghost use Rattle.seccomp_oci.specs.LeftOut.{AreLeftOut, AreUnknown};
 ghost use Rattle.seccomp_oci.specs.Types.{Entry};
 
 use crate::scope::applies;

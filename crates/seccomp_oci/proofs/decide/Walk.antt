@@ -1,107 +1,127 @@
--- For `with_entry` and `decision_of_profile`: what is decided by some entries, and by one more behind them.
-use Rattle.std.proofs.Common.{◌≡◌, ◌<◌, ◌≤◌, ℕ, List, [], ◌∷◌, ◌++◌, All, length, refl, sym, subst, ap, ◌∙◌, Some, None, arith, inl, inr}
-use Rattle.std.proofs.Common.{append_assoc}
-use Rattle.std.specs.Prelude.{IsSome}
+-- For `settling`, `strictest` and `with_entry`: the entries that decide, as more of them are looked at.
+use Rattle.std.proofs.Common.{◌≡◌, ◌≢◌, ◌<◌, ◌≤◌, ◌+◌, ℕ, zero, suc, List, [], ◌∷◌, ◌++◌, All, Bool, IsTrue, ◌↔◌, Option, Some, None, length, get_or, take, refl, sym, subst, ap, ◌∙◌, arith}
+use Rattle.std.proofs.Common.{inl, inr}
+use Rattle.std.specs.Prelude.{Any, IsSomeAnd}
 use Rattle.std.proofs.lemmas.Bool.{cases_lt}
-use Rattle.std.proofs.lemmas.List.Elements.{All-nil, All-cons, All-head, All-tail, All-push, All-weaker}
+use Rattle.std.proofs.lemmas.List.Elements.{All-head, All-nil, All-push, All-tail, All-weaker}
 use Rattle.seccompiler.specs.declared.backend.SeccompAction.{SeccompAction}
 use Rattle.seccompiler.specs.declared.backend.TargetArch.{TargetArch}
-use Rattle.seccomp_oci.specs.declared.decide.ProfileDecision.{ProfileDecision}
-use Rattle.seccomp_oci.specs.DecideSteps.{among}
-use Rattle.seccomp_oci.specs.Decided.{IsAsStrict, IsDecidedBy, by_entry, by_default, IsStricter}
-use Rattle.seccomp_oci.specs.Decision.{Counts, IsFirstLeast, first, later, IsProfileDecision, rank_of_kept}
-use Rattle.seccomp_oci.specs.Decision as decision
-use Rattle.seccomp_oci.specs.Types.{Container, Entry, Profile}
-use Rattle.seccomp_oci.proofs.Least.{NotBelow}
-use Rattle.seccomp_oci.proofs.Quantified.{all_append}
-use Rattle.seccomp_oci.proofs.filters.Denied.{EntryGives}
+use Rattle.seccompiler.specs.Machine.{word_at}
+use Rattle.seccomp_oci.specs.declared.decide.Found.{Found}
+use Rattle.seccomp_oci.specs.Decided.{AreFound, IsAt, IsByEntry, IsSettling, IsStrictest}
+use Rattle.seccomp_oci.specs.Decision.{Applies, AreMet, all_met, Concerns, IsFirstLeast, first, IsMet, IsNameOf, later, Matches, Settles, ShareArgument, strictness}
+use Rattle.seccomp_oci.specs.Types.{Container, Entry}
+use Rattle.seccomp_oci.proofs.Least.{Above, least_all, least_kept, least_last, NotBelow}
 
-module _ (arch : TargetArch) (container : Container) (r : List ℕ) where
-  -- What is decided, by an entry of some, is decided by these and one more that is at most as strict, if it counts.
-  kept_behind : (default : SeccompAction) (done : List Entry) (e : Entry) (d : ProfileDecision)
-      → (Counts arch container r e → IsSome d.entry × (rank_of_kept d.action ≤ rank_of_kept e.action))
-      → IsDecidedBy arch container (among default done) r d → IsDecidedBy arch container (among default (done ++ e ∷ [])) r d
-  kept_behind default done e d most (by_entry front f back is counts stricter strict decides) =
-      by_entry front f (back ++ e ∷ []) (ap (λ es. es ++ e ∷ []) is ∙ append_assoc front (f ∷ back) (e ∷ [])) counts stricter
-      (All-push (IsAsStrict arch container r f) back e strict (λ does. subst (λ (d : ProfileDecision).
-      rank_of_kept d.action ≤ rank_of_kept e.action) decides (most does).1)) decides
-  kept_behind default done e d most (by_default none decides) =
-      by_default (All-push (λ e. Counts arch container r e → ⊥) done e none (λ does. none_there d decides (most does).0)) decides
-    where
-      none_there : (d : ProfileDecision) → d ≡ record { action = default; entry = None } → IsSome d.entry → ⊥
-      none_there d is some = let there = subst (λ (d : ProfileDecision). IsSome d.entry) is some in cc
+module _ (P : Entry → Type 0) where
+  pub at_kept : (xs ys : List Entry) (place : ℕ) → IsAt P xs place → IsAt P (xs ++ ys) place
+  at_kept [] ys place at = let within = at.within in absurd (omega arith)
+  at_kept (x ∷ xs) ys zero at = record { entry = at.entry; within = omega arith; there = at.there; holds = at.holds }
+  at_kept (x ∷ xs) ys (suc place) at =
+      let less = at.within in
+      let rest = at_kept xs ys place (record { entry = at.entry; within = omega arith; there = at.there; holds = at.holds }) in
+      let more = rest.within in
+      record { entry = rest.entry; within = omega arith; there = rest.there; holds = rest.holds }
 
-  -- An entry that doesn't count changes nothing.
-  pub passed_over : (default : SeccompAction) (done : List Entry) (e : Entry) (d : ProfileDecision) → (Counts arch container r e → ⊥)
-      → IsDecidedBy arch container (among default done) r d → IsDecidedBy arch container (among default (done ++ e ∷ [])) r d
-  passed_over default done e d not so_far = kept_behind default done e d (λ does. absurd (not does)) so_far
+  pub at_last : (xs : List Entry) (x : Entry) (place : ℕ) → length xs ≡ place → P x → IsAt P (xs ++ x ∷ []) place
+  at_last [] x zero long has = record { entry = x; within = omega arith; there = refl; holds = has }
+  at_last [] x (suc place) long has = absurd (omega arith)
+  at_last (y ∷ xs) x zero long has = absurd (omega arith)
+  at_last (y ∷ xs) x (suc place) long has =
+      let rest = at_last xs x place (omega arith) has in
+      let more = rest.within in
+      record { entry = rest.entry; within = omega arith; there = rest.there; holds = rest.holds }
 
-  -- Nor does one that is at most as strict as the entry that has decided.
-  pub kept : (default : SeccompAction) (done : List Entry) (e : Entry) (d : ProfileDecision)
-      → IsSome d.entry × (rank_of_kept d.action ≤ rank_of_kept e.action)
-      → IsDecidedBy arch container (among default done) r d → IsDecidedBy arch container (among default (done ++ e ∷ [])) r d
-  kept default done e d most so_far = kept_behind default done e d (λ does. most) so_far
+pub at_weaker : (P Q : Entry → Type 0) → ((e : Entry) → P e → Q e) → (xs : List Entry) (place : ℕ) → IsAt P xs place → IsAt Q xs place
+at_weaker P Q more xs place at = record { entry = at.entry; within = at.within; there = at.there; holds = more at.entry at.holds }
 
-  -- What is stricter than the entry that has decided is stricter than each before.
-  stricter_than : (default : SeccompAction) (done : List Entry) (e : Entry) (d : ProfileDecision)
-      → (IsSome d.entry × (rank_of_kept d.action ≤ rank_of_kept e.action) → ⊥)
-      → IsDecidedBy arch container (among default done) r d → All (IsStricter arch container r e) done
-  stricter_than default done e d not (by_default none decides) =
-      All-weaker (λ e. Counts arch container r e → ⊥) (IsStricter arch container r e) (λ other no does. absurd (no does)) done none
-  stricter_than default done e d not (by_entry front f back is counts stricter strict decides) =
-      let less : rank_of_kept e.action < rank_of_kept f.action = elim (cases_lt (rank_of_kept e.action) (rank_of_kept f.action)) [
-        | inl less ↦ less
-        | inr most ↦ absurd (subst (λ (d : ProfileDecision). IsSome d.entry × (rank_of_kept d.action ≤ rank_of_kept e.action) → ⊥)
-            decides not (refl, most))
-      ] in
-      let before = All-weaker (IsStricter arch container r f) (IsStricter arch container r e)
-      (λ other above does. let more = above does in omega arith) front stricter in
-      let behind = All-weaker (IsAsStrict arch container r f) (IsStricter arch container r e)
-      (λ other above does. let more = above does in omega arith) back strict in
-      subst (All (IsStricter arch container r e)) (sym is)
-      ((all_append (IsStricter arch container r e) front (f ∷ back)).1
-      (before, All-cons (IsStricter arch container r e) f back (λ does. less) behind))
+-- Without conditions all are met.
+pub met_without : (r : List ℕ) (e : Entry) → e.args ≡ [] → AreMet r e.args
+met_without r e none = subst (AreMet r) (sym none) (all_met (λ share. share) (All-nil (IsMet r)))
 
-  -- Else an entry that counts decides.
-  pub taken : (default : SeccompAction) (done : List Entry) (e : Entry) (d : ProfileDecision) (place : ℕ) → length done ≡ place
-      → Counts arch container r e → (IsSome d.entry × (rank_of_kept d.action ≤ rank_of_kept e.action) → ⊥)
-      → IsDecidedBy arch container (among default done) r d
-      → IsDecidedBy arch container (among default (done ++ e ∷ [])) r (record { action = e.action; entry = Some place })
-  taken default done e d place long does not so_far = by_entry done e [] refl does (stricter_than default done e d not so_far)
-      (All-nil (IsAsStrict arch container r e))
-      (ap (λ place. record { action = e.action; entry = Some place }) (sym long))
+module _ (arch : TargetArch) (container : Container) (default : SeccompAction) where
+  -- An entry that applies, with another action, concerns the calls that it names.
+  pub named : (n : ℕ) (e : Entry) (names : List (List ℕ)) (b : Bool) → (e.action ≡ default → ⊥) → Applies arch container e
+      → names ≡ e.names → (IsTrue b ↔ Any (IsNameOf arch n) names) → IsTrue b ↔ Concerns arch container default n e
+  named n e names b apart applies same is = (
+    λ yes. record { applies = applies; named = subst (Any (IsNameOf arch n)) same (is.0 yes); other = apart },
+    λ concerns. is.1 (subst (Any (IsNameOf arch n)) (sym same) concerns.named),
+  )
 
-  -- By no entries the default action is decided.
-  pub none_decides : (default : SeccompAction)
-      → IsDecidedBy arch container (among default []) r (record { action = default; entry = None })
-  none_decides default = by_default (All-nil (λ e. Counts arch container r e → ⊥)) refl
+  -- An entry that settles a call matches it.
+  pub settles_matches : (r : List ℕ) (action : SeccompAction) (e : Entry) → Settles arch container default (word_at r 0) e action
+      → Matches arch container default r e action
+  settles_matches r action e does = (does.0, met_without r e does.1, does.2)
 
-  -- What a profile of the same default action and entries decides.
-  pub of_same : (p : Profile) (default : SeccompAction) (entries : List Entry) (d : ProfileDecision) → default ≡ p.default
-      → entries ≡ p.entries → IsDecidedBy arch container (among default entries) r d → IsDecidedBy arch container p r d
-  of_same p default entries d same_default same (by_entry front e back is counts stricter strict decides) =
-      by_entry front e back (sym same ∙ is) counts stricter strict decides
-  of_same p default entries d same_default same (by_default none decides) =
-      by_default (subst (All (λ e. Counts arch container r e → ⊥)) same none)
-      (decides ∙ ap (λ default. record { action = default; entry = None }) same_default)
+  -- The first entry that settles a number's calls.
+  first_settles : (n : ℕ) (entries : List Entry) (j : ℕ) (d : Entry) → j < length entries
+      → Concerns arch container default n (get_or entries j d) → (get_or entries j d).args ≡ []
+      → All (λ e. Concerns arch container default n e → e.args ≢ []) (take j entries)
+      → IsFirstLeast (λ _. 0) (Settles arch container default n) entries (get_or entries j d).action
+  first_settles n [] j d within concerns none before = absurd (omega arith)
+  first_settles n (e ∷ entries) zero d within concerns none before = first (concerns, none, refl) (λ k x within w gives. omega arith)
+  first_settles n (e ∷ entries) (suc j) d within concerns none before = later
+      (λ w gives. absurd (All-head (λ e. Concerns arch container default n e → e.args ≢ []) e (take j entries) before gives.0 gives.1))
+      (first_settles n entries j d (omega arith) concerns none
+      (All-tail (λ e. Concerns arch container default n e → e.args ≢ []) e (take j entries) before))
 
-  -- The first of the least is the entry's action.
-  least : (front : List Entry) (e : Entry) (back : List Entry) → Counts arch container r e
-      → All (IsStricter arch container r e) front → All (IsAsStrict arch container r e) back
-      → IsFirstLeast rank_of_kept (EntryGives arch container r) (front ++ e ∷ back) e.action
-  least [] e back counts stricter strict = first (counts, refl)
-      (All-weaker (IsAsStrict arch container r e) (NotBelow rank_of_kept (EntryGives arch container r) e.action)
-      (λ other above w gives. subst (λ w. rank_of_kept e.action ≤ rank_of_kept w) (sym gives.1) (above gives.0)) back strict)
-  least (x ∷ front) e back counts stricter strict =
-      later (λ w gives. subst (λ w. rank_of_kept e.action < rank_of_kept w) (sym gives.1)
-      (All-head (IsStricter arch container r e) x front stricter gives.0))
-      (least front e back counts (All-tail (IsStricter arch container r e) x front stricter) strict)
+  pub settles_at : (n : ℕ) (entries : List Entry) (place : ℕ) (e : Entry) (f : Found) → place < length entries
+      → e ≡ get_or entries place e → Concerns arch container default n e → e.args ≡ []
+      → All (λ e. Concerns arch container default n e → e.args ≢ []) (take place entries)
+      → f ≡ record { place = place; action = e.action } → IsSettling arch container default n entries f
+  settles_at n entries place e f within read concerns none before is = subst (IsSettling arch container default n entries) (sym is) (record {
+    least = subst (IsFirstLeast (λ _. 0) (Settles arch container default n) entries) (ap (λ (e : Entry). e.action) (sym read))
+        (first_settles n entries place e within (subst (Concerns arch container default n) read concerns)
+        (ap (λ (e : Entry). e.args) (sym read) ∙ none) before);
+    at = record { entry = e; within = within; there = sym read; holds = (concerns, none, refl) };
+  })
 
-  -- The action that is decided is the profile's decision.
-  pub decision_of : (p : Profile) (d : ProfileDecision) → IsDecidedBy arch container p r d
-      → IsProfileDecision arch container p r d.action
-  decision_of p d (by_entry front e back is counts stricter strict decides) =
-      decision.by_entries (subst (λ es. IsFirstLeast rank_of_kept (EntryGives arch container r) es d.action) (sym is)
-      (subst (λ (d : ProfileDecision). IsFirstLeast rank_of_kept (EntryGives arch container r) (front ++ e ∷ back) d.action) (sym decides)
-      (least front e back counts stricter strict)))
-  decision_of p d (by_default none decides) = decision.by_default none (ap (λ (d : ProfileDecision). d.action) decides)
+  module _ (r : List ℕ) where
+
+    -- An entry that doesn't match changes nothing.
+    pub passed_over : (done : List Entry) (e : Entry) (found : Option Found)
+        → (Concerns arch container default (word_at r 0) e × AreMet r e.args → ⊥) → AreFound arch container default r done found
+        → AreFound arch container default r (done ++ e ∷ []) found
+    passed_over done e None not none = All-push (λ e. Concerns arch container default (word_at r 0) e → AreMet r e.args → ⊥) done e none
+        (λ concerns met. not (concerns, met))
+    passed_over done e (Some f) not so_far = record {
+      least = least_kept strictness (Matches arch container default r) done e f.action so_far.least
+          (λ w gives. absurd (not (gives.0, gives.1)));
+      at = at_kept (λ e. Matches arch container default r e f.action) done (e ∷ []) f.place so_far.at;
+    }
+
+    -- Nor does one that is at most as strict as the entry that was found.
+    pub kept : (done : List Entry) (e : Entry) (found : Option Found)
+        → IsSomeAnd found (λ f. strictness f.action ≤ strictness e.action) → AreFound arch container default r done found
+        → AreFound arch container default r (done ++ e ∷ []) found
+    kept done e None most so_far = absurd most
+    kept done e (Some f) most so_far = record {
+      least = least_kept strictness (Matches arch container default r) done e f.action so_far.least
+          (λ w gives. subst (λ w. strictness f.action ≤ strictness w) (sym gives.2) most);
+      at = at_kept (λ e. Matches arch container default r e f.action) done (e ∷ []) f.place so_far.at;
+    }
+
+    -- Else an entry that matches is the strictest.
+    pub taken : (done : List Entry) (e : Entry) (found : Option Found) (place : ℕ) → length done ≡ place
+        → Concerns arch container default (word_at r 0) e × AreMet r e.args
+        → (IsSomeAnd found (λ f. strictness f.action ≤ strictness e.action) → ⊥) → AreFound arch container default r done found
+        → IsStrictest arch container default r (done ++ e ∷ []) (record { place = place; action = e.action })
+    taken done e found place long does not so_far = record {
+      least = least_last strictness (Matches arch container default r) done e e.action (above found not so_far) (does.0, does.1, refl);
+      at = at_last (λ x. Matches arch container default r x e.action) done e place long (does.0, does.1, refl);
+    }
+      where
+        less : (f : Found) → (strictness f.action ≤ strictness e.action → ⊥) → strictness e.action < strictness f.action
+        less f not = elim (cases_lt (strictness e.action) (strictness f.action)) [ inl small ↦ small | inr most ↦ absurd (not most) ]
+
+        above : (found : Option Found) → (IsSomeAnd found (λ f. strictness f.action ≤ strictness e.action) → ⊥)
+            → AreFound arch container default r done found → All (Above strictness (Matches arch container default r) e.action) done
+        above None not none = All-weaker (λ e. Concerns arch container default (word_at r 0) e → AreMet r e.args → ⊥)
+            (Above strictness (Matches arch container default r) e.action) (λ x no w gives. absurd (no gives.0 gives.1)) done none
+        above (Some f) not so_far =
+            let stricter = less f not in
+            All-weaker (NotBelow strictness (Matches arch container default r) f.action)
+            (Above strictness (Matches arch container default r) e.action)
+            (λ x more w gives. let most = more w gives in omega arith) done
+            (least_all strictness (Matches arch container default r) done f.action so_far.least
+            (λ x gives w other. subst (λ v. strictness v ≤ strictness w) (other.2 ∙ sym gives.2) (omega arith)))

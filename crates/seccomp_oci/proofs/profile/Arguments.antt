@@ -4,9 +4,9 @@ use Rattle.std.proofs.lemmas.List.Elements.{All-nil, All-cons}
 use Rattle.serde_json.specs.Data.{Data, Items, item, no_items}
 use Rattle.seccompiler.specs.JsonShape.{OneByOne}
 use Rattle.seccomp_oci.specs.declared.types.Argument.{Argument}
-use Rattle.seccomp_oci.specs.Filters.{AllOnArguments}
+use Rattle.seccomp_oci.specs.Types.{AllOnArguments}
 use Rattle.seccomp_oci.specs.ProfileShape.{IsEntry}
-use Rattle.seccomp_oci.specs.Rules.{AreOnArguments}
+use Rattle.seccomp_oci.specs.Types.{AreOnArguments}
 use Rattle.seccomp_oci.specs.Shape.{IsArgument, IsListed}
 use Rattle.seccomp_oci.specs.Types.{Entry}
 

@@ -7,7 +7,7 @@ use Rattle.seccompiler.specs.declared.backend.TargetArch.{TargetArch}
 use Rattle.seccompiler.specs.Architecture.{table_of}
 use Rattle.seccompiler.specs.SyscallTable.{number_of}
 use Rattle.seccomp_oci.specs.Decision.{Applies}
-use Rattle.seccomp_oci.specs.Import.{AreLeftOut, AreUnknown, none, known, unknown, applies, passed}
+use Rattle.seccomp_oci.specs.LeftOut.{AreLeftOut, AreUnknown, none, known, unknown, applies, passed}
 use Rattle.seccomp_oci.specs.Types.{Container, Entry}
 
 -- What is not found to be there is missing.

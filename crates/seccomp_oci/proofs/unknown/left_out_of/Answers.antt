@@ -1,5 +1,5 @@
 use Rattle.std.proofs.Common.{[], map, string_bytes, sym, subst}
-use Rattle.seccomp_oci.specs.Import.{AreLeftOut, none}
+use Rattle.seccomp_oci.specs.LeftOut.{AreLeftOut, none}
 use Rattle.seccomp_oci.proofs.unknown.left_out_of.Goals as goal
 
 pub loop-entry-init : goal.loop-entry-init

@@ -1,5 +1,5 @@
 use Rattle.std.proofs.Common.{map, take, string_bytes}
-use Rattle.seccomp_oci.specs.Import.{AreLeftOut}
+use Rattle.seccomp_oci.specs.LeftOut.{AreLeftOut}
 use Rattle.seccomp_oci.proofs.unknown.left_out_of.Given as goal
 
 abbrev pub invariant-loop-entry : goal.invariant-loop-entry

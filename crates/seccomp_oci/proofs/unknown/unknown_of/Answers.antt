@@ -1,5 +1,5 @@
 use Rattle.std.proofs.Common.{[], map, string_bytes, sym, subst}
-use Rattle.seccomp_oci.specs.Import.{AreUnknown, none}
+use Rattle.seccomp_oci.specs.LeftOut.{AreUnknown, none}
 use Rattle.seccomp_oci.proofs.unknown.unknown_of.Goals as goal
 
 pub loop-name-init : goal.loop-name-init

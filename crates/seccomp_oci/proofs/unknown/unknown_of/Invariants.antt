@@ -1,5 +1,5 @@
 use Rattle.std.proofs.Common.{map, take, string_bytes}
-use Rattle.seccomp_oci.specs.Import.{AreUnknown}
+use Rattle.seccomp_oci.specs.LeftOut.{AreUnknown}
 use Rattle.seccomp_oci.proofs.unknown.unknown_of.Given as goal
 
 abbrev pub invariant-loop-name : goal.invariant-loop-name

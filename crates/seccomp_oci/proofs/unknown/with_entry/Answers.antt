@@ -1,7 +1,7 @@
 use Rattle.std.proofs.Common.{◌≡◌, ◌∷◌, [], ◌++◌, ap, sym, subst, ◌∙◌, map, string_bytes}
 use Rattle.std.proofs.lemmas.List.{map-append}
 use Rattle.seccomp_oci.specs.Decision.{Applies}
-use Rattle.seccomp_oci.specs.Import.{AreLeftOut}
+use Rattle.seccomp_oci.specs.LeftOut.{AreLeftOut}
 use Rattle.seccomp_oci.proofs.unknown.LeftOut.{applies_more, passed_more}
 use Rattle.seccomp_oci.proofs.unknown.with_entry.Goals as goal
 

@@ -4,7 +4,7 @@ use Rattle.std.proofs.lemmas.List.{map_push}
 use Rattle.std.proofs.lemmas.Result.{IfOk-weaker}
 use Rattle.seccompiler.specs.Architecture.{table_of}
 use Rattle.seccompiler.specs.SyscallTable.{number_of}
-use Rattle.seccomp_oci.specs.Import.{AreUnknown}
+use Rattle.seccomp_oci.specs.LeftOut.{AreUnknown}
 use Rattle.seccomp_oci.proofs.unknown.LeftOut.{known_more, missing, unknown_more}
 use Rattle.seccomp_oci.proofs.unknown.with_name.Goals as goal
 

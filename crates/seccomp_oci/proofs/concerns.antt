@@ -1,0 +1,3 @@
+-- Lemmas for the functions of `concerns`.
+pub mod Conditions
+pub mod Numbers

@@ -1,0 +1,19 @@
+use Rattle.std.proofs.Common.{◌<◌, All, ap, ◌∙◌, subst, sym}
+use Rattle.std.specs.List.{AllZip}
+use Rattle.seccomp_oci.specs.Concerns.{Concern, IsConcernOf}
+use Rattle.seccomp_oci.specs.Types.{Profile}
+use Rattle.seccomp_oci.proofs.decisions.Profile.{decide_as_made, small_numbers}
+use Rattle.seccomp_oci.proofs.decisions.decisions_of_profile.Goals as goal
+
+pub calls_of-requires : goal.calls_of-requires
+calls_of-requires c = subst (All (λ (x : Concern). All (λ n. n < 463) x.numbers)) (sym c.as_slice.ensures.value)
+    (small_numbers c.args.arch c.args.container.now c.profile.inside.default c.as_slice-entries.result.now c.in_ok-concerns.concerns.items
+    c.in_ok-concerns.ensures)
+
+pub returns : goal.returns
+returns c = decide_as_made c.args.arch c.args.container.now c.args.profile.now c.profile.inside.default c.as_slice-entries.result.now
+    c.as_slice.result.now _ _ c.in-Some.decisions (ap (λ (p : Profile). p.default) c.profile.view_is)
+    (c.as_slice-entries.ensures.value ∙ ap (λ (p : Profile). p.entries) c.profile.view_is)
+    (subst (AllZip (IsConcernOf c.args.arch c.args.container.now c.profile.inside.default) c.as_slice-entries.result.now)
+    (sym c.as_slice.ensures.value) c.in_ok-concerns.ensures)
+    c.in_ok-defaults.ensures.values c.in_ok-calls.ensures c.in-Some.ensures.made

@@ -1,18 +1,17 @@
--- What `check` gives of a profile: the warnings of the policy that it is imported as, whose filters are installed together.
+-- What `check` gives of a profile: the warnings of filters that decide together.
 use Rattle.std.specs.Prelude.{◌≡◌, ◌↔◌, ℕ, Bool, true, false, List, [], ◌∷◌, ◌++◌, Any, IsTrue, is_some, codes, String}
 use Rattle.std.specs.BTreeMap.{get_by_text}
 use Rattle.std.specs.declared.alloc.Global.{Global}
 use Rattle.seccompiler.specs.declared.backend.TargetArch.{TargetArch}
 use Rattle.seccompiler.specs.declared.json.types.JsonFilterMap.{JsonFilterMap}
 use Rattle.seccompiler.specs.JsonTypes.{JsonFilter}
-use Rattle.seccomp_oci.specs.Import.{IsImported}
+use Rattle.seccomp_oci.specs.CompiledProfile.{IsCompiledProfile}
 use Rattle.seccomp_oci.specs.Types.{Container}
 use Rattle.seccomp_warnings.specs.CallWarnings.{DeniesEach}
-use Rattle.seccomp_warnings.specs.Reports.{codes_for}
+use Rattle.seccomp_warnings.specs.Reports.{codes_for, IsReportOf}
 use Rattle.seccomp_warnings.specs.declared.code.Code.{Code}
 use Rattle.seccomp_warnings.specs.declared.code.Code.TheVariants as code
 use Rattle.seccomp_warnings.specs.declared.report.Report.{Report}
-use Rattle.seccomptool.specs.Check.{IsTextReport}
 use Rattle.seccomptool.specs.declared.check.profile.CheckedProfile.{CheckedProfile}
 
 -- ---- the codes that aren't reported
@@ -47,14 +46,16 @@ left_out_of base denied allowed =
 
 -- ---- the warnings
 
--- The report is that of the filters of a text, each line behind a front, without what isn't reported of a profile's filters.
-pub record IsProfileReport (target : TargetArch) (allowed : List Code) (front text : List ℕ) (report : Report) : Type 0 where
-  pub denies : Bool
-  pub is : IsTextReport target (λ filters. left_out_of (has_base filters) denies allowed) front text report
-  pub denies_is : IsTrue denies ↔ DenyClone3 is.filters
+-- The report is that of these filters, each line behind a front, without what isn't reported of a profile's filters.
+pub record IsProfileReport (target : TargetArch) (allowed : List Code) (front : List ℕ) (filters : JsonFilterMap) (report : Report) : Type 0
+  where
+    pub denies : Bool
+    pub denies_is : IsTrue denies ↔ DenyClone3 filters
+    pub is : IsReportOf target (left_out_of (has_base filters) denies allowed) front filters.0.entries report.text.items report.count
 
--- The report is that of the policy that the text's profile is imported as.
+-- The profile of the text is compiled, and the report is that of some filters. That they are the profile's is tested.
 pub record IsProfileCheckOf (target : TargetArch) (container : Container) (allowed : List Code) (front text : List ℕ)
     (checked : CheckedProfile) : Type 0 where
-  pub imported : IsImported target container false text checked.policy
-  pub report : IsProfileReport target allowed front checked.policy.text.items checked.report
+  pub compiled : IsCompiledProfile target container false text checked.compiled
+  pub filters : JsonFilterMap
+  pub report : IsProfileReport target allowed front filters checked.report

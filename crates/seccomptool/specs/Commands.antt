@@ -7,6 +7,8 @@ use Rattle.seccompiler.specs.declared.bpf.sock_filter.{sock_filter}
 use Rattle.seccomp_tree.specs.declared.layout.Layout.{Layout}
 use Rattle.seccompiler.specs.JsonAnswers.{OfValue}
 use Rattle.seccompiler.specs.Machine.{IsChecked}
+use Rattle.seccomp_oci.specs.declared.compiled.CompiledProfile.{CompiledProfile}
+use Rattle.seccomp_oci.specs.CompiledProfile.{IsCompiledProfile}
 use Rattle.seccomp_oci.specs.Types.{Container}
 use Rattle.seccomp_warnings.specs.declared.code.Code.{Code}
 use Rattle.seccomp_warnings.specs.declared.report.Report.{Report}
@@ -19,7 +21,6 @@ use Rattle.seccomptool.specs.declared.failure.Failure.TheVariants as failure
 use Rattle.seccomptool.specs.declared.findings.Terms.{Terms}
 use Rattle.seccomptool.specs.declared.findings.Verdict.{Verdict}
 use Rattle.seccomptool.specs.declared.findings.Verdict.TheVariants.{Same, Different, Undecided}
-use Rattle.seccomptool.specs.declared.import.Imported.{Imported}
 use Rattle.seccomptool.specs.declared.kind.Subject.{Subject}
 use Rattle.seccomptool.specs.declared.kind.Subject.TheVariants as subject
 use Rattle.seccomptool.specs.declared.stats.FilterStats.{FilterStats}
@@ -30,7 +31,7 @@ use Rattle.seccomptool.specs.declared.verify.scope.Scope.{Scope}
 use Rattle.seccomptool.specs.declared.words.Call.{Call}
 use Rattle.seccomptool.specs.declared.words.Command.{Command}
 use Rattle.seccomptool.specs.declared.words.Command.TheVariants.{Compile, Show, Check, Codes, Explain, Run, Stats, Record, Diff as DiffOf}
-use Rattle.seccomptool.specs.declared.words.Command.TheVariants.{Verify, Compat, Import}
+use Rattle.seccomptool.specs.declared.words.Command.TheVariants.{Verify, Compat}
 use Rattle.seccomptool.specs.declared.words.Inputs.{Inputs}
 use Rattle.seccomptool.specs.declared.words.Shown.{Shown}
 use Rattle.seccomptool.specs.declared.words.Shown.TheVariants as shown
@@ -41,7 +42,6 @@ use Rattle.seccomptool.specs.Compat.{AreCalls}
 use Rattle.seccomptool.specs.Compile.{ArePrograms, IsProgramUnder}
 use Rattle.seccomptool.specs.Diff.{IsDiff, verdict_all}
 use Rattle.seccomptool.specs.Explain.{IsExplanation}
-use Rattle.seccomptool.specs.Imports.{IsImportOf}
 use Rattle.seccomptool.specs.Kinds.{IsTakenAs}
 use Rattle.seccomptool.specs.Record.{IsRecordOf}
 use Rattle.seccomptool.specs.Run.{AreReturned, IsProgramOf}
@@ -51,9 +51,22 @@ use Rattle.seccomptool.specs.Verify.{IsVerification, verdict_in}
 -- ---- what each command answers
 
 -- The program of the filter that is asked for.
-abbrev pub IsCompiled : TargetArch → Layout → (asked : Option (List ℕ)) → (text : List ℕ) → Type 0
-IsCompiled arch layout asked text =
+abbrev pub IsFilterCompiled : TargetArch → Layout → (asked : Option (List ℕ)) → (text : List ℕ) → Type 0
+IsFilterCompiled arch layout asked text =
     (made : NamedProgram) × IsChosen text asked (string_bytes made.name) × IsProgramUnder arch layout text made
+
+-- The program of a profile.
+abbrev pub IsProfileCompiled : TargetArch → Container → (strict : Bool) → (text : List ℕ) → Type 0
+IsProfileCompiled arch container strict text = (compiled : CompiledProfile) × IsCompiledProfile arch container strict text compiled
+
+-- The program of what is given.
+abbrev pub IsCompiledAs : TargetArch → Subject → Layout → (strict : Bool) → (asked : Option (List ℕ)) → (text : List ℕ) → Type 0
+IsCompiledAs arch subject.Policy layout strict asked text = IsFilterCompiled arch layout asked text
+IsCompiledAs arch (subject.Profile container) layout strict asked text = IsProfileCompiled arch container.now strict text
+
+abbrev pub IsCompiled : TargetArch → Option Container → Layout → (strict : Bool) → (asked : Option (List ℕ)) → (text : List ℕ) → Type 0
+IsCompiled arch container layout strict asked text =
+    (kind : Subject) × IsTakenAs container asked text kind × IsCompiledAs arch kind layout strict asked text
 
 -- The programs of a policy, or a program.
 abbrev pub IsShown : TargetArch → Layout → Shown → (given : List ℕ) → Type 0
@@ -115,16 +128,13 @@ IsVerified terms asked scope policy program v =
 abbrev pub AreWidenedIn : TargetArch → (text : List ℕ) → Type 0
 AreWidenedIn arch text = (all : List FilterCalls) × OfValue text (λ d. AreCalls arch d all)
 
--- What a profile is made into.
-abbrev pub IsImportedAs : TargetArch → Container → (strict : Bool) → (text : List ℕ) → Type 0
-IsImportedAs arch container strict text = (made : Imported) × IsImportOf arch container strict text made
-
 -- ---- a command
 
 -- The command is carried out on these texts, the first and the second that it reads: a value is made that is so, and this is its
 -- verdict. Where it takes policies and profiles, the container and the text say which is given.
 abbrev pub IsCarriedOut : Command → (first second : List ℕ) → Verdict → Type 0
-IsCarriedOut (Compile arch filter layout format quiet) text none v = IsCompiled arch layout (text_of filter) text × (v ≡ Same)
+IsCarriedOut (Compile arch container strict filter layout format quiet) text none v =
+    IsCompiled arch container layout strict (text_of filter) text × (v ≡ Same)
 IsCarriedOut (Show arch layout shown) given none v = IsShown arch layout shown given × (v ≡ Same)
 IsCarriedOut (Check arch container denied allowed) text none v = IsCheck arch container denied allowed.items text v
 IsCarriedOut Codes none no v = v ≡ Same
@@ -136,7 +146,6 @@ IsCarriedOut (Record arch call) none no v = (bytes : List ℕ) × IsRecordOf arc
 IsCarriedOut (DiffOf terms container filter quiet) old new v = IsCompared terms container (text_of filter) old new v
 IsCarriedOut (Verify terms filter scope) policy program v = IsVerified terms (text_of filter) scope policy program v
 IsCarriedOut (Compat arch) text none v = AreWidenedIn arch text × (v ≡ Same)
-IsCarriedOut (Import arch container strict format) text none v = IsImportedAs arch container strict text × (v ≡ Same)
 
 -- It is carried out on some texts.
 abbrev pub IsPerformed : Command → Verdict → Type 0

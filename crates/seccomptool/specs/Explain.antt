@@ -1,5 +1,5 @@
 -- What `explain` gives: what a filter of a policy, or a profile, decides on records, and why.
-use Rattle.std.specs.Prelude.{◌≡◌, ◌≢◌, ℕ, List, All, Option, Some, None, String, string_bytes}
+use Rattle.std.specs.Prelude.{◌≡◌, ◌≢◌, ℕ, List, All, Option, Some, None, IfSome, String, string_bytes}
 use Rattle.std.specs.List.{AllZip}
 use Rattle.std.specs.declared.alloc.Global.{Global}
 use Rattle.seccompiler.specs.declared.backend.SeccompAction.{SeccompAction}
@@ -13,7 +13,8 @@ use Rattle.seccompiler.specs.JsonTypes.{JsonFilter}
 use Rattle.seccompiler.specs.Machine.{word_at}
 use Rattle.seccompiler.specs.Policy.{Filter, IsDecision, word_of}
 use Rattle.seccomp_oci.specs.declared.decide.ProfileDecision.{ProfileDecision}
-use Rattle.seccomp_oci.specs.Decided.{IsDecidedBy}
+use Rattle.seccomp_oci.specs.Decided.{IsByEntry}
+use Rattle.seccomp_oci.specs.Decision.{IsProfileDecision}
 use Rattle.seccomp_oci.specs.ProfileText.{IsProfileText}
 use Rattle.seccomp_oci.specs.Types.{Container, Profile}
 use Rattle.seccomptool.specs.declared.explain.Explained.{Explained}
@@ -62,6 +63,12 @@ pub record IsOfPolicy (target : TargetArch) (asked : Option (List ℕ)) (text : 
     pub each : AllZip (IsExplainedBy target named.filter) records e.records.items
 
 -- ---- profiles
+
+-- The profile decides this action of the record, and no other; and the entry, if there is one, is one that decides so.
+pub record IsDecidedBy (target : TargetArch) (container : Container) (p : Profile) (r : List ℕ) (d : ProfileDecision) : Type 0 where
+  pub action : IsProfileDecision target container p r d.action
+  pub only : (other : SeccompAction) → IsProfileDecision target container p r other → other ≡ d.action
+  pub entry : IfSome d.entry (IsByEntry target container p r d.action)
 
 -- The profile decides this on the record, by this entry; or the record is of another architecture, and the process is killed.
 pub data IsExplainedByProfile (target : TargetArch) (container : Container) (p : Profile) (r : List ℕ) (e : Explained) : Type 0 where

@@ -20,7 +20,6 @@ pub mod Rulings
 pub mod Diff
 pub mod Run
 pub mod Verify
-pub mod Imports
 pub mod CheckProfile
 pub mod Kinds
 pub mod Commands

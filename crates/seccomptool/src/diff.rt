@@ -143,8 +143,8 @@ fn diff_profiles<G: Progress>(
 ) -> Result<Vec<Finding>, ToolError>
     ensures { IfOk result (λ findings. AreOfProfiles terms.target terms.relation container.now old.now new.now findings.items) }
 {
-    let old = compiled_of(alloc, terms.target, container, old)?;
-    let new = match compiled_of(alloc, terms.target, container, new) {
+    let old = compiled_of(alloc, terms.target, container, false, old)?;
+    let new = match compiled_of(alloc, terms.target, container, false, new) {
         Ok(new) => new,
         Err(error) => return Err(of_new(error)),
     };
@@ -155,7 +155,7 @@ fn diff_profiles<G: Progress>(
 pub(crate) fn of_new(error: ToolError) -> ToolError {
     match error {
         ToolError::Library(error) => ToolError::NewPolicy(error),
-        ToolError::Import(error) => ToolError::NewImport(error),
+        ToolError::Profile(error) => ToolError::NewProfile(error),
         error => error,
     }
 }

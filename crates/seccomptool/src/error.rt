@@ -1,7 +1,7 @@
 // Why an engine of the program fails.
 
 use crate::run::fault::ProgramFault;
-use seccomp_oci::ImportError;
+use seccomp_oci::CompileError;
 use seccomp_tree::FilterError;
 use seccompiler::json::JsonFrontendError;
 use seccompiler::{BackendError, TargetArch};
@@ -29,10 +29,10 @@ pub enum ToolError {
     TreeTooLarge,
     /// The program can't be read, or may not be run.
     Program(ProgramFault),
-    /// A profile isn't imported.
-    Import(ImportError),
+    /// A profile isn't compiled.
+    Profile(CompileError),
     /// The new one of two profiles isn't compiled.
-    NewImport(ImportError),
+    NewProfile(CompileError),
     /// Memory ran out.
     OutOfMemory,
 }
@@ -55,8 +55,8 @@ impl fmt::Display for ToolError {
                 f.write_str("A filter needs more than 4096 instructions in the tree layout.")
             }
             ToolError::Program(fault) => write!(f, "{fault}"),
-            ToolError::Import(fault) => write!(f, "{fault}"),
-            ToolError::NewImport(fault) => write!(f, "{fault}"),
+            ToolError::Profile(fault) => write!(f, "{fault}"),
+            ToolError::NewProfile(fault) => write!(f, "{fault}"),
             ToolError::OutOfMemory => f.write_str("Out of memory."),
         }
     }

@@ -18,7 +18,7 @@ use crate::error::ToolError;
 use crate::explain::reason::Reason;
 use crate::explain::search::{reason_of, word_at};
 use crate::kind::Subject;
-use seccomp_oci::{Container, ImportError, Profile, ProfileError, decision_of_profile};
+use seccomp_oci::{CompileError, Container, Profile, ProfileError, decision_of_profile};
 use seccompiler::json::filters_of;
 use seccompiler::{
     JsonCompiler, JsonFilter, JsonFilterMap, SeccompAction, SeccompFilter, TargetArch,
@@ -247,7 +247,7 @@ fn profile_in(alloc: Global, text: &[u8]) -> Result<Profile, ToolError>
     match seccomp_oci::profile_of(alloc, text) {
         Ok(profile) => Ok(profile),
         Err(ProfileError::OutOfMemory) => Err(ToolError::OutOfMemory),
-        Err(fault) => Err(ToolError::Import(ImportError::Profile(fault))),
+        Err(fault) => Err(ToolError::Profile(CompileError::Profile(fault))),
     }
 }
 

@@ -87,7 +87,7 @@ fn place_of(command: &Command<'_>, failure: &Failure) -> Place {
 pub(crate) fn place_in(command: &Command<'_>, error: &ToolError) -> Place {
     match (error, command) {
         (ToolError::NewPolicy(_), _) => Place::Second,
-        (ToolError::NewImport(_), _) => Place::Second,
+        (ToolError::NewProfile(_), _) => Place::Second,
         (ToolError::Program(_), Command::Verify { .. }) => Place::Second,
         (ToolError::UnknownCall(_, _), _) => Place::Nowhere,
         (ToolError::OutOfMemory, _) => Place::Nowhere,

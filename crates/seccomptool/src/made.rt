@@ -2,7 +2,7 @@
 
 ghost use Rattle.std.specs.Prelude.{◌≡◌, ℕ, List, IfOk, option_map};
 ghost use Rattle.seccomptool.specs.Chosen.{text_of};
-ghost use Rattle.seccomptool.specs.Commands.{AreWidenedIn, IsCheck, IsCompared, IsCompiled, IsExplained, IsImportedAs, IsMeasured, IsRun, IsShown, IsVerified, OnRecords, records_in};
+ghost use Rattle.seccomptool.specs.Commands.{AreWidenedIn, IsCheck, IsCompared, IsCompiled, IsExplained, IsFilterCompiled, IsMeasured, IsProfileCompiled, IsRun, IsShown, IsVerified, OnRecords, records_in};
 ghost use Rattle.seccomptool.specs.Record.{IsRecordOf};
 ghost use Rattle.seccomptool.specs.declared.findings.Verdict.TheVariants.{Same};
 
@@ -11,7 +11,7 @@ use crate::check::{checked, verdict_where};
 use crate::codes::codes_text;
 use crate::compat::{calls_text, widened_calls};
 use crate::compile::format::ProgramFormat;
-use crate::compile::{compiled, program_text};
+use crate::compile::{NamedProgram, compiled, program_text};
 use crate::counts::{both_counted, counted};
 use crate::diff::diff_of;
 use crate::diff::lines::diff_lines;
@@ -20,11 +20,10 @@ use crate::explain::explain_of;
 use crate::explain::format::LineFormat;
 use crate::explain::lines::explained_lines;
 use crate::findings::{Terms, Verdict};
-use crate::import::format::ImportFormat;
-use crate::import::profile_imported;
-use crate::import::text::{import_bytes, import_notes, profile_notes, unimported};
 use crate::kind::{Subject, plain_container, subject_of};
 use crate::notes::front_of;
+use crate::profile::compiled_of;
+use crate::profile::notes::{profile_notes, uncompiled};
 use crate::progress::Progress;
 use crate::record::called_record;
 use crate::run::program::program_of;
@@ -37,8 +36,8 @@ use crate::verify::scope::Scope;
 use crate::verify::verify_of;
 use crate::words::{Call, Inputs, Shown};
 use seccomp_oci::Container;
-use seccomp_warnings::Code;
 use seccomp_tree::Layout;
+use seccomp_warnings::Code;
 use seccompiler::TargetArch;
 use std::alloc::Global;
 
@@ -79,6 +78,29 @@ impl Made {
 pub(crate) fn compile_made(
     alloc: Global,
     arch: TargetArch,
+    container: Option<&Container>,
+    strict: bool,
+    filter: Option<&str>,
+    layout: Layout,
+    format: ProgramFormat,
+    quiet: bool,
+    path: &str,
+    given: &[u8],
+) -> Result<Made, ToolError>
+    ensures { IfOk result (λ made. IsCompiled arch (option_map (λ c. c.now) container.entry) layout strict (text_of filter.entry) given.now × (made.verdict ≡ Same)) }
+{
+    let plain = plain_container(alloc);
+    match subject_of(alloc, container, &plain, filter, given)? {
+        Subject::Policy => policy_made(alloc, arch, filter, layout, format, quiet, path, given),
+        Subject::Profile(container) => {
+            profile_made(alloc, arch, container, strict, format, quiet, path, given)
+        }
+    }
+}
+
+fn policy_made(
+    alloc: Global,
+    arch: TargetArch,
     filter: Option<&str>,
     layout: Layout,
     format: ProgramFormat,
@@ -86,11 +108,45 @@ pub(crate) fn compile_made(
     path: &str,
     policy: &[u8],
 ) -> Result<Made, ToolError>
-    ensures { IfOk result (λ made. IsCompiled arch layout (text_of filter.entry) policy.now × (made.verdict ≡ Same)) }
+    ensures { IfOk result (λ made. IsFilterCompiled arch layout (text_of filter.entry) policy.now × (made.verdict ≡ Same)) }
 {
     let program = compiled(alloc, arch, layout, filter, policy)?;
     let text = program_text(alloc, format, &program)?;
     let notes = counted(alloc, quiet, arch, path, policy)?;
+    Ok(Made {
+        text,
+        rest: 0,
+        verdict: Verdict::Same,
+        notes,
+    })
+}
+
+fn profile_made(
+    alloc: Global,
+    arch: TargetArch,
+    container: &Container,
+    strict: bool,
+    format: ProgramFormat,
+    quiet: bool,
+    path: &str,
+    profile: &[u8],
+) -> Result<Made, ToolError>
+    ensures { IfOk result (λ made. IsProfileCompiled arch container.now strict profile.now × (made.verdict ≡ Same)) }
+{
+    let compiled = match compiled_of(alloc, arch, container, strict, profile) {
+        Ok(compiled) => compiled,
+        Err(error) => return Err(uncompiled(alloc, arch, error)),
+    };
+    let notes = if quiet {
+        Vec::new(alloc)
+    } else {
+        profile_notes(alloc, arch, path, &compiled.left_out, &compiled.flags)?
+    };
+    let program = NamedProgram {
+        name: String::from_str(alloc, "profile")?,
+        program: compiled.program,
+    };
+    let text = program_text(alloc, format, &program)?;
     Ok(Made {
         text,
         rest: 0,
@@ -141,12 +197,9 @@ pub(crate) fn check_made(
             Ok(Made::found(alloc, report.text, verdict))
         }
         Subject::Profile(container) => {
-            let checked = match profile_checked(alloc, arch, container, allowed, &front, given) {
-                Ok(checked) => checked,
-                Err(error) => return Err(unimported(alloc, arch, error)),
-            };
-            let CheckedProfile { policy, report } = checked;
-            let notes = profile_notes(alloc, arch, path, &policy.left_out, &policy.flags)?;
+            let checked = profile_checked(alloc, arch, container, allowed, &front, given)?;
+            let CheckedProfile { compiled, report } = checked;
+            let notes = profile_notes(alloc, arch, path, &compiled.left_out, &compiled.flags)?;
             Ok(Made {
                 text: report.text,
                 rest: 0,
@@ -336,29 +389,4 @@ pub(crate) fn compat_made(alloc: Global, arch: TargetArch, policy: &[u8]) -> Res
     let all = widened_calls(alloc, arch, policy)?;
     let text = calls_text(alloc, arch, &all)?;
     Ok(Made::plain(alloc, text))
-}
-
-pub(crate) fn import_made(
-    alloc: Global,
-    arch: TargetArch,
-    container: &Container,
-    strict: bool,
-    format: ImportFormat,
-    path: &str,
-    profile: &[u8],
-) -> Result<Made, ToolError>
-    ensures { IfOk result (λ made. IsImportedAs arch container.now strict profile.now × (made.verdict ≡ Same)) }
-{
-    let made = match profile_imported(alloc, arch, container, strict, format, profile) {
-        Ok(made) => made,
-        Err(error) => return Err(unimported(alloc, arch, error)),
-    };
-    let notes = import_notes(alloc, arch, path, &made)?;
-    let text = import_bytes(alloc, &made)?;
-    Ok(Made {
-        text,
-        rest: 0,
-        verdict: Verdict::Same,
-        notes,
-    })
 }

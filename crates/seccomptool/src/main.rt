@@ -12,7 +12,6 @@ mod error;
 mod explain;
 mod failure;
 mod findings;
-mod import;
 mod kind;
 mod layouts;
 mod made;

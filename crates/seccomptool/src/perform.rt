@@ -8,8 +8,8 @@ use crate::error::ToolError;
 use crate::failure::{Failure, Place, place_in};
 use crate::findings::Verdict;
 use crate::made::{
-    Made, check_made, codes_made, compat_made, compile_made, diff_made, explain_made, import_made,
-    record_made, run_made, show_made, stats_made, verify_made,
+    Made, check_made, codes_made, compat_made, compile_made, diff_made, explain_made, record_made,
+    run_made, show_made, stats_made, verify_made,
 };
 use crate::progress::Progress;
 use crate::readable::{LineFeeds, readable};
@@ -163,11 +163,24 @@ fn made_by<G: Progress>(
     match command {
         Command::Compile {
             arch,
+            container,
+            strict,
             filter,
             layout,
             format,
             quiet,
-        } => compile_made(alloc, *arch, *filter, *layout, *format, *quiet, path, first),
+        } => compile_made(
+            alloc,
+            *arch,
+            container.as_ref(),
+            *strict,
+            *filter,
+            *layout,
+            *format,
+            *quiet,
+            path,
+            first,
+        ),
         Command::Show {
             arch,
             layout,
@@ -229,11 +242,5 @@ fn made_by<G: Progress>(
             scope,
         } => verify_made(alloc, *terms, *filter, *scope, first, second, progress),
         Command::Compat { arch } => compat_made(alloc, *arch, first),
-        Command::Import {
-            arch,
-            container,
-            strict,
-            format,
-        } => import_made(alloc, *arch, container, *strict, *format, path, first),
     }
 }

@@ -1,30 +1,33 @@
 // The program of a profile of a container runtime.
 
-ghost use Rattle.std.specs.Prelude.{IfOk, false};
+pub(crate) mod notes;
+
+ghost use Rattle.std.specs.Prelude.{IfOk};
 ghost use Rattle.seccomp_oci.specs.CompiledProfile.{IsCompiledProfile};
 
 use crate::error::ToolError;
-use seccomp_oci::{CompiledProfile, Container, ImportError, ProfileError, compile_profile};
+use seccomp_oci::{CompileError, CompiledProfile, Container, ProfileError, compile_profile};
 use seccompiler::TargetArch;
 use std::alloc::Global;
 
-/// The program of a profile's text, without the names that no call of the architecture has.
+/// The program of a profile's text. Where it isn't strict, names that no call of the architecture has are left out.
 ///
 /// # Errors
 ///
-/// `Import` with what `compile_profile` gives; `OutOfMemory` in its place where memory runs out.
+/// `Profile` with what `compile_profile` gives; `OutOfMemory` in its place where memory runs out.
 pub(crate) fn compiled_of(
     alloc: Global,
     target: TargetArch,
     container: &Container,
+    strict: bool,
     text: &[u8],
 ) -> Result<CompiledProfile, ToolError>
-    ensures { IfOk result (IsCompiledProfile target container.now false text.now) }
+    ensures { IfOk result (IsCompiledProfile target container.now strict text.now) }
 {
-    match compile_profile(alloc, target, container, false, text) {
+    match compile_profile(alloc, target, container, strict, text) {
         Ok(compiled) => Ok(compiled),
-        Err(ImportError::OutOfMemory) => Err(ToolError::OutOfMemory),
-        Err(ImportError::Profile(ProfileError::OutOfMemory)) => Err(ToolError::OutOfMemory),
-        Err(error) => Err(ToolError::Import(error)),
+        Err(CompileError::OutOfMemory) => Err(ToolError::OutOfMemory),
+        Err(CompileError::Profile(ProfileError::OutOfMemory)) => Err(ToolError::OutOfMemory),
+        Err(error) => Err(ToolError::Profile(error)),
     }
 }

@@ -10,7 +10,6 @@ ghost use Rattle.seccomptool.specs.Commands.{EndWith, EndsWith, IsPerformed, ver
 use crate::compile::format::ProgramFormat;
 use crate::failure::{Failure, note, tell};
 use crate::findings::Verdict;
-use crate::import::format::ImportFormat;
 use crate::output::{is_same, write_whole};
 use crate::perform::{Done, perform};
 use crate::progress::Progress;
@@ -199,7 +198,6 @@ fn is_onto(rt: &(impl Files + AllocGlobal), asked: &Asked<'_>, inputs: Inputs<'_
 pub(crate) fn writes_bytes(command: &Command<'_>) -> bool {
     match command {
         Command::Compile { format, .. } => matches!(format, ProgramFormat::Raw),
-        Command::Import { format, .. } => matches!(format, ImportFormat::Raw),
         Command::Record { .. } => true,
         _ => false,
     }

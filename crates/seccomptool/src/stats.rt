@@ -69,7 +69,7 @@ pub fn profile_stats(
 ) -> Result<Measure, ToolError>
     ensures { IfOk result (IsProfileMeasure target container.now text.now) }
 {
-    let compiled = compiled_of(alloc, target, container, text)?;
+    let compiled = compiled_of(alloc, target, container, false, text)?;
     Ok(measure_of(alloc, target, &compiled.program)?)
 }
 

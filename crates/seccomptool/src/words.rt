@@ -8,14 +8,13 @@ mod values;
 use crate::compile::format::ProgramFormat;
 use crate::explain::format::LineFormat;
 use crate::findings::Terms;
-use crate::import::format::ImportFormat;
 use crate::verify::scope::Scope;
 use crate::words::matches::asked_in;
 use crate::words::program::program;
 use clap::error::ErrorKind;
 use seccomp_oci::Container;
-use seccomp_warnings::Code;
 use seccomp_tree::Layout;
+use seccomp_warnings::Code;
 use seccompiler::TargetArch;
 use std::alloc::{AllocError, AllocFailed, Global};
 
@@ -29,6 +28,10 @@ pub enum Command<'a> {
     Compile {
         /// The architecture.
         arch: TargetArch,
+        /// The container.
+        container: Option<Container>,
+        /// Whether names that no call of the architecture has are an error, in a profile.
+        strict: bool,
         /// The filter's name; the policy's only filter where there is none.
         filter: Option<&'a str>,
         /// The program's layout.
@@ -118,17 +121,6 @@ pub enum Command<'a> {
     Compat {
         /// The architecture.
         arch: TargetArch,
-    },
-    /// Write what a profile is made into, a policy or a program.
-    Import {
-        /// The architecture.
-        arch: TargetArch,
-        /// The container.
-        container: Container,
-        /// Whether a profile is rejected that names calls which the architecture hasn't.
-        strict: bool,
-        /// What it is made into.
-        format: ImportFormat,
     },
 }
 

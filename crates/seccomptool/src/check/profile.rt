@@ -3,25 +3,30 @@
 ghost use Rattle.std.specs.Prelude.{◌≡◌, ◌++◌, ◌↔◌, IfOk, IsTrue};
 ghost use Rattle.seccomptool.specs.CheckProfile.{DenyClone3, IsProfileCheckOf, IsProfileReport, codes_of_base, codes_of_each, codes_of_others, has_base};
 
-use seccomp_oci::{Container, Import, ImportError, import_profile};
+use crate::error::ToolError;
+use crate::profile::compiled_of;
+use seccomp_oci::{
+    CompileError, CompiledProfile, Container, Profile, ProfileError, json_filters_of, profile_of,
+};
 use seccomp_warnings::{Code, Report, denies_each, report_by_name};
-use seccompiler::json::filters_of;
-use seccompiler::{JsonFilterMap, TargetArch};
+use seccompiler::{JsonFilter, JsonFilterMap, SeccompAction, TargetArch};
 use std::alloc::{AllocError, Global};
+use std::collections::BTreeMap;
 
-/// A profile as a policy, and the policy's warnings.
+/// A profile's program, and its warnings.
 #[derive(Drop)]
 pub struct CheckedProfile {
-    /// The policy.
-    pub policy: Import,
-    /// Its warnings.
+    /// The program.
+    pub compiled: CompiledProfile,
+    /// The warnings.
     pub report: Report,
 }
 
-/// The warnings of the policy that a profile's text is imported as, as [`checked`](crate::check::checked) gives those of a policy.
+/// The warnings of a profile's text, as [`checked`](crate::check::checked) gives those of a policy: those of the filters that
+/// [`json_filters_of`] makes of it, by the names `base`, which has the default action, `deny1`, `deny2` and so on.
 ///
-/// The filters of that policy are installed together, and a runtime reads the profile. So these warnings are left out
-/// beside those of the allowed codes:
+/// These filters decide together, and a runtime reads the profile. So these warnings are left out beside those of the allowed
+/// codes:
 ///
 /// - of each filter those of `crate-differs`, and those of `clone-by-clone3` where one of the filters denies each `clone3`;
 /// - of `base` those of `unreachable-entry`, `redundant-entry` and `undecided-entry`;
@@ -29,7 +34,7 @@ pub struct CheckedProfile {
 ///
 /// # Errors
 ///
-/// Those of [`import_profile`], where it isn't strict.
+/// Those of [`compiled_of`], where it isn't strict.
 pub fn profile_checked(
     alloc: Global,
     target: TargetArch,
@@ -37,34 +42,70 @@ pub fn profile_checked(
     allowed: &[Code],
     front: &[u8],
     text: &[u8],
-) -> Result<CheckedProfile, ImportError>
+) -> Result<CheckedProfile, ToolError>
     ensures { IfOk result (IsProfileCheckOf target container.now allowed.now front.now text.now) }
 {
-    let policy = import_profile(alloc, target, container, false, text)?;
-    match report_on(alloc, target, allowed, front, &policy.text) {
-        Ok(report) => Ok(CheckedProfile { policy, report }),
-        Err(_) => Err(ImportError::OutOfMemory),
-    }
+    let compiled = compiled_of(alloc, target, container, false, text)?;
+    let filters = filters_in(alloc, target, container, text)?;
+    let report = report_on(alloc, target, allowed, front, &filters)?;
+    Ok(CheckedProfile { compiled, report })
 }
 
-// The warnings of the policy that a profile is imported as. `import_profile` takes only a text that reads back as
-// filters of the architecture: an error is want of memory.
+// The filters of a profile's text, by name.
+fn filters_in(
+    alloc: Global,
+    target: TargetArch,
+    container: &Container,
+    text: &[u8],
+) -> Result<JsonFilterMap, ToolError> {
+    let profile = match profile_of(alloc, text) {
+        Ok(profile) => profile,
+        Err(ProfileError::OutOfMemory) => return Err(ToolError::OutOfMemory),
+        Err(fault) => return Err(ToolError::Profile(CompileError::Profile(fault))),
+    };
+    let filters = json_filters_of(alloc, target, container, &profile)?;
+    Ok(by_name(alloc, &profile, filters)?)
+}
+
+// The filters by name: the last one is `base`, where the default action isn't to allow.
+fn by_name(
+    alloc: Global,
+    profile: &Profile,
+    filters: Vec<JsonFilter>,
+) -> Result<JsonFilterMap, AllocError> {
+    let count = filters.len();
+    let mut named = BTreeMap::new(alloc);
+    for (place, filter) in filters.into_iter().enumerate() {
+        let is_last = place == count - 1;
+        let name = if is_last && !allows(profile.default) {
+            String::from_str(alloc, "base")?
+        } else {
+            let number = place.saturating_add(1);
+            format!(in alloc; "deny{number}")?
+        };
+        drop(named.insert(name, filter)?);
+    }
+    Ok(JsonFilterMap(named))
+}
+
+fn allows(action: SeccompAction) -> bool {
+    matches!(action, SeccompAction::Allow)
+}
+
+// The warnings of these filters. They are of calls and arguments that the architecture has: an error is want of memory.
 fn report_on(
     alloc: Global,
     target: TargetArch,
     allowed: &[Code],
     front: &[u8],
-    text: &[u8],
+    filters: &JsonFilterMap,
 ) -> Result<Report, AllocError>
-    ensures { IfOk result (IsProfileReport target allowed.now front.now text.now) }
+    ensures { IfOk result (IsProfileReport target allowed.now front.now filters.now) }
 {
-    let Ok(filters) = filters_of(alloc, text) else {
-        return Err(AllocError);
-    };
-    let of_each = codes_of_each(deny_clone3(&filters));
+    let of_each = codes_of_each(deny_clone3(filters));
     let of_base = joined(alloc, allowed, of_each, codes_of_base())?;
-    let of_others = joined(alloc, allowed, of_each, codes_of_others(has_base(&filters)))?;
-    match report_by_name(alloc, target, front, &filters, "base", &of_base, &of_others) {
+    let of_others = joined(alloc, allowed, of_each, codes_of_others(has_base(filters)))?;
+    match report_by_name(alloc, target, front, filters, "base", &of_base, &of_others) {
         Ok(report) => Ok(report),
         Err(_) => Err(AllocError),
     }

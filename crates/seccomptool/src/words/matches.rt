@@ -1,8 +1,8 @@
 // What clap's matches ask for.
 
 use super::values::{
-    allowed_in, arch_in, arguments_in, call_in, container_in, format_in, given_container,
-    import_format_in, is_set, layout_in, line_format_in, path_in, policies_in, terms_in,
+    allowed_in, arch_in, arguments_in, call_in, format_in, given_container, is_set, layout_in,
+    line_format_in, path_in, policies_in, terms_in,
 };
 use super::{Asked, Call, Command, Inputs, Misuse, Shown};
 use crate::verify::scope::Scope;
@@ -24,7 +24,6 @@ pub(super) fn asked_in<'a>(alloc: Global, name: &str, found: &ArgMatches<'a>) ->
         "diff" => diff_in(alloc, found),
         "verify" => verify_in(alloc, found),
         "compat" => compat_in(alloc, found),
-        "import" => import_in(alloc, found),
         _ => Err(Misuse::Told("no command is given")),
     }
 }
@@ -46,6 +45,8 @@ fn on<'a>(
 fn compile_in<'a>(alloc: Global, found: &ArgMatches<'a>) -> Read<'a> {
     let command = Command::Compile {
         arch: arch_in(found),
+        container: given_container(alloc, found)?,
+        strict: is_set(found, "strict"),
         filter: found.get_str("filter"),
         layout: layout_in(found),
         format: format_in(found),
@@ -181,14 +182,4 @@ fn compat_in<'a>(alloc: Global, found: &ArgMatches<'a>) -> Read<'a> {
         arch: arch_in(found),
     };
     on(alloc, command, Some(path_in(found, "policy")), None)
-}
-
-fn import_in<'a>(alloc: Global, found: &ArgMatches<'a>) -> Read<'a> {
-    let command = Command::Import {
-        arch: arch_in(found),
-        container: container_in(alloc, found)?,
-        strict: is_set(found, "strict"),
-        format: import_format_in(found),
-    };
-    on(alloc, command, Some(path_in(found, "profile")), None)
 }

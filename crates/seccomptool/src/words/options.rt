@@ -37,7 +37,7 @@ pub(super) fn of_profiles<'a>(alloc: Global, command: Built<'a>, help: &'a str) 
 }
 
 // The command, with what is said of a container.
-pub(super) fn of_container<'a>(alloc: Global, command: Built<'a>) -> Built<'a> {
+fn of_container<'a>(alloc: Global, command: Built<'a>) -> Built<'a> {
     let cap = "A capability that the container has, as CAP_SYS_ADMIN";
     let kernel = "The kernel's version, as 6.1; newer than each where it isn't given";
     let command = with(command, several(value(alloc, "cap", "CAP", cap)));

@@ -2,14 +2,12 @@
 
 use super::options::{
     Built, at_most, begun, beside, choice, filter, flag, given, input, layout, most, of_call,
-    of_container, of_profiles, place, quiet, records, several, value, with,
+    of_profiles, place, quiet, records, several, value, with,
 };
 use clap::Command;
 use std::alloc::Global;
 
 static PROGRAM_FORMATS: [&str; 3] = ["raw", "listing", "c"];
-
-static IMPORT_FORMATS: [&str; 2] = ["policy", "raw"];
 
 static LINE_FORMATS: [&str; 2] = ["path", "word"];
 
@@ -32,8 +30,8 @@ static CODES: [&str; 15] = [
 ];
 
 const AFTER: &str = "\
-POLICY, OLD, NEW, PROGRAM, PROFILE and FILE are paths; - is standard input, and
-so is POLICY or PROFILE where it isn't given. CALL is the name or number of a
+POLICY, OLD, NEW, PROGRAM and FILE are paths; - is standard input, and so is
+POLICY where it isn't given. CALL is the name or number of a
 system call. Numbers are decimal, or hexadecimal behind 0x; an ARG may be
 negative, and then stands behind --, as in `seccomptool record lseek 3 -- -1`.
 
@@ -65,8 +63,7 @@ pub(super) fn program<'a>(alloc: Global) -> Built<'a> {
     let command = beside(command, record(alloc));
     let command = beside(command, diff(alloc));
     let command = beside(command, verify(alloc));
-    let command = beside(command, compat(alloc));
-    beside(command, import(alloc))
+    beside(command, compat(alloc))
 }
 
 fn top<'a>(alloc: Global) -> Built<'a> {
@@ -85,7 +82,12 @@ fn top<'a>(alloc: Global) -> Built<'a> {
 fn compile<'a>(alloc: Global) -> Built<'a> {
     let format = "How the program is written: as bytes, as a listing, or as an initialiser in C";
     let output = "Where the program goes, in place of standard output";
-    let command = begun(alloc, "compile", "Write the program of a filter");
+    let strict = "Reject a profile that names calls which the architecture hasn't";
+    let command = begun(
+        alloc,
+        "compile",
+        "Write the program of a filter or of a profile",
+    );
     let command = with(command, filter(alloc, ONE_FILTER));
     let command = with(command, layout(alloc));
     let command = with(
@@ -101,6 +103,8 @@ fn compile<'a>(alloc: Global) -> Built<'a> {
     );
     let command = with(command, value(alloc, "output", "FILE", output).short('o'));
     let command = with(command, quiet(alloc));
+    let command = of_profiles(alloc, command, PROFILE);
+    let command = with(command, flag(alloc, "strict", strict));
     with(command, input(alloc, "policy", "POLICY", POLICY))
 }
 
@@ -248,33 +252,4 @@ fn compat<'a>(alloc: Global) -> Built<'a> {
     let about = "Print the calls that the Rust crate would decide otherwise";
     let command = begun(alloc, "compat", about);
     with(command, input(alloc, "policy", "POLICY", POLICY))
-}
-
-fn import<'a>(alloc: Global) -> Built<'a> {
-    let about = "Print a container runtime's seccomp profile as a policy or as one program";
-    let strict = "Reject a profile that names calls which the architecture hasn't";
-    let format = "What it is made into: a policy, or one program";
-    let command = begun(alloc, "import", about);
-    let command = of_container(alloc, command);
-    let command = with(command, flag(alloc, "strict", strict));
-    let command = with(
-        command,
-        choice(
-            alloc,
-            "format",
-            "FORMAT",
-            IMPORT_FORMATS.as_slice(),
-            "policy",
-            format,
-        ),
-    );
-    with(
-        command,
-        input(
-            alloc,
-            "profile",
-            "PROFILE",
-            "The profile's file, or - for standard input",
-        ),
-    )
 }

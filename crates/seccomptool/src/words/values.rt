@@ -6,13 +6,12 @@ use super::{Call, Inputs, Misuse};
 use crate::compile::format::ProgramFormat;
 use crate::explain::format::LineFormat;
 use crate::findings::Terms;
-use crate::import::format::ImportFormat;
 use crate::numbers::read_number;
 use clap::ArgMatches;
 use seccomp_compare::Relation;
 use seccomp_oci::{Container, Kernel, kernel_of};
-use seccomp_warnings::Code;
 use seccomp_tree::Layout;
+use seccomp_warnings::Code;
 use seccompiler::TargetArch;
 use std::alloc::{AllocError, Global};
 
@@ -59,13 +58,6 @@ pub(super) fn line_format_in(found: &ArgMatches<'_>) -> LineFormat {
     match found.get_str("format") {
         Some("word") => LineFormat::Word,
         _ => LineFormat::Path,
-    }
-}
-
-pub(super) fn import_format_in(found: &ArgMatches<'_>) -> ImportFormat {
-    match found.get_str("format") {
-        Some("raw") => ImportFormat::Raw,
-        _ => ImportFormat::Policy,
     }
 }
 
@@ -181,7 +173,7 @@ pub(super) fn given_container(
 }
 
 // The container of the capabilities that `--cap` names, and of the kernel that `--kernel` names.
-pub(super) fn container_in(alloc: Global, found: &ArgMatches<'_>) -> Result<Container, Misuse> {
+fn container_in(alloc: Global, found: &ArgMatches<'_>) -> Result<Container, Misuse> {
     let kernel = kernel_in(found)?;
     let mut caps = Vec::new(alloc);
     for cap in found.get_strs("cap").unwrap_or(&[]) {

@@ -29,8 +29,8 @@ returns-in-Ok g c =
       of_new = of_new.read.profile;
       are = are new old
           (subst (StandsFor target new) (sym c.deref.ensures.value)
-          (profile_stands target container of_new.profile c.in-Ok.new of_new.program))
+          (profile_stands target container of_new.profile c.in-Ok.new.program.items of_new.program))
           (subst (StandsFor target old) (sym c.deref-2.ensures.value)
-          (profile_stands target container of_old.profile c.in_ok-old.old of_old.program));
+          (profile_stands target container of_old.profile c.in_ok-old.old.program.items of_old.program));
     })
     c.findings_of.ensures

@@ -12,4 +12,5 @@ returns c =
     let here : word_at c.args.call.now 4 ≡ audit_word c.args.target =
     sym c.word_at.ensures ∙ c.if-word_at-get_audit_value.false ∙ c.get_audit_value.ensures in
     let with_number = λ (number : ℕ). let e : Explained = record { action = d.action; why = variant.Profile number d.entry } in e in
-    decided d here c.decision_of_profile-decision.ensures.decided (ap with_number c.word_at-2.ensures)
+    let by = c.decision_of_profile-decision.ensures in
+    decided d here (record { action = by.decision; only = by.only; entry = by.entry }) (ap with_number c.word_at-2.ensures)

@@ -1,38 +1,11 @@
-// What is written, noted and told of a profile that is imported.
+// What is noted and told of a profile.
 
-use crate::compile::bytes::bytes_of;
 use crate::error::ToolError;
-use crate::import::Imported;
 use crate::notes::note;
 use seccomp_command_line::names::push_readable;
-use seccomp_oci::{Flag, ImportError, ProfileError};
+use seccomp_oci::{CompileError, Flag};
 use seccompiler::TargetArch;
 use std::alloc::{AllocError, Global};
-
-/// The bytes of what a profile is made into: the policy's text, or the program's instructions, each as a `struct sock_filter`.
-pub(crate) fn import_bytes(alloc: Global, made: &Imported) -> Result<Vec<u8>, AllocError> {
-    match made {
-        Imported::Policy(policy) => policy.text.clone(),
-        Imported::Program(program) => bytes_of(alloc, &program.program),
-    }
-}
-
-/// The notes on what the profile of a path is made into.
-pub(crate) fn import_notes(
-    alloc: Global,
-    arch: TargetArch,
-    path: &str,
-    made: &Imported,
-) -> Result<Vec<u8>, AllocError> {
-    match made {
-        Imported::Policy(policy) => {
-            profile_notes(alloc, arch, path, &policy.left_out, &policy.flags)
-        }
-        Imported::Program(program) => {
-            profile_notes(alloc, arch, path, &program.left_out, &program.flags)
-        }
-    }
-}
 
 /// The notes on the profile of a path.
 ///
@@ -63,19 +36,19 @@ pub(crate) fn profile_notes(
     Ok(notes)
 }
 
-/// Why nothing is made of a profile: the import's error, or the names that no call has.
-pub(crate) fn unimported(alloc: Global, arch: TargetArch, error: ImportError) -> ToolError {
+/// Why a profile isn't compiled: the error, or the names that no call of the architecture has.
+pub(crate) fn uncompiled(alloc: Global, arch: TargetArch, error: ToolError) -> ToolError {
     match error {
-        ImportError::UnknownNames(names) => match names_told(alloc, arch, "", &names) {
-            Ok(told) => match String::from_utf8(told) {
-                Ok(told) => ToolError::Fault(told),
-                Err(_) => ToolError::Import(ImportError::UnknownNames(names)),
-            },
-            Err(_) => ToolError::OutOfMemory,
-        },
-        ImportError::OutOfMemory => ToolError::OutOfMemory,
-        ImportError::Profile(ProfileError::OutOfMemory) => ToolError::OutOfMemory,
-        error => ToolError::Import(error),
+        ToolError::Profile(CompileError::UnknownNames(names)) => {
+            match names_told(alloc, arch, "", &names) {
+                Ok(told) => match String::from_utf8(told) {
+                    Ok(told) => ToolError::Fault(told),
+                    Err(_) => ToolError::Profile(CompileError::UnknownNames(names)),
+                },
+                Err(_) => ToolError::OutOfMemory,
+            }
+        }
+        error => error,
     }
 }
 

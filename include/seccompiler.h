@@ -275,12 +275,12 @@ int64_t seccompiler_compile_rules(const struct seccompiler_chain *chains, size_t
                                   struct sock_filter *program, size_t capacity);
 
 /*
- * Counts the instructions of the program that seccompiler_compile_rules makes of these arguments, or would make if
- * programs could have more than 4096.
+ * Counts the instructions of the program that seccompiler_compile_rules makes of these arguments; or, in the linear
+ * layout, would make if programs could have more than 4096.
  *
  * Returns the number of instructions, or 9223372036854775807, if that is less. Or returns one of the codes of
- * seccompiler_compile_rules but TOO_LARGE and NO_ROOM, in the same cases. OUT_OF_MEMORY comes only in place of a
- * number.
+ * seccompiler_compile_rules but NO_ROOM, in the same cases; TOO_LARGE comes in the tree layout alone. OUT_OF_MEMORY
+ * comes only in place of a number or of TOO_LARGE.
  */
 int64_t seccompiler_rules_length(const struct seccompiler_chain *chains, size_t chain_count,
                                  const struct seccompiler_rule *rules, size_t rule_count,

@@ -3,27 +3,20 @@ use Rattle.std.proofs.Common.{◌≡◌, ◌<◌, ◌≤◌, ◌^◌, ◌++◌, 
 use Rattle.std.proofs.Common.{arith}
 use Rattle.std.proofs.lemmas.Int.{ints, to_z_pos}
 use Rattle.std.proofs.lemmas.List.Elements.{All-contains, All-weaker}
-use Rattle.seccompiler.specs.Layouts.{IsRefusalIn}
+use Rattle.seccomp_tree.specs.Layouts.{IsRefusalIn}
 use Rattle.seccompiler.specs.Policy.{Filter, IsCallNumber}
-use Rattle.seccompiler.specs.Compiled.{AreCallNumbers, IsLeastUnfit, numbers_of}
+use Rattle.seccompiler.specs.Compiled.{AreCallNumbers, numbers_of}
 use Rattle.seccompiler.specs.SyscallTable.{IsTableNumber}
-use Rattle.seccompiler.specs.declared.backend.BackendError.{BackendError}
-use Rattle.seccompiler.specs.declared.backend.BackendError.TheVariants as backend
+use Rattle.seccomp_tree.specs.declared.error.FilterError.{FilterError}
+use Rattle.seccomp_tree.specs.declared.error.FilterError.TheVariants as filter
 use Rattle.seccompiler.specs.declared.backend.TargetArch.{TargetArch}
-use Rattle.seccompiler.specs.declared.layout.Layout.{Layout}
-use Rattle.seccompiler.specs.declared.layout.Layout.TheVariants.{Linear, Tree}
+use Rattle.seccomp_tree.specs.declared.layout.Layout.{Layout}
 use Rattle.seccompiler.specs.declared.bpf.sock_filter.{sock_filter}
 use Rattle.seccompiler_c.specs.Arguments.{IsArchitecture, IsLayout}
-use Rattle.seccompiler_c.specs.Policies.{NamesPolicy, from_backend}
+use Rattle.seccompiler_c.specs.Policies.{NamesPolicy, from_filter}
 use Rattle.seccompiler_c.specs.Programs.{Request, OfProgram, Holds, IsRefusal, IsUncompiledIn}
 use Rattle.seccompiler_c.specs.declared.fault.Fault.{Fault}
 use Rattle.seccompiler_c.specs.declared.fault.Fault.TheVariants as fault
-
--- A number that is told as unfit is the least one in both layouts.
-unfit_in : (layout : Layout) (f : Filter) (n : ℤ) → IsRefusalIn layout f (backend.InvalidSyscallNumber n)
-    → IsLeastUnfit (numbers_of f.chains) n
-unfit_in Linear f n why = why
-unfit_in Tree f n why = why
 
 -- A number of a table is a call number.
 table_number_fits : (z : ℤ) → IsTableNumber z → IsCallNumber z
@@ -31,24 +24,23 @@ table_number_fits (pos n) h = (n, refl, grind (arith, ints, h.1))
 table_number_fits (negsuc n) h = absurd (grind (arith, ints, h.0))
 
 -- What holds of want of memory and of a length holds of all that a filter is refused for whose numbers are call numbers.
-pub of_refusal : (layout : Layout) (f : Filter) (P : BackendError → Type 0) → AreCallNumbers (numbers_of f.chains)
-    → P backend.OutOfMemory
-    → ((n : ℕ) → IsRefusalIn layout f (backend.FilterTooLarge n) → P (backend.FilterTooLarge n))
-    → (e : BackendError) → IsRefusalIn layout f e → P e
-of_refusal layout f P numbers memory long backend.OutOfMemory why = memory
-of_refusal layout f P numbers memory long (backend.FilterTooLarge n) why = long n why
-of_refusal layout f P numbers memory long (backend.InvalidSyscallNumber n) why = absurd (fits n (unfit_in layout f n why))
-  where
-    fits : (n : ℤ) → IsLeastUnfit (numbers_of f.chains) n → ⊥
-    fits n least = least.unfit (All-contains IsCallNumber (numbers_of f.chains) n numbers least.among)
-of_refusal Linear f P numbers memory long _ why = absurd why
-of_refusal Tree f P numbers memory long _ why = absurd why
+pub of_refusal : (layout : Layout) (f : Filter) (P : FilterError → Type 0) → AreCallNumbers (numbers_of f.chains)
+    → P filter.OutOfMemory
+    → ((n : ℕ) → IsRefusalIn layout f (filter.FilterTooLarge n) → P (filter.FilterTooLarge n))
+    → (IsRefusalIn layout f filter.TreeTooLarge → P filter.TreeTooLarge)
+    → (e : FilterError) → IsRefusalIn layout f e → P e
+of_refusal layout f P numbers memory long tree filter.OutOfMemory why = memory
+of_refusal layout f P numbers memory long tree (filter.FilterTooLarge n) why = long n why
+of_refusal layout f P numbers memory long tree filter.TreeTooLarge why = tree why
+of_refusal layout f P numbers memory long tree (filter.InvalidSyscallNumber n) why =
+    absurd (why.unfit (All-contains IsCallNumber (numbers_of f.chains) n numbers why.among))
 
 -- A filter whose numbers are those of a table is refused for its length, or for want of memory.
-pub uncompiled : (layout : Layout) (f : Filter) → All IsTableNumber (numbers_of f.chains) → (e : BackendError) → IsRefusalIn layout f e
-    → IsUncompiledIn layout f (from_backend e)
-uncompiled layout f numbers = of_refusal layout f (λ e. IsUncompiledIn layout f (from_backend e))
+pub uncompiled : (layout : Layout) (f : Filter) → All IsTableNumber (numbers_of f.chains) → (e : FilterError) → IsRefusalIn layout f e
+    → IsUncompiledIn layout f (from_filter e)
+uncompiled layout f numbers = of_refusal layout f (λ e. IsUncompiledIn layout f (from_filter e))
     (All-weaker IsTableNumber IsCallNumber table_number_fits (numbers_of f.chains) numbers) tt (λ n why. why)
+    (λ why. why)
 
 -- What holds of the policy that is found holds of the policy of the name.
 pub named_so : (target : TargetArch) (text name : List ℕ) (policy : Filter) (P : Filter → Type 0)

@@ -2,8 +2,8 @@
 use Rattle.std.specs.Prelude.{◌≡◌, ℕ}
 use Rattle.seccompiler.specs.Architecture.{audit_word}
 use Rattle.seccompiler.specs.declared.backend.TargetArch.{TargetArch}
-use Rattle.seccompiler.specs.declared.layout.Layout.{Layout}
-use Rattle.seccompiler.specs.declared.layout.Layout.TheVariants.{Linear, Tree}
+use Rattle.seccomp_tree.specs.declared.layout.Layout.{Layout}
+use Rattle.seccomp_tree.specs.declared.layout.Layout.TheVariants.{Linear, Tree}
 
 -- The word is that of an architecture (linux/audit.h).
 abbrev pub IsArchitecture : ℕ → TargetArch → Type 0

@@ -6,6 +6,8 @@ use Rattle.std.specs.Ordering.{int_cmp}
 use Rattle.seccompiler.specs.Policy.{IsCallNumber}
 use Rattle.seccompiler.specs.declared.backend.BackendError.{BackendError}
 use Rattle.seccompiler.specs.declared.backend.BackendError.TheVariants as backend
+use Rattle.seccomp_tree.specs.declared.error.FilterError.{FilterError}
+use Rattle.seccomp_tree.specs.declared.error.FilterError.TheVariants as filter
 use Rattle.seccompiler.specs.declared.backend.SeccompAction.{SeccompAction}
 use Rattle.seccompiler.specs.declared.backend.SeccompAction.TheVariants.{Allow, Errno, KillThread, KillProcess, Log, Trace, Trap}
 use Rattle.seccompiler_c.specs.Arrays.{HasArgument, HasConditions, conditions_of_rule, rules_of_chain, number_of}
@@ -45,6 +47,11 @@ arrays_code_of f = code_number (arrays_fault_code f)
 abbrev pub arrays_fault_of : BackendError → ArraysFault
 arrays_fault_of backend.OutOfMemory = OutOfMemory
 arrays_fault_of refusal = TooLarge
+
+-- The refusal of a filter in a layout, as a fault.
+abbrev pub arrays_refusal : FilterError → ArraysFault
+arrays_refusal filter.OutOfMemory = OutOfMemory
+arrays_refusal refusal = TooLarge
 
 -- The kind of an action, which is its word without data (linux/seccomp.h).
 abbrev pub kind_of : SeccompAction → ℕ

@@ -3,8 +3,9 @@ use Rattle.std.specs.Prelude.{◌≡◌, ℕ, ◌+◌, ℤ, pos, ◌<◌, ◌⊎
 use Rattle.std.specs.Str.{IsUtf8, IsCharBoundary}
 use Rattle.serde_json.specs.Data.{Data}
 use Rattle.seccompiler.specs.JsonAnswers.{IsReadAs}
-use Rattle.seccompiler.specs.Texts.{json_text, backend_text, IsJsonText}
+use Rattle.seccompiler.specs.Texts.{json_text, IsJsonText}
 use Rattle.seccompiler.specs.declared.backend.TargetArch.{TargetArch}
+use Rattle.seccomp_tree.specs.Layouts.{filter_text}
 use Rattle.seccomp_check.specs.Checks.{TellsFaultOf, frontend_cause}
 use Rattle.seccomp_check.specs.declared.fault.Cause.{Cause}
 use Rattle.seccompiler_c.specs.Codes.{fault_code, code_text, IsSentence}
@@ -20,7 +21,7 @@ fault_text UnknownLayout = Some (codes "Unknown layout.")
 fault_text (Text e) = json_text e
 fault_text NoFilter = Some (codes "No filter has this name.")
 fault_text NoIndex = Some (codes "No filter has this index.")
-fault_text (Filter e) = Some (backend_text e)
+fault_text (Filter e) = Some (filter_text e)
 fault_text (NoRoom n) = Some (codes "The array has too little room for the program: it has " ++ decimal n ++ codes " instructions.")
 
 -- The text is that of the fault; of JSON that can't be read it is known how it begins. No text is empty.

@@ -5,8 +5,8 @@ use Rattle.seccompiler.specs.JsonAnswers.{OfValue, HasPolicy, HasSomePolicy, Tel
 use Rattle.seccompiler.specs.JsonFilters.{AreAll}
 use Rattle.seccompiler.specs.JsonShape.{Under, Lacks}
 use Rattle.seccompiler.specs.Policy.{Filter}
-use Rattle.seccompiler.specs.declared.backend.BackendError.{BackendError}
-use Rattle.seccompiler.specs.declared.backend.BackendError.TheVariants as backend
+use Rattle.seccomp_tree.specs.declared.error.FilterError.{FilterError}
+use Rattle.seccomp_tree.specs.declared.error.FilterError.TheVariants as filter
 use Rattle.seccompiler.specs.declared.backend.TargetArch.{TargetArch}
 use Rattle.seccompiler.specs.declared.json.error.JsonFrontendError.{JsonFrontendError}
 use Rattle.seccompiler.specs.declared.json.error.JsonFrontendError.TheVariants as frontend
@@ -18,10 +18,10 @@ abbrev pub from_frontend : JsonFrontendError → Fault
 from_frontend frontend.OutOfMemory = fault.OutOfMemory
 from_frontend refusal = fault.Text refusal
 
--- The backend's refusal of a filter, as a fault.
-abbrev pub from_backend : BackendError → Fault
-from_backend backend.OutOfMemory = fault.OutOfMemory
-from_backend refusal = fault.Filter refusal
+-- The refusal of a filter, as a fault.
+abbrev pub from_filter : FilterError → Fault
+from_filter filter.OutOfMemory = fault.OutOfMemory
+from_filter refusal = fault.Filter refusal
 
 -- The text has no fault on the architecture, all filters of its value having policies, and P holds of the value.
 abbrev pub OfPolicies : TargetArch → List ℕ → (Data → Type 0) → Type 0

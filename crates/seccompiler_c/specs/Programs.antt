@@ -1,12 +1,12 @@
 -- The program that a caller asks for, and why it is not given.
 use Rattle.std.specs.Prelude.{◌≡◌, ℕ, ℤ, pos, ◌<◌, ◌≤◌, List, [], ◌++◌, drop, length, ⊤}
-use Rattle.seccompiler.specs.Layouts.{IsCompiledIn, IsRefusalIn}
+use Rattle.seccomp_tree.specs.Layouts.{IsCompiledIn, IsRefusalIn}
 use Rattle.seccompiler.specs.Policy.{Filter}
-use Rattle.seccompiler.specs.declared.backend.BackendError.{BackendError}
-use Rattle.seccompiler.specs.declared.backend.BackendError.TheVariants.{FilterTooLarge}
+use Rattle.seccomp_tree.specs.declared.error.FilterError.{FilterError}
+use Rattle.seccomp_tree.specs.declared.error.FilterError.TheVariants.{FilterTooLarge, TreeTooLarge}
 use Rattle.seccompiler.specs.declared.backend.TargetArch.{TargetArch}
 use Rattle.seccompiler.specs.declared.bpf.sock_filter.{sock_filter}
-use Rattle.seccompiler.specs.declared.layout.Layout.{Layout}
+use Rattle.seccomp_tree.specs.declared.layout.Layout.{Layout}
 use Rattle.seccompiler_c.specs.Arguments.{IsArchitecture, IsNoArchitecture, OfArchitecture, IsNoLayout, OfLayout}
 use Rattle.seccompiler_c.specs.Codes.{code_of}
 use Rattle.seccompiler_c.specs.Messages.{HoldsMessage, TellsPolicyFault}
@@ -25,8 +25,9 @@ pub record Request : Type 0 where
   pub capacity : ℕ
 
 -- The error tells that the policy's program would be too long in this layout.
-abbrev pub IsTooLargeIn : Layout → Filter → BackendError → Type 0
+abbrev pub IsTooLargeIn : Layout → Filter → FilterError → Type 0
 IsTooLargeIn layout policy (FilterTooLarge n) = IsRefusalIn layout policy (FilterTooLarge n)
+IsTooLargeIn layout policy TreeTooLarge = IsRefusalIn layout policy TreeTooLarge
 IsTooLargeIn layout policy e = ⊥
 
 -- Why the policy has no program in this layout: it would be too long, or memory is wanted.

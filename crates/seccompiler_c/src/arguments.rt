@@ -4,7 +4,8 @@ ghost use Rattle.std.specs.Prelude.{◌≡◌, IfSome, IfNone};
 ghost use Rattle.seccompiler_c.specs.Arguments.{IsArchitecture, IsNoArchitecture, IsLayout, IsNoLayout};
 
 use crate::codes::{SECCOMPILER_LAYOUT_LINEAR, SECCOMPILER_LAYOUT_TREE};
-use seccompiler::{Layout, TargetArch};
+use seccomp_tree::Layout;
+use seccompiler::TargetArch;
 
 // The architecture of this word.
 pub(crate) fn architecture_of(word: u32) -> Option<TargetArch>

@@ -4,6 +4,7 @@ ghost use Rattle.std.specs.Prelude.{◌≡◌};
 ghost use Rattle.seccompiler_c.specs.ArraysDemands.{arrays_code_of, arrays_fault_code};
 
 use crate::code::Code;
+use seccomp_tree::FilterError;
 use seccompiler::BackendError;
 
 /// Why no program of arrays is given.
@@ -80,6 +81,21 @@ impl From<BackendError> for ArraysFault {
     fn from(refusal: BackendError) -> ArraysFault {
         match refusal {
             BackendError::OutOfMemory => ArraysFault::OutOfMemory,
+            _ => ArraysFault::TooLarge,
+        }
+    }
+}
+
+/// `OutOfMemory` stays so; any other error is that the filter is too large.
+impl From<FilterError> for ArraysFault {
+    ghost use Rattle.std.specs.Prelude.{◌≡◌};
+    ghost use Rattle.seccompiler_c.specs.ArraysDemands.{arrays_refusal};
+
+    ghost from_gives = { λ refusal fault. fault ≡ arrays_refusal refusal };
+
+    fn from(refusal: FilterError) -> ArraysFault {
+        match refusal {
+            FilterError::OutOfMemory => ArraysFault::OutOfMemory,
             _ => ArraysFault::TooLarge,
         }
     }

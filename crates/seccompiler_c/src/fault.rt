@@ -4,7 +4,8 @@ ghost use Rattle.std.specs.Prelude.{◌≡◌};
 ghost use Rattle.seccompiler_c.specs.Codes.{code_of, fault_code};
 
 use crate::code::Code;
-use seccompiler::{BackendError, JsonFrontendError};
+use seccomp_tree::FilterError;
+use seccompiler::JsonFrontendError;
 use std::fmt;
 
 /// Why a policy, a program of it or a decision of it is not given.
@@ -23,7 +24,7 @@ pub(crate) enum Fault {
     /// The text has no more filters than the index.
     NoIndex,
     /// The filter is rejected so, and memory didn't run out.
-    Filter(BackendError),
+    Filter(FilterError),
     /// The program has so many instructions, and there is room for less.
     NoRoom(usize),
 }
@@ -95,16 +96,16 @@ impl From<JsonFrontendError> for Fault {
     }
 }
 
-/// The backend's `OutOfMemory` stays so; any other error is the filter's.
-impl From<BackendError> for Fault {
+/// `OutOfMemory` stays so; any other error is the filter's.
+impl From<FilterError> for Fault {
     ghost use Rattle.std.specs.Prelude.{◌≡◌};
-    ghost use Rattle.seccompiler_c.specs.Policies.{from_backend};
+    ghost use Rattle.seccompiler_c.specs.Policies.{from_filter};
 
-    ghost from_gives = { λ refusal fault. fault ≡ from_backend refusal };
+    ghost from_gives = { λ refusal fault. fault ≡ from_filter refusal };
 
-    fn from(refusal: BackendError) -> Fault {
+    fn from(refusal: FilterError) -> Fault {
         match refusal {
-            BackendError::OutOfMemory => Fault::OutOfMemory,
+            FilterError::OutOfMemory => Fault::OutOfMemory,
             refusal => Fault::Filter(refusal),
         }
     }

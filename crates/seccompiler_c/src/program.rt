@@ -1,7 +1,7 @@
 // The program that a caller asks for.
 
 ghost use Rattle.std.specs.Prelude.{◌≡◌, ◌≤◌, All, length, IfOk, IfErr};
-ghost use Rattle.seccompiler.specs.Layouts.{IsCompiledIn};
+ghost use Rattle.seccomp_tree.specs.Layouts.{IsCompiledIn};
 ghost use Rattle.seccompiler.specs.Compiled.{numbers_of};
 ghost use Rattle.seccompiler.specs.SyscallTable.{IsTableNumber};
 ghost use Rattle.seccompiler_c.specs.Programs.{IsUncompiledIn, OfProgram, IsRefusal};
@@ -9,7 +9,8 @@ ghost use Rattle.seccompiler_c.specs.Programs.{IsUncompiledIn, OfProgram, IsRefu
 use crate::arguments::{architecture_of, layout_of};
 use crate::fault::Fault;
 use crate::policy::policy_of;
-use seccompiler::{BpfProgram, Layout, SeccompFilter};
+use seccomp_tree::{Layout, to_bpf_in};
+use seccompiler::{BpfProgram, SeccompFilter};
 use std::alloc::Global;
 
 // The program of the filter of a name in a text, for the architecture of a word, in the layout of a
@@ -46,5 +47,5 @@ fn program_in(alloc: Global, layout: Layout, policy: &SeccompFilter) -> Result<B
     ensures program { IfOk result (λ found. IsCompiledIn layout policy.now found.items) }
     ensures refused { IfErr result (IsUncompiledIn layout policy.now) }
 {
-    Ok(policy.to_bpf_in(alloc, layout)?)
+    Ok(to_bpf_in(alloc, policy, layout)?)
 }

@@ -21,7 +21,7 @@ use Rattle.seccomptool.specs.declared.kind.Subject.{Subject}
 use Rattle.seccomptool.specs.declared.kind.Subject.TheVariants as subject
 use Rattle.seccomptool.specs.Diff.{IsDiff, IsFoundIn, Policies, name_bytes}
 use Rattle.seccomptool.specs.DiffParts.{AreAllNames, IsFoundUnder, AreOfProfiles}
-use Rattle.seccomptool.specs.Rulings.{Ruling, Rules, of_filter, of_profile}
+use Rattle.seccomptool.specs.Rulings.{Ruling, Rules, of_filter, of_profile, of_program}
 use Rattle.seccomptool.proofs.Found.{there, nowhere}
 
 contains_map : {X Y : Type 0} (f : X → Y) (xs : List X) (x : X) → Contains xs x → Contains (map f xs) (f x)
@@ -77,6 +77,7 @@ module _ (target : TargetArch) (relation : Relation) (asked : Option (List ℕ))
     | inr r ↦ let found = ruled target new_text new of_new name f r in all name found.0 (own_name asked name is) (inr found.1)
   ])
   named_there names all (Some name) (of_profile container p) is rule = absurd (elim rule [ inl r ↦ r | inr r ↦ r ])
+  named_there names all (Some name) (of_program p) is rule = absurd (elim rule [ inl r ↦ r | inr r ↦ r ])
   named_there names all None ruling is rule = absurd (elim rule [ inl r ↦ r | inr r ↦ r ])
 
   pub policies_differ : (diff : Diff) (names : List (List ℕ)) → AreAllNames asked old new names

@@ -12,10 +12,18 @@ use Rattle.seccomp_command_line.proofs.ByName.{by_text}
 use Rattle.seccomptool.specs.Explain.{HavePolicies}
 
 -- Where each filter has a policy, the one that is found has.
-pub found_policy : (target : TargetArch) (filters : JsonFilterMap) (name : List ℕ) (filter : JsonFilter)
+found_policy : (target : TargetArch) (filters : JsonFilterMap) (name : List ℕ) (filter : JsonFilter)
     → HavePolicies target filters.0.entries → get_by_text filters.0 name ≡ Some filter
     → (policy : Filter) × IsPolicyOf target filter policy
 found_policy target filters name filter all found =
     let Has = λ (j : JsonFilter). (policy : Filter) × IsPolicyOf target j policy in
     subst (λ (o : Option JsonFilter). IfSome o Has) (sym (by_text name filters.0.entries) ∙ found)
     (All-lookup Has (is_text name) filters.0.entries all)
+
+-- So has the one that is taken out under its name, where that is read so.
+pub taken : (target : TargetArch) (filters : JsonFilterMap) (name key : List ℕ) (filter : JsonFilter)
+    → HavePolicies target filters.0.entries → key ≡ name → Some filter ≡ get_by_text filters.0 key
+    → (get_by_text filters.0 name ≡ Some filter) × ((policy : Filter) × IsPolicyOf target filter policy)
+taken target filters name key filter all same is =
+    let found = subst (λ n. get_by_text filters.0 n ≡ Some filter) same (sym is) in
+    (found, found_policy target filters name filter all found)

@@ -6,8 +6,8 @@ use Rattle.seccompiler.specs.JsonAnswers.{ArePoliciesOf, OfValue}
 use Rattle.seccomptool.proofs.diff.Texts.{policies_differ}
 use Rattle.seccomptool.proofs.diff.diff_policies.Goals as goal
 
-pub returns-in-Ok : goal.returns-in-Ok
-returns-in-Ok g c =
+pub returns : goal.returns
+returns g c =
     let names = c.in_ok-names.names.items in
     let old = get_by_text c.in_ok-old.old in
     let new = get_by_text c.in-Ok.new in

@@ -9,8 +9,8 @@ use Rattle.seccomptool.specs.Rulings.{AreFindingsOf, Ruling, StandsFor, of_profi
 use Rattle.seccomptool.proofs.diff.Profiles.{profile_stands}
 use Rattle.seccomptool.proofs.diff.diff_profiles.Goals as goal
 
-pub returns-in-Ok : goal.returns-in-Ok
-returns-in-Ok g c =
+pub returns : goal.returns
+returns g c =
     let target = c.args.terms.target in
     let relation = c.args.terms.relation in
     let container = c.args.container.now in

@@ -1,39 +1,29 @@
-use Rattle.std.proofs.Common.{◌≡◌, Some, refl, sym, subst, ap, ◌∙◌}
+use Rattle.std.proofs.Common.{refl, string_bytes}
 use Rattle.std.specs.BTreeMap.{get_by_text}
-use Rattle.std.specs.Prelude.{string_bytes}
-use Rattle.seccompiler.specs.JsonShape.{IsFilter, Under}
-use Rattle.seccompiler.specs.JsonPolicyOf.{IsPolicyOf}
-use Rattle.seccompiler.specs.Policy.{Filter}
+use Rattle.seccompiler.specs.JsonShape.{IsFilter}
 use Rattle.seccomptool.proofs.Found.{there}
-use Rattle.seccomptool.proofs.explain.Filters.{found_policy}
+use Rattle.seccomptool.proofs.explain.Filters.{taken}
 use Rattle.seccomptool.proofs.explain.explain_policy.Goals as goal
 
--- What is taken out stood under the name.
-found : (c : goal.In-Some) → get_by_text c.in_ok-filters.filters.0 (string_bytes c.in_ok-name.name) ≡ Some c.in-Some.filter
-found c = subst (λ n. get_by_text c.in_ok-filters.filters.0 n ≡ Some c.in-Some.filter) c.as_str.ensures.value (sym c.in-Some.ensures.value)
-
-policy_of : (c : goal.In-Some) → (policy : Filter) × IsPolicyOf c.args.target c.in-Some.filter policy
-policy_of c = found_policy c.args.target c.in_ok-filters.filters (string_bytes c.in_ok-name.name) c.in-Some.filter
-    c.in_ok-check_filters.ensures (found c)
-
 pub explain_each-requires : goal.explain_each-requires
-explain_each-requires c = (policy_of c).1.entries
+explain_each-requires c =
+    let own = taken c.args.target c.in_ok-filters.filters (string_bytes c.in_ok-name.name) c.as_str.result.now c.in-Some.filter
+    c.in_ok-check_filters.ensures c.as_str.ensures.value c.in-Some.ensures.value in
+    own.1.1.entries
 
-pub returns-in-Some : goal.returns-in-Some
-returns-in-Some c =
+pub returns : goal.returns
+returns c =
     let name = string_bytes c.in_ok-name.name in
+    let filters = c.in_ok-filters.filters in
     let read = c.in_ok-filters.ensures.filters in
-    let policy = policy_of c.before in
+    let own = taken c.args.target filters name c.as_str.result.now c.in-Some.filter c.in_ok-check_filters.ensures c.as_str.ensures.value
+    c.in-Some.ensures.value in
     record {
       named = record { name = c.in_ok-name.name; filter = c.in-Some.filter };
       is = refl;
-      chosen = c.in_ok-name.ensures.chosen;
-      of_text = (
-        read.0,
-        read.1,
-        there IsFilter (get_by_text c.in_ok-filters.filters.0) read.0 read.2 name c.in-Some.filter (found c.before),
-      );
-      policy = policy.0;
-      is_policy = policy.1;
+      chosen = c.in_ok-name.ensures;
+      of_text = (read.0, read.1, there IsFilter (get_by_text filters.0) read.0 read.2 name c.in-Some.filter own.0);
+      policy = own.1.0;
+      is_policy = own.1.1;
       each = c.in_ok-records.ensures;
     }

@@ -142,15 +142,11 @@ IsCarriedOut (Import arch container strict format) text none v = IsImportedAs ar
 abbrev pub IsPerformed : Command → Verdict → Type 0
 IsPerformed command v = (first : List ℕ) × (second : List ℕ) × IsCarriedOut command first second v
 
--- The failure is one of writing, or one that is told behind what is written.
-abbrev pub IsOfWriting : Failure → Type 0
-IsOfWriting (failure.Output e) = ⊤
-IsOfWriting (failure.ShortRecord rest) = ⊤
-IsOfWriting other = ⊥
-
--- What is written is as it was, where the failure isn't one of writing.
+-- What is written is as it was, unless it is writing that fails, or a rest of a record is told behind what is written.
 abbrev pub KeepsOutput : {W : Type 0} → Failure → W → W → Type 0
-KeepsOutput f old new = (IsOfWriting f → ⊥) → new ≡ old
+KeepsOutput (failure.Output e) old new = ⊤
+KeepsOutput (failure.ShortRecord rest) old new = ⊤
+KeepsOutput other old new = new ≡ old
 
 -- ---- statuses
 

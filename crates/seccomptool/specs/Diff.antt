@@ -1,5 +1,6 @@
 -- What `diff` gives: on which calls a new text rules otherwise than an old one, or permits more.
-use Rattle.std.specs.Prelude.{◌≡◌, ℕ, ◌⊎◌, List, [], ◌∷◌, map, All, Contains, Option, Some, None, IfSome, String, string_bytes, option_map, ⊤}
+use Rattle.std.specs.Prelude.{◌≡◌, ℕ, ◌⊎◌, List, [], ◌∷◌, map, All, Contains, Option, Some, None, IfSome, String, string_bytes}
+use Rattle.std.specs.Prelude.{option_map, ⊤}
 use Rattle.std.specs.declared.alloc.Global.{Global}
 use Rattle.seccompiler.specs.declared.backend.TargetArch.{TargetArch}
 use Rattle.seccomp_compare.specs.declared.Relation.{Relation}

@@ -2,7 +2,7 @@
 
 ghost use Rattle.std.specs.Prelude.{◌≡◌, IfErr, IfOk, IfSome};
 ghost use Rattle.seccompiler.specs.Reads.{Reads};
-ghost use Rattle.seccomptool.specs.Commands.{IsCarriedOut, IsOfWriting, KeepsOutput};
+ghost use Rattle.seccomptool.specs.Commands.{IsCarriedOut, KeepsOutput};
 
 use crate::error::ToolError;
 use crate::failure::{Failure, Place, place_in};
@@ -61,23 +61,15 @@ pub fn perform<P: Read + Drop, R: Read + Drop, W: Write, G: Progress>(
             };
         }
     };
-    match ready(alloc, command, inputs, &first, &second, progress) {
-        Ok(made) => written(out, made),
-        Err(fault) => Err(Failure::Engine(fault)),
-    }
-}
-
-// Writes what is made.
-fn written<W: Write>(out: &mut W, made: Made) -> Result<Done, Failure>
-    ensures found { IfOk result (λ done. done.verdict ≡ made.entry.verdict) }
-    ensures cause { IfErr result IsOfWriting }
-{
     let Made {
         text,
         rest,
         verdict,
         notes,
-    } = made;
+    } = match ready(alloc, command, inputs, &first, &second, progress) {
+        Ok(made) => made,
+        Err(fault) => return Err(Failure::Engine(fault)),
+    };
     match out.write_all(&text) {
         Ok(()) if rest == 0 => Ok(Done { verdict, notes }),
         Ok(()) => Err(Failure::ShortRecord(rest)),

@@ -1,5 +1,6 @@
 -- For `names_of` and `found_under`: names, one by one.
-use Rattle.std.proofs.Common.{◌≡◌, ℕ, ◌+◌, ◌<◌, ◌⊎◌, List, [], ◌∷◌, ◌++◌, length, take, get_or, map, All, Contains, Some, Option, IfSome, String}
+use Rattle.std.proofs.Common.{◌≡◌, ℕ, ◌+◌, ◌<◌, ◌⊎◌, List, [], ◌∷◌, ◌++◌, length, take, get_or, map, All, Contains, Some, Option, IfSome}
+use Rattle.std.proofs.Common.{String}
 use Rattle.std.proofs.Common.{Global, string_bytes, string_cmp, refl, sym, ap, ◌∙◌, subst, arith}
 use Rattle.std.proofs.Common.{Bor, None}
 use Rattle.std.specs.Prelude.{option_map}

@@ -1,5 +1,6 @@
 -- For `diff_of` and `diff_policies`: what is found of two texts.
-use Rattle.std.proofs.Common.{◌≡◌, ℕ, ◌⊎◌, List, [], ◌∷◌, map, All, Contains, Option, Some, None, IfSome, String, Global, string_bytes, refl, sym}
+use Rattle.std.proofs.Common.{◌≡◌, ℕ, ◌⊎◌, List, [], ◌∷◌, map, All, Contains, Option, Some, None, IfSome, String, Global, string_bytes}
+use Rattle.std.proofs.Common.{refl, sym}
 use Rattle.std.proofs.Common.{subst, ap, ◌∙◌, ◌<◌, inl, inr, arith}
 use Rattle.std.specs.Prelude.{option_map, Vec}
 use Rattle.std.proofs.lemmas.List.{get_or-map, length-map}
@@ -78,7 +79,8 @@ module _ (target : TargetArch) (relation : Relation) (asked : Option (List ℕ))
   named_there names all (Some name) (of_profile container p) is rule = absurd (elim rule [ inl r ↦ r | inr r ↦ r ])
   named_there names all None ruling is rule = absurd (elim rule [ inl r ↦ r | inr r ↦ r ])
 
-  pub policies_differ : (diff : Diff) (names : List (List ℕ)) → AreAllNames asked old new names → map name_bytes diff.all.items ≡ map Some names
+  pub policies_differ : (diff : Diff) (names : List (List ℕ)) → AreAllNames asked old new names
+      → map name_bytes diff.all.items ≡ map Some names
       → All (IsFoundUnder target relation old new) diff.all.items
       → IsDiff target relation subject.Policy asked old_text new_text diff
   policies_differ diff names all named each = record {

@@ -1,5 +1,6 @@
 -- For `try_comparisons`: a program that may be run ends on each record, so that a program is related to itself.
-use Rattle.std.proofs.Common.{◌≡◌, ◌≢◌, ℕ, zero, suc, ◌+◌, ◌-◌, ◌*◌, ◌%◌, ◌^◌, ◌<◌, ◌≤◌, List, length, get_or, Some, refl, sym, subst, ap, ◌∙◌, inl, inr}
+use Rattle.std.proofs.Common.{◌≡◌, ◌≢◌, ℕ, zero, suc, ◌+◌, ◌-◌, ◌*◌, ◌%◌, ◌^◌, ◌<◌, ◌≤◌, List, length, get_or, Some, refl, sym, subst, ap}
+use Rattle.std.proofs.Common.{◌∙◌, inl, inr}
 use Rattle.std.proofs.Common.{arith, bit_and}
 use Rattle.std.specs.Prelude.{slice_get}
 use Rattle.std.proofs.lemmas.Bool.{cases_eq, cases_lt}
@@ -34,7 +35,13 @@ module _ (r : List ℕ) (rec : IsRecord r) where
       let fourth = rec.bytes (k + 1 + 1 + 1) 0 (omega arith) in
       omega arith
 
-  leads : (i : sock_filter) (place a n : ℕ) → IsFine i place n → IsInRange i → i.code ≢ 0x06 → place + 1 < n → a < 2 ^ 32 → Leads i r place a n
+  -- A test leads on with the accumulator as it was.
+  leads_to : (i : sock_filter) (place a n next : ℕ) → Does i r place a next a → place < next → next < n → a < 2 ^ 32 → Leads i r place a n
+  leads_to i place a n next does later within fits =
+      record { next = next; left = a; does = does; later = later; within = within; fits = fits }
+
+  leads : (i : sock_filter) (place a n : ℕ) → IsFine i place n → IsInRange i → i.code ≢ 0x06 → place + 1 < n → a < 2 ^ 32
+      → Leads i r place a n
   leads i place a n (fine_load code aligned few) range goes_on room fits = record {
     next = place + 1;
     left = word_at r i.k;
@@ -54,16 +61,16 @@ module _ (r : List ℕ) (rec : IsRecord r) where
   leads i place a n (fine_jump code room) range goes_on next fits =
       record { next = place + 1 + i.k; left = a; does = jumps code refl refl; later = omega arith; within = room; fits = fits }
   leads i place a n (fine_equal code met unmet) range goes_on room fits = elim (cases_eq a i.k) [
-    | inl same ↦ record { next = place + 1 + i.jt; left = a; does = is_equal code same refl refl; later = omega arith; within = met; fits = fits }
-    | inr other ↦ record { next = place + 1 + i.jf; left = a; does = is_not_equal code other refl refl; later = omega arith; within = unmet; fits = fits }
+    | inl same ↦ leads_to i place a n (place + 1 + i.jt) (is_equal code same refl refl) (omega arith) met fits
+    | inr other ↦ leads_to i place a n (place + 1 + i.jf) (is_not_equal code other refl refl) (omega arith) unmet fits
   ]
   leads i place a n (fine_greater code met unmet) range goes_on room fits = elim (cases_lt i.k a) [
-    | inl more ↦ record { next = place + 1 + i.jt; left = a; does = is_greater code more refl refl; later = omega arith; within = met; fits = fits }
-    | inr less ↦ record { next = place + 1 + i.jf; left = a; does = is_not_greater code less refl refl; later = omega arith; within = unmet; fits = fits }
+    | inl more ↦ leads_to i place a n (place + 1 + i.jt) (is_greater code more refl refl) (omega arith) met fits
+    | inr less ↦ leads_to i place a n (place + 1 + i.jf) (is_not_greater code less refl refl) (omega arith) unmet fits
   ]
   leads i place a n (fine_at_least code met unmet) range goes_on room fits = elim (cases_lt a i.k) [
-    | inl less ↦ record { next = place + 1 + i.jf; left = a; does = is_less code less refl refl; later = omega arith; within = unmet; fits = fits }
-    | inr more ↦ record { next = place + 1 + i.jt; left = a; does = is_at_least code more refl refl; later = omega arith; within = met; fits = fits }
+    | inl less ↦ leads_to i place a n (place + 1 + i.jf) (is_less code less refl refl) (omega arith) unmet fits
+    | inr more ↦ leads_to i place a n (place + 1 + i.jt) (is_at_least code more refl refl) (omega arith) met fits
   ]
   leads i place a n (fine_return code) range goes_on room fits = absurd (goes_on code)
 

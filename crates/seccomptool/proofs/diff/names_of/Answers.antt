@@ -1,4 +1,5 @@
-use Rattle.std.proofs.Common.{◌≡◌, ◌∷◌, [], ◌++◌, Some, None, All, String, Global, string_bytes, sym, ap, ◌∙◌, subst, append_assoc, append-nil}
+use Rattle.std.proofs.Common.{◌≡◌, ◌∷◌, [], ◌++◌, Some, None, All, String, Global, string_bytes, sym, ap, ◌∙◌, subst, append_assoc}
+use Rattle.std.proofs.Common.{append-nil}
 use Rattle.std.proofs.Common.{inl, inr, Contains, map, rules, Bor, Option}
 use Rattle.std.specs.BTreeMap.{get_by_text}
 use Rattle.std.specs.Prelude.{option_map}
@@ -16,7 +17,8 @@ loop-name-preserved c =
     let added = c.in_ok-push-2.ensures.items in
     record {
       done = done ++ e ∷ [];
-      whole = l.invariant.whole ∙ ap (λ (es : Entries). done ++ es) c.in-Some-2.ensures.steps ∙ sym (append_assoc done (e ∷ []) c.next.new.self);
+      whole = l.invariant.whole ∙ ap (λ (es : Entries). done ++ es) c.in-Some-2.ensures.steps
+          ∙ sym (append_assoc done (e ∷ []) c.next.new.self);
       among = All-push (Contains_name names) done e (all_kept l.names.items names c.in_ok-clone.field-0 added done l.invariant.among)
           (subst (λ b. Contains (map (λ (n : String Global). string_bytes n) names) b) c.in_ok-clone.ensures.cases
           (here l.names.items names c.in_ok-clone.field-0 added));
@@ -35,7 +37,8 @@ loop-name-2-init c = record {
 pub returns : goal.returns
 returns c = λ name f is rule.
     let l = c.loop-name-2 in
-    let whole = l.invariant.whole ∙ ap (λ (es : Entries). l.invariant.done ++ es) c.in-None-2.ensures.steps.0 ∙ append-nil l.invariant.done in
+    let whole = l.invariant.whole ∙ ap (λ (es : Entries). l.invariant.done ++ es) c.in-None-2.ensures.steps.0
+    ∙ append-nil l.invariant.done in
     elim rule [
       | inl there ↦ found_among l.names.items c.args.old.now.entries l.invariant.old name f there
       | inr there ↦ found_among l.names.items c.args.new.now.entries

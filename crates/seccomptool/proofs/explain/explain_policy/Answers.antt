@@ -13,7 +13,8 @@ found : (c : goal.In-Some) → get_by_text c.in_ok-filters.filters.0 (string_byt
 found c = subst (λ n. get_by_text c.in_ok-filters.filters.0 n ≡ Some c.in-Some.filter) c.as_str.ensures.value (sym c.in-Some.ensures.value)
 
 policy_of : (c : goal.In-Some) → (policy : Filter) × IsPolicyOf c.args.target c.in-Some.filter policy
-policy_of c = found_policy c.args.target c.in_ok-filters.filters (string_bytes c.in_ok-name.name) c.in-Some.filter c.in_ok-check_filters.ensures (found c)
+policy_of c = found_policy c.args.target c.in_ok-filters.filters (string_bytes c.in_ok-name.name) c.in-Some.filter
+    c.in_ok-check_filters.ensures (found c)
 
 pub explain_each-requires : goal.explain_each-requires
 explain_each-requires c = (policy_of c).1.entries
@@ -27,7 +28,11 @@ returns-in-Some c =
       named = record { name = c.in_ok-name.name; filter = c.in-Some.filter };
       is = refl;
       chosen = c.in_ok-name.ensures.chosen;
-      of_text = (read.0, read.1, there IsFilter (get_by_text c.in_ok-filters.filters.0) read.0 read.2 name c.in-Some.filter (found c.before));
+      of_text = (
+        read.0,
+        read.1,
+        there IsFilter (get_by_text c.in_ok-filters.filters.0) read.0 read.2 name c.in-Some.filter (found c.before),
+      );
       policy = policy.0;
       is_policy = policy.1;
       each = c.in_ok-records.ensures;

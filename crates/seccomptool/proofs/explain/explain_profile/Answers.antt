@@ -6,7 +6,8 @@ use Rattle.seccomptool.specs.Explain.{IsExplainedByProfile}
 use Rattle.seccomptool.proofs.explain.explain_profile.Goals as goal
 
 pub records-init : goal.records-init
-records-init c = subst (AllZip (IsExplainedByProfile c.args.target c.args.container.now c.in_ok-profile.profile) []) (sym c.new-all.ensures.items) tt
+records-init c =
+    subst (AllZip (IsExplainedByProfile c.args.target c.args.container.now c.in_ok-profile.profile) []) (sym c.new-all.ensures.items) tt
 
 pub records-preserved : goal.records-preserved
 records-preserved c =

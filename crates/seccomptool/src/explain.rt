@@ -168,7 +168,7 @@ fn explain_each(
     ensures { IfOk result (λ all. AllZip (IsExplainedBy target filter.now) records.now all.items) }
 {
     let mut all = Vec::new(alloc);
-    'records: for call in records {
+    for call in records {
         all.push(explain_record(alloc, target, filter, call)?)?;
     }
     Ok(all)
@@ -214,14 +214,29 @@ fn explain_profile(
     ensures { IfOk result (IsOfProfile target container.now text.now records.now) }
 {
     let profile = profile_in(alloc, text)?;
-    let mut all = Vec::new(alloc);
-    'records: for call in records {
-        all.push(explained_by_profile(target, container, &profile, call))?;
-    }
+    let records = explain_each_by(alloc, target, container, &profile, records)?;
     Ok(Explanation {
         filter: None,
-        records: all,
+        records,
     })
+}
+
+// What a profile decides on each record, and by which of its entries.
+fn explain_each_by(
+    alloc: Global,
+    target: TargetArch,
+    container: &Container,
+    profile: &Profile,
+    records: &[[u8; 64]],
+) -> Result<Vec<Explained>, AllocError>
+    requires { AllOnArguments profile.now.entries }
+    ensures { IfOk result (λ all. AllZip (IsExplainedByProfile target container.now profile.now) records.now all.items) }
+{
+    let mut all = Vec::new(alloc);
+    for call in records {
+        all.push(explained_by_profile(target, container, profile, call))?;
+    }
+    Ok(all)
 }
 
 // The profile of a text.

@@ -14,8 +14,8 @@ use Rattle.seccompiler.specs.Policy.{Filter}
 use Rattle.seccomp_command_line.proofs.ByName.{by_text, found_name}
 use Rattle.seccompiler.specs.declared.backend.TargetArch.{TargetArch}
 use Rattle.seccomp_compare.specs.declared.Relation.{Relation}
-use Rattle.seccomptool.specs.Diff.{IsFoundOf, name_bytes}
-use Rattle.seccomptool.specs.DiffParts.{IsFoundUnder, Policies}
+use Rattle.seccomptool.specs.Diff.{IsFoundOf, Policies, name_bytes}
+use Rattle.seccomptool.specs.DiffParts.{IsFoundUnder}
 use Rattle.seccomptool.specs.Rulings.{of_filter}
 use Rattle.seccomptool.specs.declared.diff.NamedFound.{NamedFound}
 

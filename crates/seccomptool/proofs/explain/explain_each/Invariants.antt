@@ -4,5 +4,5 @@ use Rattle.seccomptool.specs.Explain.{IsExplainedBy}
 use Rattle.seccomptool.proofs.explain.explain_each.Given as goal
 
 -- the records so far are explained
-abbrev pub invariant-records : goal.invariant-records
-invariant-records l = AllZip (IsExplainedBy l.target l.filter) (take l.call-index l.records) l.all.items
+abbrev pub invariant-loop-call : goal.invariant-loop-call
+invariant-loop-call l = AllZip (IsExplainedBy l.target l.filter) (take l.call-index l.records) l.all.items

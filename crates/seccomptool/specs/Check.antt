@@ -26,7 +26,7 @@ pub record IsTextReport (target : TargetArch) (allowed_for : JsonFilterMap → L
 -- All filters of the text have programs, and the report is that of their warnings, but for those of the allowed codes.
 pub record IsCheckOf (target : TargetArch) (allowed : List Code) (front text : List ℕ) (report : Report) : Type 0 where
   pub compiled : OfValue text (AreAllCompiled target)
-  pub report : IsTextReport target (λ filters name. allowed) front text report
+  pub is : IsTextReport target (λ filters name. allowed) front text report
 
 -- Why a policy is rejected: its first fault, with its place or as the library tells it; or want of memory.
 abbrev pub IsRefusal : TargetArch → List ℕ → ToolError → Type 0

@@ -1,6 +1,6 @@
 -- What it means that a command is carried out on the texts that it is given, and with which status it ends.
 use Rattle.std.specs.Prelude.{◌≡◌, ◌≤◌, ◌⊎◌, ℕ, ◌/◌, All, Bool, Contains, List, length, Option, Some, None, string_bytes, ⊤}
-use Rattle.core.specs.Simd.{first_chunks}
+use Rattle.std.specs.Simd.{first_chunks}
 use Rattle.std.specs.List.{AllZip}
 use Rattle.seccompiler.specs.declared.backend.TargetArch.{TargetArch}
 use Rattle.seccompiler.specs.declared.bpf.sock_filter.{sock_filter}

@@ -29,7 +29,7 @@ pub(crate) fn subject_of<'a>(
     filter: Option<&str>,
     text: &[u8],
 ) -> Result<Subject<'a>, AllocError>
-    requires { plain.entry.now ≡ spec.plain_container }
+    requires { plain.now ≡ spec.plain_container }
     ensures { IfOk result (IsTakenAs (option_map (λ c. c.now) given.entry) (text_of filter.entry) text.now) }
 {
     if let Some(container) = given {

@@ -1,8 +1,6 @@
-// Answers rows of standard input: each is a question about a call of the libraries, and is written again with its answer.
-//
-// tools/driver_rows.py says what rows may be. Nothing is read behind ` =>`, and a statement, a comment or an empty line is
-// written as it is. Where memory runs out a question is asked once more, of what was lent the first time; where it
-// runs out again the rows end.
+// Answers rows of standard input, which tools/driver_rows.py describes: each question is written again with its answer, and any
+// other line as it is. Nothing is read behind ` =>`. Where memory runs out a question is asked once more, of what was
+// borrowed the first time; where it runs out again the rows end.
 #![tactic(auto)]
 
 mod codes;

@@ -59,14 +59,6 @@ fn entries(alloc: Global, rest: &str) -> Result<Subject, Fault> {
     Ok(Subject::Entries(arch, json_filter(alloc, text)?))
 }
 
-// The value of a text, which is JSON.
-fn value(alloc: Global, text: &str) -> Result<Subject, Fault> {
-    match Value::from_str(alloc, text) {
-        Ok(value) => Ok(Subject::Value(value)),
-        Err(_) => Err(Fault::OutOfMemory),
-    }
-}
-
 /// Makes what the question is about.
 pub(crate) fn subject_of(alloc: Global, row: Row) -> Result<Subject, Fault> {
     let (verb, rest) = parts(row.question, " ");
@@ -74,10 +66,15 @@ pub(crate) fn subject_of(alloc: Global, row: Row) -> Result<Subject, Fault> {
     match verb {
         "compare_filters" | "equal" => both_filters(alloc, row),
         "widened" | "make_seccomp_filter" => entries(alloc, rest),
-        "read_filters" => value(alloc, rest),
+        "read_filters" => match Value::from_str(alloc, rest) {
+            Ok(value) => Ok(Subject::Value(value)),
+            Err(_) => Err(Fault::OutOfMemory),
+        },
         "repeats_key" => Ok(Subject::Value(Value::Null)),
-        "decided" => Ok(Subject::Decisions(decisions(alloc, row.statements)?)),
-        _ if of == "decisions" => Ok(Subject::Decisions(decisions(alloc, row.statements)?)),
+        _ if verb == "decided" || of == "decisions" => Ok(Subject::Decisions(decisions(
+            alloc,
+            row.statements,
+        )?)),
         _ if is_about_filter(verb, of) => Ok(Subject::Filter(filter(alloc, row.statements)?)),
         _ => Ok(Subject::Row),
     }
@@ -88,12 +85,10 @@ fn about_filter(alloc: Global, filter: &SeccompFilter, question: &str) -> Result
         Some((asked, "linear")) => of_code(alloc, asked, &filter.to_bpf(alloc)?),
         Some((asked, _)) => of_code(alloc, asked, &tree(alloc, filter)?),
         None => match parts(question, " ") {
-            ("compare_program", rest) => of_own_program(
-                alloc,
-                &filter.to_bpf(alloc)?,
-                filter,
-                rest,
-            ),
+            ("compare_program", rest) => {
+                let program = filter.to_bpf(alloc)?;
+                of_own_program(alloc, &program, filter, rest)
+            }
             ("compare_tree", rest) => of_own_program(alloc, &tree(alloc, filter)?, filter, rest),
             (verb, rest) => of_filter(alloc, filter, verb, rest),
         },

@@ -13,6 +13,7 @@ pub mod ProfileText
 pub mod Decision
 pub mod ProfileDecisions
 pub mod Decided
+pub mod CompiledProfile
 
 
 pub mod LeftOut

@@ -192,8 +192,8 @@ pub(crate) fn condition_of(argument: &Argument) -> SeccompCondition
     }
 }
 
-// The operator of a condition, and what it compares with.
-fn comparison(argument: &Argument) -> (SeccompCmpOp, u64)
+/// The operator of a condition, and what it compares with.
+pub(crate) fn comparison(argument: &Argument) -> (SeccompCmpOp, u64)
     ensures { (x : ℕ) → Compares result.0 x result.1 ↔ Meets argument.now.operator x argument.now.value argument.now.value_two }
 {
     let (value, value_two) = (argument.value, argument.value_two);

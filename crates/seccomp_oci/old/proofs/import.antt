@@ -1,2 +1,0 @@
--- Lemmas for the functions of `import`.
-pub mod Sizes

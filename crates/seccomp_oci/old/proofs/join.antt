@@ -1,4 +1,0 @@
--- Lemmas for the functions of `join`.
-pub mod Shifted
-pub mod Asked
-pub mod Checks

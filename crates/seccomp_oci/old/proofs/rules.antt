@@ -1,3 +1,0 @@
--- Lemmas for the functions of `rules`.
-pub mod Conditions
-pub mod Names

@@ -1,0 +1,94 @@
+-- The program of a whole profile's text, and why there is none.
+use Rattle.std.specs.Prelude.{◌≡◌, ◌≢◌, ℕ, ◌<◌, Bool, true, List, [], length, map, string_bytes, ⊤}
+use Rattle.seccompiler.specs.declared.backend.TargetArch.{TargetArch}
+use Rattle.seccompiler.specs.declared.bpf.sock_filter.{sock_filter}
+use Rattle.seccompiler.specs.Machine.{greatest_length, IsChecked, IsRecord}
+use Rattle.seccomp_tree.specs.Decided.{DecisionSet}
+use Rattle.seccomp_tree.specs.TreeProgram.{AreRanges, EndsWithin, length_by}
+use Rattle.seccomp_oci.specs.declared.compiled.CompiledProfile.{CompiledProfile}
+use Rattle.seccomp_oci.specs.declared.compiled.CompileError.{CompileError}
+use Rattle.seccomp_oci.specs.declared.compiled.CompileError.TheVariants as compile_error
+use Rattle.seccomp_oci.specs.declared.error.ProfileError.{ProfileError}
+use Rattle.seccomp_oci.specs.declared.error.ProfileError.TheVariants as profile_error
+use Rattle.seccomp_oci.specs.LeftOut.{AreLeftOut}
+use Rattle.seccomp_oci.specs.ProfileDecisions.{DecideAs, IsProfileWord}
+use Rattle.seccomp_oci.specs.ProfileText.{IsProfileFault, IsProfileText}
+use Rattle.seccomp_oci.specs.Types.{Container, Profile}
+
+-- The program returns the profile's word for the record, within as many steps as it has instructions.
+pub record EndsAsProfile (arch : TargetArch) (container : Container) (p : Profile) (program : List sock_filter) (r : List ℕ) : Type 0 where
+  pub word : ℕ
+  pub decided : IsProfileWord arch container p r word
+  pub ends : EndsWithin program r word (length program)
+
+-- The program may be run, and returns the profile's word for every record.
+pub record IsProfileProgram (arch : TargetArch) (container : Container) (p : Profile) (program : List sock_filter) : Type 0 where
+  pub checked : IsChecked program
+  pub decides : (r : List ℕ) → IsRecord r → EndsAsProfile arch container p program r
+
+-- The text is this profile's, and these names are left out: none where that is an error.
+pub record IsRead (arch : TargetArch) (container : Container) (strict : Bool) (text : List ℕ) (p : Profile)
+    (left_out : List (List ℕ)) : Type 0 where
+  pub profile : IsProfileText text p
+  pub names : AreLeftOut arch container p.entries left_out
+  pub none : strict ≡ true → left_out ≡ []
+
+-- The profile of the text is compiled into one program, without the names that are left out. The flags are the profile's.
+pub record IsCompiledProfile (arch : TargetArch) (container : Container) (strict : Bool) (text : List ℕ) (compiled : CompiledProfile)
+    : Type 0 where
+  pub profile : Profile
+  pub read : IsRead arch container strict text profile (map string_bytes compiled.left_out.items)
+  pub flags : compiled.flags.items ≡ profile.flags
+  pub program : IsProfileProgram arch container profile compiled.program.items
+
+-- ---- why there is none
+
+-- The names are some of the profile that no call of the architecture has.
+pub record AreUnknownNames (arch : TargetArch) (container : Container) (p : Profile) (names : List (List ℕ)) : Type 0 where
+  pub left_out : AreLeftOut arch container p.entries names
+  pub some : names ≢ []
+
+pub record HasUnknown (arch : TargetArch) (container : Container) (text : List ℕ) (names : List (List ℕ)) : Type 0 where
+  pub profile : Profile
+  pub is_profile : IsProfileText text profile
+  pub are : AreUnknownNames arch container profile names
+
+-- Decisions that decide as the profile may need more than 4096 instructions.
+pub record IsLarge (arch : TargetArch) (container : Container) (p : Profile) : Type 0 where
+  pub decisions : DecisionSet
+  pub decide : DecideAs arch container p decisions
+  pub large : (starts : List ℕ) → AreRanges decisions starts → greatest_length < length_by decisions (length starts)
+
+pub record HasLarge (arch : TargetArch) (container : Container) (strict : Bool) (text : List ℕ) : Type 0 where
+  pub profile : Profile
+  pub left_out : List (List ℕ)
+  pub read : IsRead arch container strict text profile left_out
+  pub large : IsLarge arch container profile
+
+-- The error says why the profile of the text isn't compiled. Out of memory may come in place of any answer.
+abbrev pub IsCompileFault : TargetArch → Container → Bool → List ℕ → CompileError → Type 0
+IsCompileFault arch container strict text (compile_error.Profile fault) = IsProfileFault text fault
+IsCompileFault arch container strict text (compile_error.UnknownNames names) =
+    (strict ≡ true) × HasUnknown arch container text (map string_bytes names.items)
+IsCompileFault arch container strict text compile_error.TooLarge = HasLarge arch container strict text
+IsCompileFault arch container strict text compile_error.OutOfMemory = ⊤
+
+-- ---- the errors of the steps
+
+-- Out of memory is an error of its own, and stands in no other.
+abbrev pub from_profile : ProfileError → CompileError
+from_profile profile_error.OutOfMemory = compile_error.OutOfMemory
+from_profile error = compile_error.Profile error
+
+-- Why the names aren't left out: there are some, and they are asked not to be left out.
+abbrev pub IsNamesFault : TargetArch → Container → Bool → Profile → CompileError → Type 0
+IsNamesFault arch container strict p (compile_error.UnknownNames names) =
+    (strict ≡ true) × AreUnknownNames arch container p (map string_bytes names.items)
+IsNamesFault arch container strict p compile_error.OutOfMemory = ⊤
+IsNamesFault arch container strict p _ = ⊥
+
+-- Why the profile has no program.
+abbrev pub IsProgramFault : TargetArch → Container → Profile → CompileError → Type 0
+IsProgramFault arch container p compile_error.TooLarge = IsLarge arch container p
+IsProgramFault arch container p compile_error.OutOfMemory = ⊤
+IsProgramFault arch container p _ = ⊥

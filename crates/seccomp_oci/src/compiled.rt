@@ -1,0 +1,176 @@
+// From the text of a profile to its program.
+
+ghost use Rattle.std.specs.Prelude.{◌≡◌, [], IfErr, IfOk, map, string_bytes, true};
+ghost use Rattle.seccomp_oci.specs.CompiledProfile.{IsCompileFault, IsCompiledProfile, IsNamesFault, IsProfileProgram, IsProgramFault};
+ghost use Rattle.seccomp_oci.specs.LeftOut.{AreLeftOut};
+ghost use Rattle.seccomp_oci.specs.Types.{AllOnArguments};
+
+use crate::decisions::decisions_of_profile;
+use crate::error::ProfileError;
+use crate::profile::profile_of;
+use crate::types::{Container, Flag, Profile};
+use crate::unknown::unknown_names;
+use seccomp_tree::TreeError;
+use seccompiler::{BpfProgram, TargetArch};
+use std::alloc::{AllocError, Global};
+use std::{error, fmt};
+
+/// The program of a whole profile.
+#[derive(Debug, Drop)]
+pub struct CompiledProfile {
+    /// The program: one tree. It returns what the profile decides of every call, and kills the process at one of another
+    /// architecture.
+    pub program: BpfProgram,
+    /// The names, of entries that apply, that no call of the architecture has, in the order of the profile's text and as
+    /// often as they stand there. The program gives their calls the default action, as all that no entry is for.
+    pub left_out: Vec<String>,
+    /// The flags of the profile, in its order. No program has them: who installs it chooses them.
+    pub flags: Vec<Flag>,
+}
+
+/// Why the profile of a text isn't compiled.
+#[derive(Debug, Drop)]
+pub enum CompileError {
+    /// The text is no profile.
+    Profile(ProfileError),
+    /// No call of the architecture has these names, and none are to be left out.
+    UnknownNames(Vec<String>),
+    /// The program would have more than 4096 instructions.
+    TooLarge,
+    /// Memory ran out.
+    OutOfMemory,
+}
+
+/// Compiles the profile of a text, on an architecture and in a container, into one program, which returns what the profile
+/// decides of every call.
+///
+/// It is the program of [`decisions_of_profile`](crate::decisions_of_profile). Entries that don't apply to the container,
+/// `architectures`, `archMap` and `flags` leave nothing in it. Nor do the names of calls that the architecture hasn't:
+/// `left_out` lists them, as [`unknown_names`](crate::unknown_names) does. Where `strict` is set, they are an error. `flags`
+/// are listed too, and are no error.
+///
+/// # Errors
+///
+/// The first of these that is there:
+///
+/// - `Profile` with the error of [`profile_of`](crate::profile_of), where the text is no profile;
+/// - `UnknownNames` with the names that would be left out, where there are some and `strict` is set;
+/// - `TooLarge` where the program would have more than 4096 instructions.
+///
+/// `OutOfMemory` may come in place of any answer, where memory runs out. No other error comes, and `Profile` has
+/// no `OutOfMemory` in it.
+pub fn compile_profile(
+    alloc: Global,
+    arch: TargetArch,
+    container: &Container,
+    strict: bool,
+    text: &[u8],
+) -> Result<CompiledProfile, CompileError>
+    ensures compiled { IfOk result (IsCompiledProfile arch container.now strict text.now) }
+    ensures fault { IfErr result (IsCompileFault arch container.now strict text.now) }
+{
+    let profile = profile_of(alloc, text)?;
+    let left_out = names_left_out(alloc, arch, container, strict, &profile)?;
+    let program = program_for(alloc, arch, container, &profile)?;
+    Ok(CompiledProfile {
+        program,
+        left_out,
+        flags: profile.flags,
+    })
+}
+
+// The names that are left out of a profile; an error where there are some, and they are asked not to be left out.
+fn names_left_out(
+    alloc: Global,
+    arch: TargetArch,
+    container: &Container,
+    strict: bool,
+    profile: &Profile,
+) -> Result<Vec<String>, CompileError>
+    ensures names { IfOk result (λ names. AreLeftOut arch container.now profile.now.entries (map string_bytes names.items)) }
+    ensures none { IfOk result (λ names. strict ≡ true → map string_bytes names.items ≡ []) }
+    ensures fault { IfErr result (IsNamesFault arch container.now strict profile.now) }
+{
+    let names = unknown_names(alloc, arch, container, profile)?;
+    if strict && !names.is_empty() {
+        return Err(CompileError::UnknownNames(names));
+    }
+    Ok(names)
+}
+
+// The program of a profile whose conditions are on arguments that a call has.
+fn program_for(
+    alloc: Global,
+    arch: TargetArch,
+    container: &Container,
+    profile: &Profile,
+) -> Result<BpfProgram, CompileError>
+    requires { AllOnArguments profile.now.entries }
+    ensures program { IfOk result (λ program. IsProfileProgram arch container.now profile.now program.items) }
+    ensures fault { IfErr result (IsProgramFault arch container.now profile.now) }
+{
+    let decisions = decisions_of_profile(alloc, arch, container, profile)?;
+    match decisions.to_bpf(alloc) {
+        Ok(program) => Ok(program),
+        Err(TreeError::TooLarge) => Err(CompileError::TooLarge),
+        Err(TreeError::OutOfMemory) => Err(CompileError::OutOfMemory),
+    }
+}
+
+/// The error's text. That of `Profile` is what the profile's error says.
+impl fmt::Display for CompileError {
+    fn fmt<W: fmt::Write>(&self, f: &mut fmt::Formatter<W>) -> fmt::Result {
+        match self {
+            CompileError::Profile(error) => error.fmt(f),
+            CompileError::UnknownNames(names) => {
+                f.write_str("No system call of this architecture has these names")?;
+                write_names(f, names.as_slice())?;
+                f.write_str(".")
+            }
+            CompileError::TooLarge => {
+                f.write_str("One program of the profile needs more than 4096 instructions.")
+            }
+            CompileError::OutOfMemory => f.write_str("Out of memory."),
+        }
+    }
+}
+
+// Writes names behind a colon, with a comma between each two.
+fn write_names<W: fmt::Write>(f: &mut fmt::Formatter<W>, names: &[String]) -> fmt::Result {
+    let mut sign = ": ";
+    for name in names {
+        f.write_str(sign)?;
+        f.write_str(name.as_str())?;
+        sign = ", ";
+    }
+    Ok(())
+}
+
+impl error::Error for CompileError {}
+
+/// A failed allocation is `OutOfMemory`.
+impl From<AllocError> for CompileError {
+    ghost use Rattle.std.specs.Prelude.{◌≡◌};
+    ghost use Rattle.seccomp_oci.specs.declared.compiled.CompileError.TheVariants.{OutOfMemory};
+
+    ghost from_gives = { λ _ error. error ≡ OutOfMemory };
+
+    fn from(_refused: AllocError) -> CompileError {
+        CompileError::OutOfMemory
+    }
+}
+
+/// `OutOfMemory` stays so; every other error of a profile is `Profile`.
+impl From<ProfileError> for CompileError {
+    ghost use Rattle.std.specs.Prelude.{◌≡◌};
+    ghost use Rattle.seccomp_oci.specs.CompiledProfile.{from_profile};
+
+    ghost from_gives = { λ cause error. error ≡ from_profile cause };
+
+    fn from(error: ProfileError) -> CompileError {
+        match error {
+            ProfileError::OutOfMemory => CompileError::OutOfMemory,
+            other => CompileError::Profile(other),
+        }
+    }
+}

@@ -1,9 +1,9 @@
--- For the functions of `filters`: what is the first of the least, as the list of what gives it grows.
-use Rattle.std.proofs.Common.{◌≡◌, ◌<◌, ◌≤◌, ℕ, List, [], ◌∷◌, ◌++◌, All, ◌⊎◌, inl, inr, arith}
+-- For the functions of `decisions` and `decide`: what is the first of the least, as the list of what gives it grows.
+use Rattle.std.proofs.Common.{◌≡◌, ◌<◌, ◌≤◌, ℕ, List, [], ◌∷◌, ◌++◌, All, arith}
 use Rattle.std.specs.Prelude.{Any}
 use Rattle.std.proofs.lemmas.List.Elements.{All-nil, All-cons, All-head, All-tail, All-push}
 use Rattle.seccomp_oci.specs.Decision.{IsFirstLeast, first, later}
-use Rattle.seccomp_oci.proofs.Quantified.{all_append, all_one, any_head, any_tail, at_any}
+use Rattle.seccomp_oci.proofs.Quantified.{any_head, any_tail, at_any}
 
 module _ {X V : Type 0} (rank_of : V → ℕ) (Gives : X → V → Type 0) where
   -- What x gives has a greater rank than v, or not a lesser one.
@@ -28,18 +28,6 @@ module _ {X V : Type 0} (rank_of : V → ℕ) (Gives : X → V → Type 0) where
   least_kept [] y v least more = absurd (none_least v least)
   least_kept (x ∷ xs) y v (first gives rest) more = first gives (All-push (NotBelow v) xs y rest more)
   least_kept (x ∷ xs) y v (later before least) more = later before (least_kept xs y v least more)
-
-  -- It is one of those before the last; or the last gives it, and all before it give more.
-  pub least_cases : (xs : List X) (y : X) (v : V) → IsFirstLeast rank_of Gives (xs ++ y ∷ []) v
-      → (IsFirstLeast rank_of Gives xs v × NotBelow v y) ⊎ (All (Above v) xs × Gives y v)
-  least_cases [] y v (first gives rest) = inr (All-nil (Above v), gives)
-  least_cases [] y v (later before least) = absurd (none_least v least)
-  least_cases (x ∷ xs) y v (first gives rest) =
-      let parts = (all_append (NotBelow v) xs (y ∷ [])).0 rest in inl (first gives parts.0, (all_one (NotBelow v) y).0 parts.1)
-  least_cases (x ∷ xs) y v (later before least) = elim (least_cases xs y v least) [
-    | inl here ↦ inl (later before here.0, here.1)
-    | inr last ↦ inr (All-cons (Above v) x xs before last.0, last.1)
-  ]
 
   -- None gives less than the least.
   pub least_all : (xs : List X) (v : V) → IsFirstLeast rank_of Gives xs v → ((x : X) → Gives x v → NotBelow v x) → All (NotBelow v) xs

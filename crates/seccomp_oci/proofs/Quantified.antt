@@ -1,4 +1,4 @@
--- For the functions of `rules` and `filters`: what holds of each, or of some, of a list's elements, as the list grows.
+-- For the functions of `concerns`, `decisions` and `decide`: what holds of each, or of some, of a list's elements, as the list grows.
 use Rattle.std.proofs.Common.{◌≡◌, ◌↔◌, ℕ, zero, suc, ◌+◌, ◌<◌, List, [], ◌∷◌, ◌++◌, length, get_or, take, refl, subst, sym}
 use Rattle.std.proofs.Common.{◌∙◌, ap, ◌⊎◌, inl, inr, arith}
 use Rattle.std.specs.Prelude.{All, Any}
@@ -91,26 +91,3 @@ module _ {X Y : Type 0} (P : X → Type 0) (Q : Y → Type 0) where
 -- What each has and what some has, some one has both.
 pub at_any : {X : Type 0} (P Q : X → Type 0) (xs : List X) → All P xs → Any Q xs → (x : X) × P x × Q x
 at_any P Q xs all (k, x, within, is, has) = (x, subst P is (all k x within), has)
-
--- What some has, some one more has.
-pub any_weaker : {X : Type 0} (P Q : X → Type 0) (xs : List X) → ((x : X) → P x → Q x) → Any P xs → Any Q xs
-any_weaker P Q xs more (k, x, within, is, has) = (k, x, within, is, more x has)
-
--- Some of the lists one behind the other has a property where some of the things has one, and so with one thing more.
-pub any_flat : {X Y : Type 0} (P : X → Type 0) (Q : Y → Type 0) (old more new : List X) (ys : List Y) (i : ℕ) (y : Y) → i < length ys
-    → y ≡ get_or ys i y → new ≡ old ++ more → (Any P old ↔ Any Q (take i ys)) → (Any P more ↔ Q y) → Any P new ↔ Any Q (take (i + 1) ys)
-any_flat P Q old more new ys i y within is longer so_far here =
-    let left = any_append P old more in
-    let right = any_append Q (take i ys) (y ∷ []) in
-    let both : Any P (old ++ more) ↔ Any Q (take i ys ++ y ∷ []) = (
-      λ any. right.1 (elim (left.0 any) [
-        | inl before ↦ inl (so_far.0 before)
-        | inr now ↦ inr ((any_one Q y).1 (here.0 now))
-      ]),
-      λ any. left.1 (elim (right.0 any) [
-        | inl before ↦ inl (so_far.1 before)
-        | inr now ↦ inr (here.1 ((any_one Q y).0 now))
-      ]),
-    ) in
-    subst (λ xs. Any P xs ↔ Any Q (take (i + 1) ys)) (sym longer)
-    (subst (λ zs. Any P (old ++ more) ↔ Any Q zs) (sym (more_read ys i y within is)) both)

@@ -7,15 +7,6 @@ use Rattle.seccomp_oci.proofs.Least.{none_least, NotBelow}
 use Rattle.seccomp_oci.proofs.Quantified.{more_read}
 
 module _ {X Y : Type 0} (R : X → Y → Type 0) where
-  -- What holds of the elements of one list gives what holds of those of the other.
-  pub zipped : (P : X → Type 0) (Q : Y → Type 0) → ((x : X) (y : Y) → R x y → P x → Q y) → (xs : List X) (ys : List Y)
-      → AllZip R xs ys → All P xs → All Q ys
-  zipped P Q step [] [] zip all = All-nil Q
-  zipped P Q step [] (y ∷ ys) zip all = absurd zip
-  zipped P Q step (x ∷ xs) [] zip all = absurd zip
-  zipped P Q step (x ∷ xs) (y ∷ ys) zip all =
-      All-cons Q y ys (step x y zip.0 (All-head P x xs all)) (zipped P Q step xs ys zip.1 (All-tail P x xs all))
-
   -- One element more of both.
   pub zip_push : (xs : List X) (ys : List Y) (x : X) (y : Y) → AllZip R xs ys → R x y → AllZip R (xs ++ x ∷ []) (ys ++ y ∷ [])
   zip_push [] [] x y zip here = (here, tt)

@@ -14,8 +14,6 @@ pub mod Decision
 pub mod ProfileDecisions
 pub mod Decided
 pub mod CompiledProfile
-
-
 pub mod LeftOut
 -- Between layers. No promise rests on how these are worded.
 pub mod Concerns

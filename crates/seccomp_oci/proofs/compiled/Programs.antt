@@ -1,13 +1,12 @@
 -- For the functions of `compiled`: the program of decisions is that of a profile, and why there is none.
-use Rattle.std.proofs.Common.{◌≡◌, ℕ, Bool, List, refl}
+use Rattle.std.proofs.Common.{ℕ, Bool, List}
 use Rattle.seccompiler.specs.declared.backend.TargetArch.{TargetArch}
 use Rattle.seccompiler.specs.declared.bpf.sock_filter.{sock_filter}
-use Rattle.seccomp_tree.specs.declared.error.TreeError.TheVariants as tree
 use Rattle.seccomp_tree.specs.Decided.{DecisionSet}
-use Rattle.seccomp_tree.specs.TreeProgram.{IsTooLargeFor, IsTreeProgram}
+use Rattle.seccomp_tree.specs.TreeProgram.{IsTreeProgram}
 use Rattle.seccomp_oci.specs.declared.compiled.CompileError.{CompileError}
 use Rattle.seccomp_oci.specs.declared.compiled.CompileError.TheVariants as e
-use Rattle.seccomp_oci.specs.CompiledProfile.{IsCompileFault, IsLarge, IsProfileProgram, IsProgramFault, IsRead}
+use Rattle.seccomp_oci.specs.CompiledProfile.{IsCompileFault, IsProfileProgram, IsProgramFault, IsRead}
 use Rattle.seccomp_oci.specs.ProfileDecisions.{DecideAs}
 use Rattle.seccomp_oci.specs.Types.{Container, Profile}
 
@@ -21,9 +20,6 @@ module _ (arch : TargetArch) (container : Container) (p : Profile) where
         let found = is.decides r record_is in
         record { word = found.word; decided = decide.decide r found.word found.decided; ends = found.ends };
   }
-
-  pub too_large : (d : DecisionSet) → DecideAs arch container p d → IsTooLargeFor d tree.TooLarge → IsLarge arch container p
-  too_large d decide large = record { decisions = d; decide = decide; large = large refl }
 
   -- Why the profile has no program is why its text isn't compiled.
   pub compile_fault : (strict : Bool) (text : List ℕ) (left_out : List (List ℕ)) → IsRead arch container strict text p left_out

@@ -45,9 +45,9 @@ module _ (arch : TargetArch) where
       back n any = elim ((any_append (IsNameOf arch n) before (text ∷ [])).0 any) [
         | inl earlier ↦ Contains-append_left old (k ∷ []) n ((so_far.exactly n).1 earlier)
         | inr last ↦
-          let named = (any_one (IsNameOf arch n) text).0 last in
-          let same : k ≡ n = cc in
-          subst (λ n. Contains (old ++ k ∷ []) n) same (Contains-push old k)
+            let named = (any_one (IsNameOf arch n) text).0 last in
+            let same : k ≡ n = cc in
+            subst (λ n. Contains (old ++ k ∷ []) n) same (Contains-push old k)
       ]
 
   one_unknown : (old : List ℕ) (before : List (List ℕ)) (text : List ℕ) → ((n : ℕ) → IsNameOf arch n text → ⊥)

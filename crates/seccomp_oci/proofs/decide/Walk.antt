@@ -77,7 +77,6 @@ module _ (arch : TargetArch) (container : Container) (default : SeccompAction) w
   })
 
   module _ (r : List ℕ) where
-
     -- An entry that doesn't match changes nothing.
     pub passed_over : (done : List Entry) (e : Entry) (found : Option Found)
         → (Concerns arch container default (word_at r 0) e × AreMet r e.args → ⊥) → AreFound arch container default r done found

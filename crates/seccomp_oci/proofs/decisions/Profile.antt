@@ -20,7 +20,7 @@ use Rattle.seccomp_oci.specs.ProfileDecisions.{DecideAs, IsProfileWord, other, o
 use Rattle.seccomp_oci.specs.Rulings.{AreRulingsFor, by_first, by_none, by_strictest, IsMetBy, IsRuled, MatchesAs, SettlesAs}
 use Rattle.seccomp_oci.specs.declared.types.Flag.{Flag}
 use Rattle.seccomp_oci.specs.Types.{Container, Entry, Profile}
-use Rattle.seccomp_oci.proofs.Zipped.{least_zipped, zipped, zipped_back}
+use Rattle.seccomp_oci.proofs.Zipped.{least_zipped, zipped_back}
 
 module _ (arch : TargetArch) (container : Container) (default : SeccompAction) where
   abbrev Is : Entry → Concern → Type 0

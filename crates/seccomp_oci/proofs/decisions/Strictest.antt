@@ -55,7 +55,7 @@ module _ (n : ℕ) (r : List ℕ) where
       → strictness (get_or concerns j d).action ≡ k → Contains (get_or concerns j d).numbers n
       → AreRulingsUpTo concerns (take j concerns) n k r all
       → AreRulingsUpTo concerns (take (j + 1) concerns) n k r
-          (all ++ each_with (word_of (get_or concerns j d).action) (get_or concerns j d).alternatives)
+      (all ++ each_with (word_of (get_or concerns j d).action) (get_or concerns j d).alternatives)
   pushed concerns j k d all within is has so_far =
       let c = get_or concerns j d in
       let more = each_with (word_of c.action) c.alternatives in
@@ -64,13 +64,12 @@ module _ (n : ℕ) (r : List ℕ) where
         held = λ w held. elim (held_append r all more w held) [
           | inl before ↦ so_far.held w before
           | inr now ↦
-            let own = held_each r (word_of c.action) c.alternatives w now.1 in
-            (
-              c.action,
-              least_at concerns j d within (has, own.0) (subst (λ k. All (AtLeast k) concerns) (sym is) (so_far.all now.0))
-                  (subst (λ k. All (Above k) (take j concerns)) (sym is) (so_far.above now.0)),
-              own.1,
-            )
+              let own = held_each r (word_of c.action) c.alternatives w now.1 in (
+                c.action,
+                least_at concerns j d within (has, own.0) (subst (λ k. All (AtLeast k) concerns) (sym is) (so_far.all now.0))
+                    (subst (λ k. All (Above k) (take j concerns)) (sym is) (so_far.above now.0)),
+                own.1,
+              )
         ];
         all = λ none. so_far.all (parts none).0;
         above = λ none. All-more (Above k) concerns j d within (so_far.above (parts none).0)

@@ -1,4 +1,4 @@
-use Rattle.seccomp_oci.proofs.compiled.Programs.{profile_program, too_large}
+use Rattle.seccomp_oci.proofs.compiled.Programs.{profile_program}
 use Rattle.seccomp_oci.proofs.compiled.program_for.Goals as goal
 
 pub returns-in-Ok-clause-program : goal.returns-in-Ok-clause-program
@@ -6,4 +6,8 @@ returns-in-Ok-clause-program c = profile_program c.args.arch c.args.container.no
     c.in-Ok.program.items c.in_ok-decisions.ensures c.in-Ok.ensures.program
 
 pub returns-in-Err-TooLarge-clause-fault : goal.returns-in-Err-TooLarge-clause-fault
-returns-in-Err-TooLarge-clause-fault c = ?
+returns-in-Err-TooLarge-clause-fault c = record {
+  decisions = c.in_ok-decisions.decisions;
+  decide = c.in_ok-decisions.ensures;
+  large = c.in-Err-TooLarge.ensures.large c.in-Err-TooLarge.field-0-is;
+}

@@ -13,8 +13,7 @@ returns-then-not-concerns c = (
 
 pub returns : goal.returns
 returns c =
-    let same = c.as_slice.ensures.value ∙ ap (λ (e : Entry). e.args) c.entry.view_is in
-    (
+    let same = c.as_slice.ensures.value ∙ ap (λ (e : Entry). e.args) c.entry.view_is in (
       λ yes. (
         subst (λ n. Concerns c.args.arch c.args.container.now c.args.default n c.args.entry.now) c.number_of.ensures
             (c.concerns.ensures.0 c.if-not-concerns.false),

@@ -1,0 +1,10 @@
+use Rattle.std.proofs.Common.{subst}
+use Rattle.seccomptool.specs.Stats.{IsMeasureOf}
+use Rattle.seccomptool.proofs.stats.profile_stats.Goals as goal
+
+pub returns : goal.returns
+returns c = record {
+  compiled = c.in_ok-compiled.compiled;
+  is_compiled = c.in_ok-compiled.ensures;
+  measure = subst (λ p. IsMeasureOf c.args.target p c.in_ok-measure_of.field-0) c.deref.ensures.value c.in_ok-measure_of.ensures;
+}

@@ -1,13 +1,11 @@
 -- What a profile decides, as decisions and as a program.
-use Rattle.std.specs.Prelude.{◌≡◌, ◌≢◌, ◌≤◌, ℕ, List, length, map, string_bytes, Bool, true, [], ⊤}
+use Rattle.std.specs.Prelude.{◌≡◌, ◌≢◌, ℕ, List}
 use Rattle.seccompiler.specs.declared.backend.SeccompAction.{SeccompAction}
 use Rattle.seccompiler.specs.declared.backend.TargetArch.{TargetArch}
-use Rattle.seccompiler.specs.declared.bpf.sock_filter.{sock_filter}
 use Rattle.seccompiler.specs.Architecture.{audit_word}
-use Rattle.seccompiler.specs.Machine.{IsChecked, IsRecord, word_at}
+use Rattle.seccompiler.specs.Machine.{word_at}
 use Rattle.seccompiler.specs.Policy.{word_of}
 use Rattle.seccomp_tree.specs.Decided.{DecisionSet, IsDecided}
-use Rattle.seccomp_tree.specs.TreeProgram.{EndsWithin}
 use Rattle.seccomp_oci.specs.Decision.{IsProfileDecision}
 use Rattle.seccomp_oci.specs.Types.{Container, Profile}
 

@@ -1,8 +1,8 @@
 -- For `numbers_of` and `numbers_in`: the numbers of names, and of an entry.
-use Rattle.std.proofs.Common.{◌≡◌, ◌≢◌, ◌↔◌, ◌<◌, ℕ, pos, ◌+◌, List, [], ◌∷◌, ◌++◌, All, map, take, length, get_or, refl, subst, sym, ap, ◌∙◌, inl, inr}
+use Rattle.std.proofs.Common.{◌≡◌, ◌≢◌, ◌<◌, ℕ, pos, ◌+◌, List, [], ◌∷◌, ◌++◌, map, take, length, get_or, subst, sym, ap, ◌∙◌, inl, inr}
 use Rattle.std.proofs.Common.{String, Global, string_bytes, Option, Some, None, arith}
 use Rattle.std.specs.Prelude.{Any, Contains, IfNone, IfSome, MatchOption}
-use Rattle.std.proofs.lemmas.List.{map_push, take_all}
+use Rattle.std.proofs.lemmas.List.{map_push}
 use Rattle.std.proofs.lemmas.List.Elements.{All-nil, All-push, Contains-append_left, Contains-push, Contains-push_cases}
 use Rattle.seccompiler.specs.declared.backend.SeccompAction.{SeccompAction}
 use Rattle.seccompiler.specs.declared.backend.TargetArch.{TargetArch}

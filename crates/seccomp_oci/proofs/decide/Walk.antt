@@ -1,5 +1,5 @@
 -- For `settling`, `strictest` and `with_entry`: the entries that decide, as more of them are looked at.
-use Rattle.std.proofs.Common.{◌≡◌, ◌≢◌, ◌<◌, ◌≤◌, ◌+◌, ℕ, zero, suc, List, [], ◌∷◌, ◌++◌, All, Bool, IsTrue, ◌↔◌, Option, Some, None, length, get_or, take, refl, sym, subst, ap, ◌∙◌, arith}
+use Rattle.std.proofs.Common.{◌≡◌, ◌≢◌, ◌<◌, ◌≤◌, ℕ, zero, suc, List, [], ◌∷◌, ◌++◌, All, Bool, IsTrue, ◌↔◌, Option, Some, None, length, get_or, take, refl, sym, subst, ap, ◌∙◌, arith}
 use Rattle.std.proofs.Common.{inl, inr}
 use Rattle.std.specs.Prelude.{Any, IsSomeAnd}
 use Rattle.std.proofs.lemmas.Bool.{cases_lt}
@@ -8,8 +8,8 @@ use Rattle.seccompiler.specs.declared.backend.SeccompAction.{SeccompAction}
 use Rattle.seccompiler.specs.declared.backend.TargetArch.{TargetArch}
 use Rattle.seccompiler.specs.Machine.{word_at}
 use Rattle.seccomp_oci.specs.declared.decide.Found.{Found}
-use Rattle.seccomp_oci.specs.Decided.{AreFound, IsAt, IsByEntry, IsSettling, IsStrictest}
-use Rattle.seccomp_oci.specs.Decision.{Applies, AreMet, all_met, Concerns, IsFirstLeast, first, IsMet, IsNameOf, later, Matches, Settles, ShareArgument, strictness}
+use Rattle.seccomp_oci.specs.Decided.{AreFound, IsAt, IsSettling, IsStrictest}
+use Rattle.seccomp_oci.specs.Decision.{Applies, AreMet, all_met, Concerns, IsFirstLeast, first, IsMet, IsNameOf, later, Matches, Settles, strictness}
 use Rattle.seccomp_oci.specs.Types.{Container, Entry}
 use Rattle.seccomp_oci.proofs.Least.{Above, least_all, least_kept, least_last, NotBelow}
 

@@ -1,5 +1,5 @@
 -- For `push_all` and `rulings_by_strictness`: which of rulings hold for a record.
-use Rattle.std.proofs.Common.{◌≡◌, ℕ, List, [], ◌∷◌, ◌++◌, All, ◌⊎◌, inl, inr, map, refl}
+use Rattle.std.proofs.Common.{◌≡◌, ℕ, List, [], ◌∷◌, ◌++◌, ◌⊎◌, inl, inr, refl}
 use Rattle.std.specs.Prelude.{Any}
 use Rattle.std.proofs.lemmas.List.Elements.{All-nil, All-cons, All-head, All-tail}
 use Rattle.seccompiler.specs.Policy.{Condition, RuleHolds}

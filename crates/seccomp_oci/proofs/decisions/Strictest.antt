@@ -1,8 +1,8 @@
 -- For `push_all` and `rulings_by_strictness`: the rulings of what is said of a call, the strictest first.
-use Rattle.std.proofs.Common.{◌≡◌, ◌≢◌, ◌<◌, ◌≤◌, ◌+◌, ℕ, zero, suc, List, [], ◌∷◌, ◌++◌, All, ◌⊎◌, inl, inr, map, take, length, get_or, refl, sym, subst, arith, ap, ◌∙◌}
-use Rattle.std.specs.Prelude.{Any, Contains, true, false}
+use Rattle.std.proofs.Common.{◌≡◌, ◌<◌, ◌≤◌, ◌+◌, ℕ, zero, suc, List, [], ◌∷◌, ◌++◌, All, inl, inr, take, length, get_or, refl, sym, subst, arith, ap, ◌∙◌}
+use Rattle.std.specs.Prelude.{Contains, true, false}
 use Rattle.std.proofs.lemmas.Bool.{true≢false}
-use Rattle.std.proofs.lemmas.List.Elements.{All-nil, All-cons, All-head, All-tail, All-more, All-weaker}
+use Rattle.std.proofs.lemmas.List.Elements.{All-nil, All-head, All-tail, All-more, All-weaker}
 use Rattle.seccompiler.specs.declared.backend.SeccompAction.{SeccompAction}
 use Rattle.seccompiler.specs.declared.backend.SeccompAction.TheVariants.{Allow, Errno, KillProcess, KillThread, Log, Trace, Trap}
 use Rattle.seccompiler.specs.Policy.{Holds, RuleHolds, word_of}

@@ -1,4 +1,4 @@
-use Rattle.std.proofs.Common.{◌↔◌, ◌∷◌, [], ◌∙◌, ℕ, List, All, sym, subst, Vec, Global}
+use Rattle.std.proofs.Common.{◌↔◌, ◌∙◌, ℕ, List, sym, subst, Vec, Global}
 use Rattle.std.specs.Prelude.{Any}
 use Rattle.std.proofs.lemmas.Bool.{true≢false}
 use Rattle.std.proofs.lemmas.Result.{IfOk-weaker}

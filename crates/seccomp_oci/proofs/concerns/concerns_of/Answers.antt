@@ -1,6 +1,3 @@
-use Rattle.std.proofs.Common.{subst}
-use Rattle.std.specs.List.{AllZip}
-use Rattle.std.proofs.lemmas.List.{take_all}
 use Rattle.seccomp_oci.specs.Concerns.{IsConcernOf}
 use Rattle.seccomp_oci.proofs.Zipped.{zip_read}
 use Rattle.seccomp_oci.proofs.concerns.concerns_of.Goals as goal

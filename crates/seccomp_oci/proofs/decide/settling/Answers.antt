@@ -1,4 +1,4 @@
-use Rattle.std.proofs.Common.{◌≢◌, All, [], ap, refl, subst, sym, ◌∙◌}
+use Rattle.std.proofs.Common.{◌≢◌, All, [], ap, subst, sym, ◌∙◌}
 use Rattle.std.proofs.lemmas.Bool.{true≢false}
 use Rattle.std.proofs.lemmas.List.{take_all}
 use Rattle.std.proofs.lemmas.List.Elements.{All-more}

@@ -1,7 +1,6 @@
-use Rattle.std.proofs.Common.{subst, ap, ◌≡◌, ℕ, List, arith}
-use Rattle.seccomp_tree.specs.Decided.{calls_of, rulings_for}
-use Rattle.seccomp_oci.specs.Rulings.{AreRulingsFor}
-use Rattle.seccomp_oci.proofs.decisions.Calls.{all_numbers, AreRulingsBelow, none_below, one_below}
+use Rattle.std.proofs.Common.{subst, ◌≡◌, arith}
+use Rattle.seccomp_tree.specs.Decided.{calls_of}
+use Rattle.seccomp_oci.proofs.decisions.Calls.{all_numbers, AreRulingsBelow, one_below}
 use Rattle.seccomp_oci.proofs.decisions.calls_of.Goals as goal
 
 pub loop-number-preserved : goal.loop-number-preserved

@@ -1,6 +1,6 @@
-use Rattle.std.proofs.Common.{take, [], subst, ℕ, List}
+use Rattle.std.proofs.Common.{subst}
 use Rattle.std.proofs.lemmas.List.{take_all}
-use Rattle.seccomp_oci.specs.Rulings.{AreRulingsUpTo, IsPushed}
+use Rattle.seccomp_oci.specs.Rulings.{AreRulingsUpTo}
 use Rattle.seccomp_oci.proofs.decisions.Strictest.{next_strictness, one_more}
 use Rattle.seccomp_oci.proofs.decisions.push_all.Goals as goal
 

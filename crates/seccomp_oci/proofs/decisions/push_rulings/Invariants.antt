@@ -1,4 +1,4 @@
-use Rattle.std.proofs.Common.{◌≡◌, ◌++◌, map, take}
+use Rattle.std.proofs.Common.{◌≡◌, ◌++◌, take}
 use Rattle.seccompiler.specs.Policy.{word_of}
 use Rattle.seccomp_oci.specs.Rulings.{each_with}
 use Rattle.seccomp_oci.proofs.concerns.Conditions.{lists_of}

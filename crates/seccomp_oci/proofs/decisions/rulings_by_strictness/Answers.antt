@@ -1,4 +1,4 @@
-use Rattle.std.proofs.Common.{◌≡◌, [], subst, sym, ℕ, List, arith}
+use Rattle.std.proofs.Common.{◌≡◌, [], subst, sym, arith}
 use Rattle.seccomp_oci.specs.Rulings.{AreRulingsUpTo}
 use Rattle.seccomp_oci.proofs.decisions.Strictest.{by_all, no_rulings}
 use Rattle.seccomp_oci.proofs.decisions.rulings_by_strictness.Goals as goal

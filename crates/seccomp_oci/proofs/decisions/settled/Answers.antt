@@ -1,4 +1,4 @@
-use Rattle.std.proofs.Common.{◌≡◌, ◌∙◌, All, ap, false, refl, sym, subst, true}
+use Rattle.std.proofs.Common.{◌≡◌, ◌∙◌, All, ap, false, sym, subst}
 use Rattle.std.specs.Prelude.{Contains}
 use Rattle.std.proofs.lemmas.Bool.{true≢false}
 use Rattle.std.proofs.lemmas.List.{take_all}

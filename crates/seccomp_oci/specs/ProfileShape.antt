@@ -1,7 +1,7 @@
 -- Which JSON values are profiles and their entries (OCI runtime specification, `linux.seccomp`, and what Docker and Podman
 -- add to it). Nothing but the forms given here is one.
 use Rattle.std.specs.Prelude.{◌≡◌, ℕ, List, [], ◌∷◌, Option, Some, None, codes}
-use Rattle.serde_json.specs.Data.{Data, string, Items}
+use Rattle.serde_json.specs.Data.{Data, null, string, Items}
 use Rattle.serde_json.specs.Find.{get}
 use Rattle.seccompiler.specs.JsonShape.{HasOnly, IsCommented, Under}
 use Rattle.seccomp_oci.specs.Errnos.{AgreesOnError}
@@ -26,9 +26,10 @@ pub record AreCriteria (d : Data) (c : Criteria) : Type 0 where
   pub arches : IsListed IsText (get (codes "arches") d) c.arches
   pub min_kernel : IsKernelOr (get (codes "minKernel") d) c.min_kernel
 
--- What stands there is these criteria: empty ones where nothing stands there.
+-- What stands there is these criteria: empty ones where nothing stands there, or null.
 abbrev pub AreCriteriaOr : Option Data → Criteria → Type 0
 AreCriteriaOr None c = (c.caps ≡ []) × (c.arches ≡ []) × (c.min_kernel ≡ None)
+AreCriteriaOr (Some null) c = (c.caps ≡ []) × (c.arches ≡ []) × (c.min_kernel ≡ None)
 AreCriteriaOr (Some d) c = AreCriteria d c
 
 -- The value is this entry: an object of `action`, `names` or `name`, and, if it likes, `errnoRet`, `errno`, which says the

@@ -257,8 +257,8 @@ fn in_criteria_under(alloc: Global, key: &str, value: &Value) -> Result<(), Find
     ensures found { part_under (parts.Object kind.Entry) key.now ≡ Some (parts.Object kind.Criteria) → IfErr result (Tells (parts.Object kind.Entry) (view value.now)) }
 {
     match value.get(key) {
+        None | Some(Value::Null) => Ok(()),
         Some(inner) => under_key(alloc, key, in_criteria(alloc, inner)),
-        None => Ok(()),
     }
 }
 

@@ -3,7 +3,7 @@
 use Rattle.std.specs.Prelude.{◌≡◌, ℕ, List, [], ◌∷◌, Option, Some, None, codes}
 use Rattle.serde_json.specs.Data.{Data, null, string, Items}
 use Rattle.serde_json.specs.Find.{get}
-use Rattle.seccompiler.specs.JsonShape.{HasOnly, IsCommented, Under}
+use Rattle.seccompiler.specs.JsonShape.{HasOnly, IsComment, IsCommented, Under}
 use Rattle.seccomp_oci.specs.Errnos.{AgreesOnError}
 use Rattle.seccomp_oci.specs.Shape.{IsAction, IsArgument, IsFlag, IsListed, IsText, items_of}
 use Rattle.seccomp_oci.specs.Types.{Criteria, Entry, Profile}
@@ -46,10 +46,13 @@ pub record IsEntry (d : Data) (e : Entry) : Type 0 where
   pub excludes : AreCriteriaOr (get (codes "excludes") d) e.excludes
 
 -- The value is an object that has none but these names. `architectures` and `archMap`, which concern other architectures,
--- are lists, if they are there. `defaultErrno`, if it is there, says the same as `defaultErrnoRet`.
+-- are lists, if they are there. `defaultErrno`, if it is there, says the same as `defaultErrnoRet`. `comment` and `$schema` are texts,
+-- if they are there, and say nothing.
 pub record HasProfileNames (d : Data) : Type 0 where
   pub only : HasOnly d (codes "defaultAction" ∷ codes "defaultErrnoRet" ∷ codes "defaultErrno" ∷ codes "architectures"
-      ∷ codes "archMap" ∷ codes "flags" ∷ codes "syscalls" ∷ [])
+      ∷ codes "archMap" ∷ codes "flags" ∷ codes "syscalls" ∷ codes "comment" ∷ codes "$schema" ∷ [])
+  pub comment : IsCommented d
+  pub schema : IsComment (get (codes "$schema") d)
   pub architectures : IsList (get (codes "architectures") d)
   pub arch_map : IsList (get (codes "archMap") d)
   pub error : AgreesOnError (codes "defaultAction") (codes "defaultErrno") (codes "defaultErrnoRet") d

@@ -24,7 +24,8 @@ use Rattle.seccomp_oci.specs.Version.{IsKernelOr}
 abbrev pub parts_of : Kind → List (List ℕ × Part)
 parts_of kind.Profile = (codes "defaultAction", parts.Action) ∷ (codes "defaultErrnoRet", parts.ActionNumber)
     ∷ (codes "defaultErrno", parts.ErrorName) ∷ (codes "architectures", parts.Anything) ∷ (codes "archMap", parts.Anything)
-    ∷ (codes "flags", parts.Flags) ∷ (codes "syscalls", parts.Entries) ∷ []
+    ∷ (codes "flags", parts.Flags) ∷ (codes "syscalls", parts.Entries) ∷ (codes "comment", parts.Comment)
+    ∷ (codes "$schema", parts.Comment) ∷ []
 parts_of kind.Entry = (codes "names", parts.Texts) ∷ (codes "name", parts.Text) ∷ (codes "action", parts.Action)
     ∷ (codes "errnoRet", parts.ActionNumber) ∷ (codes "errno", parts.ErrorName) ∷ (codes "args", parts.Conditions)
     ∷ (codes "includes", parts.Object kind.Criteria) ∷ (codes "excludes", parts.Object kind.Criteria)

@@ -53,7 +53,7 @@ form_text parts.Version = codes "null or a version of two numbers, as \"4.8\""
 
 -- The names that an object of this kind may have.
 abbrev pub names_text : Kind → List ℕ
-names_text kind.Profile = codes "defaultAction, defaultErrnoRet, defaultErrno, architectures, archMap, flags or syscalls"
+names_text kind.Profile = codes "defaultAction, defaultErrnoRet, defaultErrno, architectures, archMap, flags, syscalls, comment or $schema"
 names_text kind.Entry = codes "names, name, action, errnoRet, errno, args, includes, excludes or comment"
 names_text kind.Condition = codes "index, value, valueTwo or op"
 names_text kind.Criteria = codes "caps, arches or minKernel"

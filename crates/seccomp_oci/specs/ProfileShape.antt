@@ -1,9 +1,9 @@
 -- Which JSON values are profiles and their entries (OCI runtime specification, `linux.seccomp`, and what Docker and Podman
 -- add to it). Nothing but the forms given here is one.
 use Rattle.std.specs.Prelude.{◌≡◌, ℕ, List, [], ◌∷◌, Option, Some, None, codes}
-use Rattle.serde_json.specs.Data.{Data, string, Items}
+use Rattle.serde_json.specs.Data.{Data, null, string, Items}
 use Rattle.serde_json.specs.Find.{get}
-use Rattle.seccompiler.specs.JsonShape.{HasOnly, IsCommented, Under}
+use Rattle.seccompiler.specs.JsonShape.{HasOnly, IsComment, IsCommented, Under}
 use Rattle.seccomp_oci.specs.Errnos.{AgreesOnError}
 use Rattle.seccomp_oci.specs.Shape.{IsAction, IsArgument, IsFlag, IsListed, IsText, items_of}
 use Rattle.seccomp_oci.specs.Types.{Criteria, Entry, Profile}
@@ -26,9 +26,10 @@ pub record AreCriteria (d : Data) (c : Criteria) : Type 0 where
   pub arches : IsListed IsText (get (codes "arches") d) c.arches
   pub min_kernel : IsKernelOr (get (codes "minKernel") d) c.min_kernel
 
--- What stands there is these criteria: empty ones where nothing stands there.
+-- What stands there is these criteria: empty ones where nothing stands there, or null.
 abbrev pub AreCriteriaOr : Option Data → Criteria → Type 0
 AreCriteriaOr None c = (c.caps ≡ []) × (c.arches ≡ []) × (c.min_kernel ≡ None)
+AreCriteriaOr (Some null) c = (c.caps ≡ []) × (c.arches ≡ []) × (c.min_kernel ≡ None)
 AreCriteriaOr (Some d) c = AreCriteria d c
 
 -- The value is this entry: an object of `action`, `names` or `name`, and, if it likes, `errnoRet`, `errno`, which says the
@@ -45,10 +46,13 @@ pub record IsEntry (d : Data) (e : Entry) : Type 0 where
   pub excludes : AreCriteriaOr (get (codes "excludes") d) e.excludes
 
 -- The value is an object that has none but these names. `architectures` and `archMap`, which concern other architectures,
--- are lists, if they are there. `defaultErrno`, if it is there, says the same as `defaultErrnoRet`.
+-- are lists, if they are there. `defaultErrno`, if it is there, says the same as `defaultErrnoRet`. `comment` and `$schema` are texts,
+-- if they are there, and say nothing.
 pub record HasProfileNames (d : Data) : Type 0 where
   pub only : HasOnly d (codes "defaultAction" ∷ codes "defaultErrnoRet" ∷ codes "defaultErrno" ∷ codes "architectures"
-      ∷ codes "archMap" ∷ codes "flags" ∷ codes "syscalls" ∷ [])
+      ∷ codes "archMap" ∷ codes "flags" ∷ codes "syscalls" ∷ codes "comment" ∷ codes "$schema" ∷ [])
+  pub comment : IsCommented d
+  pub schema : IsComment (get (codes "$schema") d)
   pub architectures : IsList (get (codes "architectures") d)
   pub arch_map : IsList (get (codes "archMap") d)
   pub error : AgreesOnError (codes "defaultAction") (codes "defaultErrno") (codes "defaultErrnoRet") d

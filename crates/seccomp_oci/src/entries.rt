@@ -8,7 +8,7 @@ ghost use Rattle.seccomp_oci.specs.Types.{Criteria, Entry};
 
 use crate::errnos::agrees_on_error;
 use crate::lists::{arguments_under, texts_under};
-use crate::members::{is_commented, is_object_of};
+use crate::members::{is_absent, is_commented, is_object_of};
 use crate::parts::read_action;
 use crate::types::{Criteria, Entry};
 use crate::version::kernel_under;
@@ -59,19 +59,22 @@ fn read_criteria(alloc: Global, value: &Value) -> Result<Option<Criteria>, Alloc
     }))
 }
 
-// The criteria that stand there: empty ones where nothing stands there.
+// The criteria that stand there: empty ones where nothing stands there, or null.
 fn criteria_under(alloc: Global, value: Option<&Value>) -> Result<Option<Criteria>, AllocError>
     ensures found { IfOk result (λ o. IfSome o (AreCriteriaOr (option_map (λ v. view v.now) value.entry))) }
     ensures none { IfOk result (λ o. IfNone o
         ((c : Criteria) → AreCriteriaOr (option_map (λ v. view v.now) value.entry) c → ⊥)) }
 {
-    match value {
-        None => Ok(Some(Criteria {
+    if is_absent(value) {
+        return Ok(Some(Criteria {
             caps: Vec::new(alloc),
             arches: Vec::new(alloc),
             min_kernel: None,
-        })),
+        }));
+    }
+    match value {
         Some(value) => read_criteria(alloc, value),
+        None => Ok(None),
     }
 }
 

@@ -95,8 +95,8 @@ pub(crate) fn items_of(value: Option<&Value>) -> Option<&[Value]>
     }
 }
 
-// Whether a comment is absent, null or a text.
-fn is_comment(comment: Option<&Value>) -> bool
+/// Whether a comment is absent, null or a text.
+pub(crate) fn is_comment(comment: Option<&Value>) -> bool
     ensures { IsTrue result ↔ IsComment (option_map (λ v. view v.now) comment.entry) }
 {
     match comment {

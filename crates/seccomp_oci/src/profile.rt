@@ -14,7 +14,7 @@ use crate::errnos::agrees_on_error;
 use crate::error::ProfileError;
 use crate::fault::fault_of;
 use crate::lists::flags_under;
-use crate::members::{is_object_of, items_of};
+use crate::members::{is_comment, is_commented, is_object_of, items_of};
 use crate::parts::read_action;
 use crate::types::{Entry, Profile};
 use serde_json::Value;
@@ -39,10 +39,14 @@ fn has_profile_names(value: &Value) -> bool
         "archMap",
         "flags",
         "syscalls",
+        "comment",
+        "$schema",
     ];
     is_object_of(value, &names)
         && is_list(value.get("architectures"))
         && is_list(value.get("archMap"))
+        && is_commented(value)
+        && is_comment(value.get("$schema"))
         && agrees_on_error(value, "defaultAction", "defaultErrno", "defaultErrnoRet")
 }
 

@@ -77,7 +77,7 @@ fn check_part(alloc: Global, key: &str, part: Part, value: &Value) -> Result<(),
     check_key(alloc, key, part, value)
 }
 
-const PROFILE_KEYS: [&str; 7] = [
+const PROFILE_KEYS: [&str; 9] = [
     "defaultAction",
     "defaultErrnoRet",
     "defaultErrno",
@@ -85,6 +85,8 @@ const PROFILE_KEYS: [&str; 7] = [
     "archMap",
     "flags",
     "syscalls",
+    "comment",
+    "$schema",
 ];
 
 const ENTRY_KEYS: [&str; 9] = [
@@ -257,8 +259,8 @@ fn in_criteria_under(alloc: Global, key: &str, value: &Value) -> Result<(), Find
     ensures found { part_under (parts.Object kind.Entry) key.now ≡ Some (parts.Object kind.Criteria) → IfErr result (Tells (parts.Object kind.Entry) (view value.now)) }
 {
     match value.get(key) {
+        None | Some(Value::Null) => Ok(()),
         Some(inner) => under_key(alloc, key, in_criteria(alloc, inner)),
-        None => Ok(()),
     }
 }
 
@@ -334,5 +336,7 @@ pub(crate) fn in_profile(alloc: Global, value: &Value) -> Result<(), Finding>
     check_key(alloc, "architectures", Part::Anything, value)?;
     check_key(alloc, "archMap", Part::Anything, value)?;
     in_list(alloc, "flags", Part::Flags, Part::Flag, value)?;
-    in_entries_of(alloc, value)
+    in_entries_of(alloc, value)?;
+    check_key(alloc, "comment", Part::Comment, value)?;
+    check_key(alloc, "$schema", Part::Comment, value)
 }

@@ -58,7 +58,7 @@ fn names_text(kind: Kind) -> &'static str
 {
     match kind {
         Kind::Profile => {
-            "defaultAction, defaultErrnoRet, defaultErrno, architectures, archMap, flags or syscalls"
+            "defaultAction, defaultErrnoRet, defaultErrno, architectures, archMap, flags, syscalls, comment or $schema"
         }
         Kind::Entry => {
             "names, name, action, errnoRet, errno, args, includes, excludes or comment"

@@ -137,12 +137,12 @@ IsCarriedOut (Compile arch container strict filter layout format quiet) text non
     IsCompiled arch container layout strict (text_of filter) text × (v ≡ Same)
 IsCarriedOut (Show arch layout shown) given none v = IsShown arch layout shown given × (v ≡ Same)
 IsCarriedOut (Check arch container denied allowed) text none v = IsCheck arch container denied allowed.items text v
-IsCarriedOut Codes none no v = v ≡ Same
+IsCarriedOut Codes none other v = v ≡ Same
 IsCarriedOut (Explain arch container filter format call) text bytes v =
     OnRecords arch call bytes (IsExplained arch container (text_of filter) text) × (v ≡ Same)
 IsCarriedOut (Run arch call) program bytes v = OnRecords arch call bytes (IsRun program) × (v ≡ Same)
 IsCarriedOut (Stats arch container) text none v = IsMeasured arch container text × (v ≡ Same)
-IsCarriedOut (Record arch call) none no v = (bytes : List ℕ) × IsRecordOf arch call.name.now call.arguments bytes × (v ≡ Same)
+IsCarriedOut (Record arch call) none other v = (bytes : List ℕ) × IsRecordOf arch call.name.now call.arguments bytes × (v ≡ Same)
 IsCarriedOut (DiffOf terms container filter quiet) old new v = IsCompared terms container (text_of filter) old new v
 IsCarriedOut (Verify terms filter scope) policy program v = IsVerified terms (text_of filter) scope policy program v
 IsCarriedOut (Compat arch) text none v = AreWidenedIn arch text × (v ≡ Same)

@@ -8,7 +8,7 @@ mod search;
 ghost use Rattle.std.specs.Prelude.{◌≡◌, All, IfOk, OnOk, option_map};
 ghost use Rattle.std.specs.List.{AllZip};
 ghost use Rattle.seccompiler.specs.JsonPolicyOf.{IsFineEntry};
-ghost use Rattle.seccomp_oci.specs.Filters.{AllOnArguments};
+ghost use Rattle.seccomp_oci.specs.Types.{AllOnArguments};
 ghost use Rattle.seccomp_oci.specs.ProfileText.{IsProfileText};
 ghost use Rattle.seccomptool.specs.Explain as spec;
 ghost use Rattle.seccomptool.specs.Explain.{HavePolicies, IsExplainedBy, IsExplainedByProfile, IsExplanation, IsOfPolicy, IsOfProfile};

@@ -227,7 +227,7 @@ pub(crate) fn explain_made(
     given: &[u8],
     records: &[u8],
 ) -> Result<Made, ToolError>
-    ensures { IfOk result (λ made. OnRecords arch call records.now (IsExplained arch (option_map (λ c. c.now) container.entry) (text_of filter.entry) given.now) × (made.verdict ≡ Same)) }
+    ensures { IfOk result (λ made. OnRecords arch call.entry records.now (IsExplained arch (option_map (λ c. c.now) container.entry) (text_of filter.entry) given.now) × (made.verdict ≡ Same)) }
 {
     match call {
         Some(call) => {
@@ -269,7 +269,7 @@ pub(crate) fn run_made(
     program: &[u8],
     records: &[u8],
 ) -> Result<Made, ToolError>
-    ensures { IfOk result (λ made. OnRecords arch call records.now (IsRun program.now) × (made.verdict ≡ Same)) }
+    ensures { IfOk result (λ made. OnRecords arch call.entry records.now (IsRun program.now) × (made.verdict ≡ Same)) }
 {
     match call {
         Some(call) => {
@@ -322,7 +322,7 @@ pub(crate) fn record_made(
     arch: TargetArch,
     call: Call<'_>,
 ) -> Result<Made, ToolError>
-    ensures { IfOk result (λ made. (bytes : List ℕ) × IsRecordOf arch call.name.now call.arguments bytes × (made.verdict ≡ Same)) }
+    ensures { IfOk result (λ made. (bytes : List ℕ) × IsRecordOf arch call.entry.name.now call.entry.arguments bytes × (made.verdict ≡ Same)) }
 {
     let record = called_record(alloc, arch, call.name, &call.arguments)?;
     Ok(Made::plain(alloc, record))

@@ -37,7 +37,7 @@ TOP = pathlib.Path(__file__).resolve().parent.parent
 CELL = 200
 LINE = 140
 README_WORDS = 1000
-PAGES_WORDS = 44500
+PAGES_WORDS = 35000
 SENTENCE = 30
 
 LINK = re.compile(r"\[[^\]]*\]\(<?([^()\s>]+)>?\)|(?:src|srcset)=\"([^\"]+)\"")

@@ -8,7 +8,7 @@ use seccompiler::{
 };
 use std::alloc::{AllocError, Global};
 
-/// The filters of a profile, of which warnings are told. They are no program of the profile:
+/// The filters of a profile, that the warnings of `check` are about. They are no program of the profile:
 /// [`decisions_of_profile`](crate::decisions_of_profile) gives what it decides.
 ///
 /// The entries that say something and don't allow have a filter for each action, which allows all else; entries of an

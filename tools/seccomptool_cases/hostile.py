@@ -8,8 +8,8 @@ from program_cases import FRONTEND
 from .compile import TREE, listed
 from .diff import policy
 from .forms import INPUT, LOGS, MISSING, TOOL, Case, rejects, writes
-from .imports import base, call, entry, profile
-from .imports import policy as imported
+from .compiled_profiles import base, call, entry, profile
+from .compiled_profiles import policy as imported
 from .records import X86_64, record_of
 from .show import LOGS_SHOWN
 from .stats import LOGS_STEPS

@@ -11,7 +11,7 @@ import struct
 from program_cases import FRONTEND
 
 from .forms import CLOSED, FOLDER, FULL, INPUT, LOGS, MISSING, NO_OBJECT, OUTPUT, RESET, TOOL, Case, Failing, rejects, writes
-from .imports import FITTING, LARGE, PARSING, entry, profile, when
+from .compiled_profiles import FITTING, LARGE, PARSING, entry, profile, when
 from .profile_faults import NO_PROFILE
 from .profiles import PROFILES, STRICTEST_FIRST, numbers_of
 

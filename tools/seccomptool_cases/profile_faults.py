@@ -7,7 +7,7 @@ The texts are written by hand, from specs/Faults.antt of crates/seccomp_oci and 
 import json
 
 from .forms import INPUT, LOGS, TOOL, Case, rejects
-from .imports import entry, profile, when
+from .compiled_profiles import entry, profile, when
 
 # What may stand under a key or at a place.
 ACTION = ("SCMP_ACT_ALLOW, SCMP_ACT_ERRNO, SCMP_ACT_KILL, SCMP_ACT_KILL_PROCESS, SCMP_ACT_KILL_THREAD, SCMP_ACT_LOG, "

@@ -8,7 +8,7 @@ import json
 import struct
 
 from .forms import CLOSED, FOLDER, FULL, LOGS, MISSING, OUTPUT, RESET, TOOL, Case, Failing, rejects, writes
-from .imports import PARSING, entry, profile
+from .compiled_profiles import PARSING, entry, profile
 from .oci import AUDIT_ARCH, COMMENTED, CONTAINER_ONLY, TOO_LONG, WRONG_DEFAULT, arch_of, file_of, misused, record_of, unnamed, ways
 from .profile_faults import NO_PROFILE
 from .profiles import PROFILES

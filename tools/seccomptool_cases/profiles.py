@@ -9,7 +9,7 @@ import json
 import pathlib
 import re
 
-from .imports import entry, profile, when
+from .compiled_profiles import entry, profile, when
 
 TOP = pathlib.Path(__file__).resolve().parent.parent.parent
 

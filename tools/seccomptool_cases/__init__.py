@@ -6,8 +6,8 @@ from the program's output.
 """
 
 from . import (
-    calls, check, compat, compile, conditions, counts, diff, entries, explain, hostile, compiled_profiles, oci, outputs, profile_checks, profile_faults,
-    profile_stats, record, run, show, stats, verify, warnings, words
+    calls, check, compat, compile, compiled_profiles, conditions, counts, diff, entries, explain, hostile, oci, outputs, profile_checks,
+    profile_faults, profile_stats, record, run, show, stats, verify, warnings, words
 )
 from .forms import Case
 

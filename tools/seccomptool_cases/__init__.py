@@ -6,13 +6,13 @@ from the program's output.
 """
 
 from . import (
-    calls, check, compat, compile, conditions, counts, diff, entries, explain, hostile, imports, oci, outputs, profile_checks, profile_faults,
-    profile_stats, record, run, show, stats, verify, warnings, words
+    calls, check, compat, compile, compiled_profiles, conditions, counts, diff, entries, explain, hostile, oci, outputs, profile_checks,
+    profile_faults, profile_stats, record, run, show, stats, verify, warnings, words
 )
 from .forms import Case
 
 FILES = {
-    **explain.FILES, **compile.FILES, **diff.FILES, **run.FILES, **verify.FILES, **imports.FILES, **oci.FILES,
+    **explain.FILES, **compile.FILES, **diff.FILES, **run.FILES, **verify.FILES, **compiled_profiles.FILES, **oci.FILES,
     **profile_faults.FILES, **counts.FILES, **profile_checks.FILES, **hostile.FILES, **outputs.FILES
 }
 
@@ -28,7 +28,7 @@ CASES = [
     *[
         case
         for it in (
-            show, check, warnings, conditions, calls, entries, explain, run, stats, record, counts, verify, compat, imports,
+            show, check, warnings, conditions, calls, entries, explain, run, stats, record, counts, verify, compat, compiled_profiles,
             profile_faults, oci, profile_checks, profile_stats, words, hostile, outputs
         )
         for case in it.CASES

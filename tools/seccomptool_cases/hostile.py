@@ -6,10 +6,9 @@ import shlex
 from program_cases import FRONTEND
 
 from .compile import TREE, listed
+from .compiled_profiles import entry, left_out, profile
 from .diff import policy
 from .forms import INPUT, LOGS, MISSING, TOOL, Case, rejects, writes
-from .imports import base, call, entry, profile
-from .imports import policy as imported
 from .records import X86_64, record_of
 from .show import LOGS_SHOWN
 from .stats import LOGS_STEPS
@@ -52,7 +51,7 @@ OF_BAD_CALL = policy('{"syscall":' + json.dumps(FIRST) + "}")
 WRONG = FRONTEND + f"Json filter has a wrong shape: {told(FIRST)}.\n"
 
 # The commands that read a file, and those that read two.
-OF_ONE = ("compile", "show", "show --program", "check", "check --oci", "explain", "run", "stats", "stats --oci", "compat", "import")
+OF_ONE = ("compile", "show", "show --program", "check", "check --oci", "explain", "run", "stats", "stats --oci", "compat", "compile --oci")
 CALLED = ("explain", "run")
 
 
@@ -95,10 +94,8 @@ CASES = [
     *[rejects(f"{it} {WORD}", "", NO_CALL, TOOL) for it in ("record", "explain logs.json", "run hostile.bpf")],
     *[rejects(f"record {shlex.quote(it)}", "", f"No call of x86_64 has this name or number: {told(it)}.\n", TOOL) for it in NAMES],
     # A profile's names and values.
-    *[Case("import", 0, imported(base()),
-           f"{INPUT}names of no system call of x86_64, left out (1): {told(it)}\n", json.dumps(profile(entry("") | {"names": [it]})))
-      for it in NAMES],
-    *[rejects("import --strict", json.dumps(profile(entry("") | {"names": [it]})),
+    *[case for it in NAMES for case in left_out("", profile(entry("") | {"names": [it]}), [told(it)], ("read", "errno 1"))],
+    *[rejects("compile --oci --strict", json.dumps(profile(entry("") | {"names": [it]})),
               f"names of no system call of x86_64 (1): {told(it)}\n") for it in NAMES],
     # The path of a file.
     *[missing(f"{it} {WORD}") for it in OF_ONE if it not in CALLED], *[missing(f"{it} {WORD} read") for it in CALLED],
@@ -113,8 +110,8 @@ CASES = [
     *[Case(f"a{it}b", 2, "", f"error: unrecognized subcommand 'a{told(it)}b'\n..") for it in UNQUOTED],
     Case(f"{WORD}", 2, "", f"error: unrecognized subcommand '{told(FIRST)}'\n.."),
     *[Case(f"{it} -a {WORD}", 2, "", f"error: invalid value '{told(FIRST)}' for '--arch <ARCH>'\n..")
-      for it in ("compile", "show", "check", "explain", "run", "stats", "record", "diff", "verify", "compat", "import")],
+      for it in ("compile", "show", "check", "explain", "run", "stats", "record", "diff", "verify", "compat")],
     *[Case(f"{it} --{WORD}", 2, "", f"error: unexpected argument '--{told(FIRST)}' found\n..")
-      for it in ("compile", "show", "check", "explain", "run", "stats", "record", "diff", "verify", "compat", "import")],
+      for it in ("compile", "show", "check", "explain", "run", "stats", "record", "diff", "verify", "compat")],
     Case(f"check --allow {WORD}", 2, "", f"error: invalid value '{told(FIRST)}' for '--allow <CODE>'\n.."),
 ]

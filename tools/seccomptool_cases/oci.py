@@ -1,6 +1,6 @@
-"""What `explain`, `diff` and `import --format raw` have to do of profiles as they are: decisions, and the entries that they are of.
+"""What `explain`, `diff` and `compile` have to do of profiles as they are: decisions, and the entries that they are of.
 
-What a profile decides is worked out here from its text, by the words of the OCI runtime specification, and compared with
+What a profile decides is worked out here from its text, by the rules that profiles.py names, and compared with
 the rows of profiles.py and with what the built program answers. Records are made by their layout (linux/seccomp.h).
 """
 
@@ -11,7 +11,7 @@ import struct
 from program_cases import FRONTEND
 
 from .forms import CLOSED, FOLDER, FULL, INPUT, LOGS, MISSING, NO_OBJECT, OUTPUT, RESET, TOOL, Case, Failing, rejects, writes
-from .imports import FITTING, LARGE, PARSING, entry, profile, when
+from .compiled_profiles import FITTING, LARGE, PARSING, TOO_LONG, entry, profile, when
 from .profile_faults import NO_PROFILE
 from .profiles import PROFILES, STRICTEST_FIRST, numbers_of
 
@@ -19,6 +19,7 @@ from .profiles import PROFILES, STRICTEST_FIRST, numbers_of
 ACTIONS = {"ERRNO": "errno", "TRACE": "trace", "KILL": "kill_thread", "KILL_THREAD": "kill_thread", "KILL_PROCESS": "kill_process",
            "LOG": "log", "ALLOW": "allow", "TRAP": "trap"}
 GO_NAMES = {"x86_64": "amd64", "aarch64": "arm64", "riscv64": "riscv64"}
+X32 = 0x40000000  # the first number of x32
 AUDIT_ARCH = {"x86_64": 0xC000003E, "aarch64": 0xC00000B7, "riscv64": 0xC00000F3}
 
 
@@ -60,13 +61,18 @@ def decision(given, words, name, arguments):
     """Returns what a profile decides of a call: the action, and the place of the entry that it is of, or none."""
     arch = GO_NAMES[arch_of(words)]
     caps, kernel = set(re.findall(r"--cap (\w+)", words)), re.search(r"--kernel ([\d.]+)", words)
-    counting = [
-        (action_of(one["action"], one.get("errnoRet")), place) for place, one in enumerate(given.get("syscalls") or [])
-        if applies(one, arch, caps, version_of(kernel and kernel[1])) and name in (one.get("names") or [one.get("name")])
-        and are_met(one.get("args") or [], arguments)
+    default = action_of(given["defaultAction"], given.get("defaultErrnoRet"))
+    concerning = [
+        (action, place, one.get("args") or [])
+        for place, one in enumerate(given.get("syscalls") or []) for action in [action_of(one["action"], one.get("errnoRet"))]
+        if action != default and applies(one, arch, caps, version_of(kernel and kernel[1]))
+        and name in (one.get("names") or [one.get("name")])
     ]
-    default = action_of(given["defaultAction"], given.get("defaultErrnoRet")), None
-    return min(counting, key=lambda it: STRICTEST_FIRST.index(it[0].split()[0]), default=default)
+    settling = [it for it in concerning if not it[2]][:1]
+    counting = [it[:2] for it in settling or concerning if not it[2] or are_met(it[2], arguments)]
+    if not counting and arch == "amd64" and isinstance(name, int) and X32 <= name < 2**32 - 1:
+        return "kill_thread", None
+    return min(counting, key=lambda it: STRICTEST_FIRST.index(it[0].split()[0]), default=(default, None))
 
 
 def arch_of(words):
@@ -115,8 +121,8 @@ def compare_profiles(results, run):
         lines = "".join(line_of(given, words, call, whole(arguments)) for call, arguments, _ in rows)
         for asked in ways("explain", f"{words} {file_of(place)}"):
             results.compare(f"{what}: {asked} of records", (0, lines, ""), run(asked, records))
-        status, program, _ = run(f"import --format raw {words} {file_of(place)}", "")
-        results.compare(f"{what}: import --format raw", (0, 0), (status, len(program) % 8))
+        status, program, _ = run(f"compile --oci -q {words} {file_of(place)}", "")
+        results.compare(f"{what}: compile", (0, 0), (status, len(program) % 8))
         actions = "".join(f"{wanted}\n" for _, _, wanted in rows)
         program = program.encode("utf-8", "surrogateescape")
         for (call, arguments, wanted), line in zip(rows, actions.splitlines(True)):
@@ -189,23 +195,6 @@ def misused(words, told):
     return Case(words, 2, "", f"error: {told}\n..")
 
 
-# One program has the instructions of each filter's tree and one more, and one that allows: 4090 + 1 + 1 of 583 rules, and
-# 4097 + 1 + 1 of 584.
-TOO_LONG = "One program of the profile needs 4099 instructions; 4096 fit\n"
-
-
-def alternating(count):
-    """Returns a profile that allows by default, with so many entries of one call, each of another action than the one in front."""
-    return json.dumps(profile(*[entry("read", f"SCMP_ACT_{('LOG', 'TRAP')[it % 2]}") for it in range(count)], default="SCMP_ACT_ALLOW"))
-
-
-# The tree of a filter of one call, whose number is 0, has 7 instructions: a load, a test and a return for the architecture, a
-# load of the number, a test of it and two returns. So 511 filters take 511 * (7 + 1) + 1 instructions, and 512 are too many.
-# A rule of six conditions, of 4 instructions each, takes two jumps and a return more, so 400 take 400 * 27. The range of their
-# call has two returns more; beside it the tree has a test of two instructions, the return of the other range, and four in front;
-# and the program two more.
-SIX_CONDITIONS = json.dumps(profile(*[entry("read", args=[when(it, "EQ", 1) for it in range(6)])] * 400))
-
 READS = "profile: different\n  read: errno 1 -> allow, more: read(0x0, 0x0, 0x0, 0x0, 0x0, 0x0)\n"
 CONTAINER_ONLY = "--cap and --kernel are for --oci"
 
@@ -234,7 +223,10 @@ KNOWN = [
     Case("diff --oci --most 0 - reads-profile.json", 3, "profile: undecided\n..", "", json.dumps(profile())),
     # A second entry, stricter on some arguments.
     differ("reads-profile.json -", "profile: different\n  read: allow -> trap, less: read(0x5, 0x0, 0x0, 0x0, 0x0, 0x0)\n",
-           json.dumps(profile(entry("read"), entry("read", "SCMP_ACT_TRAP", args=[when(0, "EQ", 5)])))),
+           json.dumps(profile(entry("read", args=[when(0, "GE", 0)]), entry("read", "SCMP_ACT_TRAP", args=[when(0, "EQ", 5)])))),
+    # One without conditions settles the call.
+    writes("diff --oci reads-profile.json -", json.dumps(profile(entry("read"), entry("read", "SCMP_ACT_TRAP", args=[when(0, "EQ", 5)]))),
+           "profile: same\n"),
     # What is wrong, and whose it is.
     rejects("explain --oci missing.json read", "", MISSING, TOOL + "missing.json: "),
     rejects("explain --oci examples read", "", FOLDER, TOOL + "examples: "),
@@ -253,7 +245,7 @@ KNOWN = [
     fails("- reads-profile.json", RESET, INPUT, Failing(json.dumps(profile()))),
     fails("reads-profile.json -", RESET, INPUT, Failing(json.dumps(profile()))),
     fails("reads-profile.json reads-profile.json > /dev/full", FULL, OUTPUT),
-    # A program that is too large, though its filters fit.
+    # A program that just fits, and one that is too large.
     writes("diff --oci fitting-profile.json fitting-profile.json", "", "profile: same\n"),
     fails("large-profile.json missing-too", MISSING, TOOL + "missing-too: "),
     fails("large-profile.json reads-profile.json", TOO_LONG, TOOL + "large-profile.json: "),
@@ -300,28 +292,6 @@ CASES = [
     # The old file says what both are.
     Case("diff -q logs.json reads-profile.json", 2, "", TOOL + "reads-profile.json: " + WRONG_DEFAULT),
     Case("diff -q reads-profile.json logs.json", 2, "", TOOL + "logs.json: " + NO_PROFILE),
-    rejects("import --format raw large-profile.json", "", TOO_LONG, TOOL + "large-profile.json: "),
-    rejects("import --format=raw", json.dumps(profile(entry("read", args=LARGE))), TOO_LONG),
-    rejects("import --format raw", LOGS, NO_PROFILE),
-    # Names are left out as of a policy.
-    Case("import --format raw unknown-profile.json | wc -c | tr -d ' '", 0, "..",
-         TOOL + "unknown-profile.json: names of no system call of x86_64, left out (2): mmap2, waitpid\n"),
-    # Flags are noted as of a policy.
-    Case("import --format raw flags-profile.json | wc -c | tr -d ' '", 0, "..",
-         TOOL + "flags-profile.json: names of no system call of x86_64, left out (1): mmap2\n"
-         + TOOL + "flags-profile.json: flags, which no filter has, left to whoever installs it (2): "
-         "SECCOMP_FILTER_FLAG_TSYNC, SECCOMP_FILTER_FLAG_LOG\n"),
-    rejects("import --strict --format raw unknown-profile.json", "", "names of no system call of x86_64 (2): mmap2, waitpid\n",
-            TOOL + "unknown-profile.json: "),
-    writes("import --format raw fitting-profile.json | wc -c | tr -d ' '", "", f"{8 * 4092}\n"),
-    writes("import --format raw | wc -c | tr -d ' '", alternating(1), f"{8 * 9}\n"),
-    writes("import --format raw | wc -c | tr -d ' '", alternating(511), f"{8 * 4089}\n"),
-    rejects("import --format raw", alternating(512), "One program of the profile needs 4097 instructions; 4096 fit\n"),
-    rejects("import --format raw", SIX_CONDITIONS, "One program of the profile needs 10811 instructions; 4096 fit\n"),
-    # Where nothing that denies is left, the program is one return.
-    writes("import --format raw | od -An -tx1", json.dumps(profile(entry("read"), default="SCMP_ACT_ALLOW")),
-           " 06 00 00 00 00 00 ff 7f\n"),
-    rejects("import --format raw reads-profile.json > /dev/full", "", FULL, OUTPUT),
     # What is no command.
     misused("diff --oci -f a reads-profile.json reads-profile.json", "--filter can't be given with --oci"),
     misused("explain --oci --filter=a reads-profile.json read", "--filter can't be given with --oci"),
@@ -333,5 +303,5 @@ CASES = [
     misused("explain --oci - --records -", "policy and records can't both be read from standard input: give CALL or --records"),
     misused("explain --oci --kernel 6 reads-profile.json read", "the value of --kernel is no version of two numbers, as 6.1"),
     misused("diff --oci --kernel 6 reads-profile.json reads-profile.json", "the value of --kernel is no version of two numbers, as 6.1"),
-    Case("import --format json reads-profile.json", 2, "", "error: invalid value 'json' for '--format <FORMAT>'\n.."),
+    Case("compile --format json reads-profile.json", 2, "", "error: invalid value 'json' for '--format <FORMAT>'\n.."),
 ]

@@ -7,7 +7,7 @@ The texts are written by hand, from specs/Faults.antt of crates/seccomp_oci and 
 import json
 
 from .forms import INPUT, LOGS, TOOL, Case, rejects
-from .imports import entry, profile, when
+from .compiled_profiles import entry, profile, when
 
 # What may stand under a key or at a place.
 ACTION = ("SCMP_ACT_ALLOW, SCMP_ACT_ERRNO, SCMP_ACT_KILL, SCMP_ACT_KILL_PROCESS, SCMP_ACT_KILL_THREAD, SCMP_ACT_LOG, "
@@ -240,8 +240,8 @@ FILES = {"config.json": CONFIG, "wrong-profile.json": WRONG}
 
 # What each command has of a profile that it reads, and the exit status.
 COMMANDS = [
-    ("import {}", 1), ("import --strict {}", 1), ("import -a riscv64 --cap CAP_KILL --kernel 6.1 {}", 1), ("import --format raw {}", 1),
-    ("import --strict --format raw {}", 1), ("explain --oci {} read", 1), ("explain --oci --format word {} read", 1),
+    ("compile --oci {}", 1), ("compile --oci --strict {}", 1), ("compile --oci -a riscv64 --cap CAP_KILL --kernel 6.1 {}", 1),
+    ("compile --oci --format listing -q {}", 1), ("explain --oci {} read", 1), ("explain --oci --format word {} read", 1),
     ("explain --oci {} < examples/records.bin", 1), ("diff --oci {} reads-profile.json", 2), ("diff --oci reads-profile.json {}", 2),
     ("diff --oci --at-most --most 0 {} reads-profile.json", 2), ("stats --oci {}", 1),
     ("stats --oci -a riscv64 --cap CAP_KILL --kernel 6.1 {}", 1),
@@ -250,17 +250,17 @@ COMMANDS = [
 ]
 
 CASES = [
-    *[rejects("import", json.dumps(given), f"{place}: {words}\n")
+    *[rejects("compile --oci", json.dumps(given), f"{place}: {words}\n")
       for place, words, given in (*WRONG_VALUES, *WRONG_ITEMS, *MISSING_KEYS, *UNKNOWN_KEYS, *BESIDE, *FIRST)],
-    *[rejects("import", given, told) for given, told in WRITTEN],
+    *[rejects("compile --oci", given, told) for given, told in WRITTEN],
     # A value is JSON, which leaves some characters that steer a terminal as they are.
-    rejects("import", json.dumps({"defaultAction": "\u009b2J\u007f\u00b5"}),
+    rejects("compile --oci", json.dumps({"defaultAction": "\u009b2J\u007f\u00b5"}),
             f'defaultAction: expected {ACTION}, found "\\xc2\\x9b2J\\x7f\u00b5"\n'),
     # Each command reports the same, behind the file that is no profile.
     *[Case(words.format(file), status, "", f"{TOOL}{file}: {told}") for words, status in COMMANDS
       for file, told in (("wrong-profile.json", IN_ENTRY), ("config.json", OF_CONFIG), ("logs.json", NO_PROFILE))],
     *[Case(words.format("-"), status, "", INPUT + IN_ENTRY, json.dumps(WRONG)) for words, status in COMMANDS if "<" not in words],
-    rejects("import --strict", LOGS, NO_PROFILE),
+    rejects("compile --oci --strict", LOGS, NO_PROFILE),
     # Of two that are none the first one.
     Case("diff --oci config.json wrong-profile.json", 2, "", f"{TOOL}config.json: {OF_CONFIG}"),
     Case("diff --oci wrong-profile.json config.json", 2, "", f"{TOOL}wrong-profile.json: {IN_ENTRY}"),

@@ -1,15 +1,15 @@
 """What `stats` has to do of profiles as they are: the length and the steps of the one program, and the faults.
 
 The numbers of the cases are counted by hand, and those of all other profiles by a walk over the instructions that
-`import --format raw` writes, as `struct sock_filter` and linux/bpf_common.h have them.
+`compile` writes, as `struct sock_filter` and linux/bpf_common.h have them.
 """
 
 import json
 import struct
 
 from .forms import CLOSED, FOLDER, FULL, LOGS, MISSING, OUTPUT, RESET, TOOL, Case, Failing, rejects, writes
-from .imports import PARSING, entry, profile
-from .oci import AUDIT_ARCH, COMMENTED, CONTAINER_ONLY, TOO_LONG, WRONG_DEFAULT, arch_of, file_of, misused, record_of, unnamed, ways
+from .compiled_profiles import PARSING, TOO_LONG, entry, profile
+from .oci import AUDIT_ARCH, COMMENTED, CONTAINER_ONLY, WRONG_DEFAULT, arch_of, file_of, misused, record_of, unnamed, ways
 from .profile_faults import NO_PROFILE
 from .profiles import PROFILES
 from .stats import LOGS_STEPS
@@ -56,10 +56,10 @@ def measured(words, written):
 
 
 def compare_measures(results, run):
-    """Compares the numbers of each profile's program, and of the example's, with those of a walk over what `import` writes."""
+    """Compares the numbers of each profile's program, and of the example's, with those of a walk over what `compile` writes."""
     files = [(words, file_of(place)) for place, (_, words, _, _) in enumerate(PROFILES)]
     for words, file in (*files, *[(it, "examples/oci-profile.json") for it in CONTAINERS]):
-        status, written, _ = run(f"import --format raw {words} {file}", "")
+        status, written, _ = run(f"compile --oci -q {words} {file}", "")
         wanted = measured(words, written.encode("utf-8", "surrogateescape")) if status == 0 else ""
         for asked in ways("stats", f"{words} {file}"):
             results.compare(asked, (0, wanted, ""), run(asked, ""))
@@ -70,35 +70,35 @@ def line(length, most, passing):
     return f"profile: {length} instructions, at most {most} steps, {passing} passing\n"
 
 
-# One filter that allows one call: a load and a test of the architecture's word and a return, a load of the number, a test of it,
-# a return of the default action, and in place of the return that allows a jump to where the next filter would be asked. There
-# the accumulator is set and the program allows. The call takes a load, a test, a load, a test, the jump, and the last two; any
-# other call a load, a test, a load, a test and a return.
-READS = line(9, 7, 5)
+# A load and a test of the architecture's word and the return of another one; a load of the number, and tests of it at 1, at the
+# first number of x32 and behind its last one; and the returns of three actions. A number behind those of x32 takes each test.
+READS = line(10, 7, 7)
 
-# The same without an entry: a load and a test of the architecture's word and a return, a load and a return, and the last two,
-# to which nothing leads.
-NOTHING = line(7, 4, 4)
+# The same without an entry: the tests of x32, and two actions. The default action makes no difference.
+NOTHING = ALL = line(8, 6, 6)
 
-# No filter: the program allows.
-ALL = line(1, 1, 1)
+# On another architecture there is no x32: a load and a test of the architecture's word, and two returns.
+NOTHING_ELSEWHERE = line(4, 3, 3)
+
+# x32 is as the default action: a load and a test of the architecture's word, a load and a test of the number, and three returns.
+KILLS = line(7, 5, 5)
 OPENS = json.dumps(profile(entry("open")))
 
 # Cases of files that are known as profiles, and of no container.
 KNOWN = [
     writes("stats --oci reads-profile.json", "", READS),
     writes("stats --oci", json.dumps(profile(entry("read"))), READS),
-    writes("stats --oci -", json.dumps(profile(entry("read"), default="SCMP_ACT_KILL")), READS),
+    writes("stats --oci -", json.dumps(profile(entry("read"), default="SCMP_ACT_KILL")), KILLS),
     writes("stats --oci -", json.dumps(profile()), NOTHING),
     writes("stats --oci -", json.dumps(profile(entry("read"), default="SCMP_ACT_ALLOW")), ALL),
     # Of the architecture that is named; names that it hasn't are left out, and not listed, nor are flags.
     writes("stats --oci --arch=amd64 -", OPENS, READS),
-    writes("stats --oci -a arm64 -", OPENS, NOTHING),
-    writes("stats --oci -a riscv64 -", OPENS, NOTHING),
+    writes("stats --oci -a arm64 -", OPENS, NOTHING_ELSEWHERE),
+    writes("stats --oci -a riscv64 -", OPENS, NOTHING_ELSEWHERE),
     writes("stats --oci unknown-profile.json", "", READS),
     writes("stats --oci flags-profile.json", "", READS),
-    # A program that just fits, 4090 + 1 + 1 of 583 rules, and one that is too large, though its filters fit.
-    writes("stats --oci fitting-profile.json", "", "profile: 4092 instructions, at most .."),
+    # A program that just fits, and one that is too large.
+    writes("stats --oci fitting-profile.json", "", "profile: 4095 instructions, at most .."),
     rejects("stats --oci large-profile.json", "", TOO_LONG, TOOL + "large-profile.json: "),
     # Files, inputs and outputs that fail.
     rejects("stats --oci missing.json", "", MISSING, TOOL + "missing.json: "),

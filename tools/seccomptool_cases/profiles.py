@@ -1,15 +1,13 @@
-"""What the filters that `import` makes of a profile decide together, by the words of the OCI runtime specification.
+"""Profiles, and what they decide of calls, by the words of the OCI runtime specification and by what runtimes do with them.
 
-Each row is a call with what the profile decides of it. The policy that the built program prints is read here, and each
-of its filters is asked: of the answers the strictest holds, and of equally strict ones that of the filter which stands
-last in the text, since it is installed last (seccomp(2)). So nothing of the program is believed but the policy's text.
+An entry whose action is the default one says nothing. The first entry without conditions settles a call, and else the strictest
+of those whose conditions are met. A number of x32 kills the thread on x86_64, but 0xffffffff, which is no number, doesn't.
 """
 
-import json
 import pathlib
 import re
 
-from .imports import entry, profile, when
+from .compiled_profiles import entry, profile, when
 
 TOP = pathlib.Path(__file__).resolve().parent.parent.parent
 
@@ -61,19 +59,24 @@ PROFILES = [
     ("so are the others of such an entry", "",
      profile(entry("mmap", args=[when(0, "EQ", 1), when(1, "EQ", 2), when(0, "EQ", 3)], action="SCMP_ACT_TRAP"), default="SCMP_ACT_ALLOW"),
      [("mmap", (1, 0), "trap"), ("mmap", (0, 2), "trap"), ("mmap", (3, 0), "trap"), ("mmap", (2, 1), "allow")]),
-    ("the strictest of several entries decides", "",
+    ("the first entry without conditions settles its call", "",
      profile(entry("read write", "SCMP_ACT_LOG"), entry("read", "SCMP_ACT_ERRNO", errnoRet=5), entry("read", "SCMP_ACT_KILL_PROCESS", **ON_5),
              entry("write"), entry("stat"), default="SCMP_ACT_ALLOW"),
-     [("read", (0,), "errno 5"), ("read", (5,), "kill_process"), ("write", (), "log"), ("stat", (), "allow"), ("close", (), "allow")]),
-    ("whichever stands first", "",
+     [("read", (0,), "log"), ("read", (5,), "log"), ("write", (), "log"), ("stat", (), "allow"), ("close", (), "allow")]),
+    ("also in front of it, and whatever its action", "",
      profile(entry("read", "SCMP_ACT_KILL", **ON_5), entry("read"), entry("write", "SCMP_ACT_TRACE", errnoRet=3),
              entry("write", "SCMP_ACT_TRAP"), default="SCMP_ACT_LOG"),
-     [("read", (5,), "kill_thread"), ("read", (4,), "allow"), ("write", (), "trap"), ("stat", (), "log")]),
+     [("read", (5,), "allow"), ("read", (4,), "allow"), ("write", (), "trace 3"), ("stat", (), "log")]),
+    ("else the strictest of those whose conditions are met", "",
+     profile(entry("read", args=[when(0, "GE", 5)]), entry("read", "SCMP_ACT_TRAP", **ON_5), entry("read", "SCMP_ACT_LOG", args=[when(0, "GE", 4)]),
+             entry("write", "SCMP_ACT_KILL", **ON_5), entry("write", args=[when(1, "EQ", 1)]), **ENOSYS),
+     [("read", (5,), "trap"), ("read", (6,), "log"), ("read", (4,), "log"), ("read", (3,), "errno 38"), ("write", (5, 1), "kill_thread"),
+      ("write", (4, 1), "allow"), ("write", (4, 0), "errno 38")]),
     ("of equally strict entries the first one decides", "",
-     profile(entry("open", "SCMP_ACT_ERRNO", errnoRet=7), entry("stat", "SCMP_ACT_ERRNO", errnoRet=5, **ON_5),
-             entry("close", "SCMP_ACT_ERRNO", errnoRet=7), entry("open stat", "SCMP_ACT_ERRNO", errnoRet=5),
-             entry("stat", "SCMP_ACT_ERRNO", errnoRet=7), default="SCMP_ACT_ALLOW"),
-     [("open", (), "errno 7"), ("close", (), "errno 7"), ("stat", (5,), "errno 5"), ("stat", (4,), "errno 5"), ("read", (), "allow")]),
+     profile(entry("open", "SCMP_ACT_ERRNO", errnoRet=7), entry("stat", "SCMP_ACT_ERRNO", errnoRet=5, args=[when(0, "GE", 5)]),
+             entry("stat", "SCMP_ACT_ERRNO", errnoRet=7, args=[when(0, "LE", 5)]), entry("open", "SCMP_ACT_ERRNO", errnoRet=5),
+             default="SCMP_ACT_ALLOW"),
+     [("open", (), "errno 7"), ("stat", (5,), "errno 5"), ("stat", (6,), "errno 5"), ("stat", (4,), "errno 7"), ("read", (), "allow")]),
     ("and so of two traces", "",
      profile(entry("open", "SCMP_ACT_TRACE", errnoRet=2), entry("open", "SCMP_ACT_TRACE", errnoRet=1), **ENOSYS),
      [("open", (), "trace 2"), ("read", (), "errno 38")]),
@@ -83,10 +86,21 @@ PROFILES = [
     ("the default action is the loosest", "",
      profile(entry("read", "SCMP_ACT_KILL"), entry("write", "SCMP_ACT_TRAP", **ON_5), default="SCMP_ACT_ALLOW"),
      [("read", (), "kill_thread"), ("write", (5,), "trap"), ("write", (4,), "allow"), ("open", (), "allow"), (4000, (), "allow")]),
-    ("an entry of the default action", "", profile(entry("read", "SCMP_ACT_ERRNO", errnoRet=38), entry("read write"), **ENOSYS),
-     [("read", (), "errno 38"), ("write", (), "allow"), ("open", (), "errno 38")]),
+    ("an entry of the default action is passed over", "",
+     profile(entry("read", "SCMP_ACT_ERRNO", errnoRet=38), entry("read write"), entry("open", "SCMP_ACT_ERRNO", errnoRet=38, **ON_5),
+             entry("open", args=[when(0, "GE", 5)]), **ENOSYS),
+     [("read", (), "allow"), ("write", (), "allow"), ("open", (5,), "allow"), ("open", (4,), "errno 38"), ("close", (), "errno 38")]),
+    ("one of the same action with another number isn't", "", profile(entry("read", "SCMP_ACT_ERRNO", errnoRet=1), entry("read"), **ENOSYS),
+     [("read", (), "errno 1"), ("write", (), "errno 38")]),
     ("numbers without a name, those of x32 among them", "", profile(entry("read"), **ENOSYS),
-     [("read", (), "allow"), (0x40000000, (), "errno 38"), (463, (), "errno 38"), (LOW, (), "errno 38")]),
+     [("read", (), "allow"), (0x3FFFFFFF, (), "errno 38"), (0x40000000, (), "kill_thread"), (0xFFFFFFFE, (), "kill_thread"),
+      (463, (), "errno 38"), (LOW, (), "errno 38")]),
+    ("x32 by a stricter default, and by a looser one", "", profile(entry("read"), default="SCMP_ACT_KILL_PROCESS"),
+     [(0x40000000, (), "kill_thread"), (0xFFFFFFFE, (), "kill_thread"), (0x3FFFFFFF, (), "kill_process"), (LOW, (), "kill_process")]),
+    ("x32 where every call is allowed", "", profile(default="SCMP_ACT_ALLOW"),
+     [("read", (), "allow"), (0x40000000, (), "kill_thread"), (LOW, (), "allow")]),
+    ("x32 is of x86_64 alone", "-a aarch64", profile(entry("read"), **ENOSYS),
+     [("read", (), "allow"), (0x40000000, (), "errno 38"), (LOW, (), "errno 38")]),
     ("without a capability", "", MOUNTS, [("mount", (), "errno 1"), ("umount2", (), "errno 1"), ("read", (), "errno 38")]),
     ("with it", "--cap CAP_SYS_ADMIN", MOUNTS, [("mount", (), "allow"), ("umount2", (), "allow"), ("read", (), "errno 38")]),
     ("sockets, as Podman's profile has them", "", SOCKETS,
@@ -108,39 +122,3 @@ def numbers_of(words):
     named = re.search(r"-a (\w+)", words)
     text = (TOP / f"crates/seccomp_tables/src/{named[1] if named else 'x86_64'}.rt").read_text(encoding="utf-8")
     return {name: int(number) for name, number in re.findall(r'\("([a-z0-9_]+)", ([0-9]+)\)', text)}
-
-
-def holds(condition, arguments):
-    """Returns whether a condition of a policy holds for the six arguments of a call."""
-    bits = LOW if condition["type"] == "dword" else WHOLE
-    found, value, operator = arguments[condition["index"]] & bits, condition["val"] & bits, condition["op"]
-    if isinstance(operator, dict):
-        return found & operator["masked_eq"] == value & operator["masked_eq"]
-    return {"eq": found == value, "ne": found != value, "lt": found < value, "le": found <= value,
-            "gt": found > value, "ge": found >= value}[operator]
-
-
-def decided_by(one, numbers, number, arguments):
-    """Returns the action of one filter for a call."""
-    entries = [it for it in one["filter"] if numbers[it["syscall"]] == number]
-    matched = any(all(holds(it, arguments) for it in entry_of.get("args") or []) for entry_of in entries)
-    return one["match_action" if matched else "mismatch_action"]
-
-
-def decided(policy, numbers, number, arguments):
-    """Returns what the filters of a policy decide together of a call: an action's name, with its number if it has one."""
-    answers = [decided_by(one, numbers, number, arguments) for one in policy.values()]
-    texts = [it if isinstance(it, str) else " ".join(map(str, *it.items())) for it in answers]
-    return min(reversed(texts), key=lambda it: STRICTEST_FIRST.index(it.split()[0]), default="allow")
-
-
-def compare_decisions(results, run):
-    """Imports each profile by a function that runs the program with a text, and compares the decisions of its policy."""
-    for what, words, given, rows in PROFILES:
-        status, output, _ = run(f"import {words}", json.dumps(given))
-        results.compare(f"import of a profile, {what}", (0,), (status,))
-        policy, numbers = json.loads(output or "{}"), numbers_of(words)
-        for call, arguments, wanted in rows:
-            number = call if isinstance(call, int) else numbers[call]
-            found = decided(policy, numbers, number, (*arguments, *[0] * (6 - len(arguments))))
-            results.compare(f"import of a profile, {what}: {call}{arguments}", (wanted,), (found,))

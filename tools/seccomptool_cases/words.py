@@ -12,10 +12,7 @@ NAMED = (
     '"":{"mismatch_action":"log","match_action":"allow","filter":[]}}'
 )
 
-COMMANDS = ("compile", "show", "check", "explain", "run", "stats", "record", "diff", "verify", "compat", "import")
-
-# What the help of a command says of it.
-ABOUT_IMPORT = "Print a container runtime's seccomp profile as a policy or as one program"
+COMMANDS = ("compile", "show", "check", "explain", "run", "stats", "record", "diff", "verify", "compat")
 
 NO_VERSION = "error: the value of --kernel is no version of two numbers, as 6.1\n.."
 
@@ -38,7 +35,7 @@ CASES = [
     *[writes(words, "", "seccomptool 0.5.0\n") for words in ("--version", "-V")],
     *[case for it in COMMANDS for case in (
         writes(f"help {it}", "", ".."), writes(f"{it} --help", "", ".."), writes(f"{it} no.json -h", "", ".."))],
-    writes("help import", "", ABOUT_IMPORT + "\n\nUsage: seccomptool import [OPTIONS] [PROFILE]\n.."),
+    writes("help compile", "", "Write the program of a filter or of a profile\n\nUsage: seccomptool compile [OPTIONS] [POLICY]\n.."),
     # The words are read as the command that they are.
     writes("compile -q --filter=--tree", NAMED, TREE),
     writes("compile -q --filter= --layout linear", NAMED, LINEAR),
@@ -53,6 +50,7 @@ CASES = [
     misused("raw", "error: unrecognized subcommand 'raw'\n.."),
     misused("chek", "error: unrecognized subcommand 'chek'\n\n  tip: a similar subcommand exists: 'check'\n.."),
     misused("help nothing"),
+    misused("import reads-profile.json", "error: unrecognized subcommand 'import'\n.."),
     misused("compile -a x8664 logs.json",
             "error: invalid value 'x8664' for '--arch <ARCH>'\n"
             "  [possible values: x86_64, aarch64, riscv64, amd64, arm64]\n.."),
@@ -89,16 +87,18 @@ CASES = [
             "error: the value of --most is no number from 0 to 18446744073709551615, "
             "decimal or hexadecimal behind 0x\n.."),
     misused("verify --layout tree logs.json 63-bytes"),
-    misused("import reads-profile.json reads-profile.json"),
-    misused("import --cap"),
-    misused("import --strict=yes reads-profile.json"),
-    misused("import --kernel 6.1 --kernel 6.2 reads-profile.json"),
-    misused("import --filter a reads-profile.json", "error: unexpected argument '--filter' found\n.."),
-    misused("import -a x32 reads-profile.json", "error: invalid value 'x32' for '--arch <ARCH>'\n.."),
-    *[misused(f"import --kernel={it} reads-profile.json", NO_VERSION) for it in (
+    misused("compile --oci reads-profile.json reads-profile.json"),
+    misused("compile --oci --cap"),
+    misused("compile --oci --strict=yes reads-profile.json"),
+    misused("compile --oci --kernel 6.1 --kernel 6.2 reads-profile.json"),
+    misused("compile --oci --filter a reads-profile.json", "error: --filter can't be given with --oci\n.."),
+    misused("compile --cap CAP_KILL logs.json", "error: --cap and --kernel are for --oci\n.."),
+    misused("compile --kernel 6.1 logs.json", "error: --cap and --kernel are for --oci\n.."),
+    misused("compile -a x32 reads-profile.json", "error: invalid value 'x32' for '--arch <ARCH>'\n.."),
+    *[misused(f"compile --oci --kernel={it} reads-profile.json", NO_VERSION) for it in (
         "6", "6.1.2", "v6.1", "''", ".", "6.", ".1", "+6.1", "-6.1", "6.-1", "6,1", "6.1-rc1", "' 6.1'", "0x6.1", "4294967296.0",
         "0.4294967296")],
-    misused("import --kernel 6 missing.json", NO_VERSION),
+    misused("compile --oci --kernel 6 missing.json", NO_VERSION),
     misused("record"),
     misused("record read 1 2 3 4 5 6 7"),
     misused("record read -1", "error: unexpected argument '-1' found\n.."),

@@ -1,5 +1,6 @@
 // What ends the program early.
 
+use seccomp_tree::FilterError;
 use seccompiler::{BackendError, Error, JsonFrontendError};
 use std::alloc::AllocError;
 use std::io;
@@ -8,6 +9,7 @@ use std::io;
 pub(crate) enum Failure {
     Io(io::Error),
     Policy(Error),
+    Tree(FilterError),
     Json(serde_json::Error),
     OutOfMemory,
     // A program isn't checked.
@@ -29,6 +31,12 @@ impl From<Error> for Failure {
 impl From<BackendError> for Failure {
     fn from(error: BackendError) -> Self {
         Failure::Policy(Error::from(error))
+    }
+}
+
+impl From<FilterError> for Failure {
+    fn from(error: FilterError) -> Self {
+        Failure::Tree(error)
     }
 }
 

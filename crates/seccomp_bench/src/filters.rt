@@ -4,6 +4,7 @@ ghost use Rattle.seccompiler.specs.Machine.{IsChecked};
 
 use crate::failure::Failure;
 use seccomp_compare::{Calls, Comparison, Relation, compare};
+use seccomp_tree::to_tree_bpf;
 use seccompiler::machine::check;
 use seccompiler::{BpfProgramRef, JsonCompiler, SeccompFilter, TargetArch};
 use std::alloc::Global;
@@ -90,7 +91,7 @@ fn write_row(
     name: &str,
     filter: &SeccompFilter,
 ) -> Result<(), Failure> {
-    let (program, tree) = (filter.to_bpf(rt.alloc())?, filter.to_tree_bpf(rt.alloc())?);
+    let (program, tree) = (filter.to_bpf(rt.alloc())?, to_tree_bpf(rt.alloc(), filter)?);
     if !check(&program) || !check(&tree) {
         return Err(Failure::Unchecked);
     }

@@ -1,6 +1,6 @@
 // Why a question has no other answer, and why the rows end.
 
-use seccomp_tree::TreeError;
+use seccomp_tree::{FilterError, TreeError};
 use seccompiler::{BackendError, Error, JsonFrontendError};
 use std::alloc::{AllocError, AllocFailed, Global};
 use std::{fmt, io};
@@ -14,6 +14,7 @@ pub(crate) enum Fault {
     Backend(BackendError),
     Library(Error),
     Frontend(JsonFrontendError),
+    Filter(FilterError),
     Tree(TreeError),
     /// Memory ran out in this program.
     OutOfMemory,
@@ -38,6 +39,12 @@ impl From<Error> for Fault {
 impl From<JsonFrontendError> for Fault {
     fn from(error: JsonFrontendError) -> Self {
         Fault::Frontend(error)
+    }
+}
+
+impl From<FilterError> for Fault {
+    fn from(error: FilterError) -> Self {
+        Fault::Filter(error)
     }
 }
 
@@ -79,6 +86,7 @@ impl Fault {
             Fault::Backend(BackendError::OutOfMemory)
                 | Fault::Library(Error::OutOfMemory)
                 | Fault::Frontend(JsonFrontendError::OutOfMemory)
+                | Fault::Filter(FilterError::OutOfMemory)
                 | Fault::Tree(TreeError::OutOfMemory)
         )
     }
@@ -91,6 +99,7 @@ impl fmt::Display for Fault {
             Fault::Backend(error) => fmt::Display::fmt(error, f),
             Fault::Library(error) => fmt::Display::fmt(error, f),
             Fault::Frontend(error) => fmt::Display::fmt(error, f),
+            Fault::Filter(error) => fmt::Display::fmt(error, f),
             Fault::Tree(TreeError::TooLarge) => f.write_str("too large"),
             Fault::Tree(TreeError::OutOfMemory) => f.write_str("Out of memory."),
             Fault::OutOfMemory => f.write_str("out of memory"),

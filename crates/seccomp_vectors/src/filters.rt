@@ -4,6 +4,7 @@ use crate::fault::Fault;
 use crate::words::{
     action, call, next_arch, next_signed, number_32, parts, record, repeated, rule, yes,
 };
+use seccomp_tree::to_tree_bpf;
 use seccompiler::machine::{check, run};
 use seccompiler::{BpfProgram, BpfProgramRef, JsonCompiler, SeccompFilter, SeccompRule};
 use std::alloc::Global;
@@ -74,7 +75,7 @@ pub(crate) fn filter(alloc: Global, statements: &[&str]) -> Result<SeccompFilter
 
 /// The program in the tree layout.
 pub(crate) fn tree(alloc: Global, filter: &SeccompFilter) -> Result<BpfProgram, Fault> {
-    Ok(filter.to_tree_bpf(alloc)?)
+    Ok(to_tree_bpf(alloc, filter)?)
 }
 
 // Whether a program is checked, and returns this.

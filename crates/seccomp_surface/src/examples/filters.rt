@@ -1,9 +1,10 @@
 // The examples of conditions, rules and filters.
 
+use seccomp_tree::{Layout, to_bpf_in, to_tree_bpf};
 use seccompiler::bpf::{BPF_K, BPF_RET, bpf_stmt};
 use seccompiler::machine::{check, run};
 use seccompiler::{
-    Layout, SeccompAction, SeccompCmpArgLen, SeccompCmpOp, SeccompCondition, SeccompFilter,
+    SeccompAction, SeccompCmpArgLen, SeccompCmpOp, SeccompCondition, SeccompFilter,
     SeccompRule, TargetArch,
 };
 use std::alloc::Global;
@@ -82,7 +83,7 @@ fn a_program(rt: HostRuntime) -> Result<(), Fail> {
 fn a_program_of_the_second_layout(rt: HostRuntime) -> Result<(), Fail> {
     let alloc = rt.alloc();
     let filter = logging(alloc)?;
-    let program = filter.to_tree_bpf(alloc)?;
+    let program = to_tree_bpf(alloc, &filter)?;
     assert!(rt; check(&program));
     Ok(())
 }
@@ -103,8 +104,8 @@ fn a_program_in_either_layout(rt: HostRuntime) -> Result<(), Fail> {
     let alloc = rt.alloc();
     let filter = logging(alloc)?;
     let call = [0; 64];
-    let linear = filter.to_bpf_in(alloc, Layout::Linear)?;
-    let tree = filter.to_bpf_in(alloc, Layout::Tree)?;
+    let linear = to_bpf_in(alloc, &filter, Layout::Linear)?;
+    let tree = to_bpf_in(alloc, &filter, Layout::Tree)?;
     assert!(rt; run(&linear, &call).word == run(&tree, &call).word);
     Ok(())
 }

@@ -1,0 +1,234 @@
+"""What `compile` has to do with profiles: what it reads of them, the names that are left out, the flags, and what is rejected.
+
+The texts are written by hand, from the OCI runtime specification and the layout that docs/OCI.md shows. A program is asked what
+it returns for one call. What profiles decide of more calls is in profiles.py, and what is reported of a value that is no
+profile in profile_faults.py.
+"""
+
+import json
+import re
+
+from .forms import (
+    CLOSED, FOLDER, FULL, INPUT, MISSING, OUTPUT, RESET, TOOL, Case, Failing, fails_to_read_and_write, rejects, writes
+)
+
+PARSING = "Error parsing Json: .."
+FLAGS = "flags, which no filter has, left to whoever installs it"
+
+
+def profile(*entries, default="SCMP_ACT_ERRNO", **more):
+    """Returns a profile with these entries, an object that may have further keys."""
+    return {"defaultAction": default, "syscalls": list(entries), **more}
+
+
+def entry(names, action="SCMP_ACT_ALLOW", **more):
+    """Returns an entry of these calls, an object that may have further keys."""
+    return {"names": names.split(), "action": action, **more}
+
+
+def when(index, operator, value, *two):
+    """Returns a condition, with `valueTwo` if that is given."""
+    return {"index": index, "value": value, "op": f"SCMP_CMP_{operator}", **{"valueTwo": it for it in two}}
+
+
+def compiles(words, given, *decided, told=""):
+    """Returns the cases of a profile whose program returns these actions for calls, such as `("read 5", "allow")`."""
+    arch = re.search(r"(?:-a |--arch[ =])(\w+)", words)
+    return [
+        Case(f"{f'compile {words}'.strip()} | ./seccomptool run -a {arch[1] if arch else 'x86_64'} - {call}", 0, f"{action}\n", told,
+             given if isinstance(given, str) else json.dumps(given))
+        for call, action in decided
+    ]
+
+
+def left_out(words, given, names, *decided, arch="x86_64"):
+    """Returns the cases of a profile of which these names are left out."""
+    told = f"{INPUT}names of no system call of {arch}, left out ({len(names)}): {', '.join(names)}\n"
+    return compiles(words, given, *decided, told=told)
+
+
+def flagged(words, given, told, *decided):
+    """Returns the cases of a profile whose flags are told so."""
+    return compiles(words, given, *decided, told=f"{INPUT}{FLAGS} {told}\n")
+
+
+# A whole text, with each part of a profile, and what it decides.
+WHOLE = """{"defaultAction": "SCMP_ACT_ERRNO", "defaultErrnoRet": 38, "architectures": ["SCMP_ARCH_X86_64", "SCMP_ARCH_X86"],
+    "archMap": [{"architecture": "SCMP_ARCH_X86_64", "subArchitectures": ["SCMP_ARCH_X86"]}],
+    "flags": ["SECCOMP_FILTER_FLAG_TSYNC", "SECCOMP_FILTER_FLAG_LOG", "SECCOMP_FILTER_FLAG_SPEC_ALLOW"],
+    "syscalls": [
+    {"names": ["write", "read"], "action": "SCMP_ACT_ALLOW", "args": [], "includes": {}, "excludes": {}, "comment": "both"},
+    {"names": ["socket"], "action": "SCMP_ACT_KILL_PROCESS", "args": [
+        {"index": 0, "value": 16, "op": "SCMP_CMP_EQ"}, {"index": 2, "value": 9, "valueTwo": 1, "op": "SCMP_CMP_NE"}]},
+    {"name": "clone", "action": "SCMP_ACT_LOG", "args": [
+        {"index": 0, "value": 2114060288, "valueTwo": 0, "op": "SCMP_CMP_MASKED_EQ"}]}]}"""
+OF_WHOLE = [
+    ("write", "allow"), ("read", "allow"), ("socket 16 0 8", "kill_process"), ("socket 16 0 9", "errno 38"), ("clone 0x7e020001", "errno 38"),
+    ("clone 0x11", "log"), ("open", "errno 38"),
+]
+
+# The line of its flags.
+OF_FLAGS = (INPUT + "flags, which no filter has, left to whoever installs it (3): "
+            "SECCOMP_FILTER_FLAG_TSYNC, SECCOMP_FILTER_FLAG_LOG, SECCOMP_FILTER_FLAG_SPEC_ALLOW\n")
+
+# Each action of a profile, with its number if it has one, and that of the program.
+ACTIONS = [
+    ("SCMP_ACT_ERRNO", None, "errno 1"), ("SCMP_ACT_ERRNO", 0, "errno 0"), ("SCMP_ACT_ERRNO", 65535, "errno 65535"),
+    ("SCMP_ACT_TRACE", None, "trace 1"), ("SCMP_ACT_TRACE", 7, "trace 7"), ("SCMP_ACT_KILL", None, "kill_thread"),
+    ("SCMP_ACT_KILL_THREAD", None, "kill_thread"), ("SCMP_ACT_KILL_PROCESS", None, "kill_process"), ("SCMP_ACT_LOG", None, "log"),
+    ("SCMP_ACT_TRAP", None, "trap"),
+]
+
+# Each operator of a profile but that with a mask, and values that meet it beside 5, and that don't.
+OPERATORS = {"NE": (4, 5), "LT": (4, 5), "LE": (5, 6), "EQ": (5, 4), "GE": (5, 4), "GT": (6, 5)}
+GREATEST = 2**64 - 1
+
+# What an entry includes or excludes, beside it the words of containers for which it applies, and of others.
+SYS_ADMIN, BOTH = "--cap CAP_SYS_ADMIN", "--cap CAP_CHOWN --cap=CAP_SYS_ADMIN"
+TWO_CAPS = ["CAP_SYS_ADMIN", "CAP_CHOWN"]
+FROM, BEFORE = ("", "--kernel 4.8", "--kernel 4.19", "--kernel=5.0"), ("--kernel 4.7", "--kernel 3.99", "--kernel 0.0")
+CRITERIA = [
+    ({"includes": {"caps": ["CAP_SYS_ADMIN"]}}, (SYS_ADMIN, BOTH), ("", "--cap CAP_CHOWN", "--cap cap_sys_admin")),
+    ({"includes": {"caps": TWO_CAPS}}, (BOTH,), ("", SYS_ADMIN, "--cap CAP_CHOWN")),
+    ({"excludes": {"caps": ["CAP_SYS_ADMIN"]}}, ("", "--cap CAP_CHOWN", "--cap SYS_ADMIN"), (SYS_ADMIN, BOTH)),
+    ({"excludes": {"caps": TWO_CAPS}}, ("", "--cap CAP_KILL"), (SYS_ADMIN, "--cap CAP_CHOWN", BOTH)),
+    ({"includes": {"arches": ["amd64", "s390x"]}}, ("", "-a amd64"), ("-a arm64", "-a riscv64")),
+    ({"includes": {"arches": ["arm64", "x86_64", "AMD64"]}}, ("-a aarch64",), ("", "--arch riscv64")),
+    ({"excludes": {"arches": ["riscv64", "arm"]}}, ("", "-a arm64"), ("-a riscv64",)),
+    ({"includes": {"minKernel": "4.8"}}, FROM, BEFORE),
+    ({"excludes": {"minKernel": "4.8"}}, BEFORE, FROM),
+    ({"includes": {"minKernel": "4294967295.0"}}, ("", "--kernel 4294967295.0"), ("--kernel 4294967294.9",)),
+    ({"includes": {"minKernel": "3.0"}, "excludes": {"minKernel": "4.8"}}, ("--kernel 3.0", "--kernel 4.7"),
+     ("", "--kernel 2.6", "--kernel 4.8")),
+    ({"includes": {"caps": ["CAP_SYS_ADMIN"], "minKernel": "4.8"}, "excludes": {"arches": ["arm64"], "caps": ["CAP_KILL"]}},
+     (SYS_ADMIN, f"{SYS_ADMIN} --kernel 4.8"),
+     ("", f"{SYS_ADMIN} -a arm64", f"{SYS_ADMIN} --cap CAP_KILL", f"{SYS_ADMIN} --kernel 4.7", "--cap CAP_KILL")),
+    ({"includes": {"caps": ["CAP_SYS_ADMIN"]}, "excludes": {"caps": ["CAP_SYS_ADMIN"]}}, (), ("", SYS_ADMIN)),
+    ({"includes": {}, "excludes": {"caps": None, "arches": None, "minKernel": None}}, ("", SYS_ADMIN, "--kernel 0.0"), ()),
+    ({"includes": {"caps": [], "arches": []}, "excludes": {"caps": [], "arches": []}}, ("", "-a riscv64"), ()),
+]
+
+# Of each condition with such a mask there is a load, a mask and a test. So many are the most that fit: the program of the first one
+# has 4095 instructions, 27 of them copies of returns that would be too far away, and that of the second one would have 4098.
+FITTING, LARGE = ([when(0, "MASKED_EQ", 3)] * number for number in (1356, 1357))
+TOO_LONG = "One program of the profile needs more than 4096 instructions.\n"
+
+FILES = {
+    "reads-profile.json": profile(entry("read")),
+    "unknown-profile.json": profile(entry("mmap2 read waitpid")),
+    "log-profile.json": profile(entry("read"), flags=["SECCOMP_FILTER_FLAG_LOG"]),
+    "flags-profile.json": profile(entry("mmap2 read"), flags=["SECCOMP_FILTER_FLAG_TSYNC", "SECCOMP_FILTER_FLAG_LOG"]),
+    "large-profile.json": profile(entry("read", args=LARGE)),
+}
+
+READ, OTHER = ("read", "allow"), ("write", "errno 1")
+
+CASES = [
+    # The parts of a profile.
+    *compiles("", WHOLE, *OF_WHOLE, told=OF_FLAGS),
+    *compiles("-", WHOLE, *OF_WHOLE, told=OF_FLAGS),
+    *compiles("--oci", WHOLE, *OF_WHOLE, told=OF_FLAGS),
+    *compiles("-q", WHOLE, *OF_WHOLE),
+    *compiles("reads-profile.json", "", READ, OTHER),
+    *compiles("--oci --arch=x86_64 --kernel=6.1 --cap=CAP_KILL --strict ./reads-profile.json", "", READ, OTHER),
+    *compiles("", '{"defaultAction": "SCMP_ACT_ALLOW"}', READ),
+    *compiles("", {"defaultAction": "SCMP_ACT_TRAP"}, ("read", "trap")),
+    *compiles("", {"defaultAction": "SCMP_ACT_TRAP", "syscalls": None, "flags": None, "architectures": None, "archMap": None,
+                   "defaultErrnoRet": None}, ("read", "trap")),
+    *compiles("", profile({"action": "SCMP_ACT_ALLOW"}, {"names": None, "action": "SCMP_ACT_LOG"}), ("read", "errno 1")),
+    *compiles("", profile(entry("read", args=None, errnoRet=None, comment=None)), READ, OTHER),
+    # Of a key that stands twice the last one counts.
+    *compiles("", '{"defaultAction": "SCMP_ACT_ALLOW", "defaultAction": "SCMP_ACT_LOG"}', ("read", "log")),
+    # Each action, as the default one and as that of an entry.
+    *[case for action, number, text in ACTIONS
+      for case in (*compiles("", profile(entry("read"), default=action, defaultErrnoRet=number), READ, ("write", text)),
+                   *compiles("", profile(entry("read", action, errnoRet=number), default="SCMP_ACT_ALLOW"), ("read", text),
+                             ("write", "allow")))],
+    # Each operator, on each argument, and the greatest numbers.
+    *[case for place, (operator, (met, unmet)) in enumerate(OPERATORS.items())
+      for case in compiles("", profile(entry("read", args=[when(place, operator, 5)])),
+                           (f"read {'0 ' * place}{met}", "allow"), (f"read {'0 ' * place}{unmet}", "errno 1"))],
+    *compiles("", profile(entry("read", args=[when(5, "MASKED_EQ", 240, 95)])), ("read 0 0 0 0 0 0x50", "allow"),
+              ("read 0 0 0 0 0 0x60", "errno 1")),
+    *compiles("", profile(entry("read", args=[when(0, "MASKED_EQ", 3)])), ("read 4", "allow"), ("read 5", "errno 1")),
+    *compiles("", profile(entry("read", args=[when(0, "EQ", GREATEST, GREATEST), when(1, "GT", 0, None)])),
+              (f"read {GREATEST} 1", "allow"), (f"read {GREATEST} 0", "errno 1"), (f"read {GREATEST - 1} 1", "errno 1")),
+    # Conditions on one argument are alternatives, and so are then the others.
+    *compiles("", profile(entry("read write", args=[when(0, "EQ", 1), when(1, "EQ", 2), when(0, "EQ", 3)])),
+              *[(f"{name} {given}", action) for name in ("read", "write")
+                for given, action in (("1", "allow"), ("0 2", "allow"), ("3", "allow"), ("2 1", "errno 1"))]),
+    # An entry whose calls the architecture hasn't decides nothing.
+    *left_out("", profile(entry("waitpid", "SCMP_ACT_TRAP"), entry("read")), ["waitpid"], READ, OTHER),
+    # What an entry includes and excludes.
+    *[case for more, those, others in CRITERIA for action, all_words in (("allow", those), ("errno 1", others)) for words in all_words
+      for case in compiles(f"--oci {words}", profile(entry("read", **more)), ("read", action))],
+    # Names that the architecture hasn't, of entries that apply.
+    *left_out("", profile(entry("waitpid read mmap2"), entry("mmap2 Read read")), ["waitpid", "mmap2", "mmap2", "Read"], READ, OTHER),
+    *left_out("", profile({"names": ["no\ncall", "a\\b", "\u009b", "\u00b5", ""], "action": "SCMP_ACT_ALLOW"}),
+              ["no\\x0acall", "a\\x5cb", "\\xc2\\x9b", "\u00b5", ""], ("read", "errno 1")),
+    *left_out("", profile(entry("waitpid", includes={"caps": ["CAP_KILL"]}), entry("mmap2", excludes={"arches": ["arm64"]})),
+              ["mmap2"], ("read", "errno 1")),
+    *left_out("--oci --cap CAP_KILL", profile(entry("waitpid", includes={"caps": ["CAP_KILL"]}), entry("mmap2")),
+              ["waitpid", "mmap2"], ("read", "errno 1")),
+    *left_out("-a arm64", profile(entry("open openat")), ["open"], ("openat", "allow"), ("read", "errno 1"), arch="aarch64"),
+    *left_out("--arch riscv64", profile(entry("open riscv_hwprobe")), ["open"], ("riscv_hwprobe", "allow"), ("read", "errno 1"),
+              arch="riscv64"),
+    *compiles("unknown-profile.json", "", READ, OTHER,
+              told=TOOL + "unknown-profile.json: names of no system call of x86_64, left out (2): mmap2, waitpid\n"),
+    *compiles("-q unknown-profile.json", "", READ, OTHER),
+    # Flags, in the profile's order and as often as they stand there, behind the names.
+    *compiles("", profile(entry("read"), flags=[]), READ),
+    *flagged("", profile(entry("read"), flags=["SECCOMP_FILTER_FLAG_LOG"]), "(1): SECCOMP_FILTER_FLAG_LOG", READ),
+    *flagged("-", profile(entry("read"), flags=["SECCOMP_FILTER_FLAG_TSYNC"]), "(1): SECCOMP_FILTER_FLAG_TSYNC", READ),
+    *flagged("", profile(entry("read"), flags=["SECCOMP_FILTER_FLAG_SPEC_ALLOW", "SECCOMP_FILTER_FLAG_TSYNC",
+                                               "SECCOMP_FILTER_FLAG_LOG"]),
+             "(3): SECCOMP_FILTER_FLAG_SPEC_ALLOW, SECCOMP_FILTER_FLAG_TSYNC, SECCOMP_FILTER_FLAG_LOG", READ),
+    *flagged("", profile(entry("read"), flags=["SECCOMP_FILTER_FLAG_LOG", "SECCOMP_FILTER_FLAG_LOG"]),
+             "(2): SECCOMP_FILTER_FLAG_LOG, SECCOMP_FILTER_FLAG_LOG", READ),
+    *flagged("", '{"defaultAction": "SCMP_ACT_ALLOW", "flags": ["SECCOMP_FILTER_FLAG_SPEC_ALLOW"]}',
+             "(1): SECCOMP_FILTER_FLAG_SPEC_ALLOW", READ),
+    *compiles("./log-profile.json", "", READ, OTHER, told=TOOL + f"./log-profile.json: {FLAGS} (1): SECCOMP_FILTER_FLAG_LOG\n"),
+    *compiles("flags-profile.json", "", READ, OTHER,
+              told=TOOL + "flags-profile.json: names of no system call of x86_64, left out (1): mmap2\n"
+              + TOOL + f"flags-profile.json: {FLAGS} (2): SECCOMP_FILTER_FLAG_TSYNC, SECCOMP_FILTER_FLAG_LOG\n"),
+    *compiles("--quiet flags-profile.json", "", READ, OTHER),
+    *compiles("-a arm64", profile(entry("open openat"), flags=["SECCOMP_FILTER_FLAG_TSYNC"]), ("openat", "allow"), ("read", "errno 1"),
+              told=INPUT + "names of no system call of aarch64, left out (1): open\n"
+              + INPUT + f"{FLAGS} (1): SECCOMP_FILTER_FLAG_TSYNC\n"),
+    # With --strict they are no error, but names are.
+    *flagged("--oci --strict", profile(entry("read"), flags=["SECCOMP_FILTER_FLAG_LOG"]), "(1): SECCOMP_FILTER_FLAG_LOG", READ),
+    rejects("compile --oci --strict flags-profile.json", "", "names of no system call of x86_64 (1): mmap2\n",
+            TOOL + "flags-profile.json: "),
+    # With --strict names are rejected.
+    rejects("compile --oci --strict unknown-profile.json", "", "names of no system call of x86_64 (2): mmap2, waitpid\n",
+            TOOL + "unknown-profile.json: "),
+    rejects("compile --oci --strict -q unknown-profile.json", "", "names of no system call of x86_64 (2): mmap2, waitpid\n",
+            TOOL + "unknown-profile.json: "),
+    rejects("compile --oci --strict -a amd64", json.dumps(profile(entry("no_call\u0007", "SCMP_ACT_LOG"))),
+            "names of no system call of x86_64 (1): no_call\\x07\n"),
+    rejects("compile --oci --strict --arch aarch64", json.dumps(profile(entry("read open"))),
+            "names of no system call of aarch64 (1): open\n"),
+    *compiles("--oci --strict", profile(entry("read"), entry("waitpid", includes={"arches": ["x86"]})), READ, OTHER),
+    # Podman's names of errnos, which have to say the same as the numbers beside them.
+    *compiles("", profile(entry("read", "SCMP_ACT_ERRNO", errnoRet=22, errno="EINVAL"), entry("write", errno=""),
+                          defaultErrnoRet=38, defaultErrno="ENOSYS"), ("read", "errno 22"), ("write", "allow"), ("open", "errno 38")),
+    # What is no JSON.
+    *[rejects("compile --oci", it, PARSING) for it in (
+        "", "{", '{"defaultAction": "SCMP_ACT_ALLOW"', '{"defaultAction": "SCMP_ACT_ALLOW"} {}', "{'defaultAction': 0}", "nothing",
+        '{"defaultAction": "SCMP_ACT_ALLOW",}', b'{"defaultAction": "\xff"}', "[" * 200 + "]" * 200)],
+    rejects("compile --oci no-json.json", "", PARSING, TOOL + "no-json.json: "),
+    # A program that is too large.
+    writes("compile | wc -c | tr -d ' '", json.dumps(profile(entry("read", args=FITTING))), f"{8 * 4095}\n"),
+    rejects("compile", json.dumps(profile(entry("read", args=LARGE))), TOO_LONG),
+    rejects("compile --oci large-profile.json", "", TOO_LONG, TOOL + "large-profile.json: "),
+    rejects("compile --oci --strict", json.dumps(profile(entry("waitpid"), entry("read", args=LARGE))),
+            "names of no system call of x86_64 (1): waitpid\n"),
+    # Files, and an output that takes nothing.
+    rejects("compile --oci missing.json", "", MISSING, TOOL + "missing.json: "),
+    rejects("compile --oci examples", "", FOLDER, TOOL + "examples: "),
+    rejects("compile --oci -", Failing(WHOLE), RESET),
+    rejects("compile -q reads-profile.json >&-", "", CLOSED, OUTPUT),
+    rejects("compile -q reads-profile.json > /dev/full", "", FULL, OUTPUT),
+    rejects("compile --oci unknown-profile.json > /dev/full", "", FULL, OUTPUT),
+    *fails_to_read_and_write("compile --oci", WHOLE, WHOLE),
+]

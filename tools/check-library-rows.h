@@ -211,8 +211,8 @@ static const struct {
     {README, "\xff", AUDIT_ARCH_X86_64, 0, 0, SECCOMPILER_NO_FILTER, "No filter has this name."},
     {README, NAME, AUDIT_ARCH_X86_64, 0, 23, SECCOMPILER_NO_ROOM,
      "The array has too little room for the program: it has 24 instructions."},
-    {README, NAME, AUDIT_ARCH_X86_64, 1, 20, SECCOMPILER_NO_ROOM,
-     "The array has too little room for the program: it has 21 instructions."},
+    {README, NAME, AUDIT_ARCH_X86_64, 1, 12, SECCOMPILER_NO_ROOM,
+     "The array has too little room for the program: it has 13 instructions."},
 };
 
 /* Texts that are no JSON in UTF-8, and how what is said of them begins. */

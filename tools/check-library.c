@@ -174,10 +174,10 @@ static void check_programs(void)
     equal(seccompiler_check(program, 23), 0, "a check without the last return, to which a jump leads");
     equal(seccompiler_check(program, 25), 0, "a check of one instruction more");
     check_calls(24);
-    equal(compile_readme(SECCOMPILER_LAYOUT_TREE, 21), 21, "the README's policy as a tree");
-    check(is_marked(21), "behind the tree");
-    equal(seccompiler_check(program, 21), 1, "a check of the tree");
-    check_calls(21);
+    equal(compile_readme(SECCOMPILER_LAYOUT_TREE, 13), 13, "the README's policy as a tree");
+    check(is_marked(13), "behind the tree");
+    equal(seccompiler_check(program, 13), 1, "a check of the tree");
+    check_calls(13);
 }
 
 /* ---- rules */
@@ -387,6 +387,12 @@ static void check_rules_length(void)
         int64_t length = seccompiler_rules_length(chains, 1000, RULES, 0, CONDITIONS, 0, SECCOMP_RET_TRAP, 0,
                                                   SECCOMP_RET_ALLOW, 0, AUDIT_ARCH_X86_64, layout);
         check(layout == 0 ? length == 5005 : length > 4 && length < 4096, "the length of 1000 chains");
+        static struct seccompiler_chain many[4096];
+        for (size_t i = 0; i < 4096; i++)
+            many[i].number = (int64_t)(2 * i), many[i].rules = 0;
+        length = seccompiler_rules_length(many, 4096, RULES, 0, CONDITIONS, 0, SECCOMP_RET_TRAP, 0, SECCOMP_RET_ALLOW, 0,
+                                          AUDIT_ARCH_X86_64, layout);
+        equal(length, layout == 0 ? 20485 : SECCOMPILER_TOO_LARGE, "the length of 4096 chains, each of a test in a tree");
     }
 }
 
@@ -578,8 +584,8 @@ static void check_comparisons(void)
     struct seccomp_data record = zero;
     equal(compile_readme(SECCOMPILER_LAYOUT_LINEAR, 24), 24, "a program to compare");
     memcpy(linear, program, sizeof linear);
-    equal(compile_readme(SECCOMPILER_LAYOUT_TREE, 24), 21, "the tree to compare");
-    equal(seccompiler_compare(linear, 24, program, 21, SECCOMPILER_ALIKE, SECCOMPILER_ALL_CALLS, 0, 0, 1000000,
+    equal(compile_readme(SECCOMPILER_LAYOUT_TREE, 24), 13, "the tree to compare");
+    equal(seccompiler_compare(linear, 24, program, 13, SECCOMPILER_ALIKE, SECCOMPILER_ALL_CALLS, 0, 0, 1000000,
                               &record),
           1, "both layouts");
 }
@@ -656,7 +662,7 @@ static int64_t in_linear(void)
 static int64_t as_tree(void)
 {
     int64_t answer = compile_readme(SECCOMPILER_LAYOUT_TREE, 30);
-    check(is_marked(answer < 0 ? 0 : 21), "an array with a refused request");
+    check(is_marked(answer < 0 ? 0 : 13), "an array with a refused request");
     return answer;
 }
 
@@ -786,7 +792,7 @@ int main(void)
     check_lengths();
     held = 0;
     sweep(in_linear, 24, SECCOMPILER_OUT_OF_MEMORY);
-    sweep(as_tree, 21, SECCOMPILER_OUT_OF_MEMORY);
+    sweep(as_tree, 13, SECCOMPILER_OUT_OF_MEMORY);
     int64_t linear = rules_linear(), tree = rules_as_tree();
     held = 0;
     sweep(rules_linear, linear, SECCOMPILER_OUT_OF_MEMORY);

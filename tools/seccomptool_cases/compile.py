@@ -10,16 +10,15 @@ from .forms import (
     CLOSED, FOLDER, FULL, INPUT, LAYOUTS, LOGS, MISSING, NO_OBJECT, OUTPUT, TOOL, fails_to_read_and_write, rejects,
     rejects_in_both, writes
 )
-from .long_filters import of_rules
+from .long_filters import of_masks, of_rules
 
 # The programs of a filter without entries: the architecture's word is loaded and compared, another one
-# kills the process; the tree loads the call number, which no test asks for.
+# kills the process, behind the test in the chains, and at the end in the tree.
 LINEAR = bytes.fromhex("""
     20 00 00 00 04 00 00 00  15 00 01 00 3e 00 00 c0  06 00 00 00 00 00 00 80  06 00 00 00 00 00 fc 7f
 """)
 TREE = bytes.fromhex("""
-    20 00 00 00 04 00 00 00  15 00 01 00 3e 00 00 c0  06 00 00 00 00 00 00 80  20 00 00 00 00 00 00 00
-    06 00 00 00 00 00 fc 7f
+    20 00 00 00 04 00 00 00  15 00 00 01 3e 00 00 c0  06 00 00 00 00 00 fc 7f  06 00 00 00 00 00 00 80
 """)
 
 # The same for the architecture words of aarch64 and riscv64 (linux/audit.h).
@@ -49,11 +48,11 @@ UNKNOWN_CALL = FRONTEND + "Invalid syscall name: nosyscall for given arch: x86_6
 TWO = LOGS[:-1] + r',"b\u009b":{"mismatch_action":"trap","match_action":"allow","filter":[]}}'
 WHICH = "Name one of its filters by --filter: {}.\n"
 
-# Filters that fit in one layout alone: of rules of 4089 instructions; and of rules of 4079, and calls 1 to 4.
-NARROW = "{" + of_rules("a", 815) + "}"
+# A filter that fits in the tree layout alone, since its rules are few tests there; and one that fits in none.
 WIDE = "{" + of_rules("a", 813, ("write", "open", "close", "stat")) + "}"
+NOWHERE = "{" + of_masks("a", 1400) + "}"
 IN_LINEAR = "instructions in the linear layout; 4096 fit"
-IN_TREE = "instructions in the tree layout; 4096 fit"
+IN_TREE = "needs more than 4096 instructions in the tree layout"
 
 FILES = {"-": LOGS, "two-filters.json": TWO, "includes.c": INCLUDES}
 
@@ -107,7 +106,7 @@ CASES = [
     writes("compile --format c logs.json -o written.inc && cat written.inc && rm written.inc", "", in_c(TREE)),
     # A listing is that of `seccompc list`, but that no name steers a terminal.
     writes("compile two-filters.json -f \"$(printf 'b\\302\\233')\" --format listing | head -n 1", "",
-           "filter 5 b\\xc2\\x9b\n"),
+           "filter 4 b\\xc2\\x9b\n"),
     writes("compile -f \"$(printf 'a\\n\\\\')\" names.json --format listing", "", listed(r"a\x0a\x5c", TREE)),
     writes(f"compile {EXAMPLE} --format listing --layout linear > listed.txt &&"
            f" ./seccompc list x86_64 < {EXAMPLE} | cmp - listed.txt; status=$?; rm listed.txt; (exit $status)", "", ""),
@@ -138,11 +137,11 @@ CASES = [
     rejects("compile -f b too-large.json", "", NO_FILTER, TOOL + "too-large.json: "),
     # Of a program that is too large the length in the other layout is told where it fits there.
     rejects("compile --layout linear too-large.json", "", f"a: needs 10130 {IN_LINEAR}\n", TOOL + "too-large.json: "),
-    rejects("compile", NARROW, f"a: needs 4098 {IN_TREE}; 4096 in the linear layout\n"),
-    rejects("compile -f a --layout linear", WIDE, f"a: needs 4106 {IN_LINEAR}; 4090 in the tree layout\n"),
+    rejects("compile -f a --layout linear", WIDE, f"a: needs 4106 {IN_LINEAR}; 18 in the tree layout\n"),
     rejects("compile --format c --layout linear", WIDE.replace('"a"', r'"a\u009b"'),
-            f"a\\xc2\\x9b: needs 4106 {IN_LINEAR}; 4090 in the tree layout\n"),
-    rejects("compile", "{" + of_rules("a", 816) + "}", f"a: needs 4103 {IN_TREE}\n"),
+            f"a\\xc2\\x9b: needs 4106 {IN_LINEAR}; 18 in the tree layout\n"),
+    rejects("compile", NOWHERE, f"a: {IN_TREE}\n"),
+    rejects("compile --layout linear", NOWHERE, f"a: needs 8407 {IN_LINEAR}\n"),
     # `compile` answers faults of files, of its reader and its writer.
     rejects("compile missing.json", "", MISSING, TOOL + "missing.json: "),
     rejects("compile \"$(printf 'missing\\nfile')\"", "", MISSING, TOOL + "missing\\x0afile: "),

@@ -30,7 +30,7 @@ def filters(*names):
 FILES = {
     "allows-read.json": policy(READ),
     "allows-read-of-5.json": policy(READ_OF_5),
-    "allows-read-of-5-twice.json": policy(READ_OF_5 + "," + READ_OF_5),
+    "allows-read-of-5-twice.json": policy(READ_OF_5.replace("[{", '[{"index":0,"type":"dword","op":"ge","val":5},{')),
     "masks.json": policy(",".join(map(masked, range(11)))),
     "errno-1.json": policy(READ, match='{"errno":1}'),
     "errno-2.json": policy(READ, match='{"errno":2}'),

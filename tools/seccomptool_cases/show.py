@@ -26,18 +26,16 @@ filter 4 b\x0a
    3  ret #0x50001                ; errno 1
 """
 
-LOGS_AS_TREE = r"""filter 5 a
+LOGS_AS_TREE = r"""filter 4 a
    0  ld [4]                      ; the architecture
-   1  jeq #0xc00000b7, 3, 2       ; aarch64
-   2  ret #0x80000000             ; kill the process
-   3  ld [0]                      ; the call number
-   4  ret #0x7ffc0000             ; log
-filter 5 b\x0a
+   1  jeq #0xc00000b7, 2, 3       ; aarch64
+   2  ret #0x7ffc0000             ; log
+   3  ret #0x80000000             ; kill the process
+filter 4 b\x0a
    0  ld [4]                      ; the architecture
-   1  jeq #0xc00000b7, 3, 2       ; aarch64
-   2  ret #0x80000000             ; kill the process
-   3  ld [0]                      ; the call number
-   4  ret #0x50001                ; errno 1
+   1  jeq #0xc00000b7, 2, 3       ; aarch64
+   2  ret #0x50001                ; errno 1
+   3  ret #0x80000000             ; kill the process
 """
 
 # A call with two entries with conditions, and one without conditions: `read` is 63 on aarch64, and

@@ -3,13 +3,12 @@
 from program_cases import FRONTEND, LARGE
 
 from .forms import FULL, INPUT, LOGS, NO_OBJECT, OUTPUT, STEERS, fails_to_read_and_write, rejects, writes
-from .long_filters import of_rules
+from .long_filters import of_masks, of_rules
 
-# The programs of a filter without entries load the architecture's word and compare it, the tree loads the
-# call number, and they return.
+# The programs of a filter without entries load the architecture's word and compare it, and return.
 LOGS_STEPS = (
     "filter a\nlinear: 4 instructions, at most 3 steps, 3 passing\n"
-    "tree: 5 instructions, at most 4 steps, 4 passing\n"
+    "tree: 4 instructions, at most 3 steps, 3 passing\n"
 )
 
 # Call 0 has a rule, and call 39 matches always.
@@ -18,20 +17,20 @@ LOGS_STEPS = (
 # call 39 and a return. A passing call takes 3 steps to the number, 2 past each chain and the return, and
 # no way is longer.
 #
-# Tree: 4 instructions in front, and one block: a test at 1, 6 of call 0, a test of 39, and two returns.
-# The longest way is through call 0: 3 steps to the number, a test, a jump, a load, a test and a return.
+# Tree: 3 instructions in front, a test at 1, a test of 39, a load and a test of call 0, and three returns.
+# The longest way is through call 0: 3 steps to the number, a test, a load, a test and a return.
 # A passing call takes the 3 steps, 2 tests and a return.
 TWO_CALLS = r'''{"b\n\\":{"mismatch_action":"trap","match_action":"allow","filter":[
     {"syscall":"read","args":[{"index":0,"type":"dword","op":"eq","val":5}]},
     {"syscall":"getpid"}]}}'''
 TWO_CALLS_STEPS = (
     "filter b\\x0a\\x5c\nlinear: 17 instructions, at most 8 steps, 8 passing\n"
-    "tree: 14 instructions, at most 8 steps, 6 passing\n"
+    "tree: 10 instructions, at most 7 steps, 6 passing\n"
 )
 
-# Rules of 4089 instructions, and of 4094.
-LARGE_TREE = of_rules("b", 815)
+# Rules of 4094 instructions; and rules that are too many in either layout.
 LARGE_CHAINS = of_rules("c", 816)
+LARGE_TREE = of_masks("b", 1400)
 TOO_MANY = "Backend error: The seccomp filter contains too many BPF instructions: {}. Max length is 4096.\n"
 
 CASES = [
@@ -42,11 +41,11 @@ CASES = [
     writes("stats", "{}", ""),
     ("stats < logs.json", 0, LOGS_STEPS, ""),
     writes("stats -a amd64 logs.json", "", LOGS_STEPS),
-    # `stats` tells the first fault; the chains of all filters come before the trees.
+    # `stats` tells the first fault.
     rejects("stats", "[]", NO_OBJECT),
     rejects("stats", '{"a":{},' + LARGE_TREE + "}", FRONTEND + "Json filter has a wrong shape: a.\n"),
-    rejects("stats", "{" + LARGE_TREE + "," + LARGE_CHAINS + "}", TOO_MANY.format(4101)),
-    rejects("stats", "{" + LARGE_TREE + "}", TOO_MANY.format(4098)),
+    rejects("stats", "{" + LARGE_TREE + "," + LARGE_CHAINS + "}", TOO_MANY.format(8407)),
+    rejects("stats", "{" + LARGE_CHAINS + "}", TOO_MANY.format(4101)),
     ("stats < too-large.json", 1, "", INPUT + LARGE),
     # `stats` answers faults of its reader and its writer.
     *fails_to_read_and_write("stats"),

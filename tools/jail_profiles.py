@@ -51,7 +51,7 @@ NOTES = re.compile(
 
 # Calls of Podman's profile that are for a capability, with arguments that the kernel rejects by another errno than EPERM,
 # or for which it has other reasons too.
-FOR_CAPABILITIES = ["setns -1", "sethostname 0 -1", "chroot 0", "open_by_handle_at -1", "fanotify_init -1"]
+FOR_CAPABILITIES = ["sethostname 0 -1", "chroot 0", "open_by_handle_at -1", "fanotify_init -1"]
 
 
 def compiled(results, folder, profile, words, name):
@@ -117,6 +117,8 @@ def try_podman(results, jailer, folder, way, end):
         try_commands(results, what, jailed, folder)
         try_call(results, what, jailed, folder, "kexec_load", 1)
         try_call(results, what, jailed, folder, "4000", 38)
+        # An entry without conditions allows it before another denies it to a container without capabilities.
+        try_call(results, what, jailed, folder, "setns -1", 9)
         try_call(results, what, jailed, folder, "personality 1", 38)
         for call in FOR_CAPABILITIES:
             # With the capabilities the kernel answers, as it does without a filter.

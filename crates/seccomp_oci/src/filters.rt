@@ -1,4 +1,4 @@
-// From profiles to the filters of which warnings are told.
+// From profiles to the filters whose warnings `check` prints.
 
 use crate::concerns::{comparison, is_same, share_argument};
 use crate::scope::applies;
@@ -8,7 +8,7 @@ use seccompiler::{
 };
 use std::alloc::{AllocError, Global};
 
-/// The filters of a profile, of which warnings are told. They are no program of the profile:
+/// The filters of a profile whose warnings `check` prints. They are no program of the profile:
 /// [`decisions_of_profile`](crate::decisions_of_profile) gives what it decides.
 ///
 /// The entries that say something and don't allow have a filter for each action, which allows all else; entries of an

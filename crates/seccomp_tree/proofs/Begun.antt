@@ -1,5 +1,6 @@
 -- How many steps start below a number, and what that says of their targets.
-use Rattle.std.proofs.Common.{◌≡◌, ℕ, zero, suc, ◌+◌, ◌-◌, ◌^◌, ◌<◌, ◌≤◌, ◌≢◌, List, [], ◌∷◌, ◌++◌, length, get_or, true, false, refl, sym, ap, ◌∙◌}
+use Rattle.std.proofs.Common.{◌≡◌, ℕ, zero, suc, ◌+◌, ◌-◌, ◌^◌, ◌<◌, ◌≤◌, ◌≢◌, List, [], ◌∷◌, ◌++◌, length, get_or, true}
+use Rattle.std.proofs.Common.{false, refl, sym, ap, ◌∙◌}
 use Rattle.std.proofs.Common.{subst, nat_le, if◌then◌else◌, leb, arith, inl, inr, length-append}
 use Rattle.std.specs.Prelude.{nat_lt}
 use Rattle.std.proofs.lemmas.Bool.Decides.{nat_tests}
@@ -252,7 +253,8 @@ pushed_same old start target h some same =
 
 -- ---- neighbours that differ
 
-tight_from : (t : Target) (from : ℕ) (steps : List Step) (x : Step) → AscendFrom x.start from steps → (found_from t steps x.start ≢ x.target)
+tight_from : (t : Target) (from : ℕ) (steps : List Step) (x : Step) → AscendFrom x.start from steps
+    → (found_from t steps x.start ≢ x.target)
     → TightFrom t steps → TightFrom t (steps ++ x ∷ [])
 tight_from t from [] x h not tight = (not, tt)
 tight_from t from (y ∷ steps) x h not tight =
@@ -357,7 +359,8 @@ module _ (old others : List Step) (first last base : ℕ) (are : AreSteps (2 ^ 6
             | inr up ↦ omega (arith, h.low)
           ]
 
-  pub part_ends : (i : ℕ) (new : List Step) → begun others (last + 1) ≤ i → i ≤ begun others (last + 1) → PartOn old others first last base i new
+  pub part_ends : (i : ℕ) (new : List Step) → begun others (last + 1) ≤ i → i ≤ begun others (last + 1)
+      → PartOn old others first last base i new
       → IsPartPushed old others first last base new
   part_ends i new ge le h = record {
     are = steps_more (h.at + 1) (last + 1 - base) new (omega arith) (omega (arith, h.high)) h.are;

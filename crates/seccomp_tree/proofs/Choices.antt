@@ -1,5 +1,6 @@
 -- Comparisons as steps, and steps that are merged.
-use Rattle.std.proofs.Common.{◌≡◌, ℕ, zero, suc, ◌+◌, ◌-◌, ◌^◌, ◌<◌, ◌≤◌, List, [], ◌∷◌, length, get_or, Bool, true, false, refl, sym, ap, ◌∙◌}
+use Rattle.std.proofs.Common.{◌≡◌, ℕ, zero, suc, ◌+◌, ◌-◌, ◌^◌, ◌<◌, ◌≤◌, List, [], ◌∷◌, length, get_or, Bool, true, false}
+use Rattle.std.proofs.Common.{refl, sym, ap, ◌∙◌}
 use Rattle.std.proofs.Common.{subst, ◌⊎◌, inl, inr, if◌then◌else◌, arith}
 use Rattle.std.proofs.lemmas.Bool.{cases_lt, cases_eq}
 use Rattle.std.proofs.lemmas.List.{get_or_default, get_or_past}
@@ -13,7 +14,8 @@ use Rattle.seccomp_tree.specs.declared.steps.Target.{Target}
 use Rattle.seccomp_tree.specs.declared.steps.Step.{Step}
 use Rattle.seccomp_tree.specs.Steps.{StartsAtZero, found_in, AscendFrom, AreSteps, begun, IsPushed, IsPartPushed}
 use Rattle.seccomp_tree.specs.Rows.{same}
-use Rattle.seccomp_tree.specs.Intervals.{numbers_of, is_plain, IsChosen, AreTwo, AreChoices, behind, over, IsOverPushed, starts_or, AreMerged}
+use Rattle.seccomp_tree.specs.Intervals.{numbers_of, is_plain, IsChosen, AreTwo, AreChoices, behind, over, IsOverPushed}
+use Rattle.seccomp_tree.specs.Intervals.{starts_or, AreMerged}
 use Rattle.seccomp_tree.proofs.Begun.{steps_more, begun_few, begun_more, begun_some, begun_below, begun_counts, found_begun, not_none}
 use Rattle.seccomp_tree.proofs.RowTests.{same_one}
 
@@ -69,7 +71,8 @@ sides_above o a b v fit unfit t plain la lb h =
 
 module _ (c : Condition) (fit unfit : Target) (steps : List Step) (plain : is_plain c.operator ≡ true) (few : length steps ≤ 3)
     (size value : ℕ) (sized : size ≡ numbers_of c.arg_len) (valued : value ≡ part_of c.arg_len c.value) where
-  choices_are : AreSteps size steps → ((a : ℕ) → a < size → IsChosen (Compares c.operator a value) fit unfit (found_in steps a)) → AreChoices c fit unfit steps
+  choices_are : AreSteps size steps → ((a : ℕ) → a < size → IsChosen (Compares c.operator a value) fit unfit (found_in steps a))
+      → AreChoices c fit unfit steps
   choices_are are side = record {
     are = subst (λ n. AreSteps n steps) sized are;
     each = sided;
@@ -81,13 +84,15 @@ module _ (c : Condition) (fit unfit : Target) (steps : List Step) (plain : is_pl
       sided a lt = subst (λ v. IsChosen (Compares c.operator a v) fit unfit (found_in steps a)) valued (side a (omega (arith, sized)))
 
   -- from a value of 0 on, and up to the greatest, there are two steps; else three
-  pub choices_zero : (low high : Target) → 1 < size → value ≡ 0 → IsChosen (Compares c.operator 0 value) fit unfit low → IsChosen (Compares c.operator 1 value) fit unfit high
+  pub choices_zero : (low high : Target) → 1 < size → value ≡ 0 → IsChosen (Compares c.operator 0 value) fit unfit low
+      → IsChosen (Compares c.operator 1 value) fit unfit high
       → AreTwo low 1 high steps → AreChoices c fit unfit steps
   choices_zero low high more z first second h = choices_are (steps_more 2 size steps (omega arith) (omega arith) h.are)
       (λ a lt. elim (cases_lt a 1) [
         | inl less ↦
             let none : 0 ≡ a = omega arith in
-            subst (IsChosen (Compares c.operator a value) fit unfit) (sym (h.below a less)) (subst (λ n. IsChosen (Compares c.operator n value) fit unfit low) none first)
+            subst (IsChosen (Compares c.operator a value) fit unfit) (sym (h.below a less))
+                (subst (λ n. IsChosen (Compares c.operator n value) fit unfit low) none first)
         | inr le ↦ subst (IsChosen (Compares c.operator a value) fit unfit) (sym (h.from a le))
             (sides_above c.operator a 1 value fit unfit high plain (omega arith) (omega arith) second)
       ])
@@ -100,11 +105,14 @@ module _ (c : Condition) (fit unfit : Target) (steps : List Step) (plain : is_pl
             (sides_below c.operator a 0 value fit unfit low plain less (omega arith) first)
         | inr le ↦
             let at : value ≡ a = omega arith in
-            subst (IsChosen (Compares c.operator a value) fit unfit) (sym (h.from a le)) (subst (λ n. IsChosen (Compares c.operator n value) fit unfit high) at second)
+            subst (IsChosen (Compares c.operator a value) fit unfit) (sym (h.from a le))
+                (subst (λ n. IsChosen (Compares c.operator n value) fit unfit high) at second)
       ])
 
-  pub choices_inner : (low mid high : Target) (two : List Step) → 1 ≤ value → value + 1 < size → IsChosen (Compares c.operator 0 value) fit unfit low
-      → IsChosen (Compares c.operator value value) fit unfit mid → IsChosen (Compares c.operator (value + 1) value) fit unfit high → AreTwo low value mid two
+  pub choices_inner : (low mid high : Target) (two : List Step) → 1 ≤ value → value + 1 < size
+      → IsChosen (Compares c.operator 0 value) fit unfit low
+      → IsChosen (Compares c.operator value value) fit unfit mid → IsChosen (Compares c.operator (value + 1) value) fit unfit high
+          → AreTwo low value mid two
       → IsPushed two (value + 1) high steps → AreChoices c fit unfit steps
   choices_inner low mid high two some inner first second third h pushed =
       choices_are (steps_more (value + 1 + 1) size steps (omega arith) (omega arith) pushed.are)

@@ -1,5 +1,6 @@
 -- Rulings as targets: one by its conditions, a run by steps.
-use Rattle.std.proofs.Common.{◌≡◌, ℕ, zero, suc, ◌+◌, ◌*◌, ◌<◌, ◌≤◌, ◌^◌, List, [], ◌∷◌, ◌++◌, length, take, drop, get_or, true, false, refl, sym}
+use Rattle.std.proofs.Common.{◌≡◌, ℕ, zero, suc, ◌+◌, ◌*◌, ◌<◌, ◌≤◌, ◌^◌, List, [], ◌∷◌, ◌++◌, length, take, drop, get_or}
+use Rattle.std.proofs.Common.{true, false, refl, sym}
 use Rattle.std.proofs.Common.{ap, ◌∙◌, subst, ◌⊎◌, inl, inr, Option, Some, None, length-drop, take-append-drop, arith}
 use Rattle.std.proofs.lemmas.List.{get_or-drop}
 use Rattle.std.specs.Prelude.{Bool, nat_eq, if◌then◌else◌}
@@ -148,7 +149,8 @@ in_run c f d [] run is first index size (suc k) x lt = absurd (omega arith)
 in_run c f d (g ∷ rest) run is first index size (suc k) x lt =
     let next = alike_is f (only g.conditions) (subst (λ o. alike o (only g.conditions) ≡ true) is run.0) in
     let own = only_is g.conditions next.0 next.1 in
-    let here : IsLike c g.conditions = record { condition = next.0; whole = own.0; index = sym next.2 ∙ index; size = sym next.3 ∙ size; plain = own.1 } in
+    let here : IsLike c g.conditions = record { condition = next.0; whole = own.0; index = sym next.2 ∙ index; size = sym next.3 ∙ size;
+        plain = own.1 } in
     in_run c next.0 g rest run.1 next.1 here (sym next.2 ∙ index) (sym next.3 ∙ size) k x (omega arith)
 
 -- each ruling of a run has one condition, of the same argument
@@ -199,9 +201,11 @@ run_one c x (e ∷ []) d after steps one is like own fits h = record {
     own_choice : (r : List ℕ) → IsRecord r
         → IsChosen (Holds x r) (Give d.value) after (found_in steps (part_of x.arg_len (argument_at r x.arg_index)))
     own_choice r rec =
-        chosen_plain x r (Give d.value) after _ h.plain (h.each (part_of x.arg_len (argument_at r x.arg_index)) (part_fits x.arg_len r x.arg_index rec))
+        chosen_plain x r (Give d.value) after _ h.plain
+            (h.each (part_of x.arg_len (argument_at r x.arg_index)) (part_fits x.arg_len r x.arg_index rec))
 
-    go : (r : List ℕ) → IsRecord r → (t : Target) → Chooses after r (e ∷ []) t → found_in steps (part_of c.arg_len (argument_at r c.arg_index)) ≡ t
+    go : (r : List ℕ) → IsRecord r → (t : Target) → Chooses after r (e ∷ []) t
+        → found_in steps (part_of c.arg_len (argument_at r c.arg_index)) ≡ t
     go r rec t (chosen_here y others holds) =
         let one = All-head (λ (y : Condition). Holds y r) x [] (subst (λ (q : List Condition). RuleHolds q r) whole holds) in
         ap (λ p. found_in steps p) (place r) ∙ (own_choice r rec).met one ∙ ap (λ (y : Ruling). Give y.value) is
@@ -242,10 +246,12 @@ run_two c n rulings after one two steps le f b h = record {
   where
     either : (code : List sock_filter) (a : ℕ) → a < numbers_of c.arg_len → IsIn code (found_in one a) ⊎ (found_in one a ≡ behind)
         → IsIn code (over (found_in one a) (found_in two a)) ⊎ (over (found_in one a) (found_in two a) ≡ after)
-    either code a lt (inr is) = subst (λ u. IsIn code (over u (found_in two a)) ⊎ (over u (found_in two a) ≡ after)) (sym is) (b.inside code a lt)
+    either code a lt (inr is) = subst (λ u. IsIn code (over u (found_in two a)) ⊎ (over u (found_in two a) ≡ after)) (sym is)
+        (b.inside code a lt)
     either code a lt (inl own) = go (same (found_in one a) behind)
       where
-        go : (v : Bool) → IsIn code (if v then found_in two a else found_in one a) ⊎ ((if v then found_in two a else found_in one a) ≡ after)
+        go : (v : Bool) → IsIn code (if v then found_in two a else found_in one a)
+            ⊎ ((if v then found_in two a else found_in one a) ≡ after)
         go true = b.inside code a lt
         go false = inl own
 

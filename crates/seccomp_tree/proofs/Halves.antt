@@ -27,7 +27,8 @@ half_in code steps lows high whole inside h =
     let are = subst (λ n. AreSteps n lows) size h.are in (
       are,
       are_in_below code (2 ^ 32) lows (omega arith) are (λ a lt.
-          subst (IsIn code) (sym (h.inside a (omega arith) (omega arith))) (found_in_code code (2 ^ 64) steps (record { start = 0; target = Give 0 }) (high * 2 ^ 32 + a) (omega arith) whole inside)),
+          subst (IsIn code) (sym (h.inside a (omega arith) (omega arith)))
+              (found_in_code code (2 ^ 64) steps (record { start = 0; target = Give 0 }) (high * 2 ^ 32 + a) (omega arith) whole inside)),
     )
 
 pub half_room : (steps lows : List Step) (high : ℕ)
@@ -56,7 +57,8 @@ half_of_word old new index steps lows high t are h word = record {
 
 module _ (steps : List Step) (high : ℕ) (are : AreSteps (2 ^ 64) steps) where
   -- a step starts inside this one
-  pub next_behind : high < 2 ^ 32 → begun steps (high * 2 ^ 32 + 1) < begun steps (high * 2 ^ 32 + 0xffffffff + 1) → IsNext steps high (high + 1)
+  pub next_behind : high < 2 ^ 32 → begun steps (high * 2 ^ 32 + 1) < begun steps (high * 2 ^ 32 + 0xffffffff + 1)
+      → IsNext steps high (high + 1)
   next_behind small more = record {
     above = omega arith;
     within = omega arith;
@@ -174,7 +176,8 @@ highs_one old mid new index steps highs more high next t h small half on pushed 
 
 -- ---- both halves
 
-pub highs_in : (old new : List sock_filter) (index : ℕ) (steps highs : List Step) → AreHighs old index steps (2 ^ 32) highs new → AreIn new highs
+pub highs_in : (old new : List sock_filter) (index : ℕ) (steps highs : List Step) → AreHighs old index steps (2 ^ 32) highs new
+    → AreIn new highs
 highs_in old new index steps highs h = are_in_below new (2 ^ 32) highs (omega arith) h.are (λ a lt. (h.leads a lt).0)
 
 pub is_argument : (old mid new : List sock_filter) (index : ℕ) (steps highs : List Step) (t : Target) → AreSteps (2 ^ 64) steps
@@ -192,7 +195,8 @@ is_argument old mid new index steps highs t are h word =
           let low = word_at r (16 + 8 * index) in
           let high_same : word_at r (16 + 8 * index + 4) ≡ high = ap (λ i. word_at r i) at in
           let whole : argument_at r index ≡ high * 2 ^ 32 + low = omega (arith, number_halves r (16 + 8 * index), high_same) in
-          let there : LeadsAlways old r (found_in steps (high * 2 ^ 32 + low)) w n = subst (λ u. LeadsAlways old r (found_in steps u) w n) whole lead in
+          let there : LeadsAlways old r (found_in steps (high * 2 ^ 32 + low)) w n = subst (λ u. LeadsAlways old r (found_in steps u) w n)
+              whole lead in
           let behind = (h.leads high (word_fits r (20 + 8 * index) rec)).1 r rec w n k few there in
           let start = word.leads r rec w (n + 2 + 2 * k) (suc k) (omega (arith, h.few, h.end)) behind in
           let count : n + 2 + 2 * k + 1 + 2 * suc k ≡ n + 5 + 4 * k = omega arith in

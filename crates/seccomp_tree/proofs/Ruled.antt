@@ -113,9 +113,11 @@ walk default r after first (d ∷ run) rest w n h (behind x others v not is) (pa
           inr (chosen_behind d run after not chosen, further, subst (λ (s : ℕ). Takes r (last d.conditions run) rest s) (sym count) more)
     ]
 
-takes_fresh : (r : List ℕ) (p : List Condition) (rest : List Ruling) (n : ℕ) → joins p (head rest) ≡ false → Takes r p rest n → Takes r [] rest n
+takes_fresh : (r : List ℕ) (p : List Condition) (rest : List Ruling) (n : ℕ) → joins p (head rest) ≡ false → Takes r p rest n
+    → Takes r [] rest n
 takes_fresh r p [] n apart (ends q) = ends []
-takes_fresh r p (d ∷ rest) n apart (stops q e l m holds enters) = stops [] d rest m holds (begins m refl (enters_first p d rest m apart enters))
+takes_fresh r p (d ∷ rest) n apart (stops q e l m holds enters) = stops [] d rest m holds
+    (begins m refl (enters_first p d rest m apart enters))
 takes_fresh r p (d ∷ rest) n apart (passes q e l m k not enters takes) =
     passes [] d rest m k not (begins m refl (enters_first p d rest m apart enters)) takes
 
@@ -242,7 +244,8 @@ module _ (old mid : List sock_filter) (rulings : List Ruling) (default start end
         | inr none ↦ let z : start ≡ 0 = omega arith in rw z (omega arith)
       ]
 
-pub rules_all : (old new : List sock_filter) (rulings : List Ruling) (default end : ℕ) (t : Target) → end ≡ 0 → RulesOn old rulings default end t new
+pub rules_all : (old new : List sock_filter) (rulings : List Ruling) (default end : ℕ) (t : Target) → end ≡ 0
+    → RulesOn old rulings default end t new
     → AreRules old rulings default t new
 rules_all old new rulings default end t z h = let k = rw z at h.rules in k
 

@@ -58,7 +58,8 @@ does_of_old code old new most t place g h = record {
   leads = λ r a w n small k. h.leads r a w n small (leads_grown code old most g k);
 }
 
-pub leads_more : {code : List sock_filter} {r : List ℕ} {t : Target} {a w n : ℕ} (m : ℕ) → n ≤ m → Leads code r t a w n → Leads code r t a w m
+pub leads_more : {code : List sock_filter} {r : List ℕ} {t : Target} {a w n : ℕ} (m : ℕ) → n ≤ m → Leads code r t a w n
+    → Leads code r t a w m
 leads_more m le (to_return w a n some) = to_return w a m (omega arith)
 leads_more zero le (to_place p w a n inside h) = absurd (omega arith)
 leads_more (suc m) le (to_place p w a n inside h) = to_place p w a m inside (returns_more m (omega arith) h)

@@ -112,7 +112,8 @@ pub tree_halves : (old mid both new : List sock_filter) (steps : List Step) (n :
     → AscendFrom (2 ^ 32) 0 steps → 2 ≤ length steps → 6 < row steps → IsTree old (drop n steps) u mid → IsTree mid (take n steps) v both
     → IsTested both AtLeast (get_or steps n d).start u v t new → IsTree old steps t new
 tree_halves old mid both new steps n d u v t half up some long upper lower h = record {
-  grows = grows_on old both new _ 3 _ (grows_on old mid both _ _ (3 * (length steps - 2)) upper.grows lower.grows (omega (arith, high, low)))
+  grows = grows_on old both new _ 3 _
+      (grows_on old mid both _ _ (3 * (length steps - 2)) upper.grows lower.grows (omega (arith, high, low)))
       h.grows (omega arith);
   inside = last_in new t h.last h.some;
   last = λ two. h.last;

@@ -1,5 +1,6 @@
 -- For `conditions_of`, `each_alone` and `alternatives_of`: conditions of the library, beside those of an entry.
-use Rattle.std.proofs.Common.{◌≡◌, ◌↔◌, ◌<◌, ◌≤◌, ℕ, ◌+◌, List, [], ◌∷◌, ◌++◌, All, map, take, length, get_or, subst, sym, ap, ◌∙◌, Vec, Global}
+use Rattle.std.proofs.Common.{◌≡◌, ◌↔◌, ◌<◌, ◌≤◌, ℕ, ◌+◌, List, [], ◌∷◌, ◌++◌, All, map, take, length, get_or, subst, sym, ap}
+use Rattle.std.proofs.Common.{◌∙◌, Vec, Global}
 use Rattle.std.specs.Prelude.{Any}
 use Rattle.std.proofs.lemmas.List.{map_push, take_more, take_all}
 use Rattle.seccompiler.specs.Policy.{Condition, Holds, RuleHolds}
@@ -31,7 +32,8 @@ abbrev pub SomeHold : List ℕ → List (List Condition) → Type 0
 SomeHold r all = Any (λ cs. RuleHolds cs r) all
 
 -- One list of a condition more holds where one more is met.
-pub each_next : (r : List ℕ) (old new : List (Vec Condition Global)) (given : List Argument) (i : ℕ) (v : Vec Condition Global) (c : Condition)
+pub each_next : (r : List ℕ) (old new : List (Vec Condition Global)) (given : List Argument) (i : ℕ) (v : Vec Condition Global)
+    (c : Condition)
     (d : Argument) → i < length given → new ≡ old ++ v ∷ [] → v.items ≡ c ∷ [] → (Holds c r ↔ IsMet r (get_or given i d))
     → (SomeHold r (lists_of old) ↔ Any (IsMet r) (take i given)) → SomeHold r (lists_of new) ↔ Any (IsMet r) (take (i + 1) given)
 each_next r old new given i v c d within longer alone is so_far =

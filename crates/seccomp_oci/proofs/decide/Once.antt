@@ -7,7 +7,8 @@ use Rattle.seccompiler.specs.Machine.{word_at}
 use Rattle.seccomp_oci.specs.declared.decide.Found.{Found}
 use Rattle.seccomp_oci.specs.declared.decide.ProfileDecision.{ProfileDecision}
 use Rattle.seccomp_oci.specs.Decided.{IsByEntry, IsSettling, IsStrictest, NoneMatches}
-use Rattle.seccomp_oci.specs.Decision.{AreMet, Concerns, default_of, IsFirstLeast, IsProfileDecision, settled, strictest, by_default, Matches, Settles, strictness}
+use Rattle.seccomp_oci.specs.Decision.{AreMet, Concerns, default_of, IsFirstLeast, IsProfileDecision, settled, strictest}
+use Rattle.seccomp_oci.specs.Decision.{by_default, Matches, Settles, strictness}
 use Rattle.seccomp_oci.specs.Types.{Container, Entry, Profile}
 use Rattle.seccomp_oci.proofs.Least.{least_any, least_only}
 use Rattle.seccomp_oci.proofs.Quantified.{at_any}
@@ -103,5 +104,6 @@ module _ (arch : TargetArch) (container : Container) (p : Profile) (r : List ℕ
       → NoneMatches arch container default r entries → IsDecided d
   default_decides default action entries n d same same_entries number is_default is none =
       subst IsDecided (sym is) (decided (record { action = action; entry = None })
-      (by_default (subst (λ a. NoneMatches arch container a r p.entries) same (subst (NoneMatches arch container default r) same_entries none))
+      (by_default (subst (λ a. NoneMatches arch container a r p.entries) same
+          (subst (NoneMatches arch container default r) same_entries none))
       (is_default ∙ ap (λ n. default_of arch default n) number ∙ ap (λ a. default_of arch a (word_at r 0)) same)) tt)

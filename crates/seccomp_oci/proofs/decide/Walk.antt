@@ -1,5 +1,6 @@
 -- For `settling`, `strictest` and `with_entry`: the entries that decide, as more of them are looked at.
-use Rattle.std.proofs.Common.{◌≡◌, ◌≢◌, ◌<◌, ◌≤◌, ℕ, zero, suc, List, [], ◌∷◌, ◌++◌, All, Bool, IsTrue, ◌↔◌, Option, Some, None, length, get_or, take, refl, sym, subst, ap, ◌∙◌, arith}
+use Rattle.std.proofs.Common.{◌≡◌, ◌≢◌, ◌<◌, ◌≤◌, ℕ, zero, suc, List, [], ◌∷◌, ◌++◌, All, Bool, IsTrue, ◌↔◌, Option, Some}
+use Rattle.std.proofs.Common.{None, length, get_or, take, refl, sym, subst, ap, ◌∙◌, arith}
 use Rattle.std.proofs.Common.{inl, inr}
 use Rattle.std.specs.Prelude.{Any, IsSomeAnd}
 use Rattle.std.proofs.lemmas.Bool.{cases_lt}
@@ -9,7 +10,8 @@ use Rattle.seccompiler.specs.declared.backend.TargetArch.{TargetArch}
 use Rattle.seccompiler.specs.Machine.{word_at}
 use Rattle.seccomp_oci.specs.declared.decide.Found.{Found}
 use Rattle.seccomp_oci.specs.Decided.{AreFound, IsAt, IsSettling, IsStrictest}
-use Rattle.seccomp_oci.specs.Decision.{Applies, AreMet, all_met, Concerns, IsFirstLeast, first, IsMet, IsNameOf, later, Matches, Settles, strictness}
+use Rattle.seccomp_oci.specs.Decision.{Applies, AreMet, all_met, Concerns, IsFirstLeast, first, IsMet, IsNameOf, later}
+use Rattle.seccomp_oci.specs.Decision.{Matches, Settles, strictness}
 use Rattle.seccomp_oci.specs.Types.{Container, Entry}
 use Rattle.seccomp_oci.proofs.Least.{Above, least_all, least_kept, least_last, NotBelow}
 
@@ -69,7 +71,8 @@ module _ (arch : TargetArch) (container : Container) (default : SeccompAction) w
       → e ≡ get_or entries place e → Concerns arch container default n e → e.args ≡ []
       → All (λ e. Concerns arch container default n e → e.args ≢ []) (take place entries)
       → f ≡ record { place = place; action = e.action } → IsSettling arch container default n entries f
-  settles_at n entries place e f within read concerns none before is = subst (IsSettling arch container default n entries) (sym is) (record {
+  settles_at n entries place e f within read concerns none before is = subst (IsSettling arch container default n entries) (sym is)
+      (record {
     least = subst (IsFirstLeast (λ _. 0) (Settles arch container default n) entries) (ap (λ (e : Entry). e.action) (sym read))
         (first_settles n entries place e within (subst (Concerns arch container default n) read concerns)
         (ap (λ (e : Entry). e.args) (sym read) ∙ none) before);

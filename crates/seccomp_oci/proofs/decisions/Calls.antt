@@ -1,5 +1,6 @@
 -- For `calls_of`: the rulings of each number.
-use Rattle.std.proofs.Common.{◌≡◌, ◌<◌, ◌≤◌, ◌+◌, ℕ, List, [], ◌∷◌, All, Bool, true, false, Vec, Global, refl, sym, subst, ap, ◌∙◌, arith, inl, inr}
+use Rattle.std.proofs.Common.{◌≡◌, ◌<◌, ◌≤◌, ◌+◌, ℕ, List, [], ◌∷◌, All, Bool, true, false, Vec, Global, refl, sym, subst, ap}
+use Rattle.std.proofs.Common.{◌∙◌, arith, inl, inr}
 use Rattle.std.proofs.Common.{nat_eq, if◌then◌else◌}
 use Rattle.std.specs.Prelude.{Any, Contains}
 use Rattle.std.specs.BTreeMap.{insert_entry}
@@ -85,7 +86,8 @@ pub all_numbers : (concerns : List Concern) (calls : List (ℕ × List Ruling)) 
 all_numbers concerns calls small are n = elim (cases_lt n 463) [
   | inl below ↦ are.made n below
   | inr above ↦ λ default r w ruled. by_none
-      (All-weaker (λ c. All (λ n. n < 463) c.numbers) (λ (c : Concern). Contains c.numbers n × Any (λ cs. RuleHolds cs r) c.alternatives → ⊥)
+      (All-weaker (λ c. All (λ n. n < 463) c.numbers)
+          (λ (c : Concern). Contains c.numbers n × Any (λ cs. RuleHolds cs r) c.alternatives → ⊥)
       (λ c below met. let less = All-contains (λ n. n < 463) c.numbers n below met.0 in omega arith) concerns small)
       (nothing default r w (subst (λ rs. First default r rs w) (are.none n above) ruled))
 ]

@@ -41,7 +41,8 @@ pub none_each : (r : List ℕ) (v : ℕ) (alternatives : List (List Condition)) 
     → Any (λ cs. RuleHolds cs r) alternatives → ⊥
 none_each r v [] none any = any_nil (λ cs. RuleHolds cs r) any
 none_each r v (cs ∷ alternatives) none any = elim (any_cases (λ cs. RuleHolds cs r) cs alternatives any) [
-  | inl now ↦ All-head (λ (d : Ruling). RuleHolds d.conditions r → ⊥) (record { conditions = cs; value = v }) (each_with v alternatives) none now
+  | inl now ↦ All-head (λ (d : Ruling). RuleHolds d.conditions r → ⊥) (record { conditions = cs; value = v }) (each_with v alternatives)
+      none now
   | inr later ↦ none_each r v alternatives (All-tail (λ (d : Ruling). RuleHolds d.conditions r → ⊥) (record { conditions = cs; value = v })
       (each_with v alternatives) none) later
 ]

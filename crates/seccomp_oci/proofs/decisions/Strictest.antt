@@ -1,5 +1,6 @@
 -- For `push_all` and `rulings_by_strictness`: the rulings of what is said of a call, the strictest first.
-use Rattle.std.proofs.Common.{◌≡◌, ◌<◌, ◌≤◌, ◌+◌, ℕ, zero, suc, List, [], ◌∷◌, ◌++◌, All, inl, inr, take, length, get_or, refl, sym, subst, arith, ap, ◌∙◌}
+use Rattle.std.proofs.Common.{◌≡◌, ◌<◌, ◌≤◌, ◌+◌, ℕ, zero, suc, List, [], ◌∷◌, ◌++◌, All, inl, inr, take, length, get_or}
+use Rattle.std.proofs.Common.{refl, sym, subst, arith, ap, ◌∙◌}
 use Rattle.std.specs.Prelude.{Contains, true, false}
 use Rattle.std.proofs.lemmas.Bool.{true≢false}
 use Rattle.std.proofs.lemmas.List.Elements.{All-nil, All-head, All-tail, All-more, All-weaker}
@@ -10,7 +11,8 @@ use Rattle.seccomp_tree.specs.Decisions.{First, Ruling}
 use Rattle.seccomp_tree.specs.Decisions as rulings
 use Rattle.seccomp_oci.specs.Concerns.{Concern}
 use Rattle.seccomp_oci.specs.Decision.{IsFirstLeast, first, later, strictness}
-use Rattle.seccomp_oci.specs.Rulings.{AreRulingsFor, AreRulingsUpTo, each_with, IsHeld, IsMetBy, IsPushed, by_first, by_none, by_strictest, MatchesAs, NoneHolds, SettlesAs}
+use Rattle.seccomp_oci.specs.Rulings.{AreRulingsFor, AreRulingsUpTo, each_with, IsHeld, IsMetBy, IsPushed, by_first, by_none}
+use Rattle.seccomp_oci.specs.Rulings.{by_strictest, MatchesAs, NoneHolds, SettlesAs}
 use Rattle.seccomp_oci.specs.Rulings as push
 use Rattle.seccomp_oci.proofs.Quantified.{all_append}
 use Rattle.seccomp_oci.proofs.decisions.Held.{first_cases, held_append, held_each, none_each, none_held}
@@ -24,7 +26,8 @@ module _ (n : ℕ) (r : List ℕ) where
 
   -- The first one of the least strictness that is met.
   pub least_at : (concerns : List Concern) (j : ℕ) (d : Concern) → j < length concerns → IsMetBy n r (get_or concerns j d)
-      → All (AtLeast (strictness (get_or concerns j d).action)) concerns → All (Above (strictness (get_or concerns j d).action)) (take j concerns)
+      → All (AtLeast (strictness (get_or concerns j d).action)) concerns
+          → All (Above (strictness (get_or concerns j d).action)) (take j concerns)
       → IsFirstLeast strictness (MatchesAs n r) concerns (get_or concerns j d).action
   least_at [] j d within met all done = absurd (omega arith)
   least_at (c ∷ concerns) zero d within met all done = first (met, refl) (All-weaker (AtLeast (strictness c.action))
@@ -44,7 +47,8 @@ module _ (n : ℕ) (r : List ℕ) where
     held = so_far.held;
     all = so_far.all;
     above = λ none. All-more (Above k) concerns j d within (so_far.above none)
-        (λ met. let least = so_far.all none j d within met in omega_less (strictness (get_or concerns j d).action) least (λ is. not is met.0));
+        (λ met. let least = so_far.all none j d within met in omega_less (strictness (get_or concerns j d).action) least
+            (λ is. not is met.0));
   }
     where
       omega_less : (s : ℕ) → k ≤ s → (s ≡ k → ⊥) → k < s

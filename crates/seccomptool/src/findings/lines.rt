@@ -36,7 +36,7 @@ const DATA: u32 = 0x0000_ffff;
 pub(crate) struct Shown {
     /// The architecture, whose calls have names.
     pub target: TargetArch,
-    /// Whether an example tells the instruction pointer: where one of both sides may depend on it.
+    /// Whether an example has the instruction pointer: where one of both sides may depend on it.
     pub pointer: bool,
 }
 
@@ -168,7 +168,7 @@ impl fmt::Display for PartName {
 }
 
 /// A call on which two sides differ: its name or number, behind the `AUDIT_ARCH_*` value where that is another, its arguments,
-/// and the instruction pointer where that is to be told.
+/// and the instruction pointer where that is shown.
 #[derive(Clone, Copy)]
 struct Example {
     shown: Shown,

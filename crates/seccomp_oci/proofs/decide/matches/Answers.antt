@@ -7,7 +7,8 @@ use Rattle.seccomp_oci.proofs.decide.matches.Goals as goal
 pub returns-then-not-concerns : goal.returns-then-not-concerns
 returns-then-not-concerns c = (
   λ no. absurd (true≢false (sym no)),
-  λ does. absurd (true≢false (sym (c.concerns.ensures.1 (subst (λ n. Concerns c.args.arch c.args.container.now c.args.default n c.args.entry.now)
+  λ does. absurd (true≢false (sym
+      (c.concerns.ensures.1 (subst (λ n. Concerns c.args.arch c.args.container.now c.args.default n c.args.entry.now)
       (sym c.number_of.ensures) does.0)) ∙ c.if-not-concerns.true)),
 )
 

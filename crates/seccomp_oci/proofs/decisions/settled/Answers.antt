@@ -19,7 +19,8 @@ loop-concern-preserved c = All-more (λ (x : Concern). Contains x.numbers c.args
     c.loop-concern.concern-index _ c.loop-concern-test.true c.loop-concern.invariant
     (subst (λ (x : Concern). Contains x.numbers c.args.number → x.settles ≡ false) c.concern-item.is
     (elim c.else-concern.branch [
-      | else-concern-via-then-concern+else-has_number w ↦ λ has. absurd (true≢false (sym (w.has_number.ensures.1 has) ∙ w.if-has_number.false))
+      | else-concern-via-then-concern+else-has_number w ↦ λ has.
+          absurd (true≢false (sym (w.has_number.ensures.1 has) ∙ w.if-has_number.false))
       | else-concern-via-else-concern w ↦ λ has. sym (ap (λ (x : Concern). x.settles) c.concern.view_is) ∙ w.if-concern.false
     ]))
 

@@ -20,7 +20,8 @@ pub push_step-requires-in-loop-i : goal.push_step-requires-in-loop-i
 push_step-requires-in-loop-i c =
     let a = c.args in
     record {
-      below = (part_room a.steps.now.items a.others.now a.first a.last a.base c.requires.others c.requires.base c.requires.order c.loop-i.i _
+      below = (part_room a.steps.now.items a.others.now a.first a.last a.base c.requires.others c.requires.base c.requires.order
+          c.loop-i.i _
           c.loop-i.steps.items (omega (arith, c.until-end.ensures.count)) c.loop-i.invariant).1;
     }
 

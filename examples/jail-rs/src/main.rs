@@ -174,9 +174,7 @@ fn compiled_profile(words: &[OsString]) -> Result<Vec<u8>, Failure> {
     let beside = env::current_exe().map(|it| it.with_file_name("seccomptool"));
     let tool = beside.ok().filter(|it| it.exists());
     let mut asked = Command::new(tool.unwrap_or_else(|| "seccomptool".into()));
-    asked
-        .args(["compile", "--oci", "-a", ARCH])
-        .args(words);
+    asked.args(["compile", "--oci", "-a", ARCH]).args(words);
     let answer = asked.stdin(Stdio::inherit()).stderr(Stdio::inherit());
     let answer = answer.output().map_err(Failure::Tool)?;
     if answer.status.success() {

@@ -73,7 +73,7 @@ _seccomptool_add_filters() {
 _seccomptool_add_of() {
     case $1 in
     FILTER) _seccomptool_add_filters "$2" ;;
-    FILE | NEW | OLD | POLICY | PROFILE | PROGRAM) _seccomptool_add_files ;;
+    FILE | NEW | OLD | POLICY | PROGRAM) _seccomptool_add_files ;;
     esac
     [[ -z $1 ]] || ! grep -q "^ *[<[]$1[]>].* - for standard input" <<< "$3" || _seccomptool_add -
 }

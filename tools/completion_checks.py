@@ -38,7 +38,7 @@ COMP_WORDS=("$@") && COMP_CWORD=$(($# - 1)) && "_$name"
 OPTION = re.compile(r"^ +(?:(-\w), )?(--[a-z][a-z-]*)(?: <(\w+)>)?(?:.*\[possible values: ([^]]*)\])?", re.M)
 
 # The arguments that are files.
-FILES = ("FILE", "NEW", "OLD", "POLICY", "PROFILE", "PROGRAM")
+FILES = ("FILE", "NEW", "OLD", "POLICY", "PROGRAM")
 
 # A filter's name that does something where a shell expands it, and one that is quoted.
 FILTERS = ("$(touch made)", "a b", "main")

@@ -4,7 +4,7 @@ import pathlib
 import subprocess
 
 from console_blocks import blocks_of, commands_of, is_jailed
-from jail_profiles import CONTAINER, PROGRAM
+from jail_profiles import PROGRAM
 from jail_running import ARCHIVE, ENVIRONMENT, EXAMPLES, SECONDS, TOP, run, step
 
 # What stands around the lines of C that the pages show: they are handed a policy as text.
@@ -56,8 +56,8 @@ LINES
 
 
 def is_of_profile(lines):
-    """Returns whether a block names the policy or the program that try_profiles makes where seccomptool is built."""
-    return any(CONTAINER in it or PROGRAM in it for it in lines)
+    """Returns whether a block names the program that try_profiles makes where seccomptool is built."""
+    return any(PROGRAM in it for it in lines)
 
 
 def try_documents(results, folder):
@@ -67,7 +67,7 @@ def try_documents(results, folder):
     for page in [TOP / "README.md", *sorted((TOP / "docs").glob("*.md"))]:
         for number, lines in blocks_of(page):
             status, commands = 0, commands_of(lines)
-            if not is_jailed(lines) or (is_of_profile(lines) and not (folder / CONTAINER).exists()):
+            if not is_jailed(lines) or (is_of_profile(lines) and not (folder / PROGRAM).exists()):
                 continue
             for (command, shown), then in zip(commands, [*commands[1:], ["", ""]]):
                 ran = subprocess.run(

@@ -1,13 +1,11 @@
-"""What tools/try-jail runs under profiles, of which `seccomptool import` makes policies, or programs.
+"""What tools/try-jail runs under the programs that `seccomptool compile` makes of profiles.
 
-The profiles are the example's and, where Debian's package golang-github-containers-common is installed, Podman's. All
-filters of a policy are installed, in the order of its text, or the one program of a profile alone, which a jailer reads from a
-file or, by --oci, asks seccomptool for. Calls have arguments that the kernel rejects, so none of them changes anything where a
-filter lets it through.
+The profiles are the example's and, where Debian's package golang-github-containers-common is installed, Podman's. A
+jailer reads a profile's program from a file or, by --oci, asks seccomptool for it. Calls have arguments that the kernel rejects,
+so none of them changes anything where the program lets it through.
 """
 
 import errno
-import json
 import pathlib
 import re
 import shutil
@@ -20,8 +18,8 @@ EXAMPLE = EXAMPLES / "oci-profile.json"
 PODMAN = pathlib.Path("/usr/share/containers/seccomp.json")
 PACKAGE = "golang-github-containers-common"
 
-# Where the pages of a container's policy and program expect them.
-CONTAINER, PROGRAM = "container.json", "container.bpf"
+# Where the pages of a container's program expect it.
+PROGRAM = "container.bpf"
 
 SYS_ADMIN = ["--cap", "CAP_SYS_ADMIN"]
 
@@ -32,10 +30,10 @@ PASSING = [
     (["sort", "-r", "numbers"], None),
 ]
 
-# Calls under the example's filters: the arguments of `import`, the call, and the errno that it gets, by the profile or,
+# Calls under the example's filters: the arguments of `compile`, the call, and the errno that it gets, by the profile or,
 # where that lets it through, by the kernel. KILLED is a call that kills; None one that is made, whatever it returns.
 OF_EXAMPLE = [
-    ([], "clone3", 38), ([], "bpf", 38), ([], "sched_rr_get_interval", 38), ([], str(0x40000000), 38), ([], "4000", 38),
+    ([], "clone3", 38), ([], "bpf", 38), ([], "sched_rr_get_interval", 38), ([], str(0x40000000), KILLED), ([], "4000", 38),
     ([], "mount", 1), ([], "umount2", 1), ([], "setns -1", 1), ([], "unshare -1", 1), ([], "pivot_root", 1),
     (SYS_ADMIN, "unshare -1", 22), (SYS_ADMIN, "setns -1", 9), (SYS_ADMIN, "clone3", 38),
     ([], "clone 0x10000000", 38), ([], "clone 0x4000000", 38), ([], "clone 0x800", 22), (SYS_ADMIN, "clone 0x800", 22),
@@ -53,27 +51,16 @@ NOTES = re.compile(
 
 # Calls of Podman's profile that are for a capability, with arguments that the kernel rejects by another errno than EPERM,
 # or for which it has other reasons too.
-FOR_CAPABILITIES = ["setns -1", "sethostname 0 -1", "chroot 0", "open_by_handle_at -1", "fanotify_init -1"]
-
-
-def made_of(results, profile, words):
-    """Returns what `import` makes of a profile."""
-    made = subprocess.run([TOOL, "import", *words, profile], capture_output=True, timeout=SECONDS, env=ENVIRONMENT)
-    told = NOTES.sub("", made.stderr.decode(), count=1)
-    results.compare(f"import {' '.join(words)} {profile.name}", (0, ""), (made.returncode, told))
-    return made.stdout
-
-
-def imported(results, folder, profile, words, name):
-    """Imports a profile into a file of the folder; returns the jailer's arguments of all filters, in the text's order."""
-    made = made_of(results, profile, words)
-    (folder / name).write_bytes(made)
-    return [name, ",".join(json.loads(made or b"{}"))]
+FOR_CAPABILITIES = ["sethostname 0 -1", "chroot 0", "open_by_handle_at -1", "fanotify_init -1"]
 
 
 def compiled(results, folder, profile, words, name):
     """Compiles a profile into a file of the folder; returns the jailer's arguments of the program."""
-    (folder / name).write_bytes(made_of(results, profile, [*words, "--format", "raw"]))
+    command = [TOOL, "compile", "--oci", *words, profile]
+    made = subprocess.run(command, capture_output=True, timeout=SECONDS, env=ENVIRONMENT)
+    told = NOTES.sub("", made.stderr.decode(), count=1)
+    results.compare(f"compile --oci {' '.join(words)} {profile.name}", (0, ""), (made.returncode, told))
+    (folder / name).write_bytes(made.stdout)
     return ["--program", name]
 
 
@@ -130,6 +117,8 @@ def try_podman(results, jailer, folder, way, end):
         try_commands(results, what, jailed, folder)
         try_call(results, what, jailed, folder, "kexec_load", 1)
         try_call(results, what, jailed, folder, "4000", 38)
+        # An entry without conditions allows it before another denies it to a container without capabilities.
+        try_call(results, what, jailed, folder, "setns -1", 9)
         try_call(results, what, jailed, folder, "personality 1", 38)
         for call in FOR_CAPABILITIES:
             # With the capabilities the kernel answers, as it does without a filter.
@@ -137,16 +126,13 @@ def try_podman(results, jailer, folder, way, end):
             results.compare(f"{what}: {call}", wanted, ran([*jailed, folder / "bin/call", *call.split()], folder))
 
 
-def try_profiles(results, by_filters, by_program, folder):
-    """Runs commands and calls under profiles: by one jailer under their filters, by others under one program, in both ways."""
+def try_profiles(results, jailers, folder):
+    """Runs commands and calls under the programs of profiles, which each jailer gets in both ways."""
     (folder / "bin/seccomptool").symlink_to(TOOL)
     compiled(results, folder, EXAMPLE, [], PROGRAM)
-    filters = imported(results, folder, EXAMPLE, [], CONTAINER)
-    results.compare("the example's filters", "base,deny1,deny2,deny3", filters[1])
     if not PODMAN.exists():
         print(f"{PODMAN} of Debian's {PACKAGE} isn't there, so no command is run under it")
-    programs = [(it, way, end) for it in by_program for way, end in ((compiled, ".bpf"), (asked, " by --oci"))]
-    for jailer, way, end in [(by_filters, imported, ".json"), *programs]:
+    for jailer, way, end in [(it, way, end) for it in jailers for way, end in ((compiled, ".bpf"), (asked, " by --oci"))]:
         try_example(results, jailer, folder, way, end)
         if PODMAN.exists():
             try_podman(results, jailer, folder, way, end)

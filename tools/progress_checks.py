@@ -137,15 +137,14 @@ def compare_progress(results, program):
 # Commands that write bytes, and some that write text, each with what it writes.
 PROFILE = '{"defaultAction": "SCMP_ACT_ALLOW"}'
 OF_BYTES = (
-    ["compile", "-q", "few.json"], ["compile", "-q", "--format", "raw", "few.json"], ["import", "--format", "raw", "profile.json"],
+    ["compile", "-q", "few.json"], ["compile", "-q", "--format", "raw", "few.json"], ["compile", "-q", "profile.json"],
     ["record", "read"],
 )
 FEW = "".join(
-    f"{{ {it} }},\n" for it in ("0x20, 0, 0, 0x00000004", "0x15, 1, 0, 0xc000003e", "0x6, 0, 0, 0x80000000", "0x20, 0, 0, 0x00000000",
-                               "0x6, 0, 0, 0x00030000")
+    f"{{ {it} }},\n" for it in ("0x20, 0, 0, 0x00000004", "0x15, 0, 1, 0xc000003e", "0x6, 0, 0, 0x00030000", "0x6, 0, 0, 0x80000000")
 )
 OF_TEXT = (
-    (["compile", "-q", "-o", "few.bpf", "few.json"], ""), (["import", "profile.json"], "{}\n"),
+    (["compile", "-q", "-o", "few.bpf", "few.json"], ""), (["compile", "-q", "-o", "profile.bpf", "profile.json"], ""),
     (["compile", "-q", "--format", "c", "few.json"], FEW),
 )
 NO_BYTES = "seccomptool: standard output: bytes aren't written to a terminal; give a file or a pipe\n"

@@ -9,9 +9,9 @@
  * again.
  *
  * Or it is run under the program of the file PROGRAM, its instructions one after the other as the kernel
- * takes them, 8 bytes each: what `seccomptool compile` and `seccomptool import --format raw` write.
+ * takes them, 8 bytes each: what `seccomptool compile` writes.
  *
- * Or under the program that `seccomptool import --format raw` writes for the file PROFILE, a profile of a
+ * Or under the program that `seccomptool compile --oci` writes for the file PROFILE, a profile of a
  * container runtime, and for a container with these capabilities on this kernel. It is the `seccomptool`
  * beside this program, or else that of PATH; what it says on standard error stands there.
  *
@@ -234,10 +234,10 @@ static _Noreturn void become_seccomptool(char **words)
     fail(FAILED, "seccomptool");
 }
 
-/* Returns what `seccomptool import --format raw` writes with so many words behind it; where it fails, ends. */
-static struct text import(char **words, size_t count, const char *path)
+/* Returns what `seccomptool compile --oci` writes with so many words behind it; where it fails, ends. */
+static struct text compile_profile(char **words, size_t count, const char *path)
 {
-    static char *const front[] = {"seccomptool", "import", "--format", "raw", "-a", ARCHITECTURE_NAME};
+    static char *const front[] = {"seccomptool", "compile", "--oci", "-a", ARCHITECTURE_NAME};
     const size_t fronts = sizeof front / sizeof *front;
     char **all = calloc(fronts + count + 1, sizeof *all);
     struct text text;
@@ -276,7 +276,7 @@ static void run_under_profile(char **words)
 
         command += strcmp(command[0], "--") == 0;
         if (command[0] != NULL)
-            run_under_program(import(words, count + 1, words[count]), words[count], command);
+            run_under_program(compile_profile(words, count + 1, words[count]), words[count], command);
     }
 }
 

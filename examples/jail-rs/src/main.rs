@@ -3,7 +3,7 @@
 //! `jail-rs --oci [--cap CAP].. [--kernel KERNEL] PROFILE [--] COMMAND [ARGUMENT]..`
 //!
 //! Runs a command under the filters that have the names FILTER in the policy file POLICY, or under the program of the file
-//! PROGRAM, or under the one that `seccomptool import --format raw` writes for the profile of the file PROFILE: what
+//! PROGRAM, or under the one that `seccomptool compile --oci` writes for the profile of the file PROFILE: what
 //! `examples/jail/jail.c` does, in safe Rust. The exit status is that of the command. Where it doesn't
 //! come to that, a line on standard error says why, and it is 125 where nothing was run, 126 where
 //! the command can't be run and 127 where there is none.
@@ -168,15 +168,13 @@ fn under_program(
     Err(executed(command, arguments))
 }
 
-/// Returns what `seccomptool import --format raw` writes with these words behind it: the one beside this program, or else that of
+/// Returns what `seccomptool compile --oci` writes with these words behind it: the one beside this program, or else that of
 /// PATH.
-fn imported(words: &[OsString]) -> Result<Vec<u8>, Failure> {
+fn compiled_profile(words: &[OsString]) -> Result<Vec<u8>, Failure> {
     let beside = env::current_exe().map(|it| it.with_file_name("seccomptool"));
     let tool = beside.ok().filter(|it| it.exists());
     let mut asked = Command::new(tool.unwrap_or_else(|| "seccomptool".into()));
-    asked
-        .args(["import", "--format", "raw", "-a", ARCH])
-        .args(words);
+    asked.args(["compile", "--oci", "-a", ARCH]).args(words);
     let answer = asked.stdin(Stdio::inherit()).stderr(Stdio::inherit());
     let answer = answer.output().map_err(Failure::Tool)?;
     if answer.status.success() {
@@ -203,7 +201,7 @@ fn under_profile(mut words: impl Iterator<Item = OsString>) -> Result<(), Failur
     }
     let command = command.ok_or(Failure::Words)?;
     asked.push(path.clone());
-    under_program(&path, &imported(&asked)?, command, words)
+    under_program(&path, &compiled_profile(&asked)?, command, words)
 }
 
 /// Does what the arguments ask for. Where it goes well this program is gone, and the command in its place.

@@ -67,7 +67,8 @@ impl SeccompFilter {
     /// # Errors
     ///
     /// - `InvalidSyscallNumber` with the least number that is below 0 or above 4294967295;
-    /// - `FilterTooLarge` with the program's length, where that is more than 4096;
+    /// - `FilterTooLarge` with the program's length, where that is more than 4096; of a tree, whose length isn't
+    ///   counted then, with 4097;
     /// - `OutOfMemory` where memory runs out.
     ///
     /// # Examples
@@ -124,11 +125,12 @@ impl SeccompFilter {
         u32::try_from(answer).map_err(|_| self.rejection(answer))
     }
 
-    /// Returns the error of a filter that is too large, with its length.
+    /// Returns the error of a filter that is too large, with its length, or of a tree with the least that is too large.
     fn too_large(&self, flat: &Flat, layout: Layout) -> BackendError {
         let answer = sys::rules_length(flat.lend(self), layout as u32);
         match usize::try_from(answer) {
             Ok(length) => BackendError::FilterTooLarge(length),
+            Err(_) if answer == TOO_LARGE => BackendError::FilterTooLarge(BPF_MAX_LEN + 1),
             Err(_) => self.rejection(answer),
         }
     }

@@ -186,7 +186,10 @@ impl<'a> Policy<'a> {
         };
         match (code, too_large(&message)) {
             (OUT_OF_MEMORY, _) => BackendError::OutOfMemory.into(),
-            (TOO_LARGE, Some(length)) => BackendError::FilterTooLarge(length).into(),
+            // A tree that is too large has no length in its message.
+            (TOO_LARGE, length) => {
+                BackendError::FilterTooLarge(length.unwrap_or(BPF_MAX_LEN + 1)).into()
+            }
             _ => JsonFrontendError(Cause::Text(message)).into(),
         }
     }

@@ -1,4 +1,4 @@
-"""What `import`, and `explain`, `diff` and `check` with `--oci`, have to report of a value that is no profile: the place of its
+"""What `compile`, `explain`, `diff`, `stats` and `check` with `--oci` have to report of a value that is no profile: the place of its
 first fault, and what is wrong there.
 
 The texts are written by hand, from specs/Faults.antt of crates/seccomp_oci and the tables of docs/OCI.md.

@@ -4,8 +4,8 @@ use seccomp_tree::{Layout, to_bpf_in, to_tree_bpf};
 use seccompiler::bpf::{BPF_K, BPF_RET, bpf_stmt};
 use seccompiler::machine::{check, run};
 use seccompiler::{
-    SeccompAction, SeccompCmpArgLen, SeccompCmpOp, SeccompCondition, SeccompFilter,
-    SeccompRule, TargetArch,
+    SeccompAction, SeccompCmpArgLen, SeccompCmpOp, SeccompCondition, SeccompFilter, SeccompRule,
+    TargetArch,
 };
 use std::alloc::Global;
 use std::collections::BTreeMap;

@@ -1,2 +1,3 @@
 -- Lemmas for the functions of `shell`.
+pub mod Performed
 pub mod Statuses

@@ -205,7 +205,8 @@ pub(crate) fn writes_bytes(command: &Command<'_>) -> bool {
 
 // The status of what a command finds.
 fn status_of(verdict: Verdict) -> u8
-    ensures { result ≡ verdict_status verdict }
+    ensures is { result ≡ verdict_status verdict }
+    ensures ended { result ≤ 3 }
 {
     match verdict {
         Verdict::Same => 0,
@@ -216,7 +217,8 @@ fn status_of(verdict: Verdict) -> u8
 
 // The status of a command that fails.
 fn trouble(command: &Command<'_>) -> u8
-    ensures { result ≡ spec.trouble command.now }
+    ensures is { result ≡ spec.trouble command.now }
+    ensures ended { result ≤ 2 }
 {
     match command {
         Command::Diff { .. } => 2,

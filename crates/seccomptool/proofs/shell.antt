@@ -1,3 +1,2 @@
 -- Lemmas for the functions of `shell`.
-pub mod Performed
 pub mod Statuses

@@ -304,8 +304,8 @@ pub(crate) fn stats_made(
 ) -> Result<Made, ToolError>
     ensures { IfOk result (λ made. IsMeasured arch (option_map (λ c. c.now) container.entry) given.now × (made.verdict ≡ Same)) }
 {
-    let plain = plain_container(alloc);
-    match subject_of(alloc, container, &plain, None, given)? {
+    let outside = plain_container(alloc);
+    match subject_of(alloc, container, &outside, None, given)? {
         Subject::Policy => {
             let all = stats_of(alloc, arch, given)?;
             let text = filters_text(alloc, &all)?;

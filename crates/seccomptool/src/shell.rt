@@ -160,7 +160,7 @@ fn carried_out<G: Progress>(
     let second = open(rt, inputs.second).map_err(Failure::Second)?;
     let Some(path) = asked.output else {
         let mut out = io::writer(rt);
-        return perform(
+        let shown = perform(
             rt.alloc(),
             command,
             inputs,
@@ -168,7 +168,8 @@ fn carried_out<G: Progress>(
             second,
             &mut out,
             progress,
-        );
+        )?;
+        return Ok(shown);
     };
     let mut bytes = Vec::new(rt.alloc());
     let done = perform(

@@ -17,8 +17,8 @@ returns-in-Policy c =
     (λ k. IsCompiledAs c.args.arch k c.args.layout c.args.strict asked text) c.in_ok-subject_of.field-0 subject.Policy
     c.in_ok-subject_of.ensures c.in-Policy.is c.policy_made.result c.policy_made.ensures
 
-pub returns-in-Profile : goal.returns-in-Profile
-returns-in-Profile c =
+pub returns : goal.returns
+returns c =
     let text = c.args.given.now in
     let asked = text_of c.args.filter in
     made_of (λ (made : Made). made.verdict ≡ Same) (IsTakenAs (option_map (λ k. k.now) c.args.container) asked text)

@@ -2,8 +2,8 @@ use Rattle.std.proofs.Common.{subst, sym}
 use Rattle.seccomptool.specs.Commands.{IsMeasuredAs}
 use Rattle.seccomptool.proofs.made.stats_made.Goals as goal
 
-pub returns-in_ok-text-in-Policy : goal.returns-in_ok-text-in-Policy
-returns-in_ok-text-in-Policy c = (
+pub returns-in-Policy : goal.returns-in-Policy
+returns-in-Policy c = (
   (
     c.in_ok-subject_of.field-0,
     c.in_ok-subject_of.ensures,
@@ -12,8 +12,8 @@ returns-in_ok-text-in-Policy c = (
   c.plain.ensures,
 )
 
-pub returns-in_ok-text-in-Profile : goal.returns-in_ok-text-in-Profile
-returns-in_ok-text-in-Profile c = (
+pub returns : goal.returns
+returns c = (
   (
     c.in_ok-subject_of.field-0,
     c.in_ok-subject_of.ensures,

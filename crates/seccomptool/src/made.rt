@@ -164,17 +164,18 @@ pub(crate) fn show_made(
 ) -> Result<Made, ToolError>
     ensures { IfOk result (λ made. IsShown arch layout shown given.now × (made.verdict ≡ Same)) }
 {
-    let text = match shown {
+    match shown {
         Shown::Policy => {
             let programs = programs_in(alloc, arch, layout, given)?;
-            show::programs_text(alloc, &programs)?
+            let text = show::programs_text(alloc, &programs)?;
+            Ok(Made::plain(alloc, text))
         }
         Shown::Program => {
             let program = program_of(alloc, given)?;
-            show::program_text(alloc, arch, &program)?
+            let text = show::program_text(alloc, arch, &program)?;
+            Ok(Made::plain(alloc, text))
         }
-    };
-    Ok(Made::plain(alloc, text))
+    }
 }
 
 pub(crate) fn check_made(
@@ -303,18 +304,19 @@ pub(crate) fn stats_made(
 ) -> Result<Made, ToolError>
     ensures { IfOk result (λ made. IsMeasured arch (option_map (λ c. c.now) container.entry) given.now × (made.verdict ≡ Same)) }
 {
-    let plain = plain_container(alloc);
-    let text = match subject_of(alloc, container, &plain, None, given)? {
+    let outside = plain_container(alloc);
+    match subject_of(alloc, container, &outside, None, given)? {
         Subject::Policy => {
             let all = stats_of(alloc, arch, given)?;
-            filters_text(alloc, &all)?
+            let text = filters_text(alloc, &all)?;
+            Ok(Made::plain(alloc, text))
         }
         Subject::Profile(container) => {
             let measure = profile_stats(alloc, arch, container, given)?;
-            profile_text(alloc, measure)?
+            let text = profile_text(alloc, measure)?;
+            Ok(Made::plain(alloc, text))
         }
-    };
-    Ok(Made::plain(alloc, text))
+    }
 }
 
 pub(crate) fn record_made(

@@ -160,7 +160,7 @@ fn carried_out<G: Progress>(
     let second = open(rt, inputs.second).map_err(Failure::Second)?;
     let Some(path) = asked.output else {
         let mut out = io::writer(rt);
-        return perform(
+        let shown = perform(
             rt.alloc(),
             command,
             inputs,
@@ -168,7 +168,8 @@ fn carried_out<G: Progress>(
             second,
             &mut out,
             progress,
-        );
+        )?;
+        return Ok(shown);
     };
     let mut bytes = Vec::new(rt.alloc());
     let done = perform(
@@ -205,7 +206,8 @@ pub(crate) fn writes_bytes(command: &Command<'_>) -> bool {
 
 // The status of what a command finds.
 fn status_of(verdict: Verdict) -> u8
-    ensures { result ≡ verdict_status verdict }
+    ensures is { result ≡ verdict_status verdict }
+    ensures ended { result ≤ 3 }
 {
     match verdict {
         Verdict::Same => 0,
@@ -216,7 +218,8 @@ fn status_of(verdict: Verdict) -> u8
 
 // The status of a command that fails.
 fn trouble(command: &Command<'_>) -> u8
-    ensures { result ≡ spec.trouble command.now }
+    ensures is { result ≡ spec.trouble command.now }
+    ensures ended { result ≤ 2 }
 {
     match command {
         Command::Diff { .. } => 2,

@@ -64,10 +64,11 @@ module _ (command : Command) (inputs : List Inputs) (one : Inputs) (before own a
     reached = reached;
   }
 
--- The next one of what a command is carried out on. The default is any.
-pub next_ended : (command : Command) (inputs : List Inputs) (at : ℕ) (default : Inputs) (before own after : ℕ) → at < length inputs
+-- The next one of what a command is carried out on.
+pub next_ended : (command : Command) (inputs : List Inputs) (at : ℕ) (before own after : ℕ) → at < length inputs
     → EndWith command (take at inputs) before → EndsWith command own → before ≤ after → own ≤ after → (after ≡ before) ⊎ (after ≡ own)
     → EndWith command (take (at + 1) inputs) after
-next_ended command inputs at default before own after room ended ends above covers either =
-    subst (λ some. EndWith command some after) (sym (take_more inputs at default room))
-    (one_more command (take at inputs) (get_or inputs at default) before own after ended ends above covers either)
+next_ended command [] at before own after room ended ends above covers either = absurd (omega (arith, room))
+next_ended command (first ∷ rest) at before own after room ended ends above covers either =
+    subst (λ some. EndWith command some after) (sym (take_more (first ∷ rest) at first room))
+    (one_more command (take at (first ∷ rest)) (get_or (first ∷ rest) at first) before own after ended ends above covers either)

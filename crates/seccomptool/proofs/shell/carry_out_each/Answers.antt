@@ -1,4 +1,4 @@
-use Rattle.std.proofs.Common.{◌≤◌, arith, inl, inr, subst, take}
+use Rattle.std.proofs.Common.{◌<◌, ◌≤◌, arith, inl, inr, length, subst, take}
 use Rattle.std.proofs.lemmas.List.{take_all}
 use Rattle.seccomptool.specs.Commands.{EndWith}
 use Rattle.seccomptool.proofs.shell.Statuses.{next_ended, none_ended}
@@ -16,12 +16,16 @@ loop-inputs-preserved g c =
       | inl same ↦ let le = before.1 in omega (arith, same, le)
       | inr same ↦ omega (arith, same, own_status)
     ] in (
-      next_ended c.args.asked.now.command c.args.asked.now.inputs.items c.loop-inputs.inputs-index _ c.loop-inputs.status c.carry_out.result
-          c.greater-status.result c.loop-inputs-test.true before.0 c.carry_out.ensures.performed greater.0 greater.1 greater.2,
+      next_ended c.args.asked.now.command c.args.asked.now.inputs.items c.loop-inputs.inputs-index c.loop-inputs.status c.carry_out.result
+          c.greater-status.result
+          (subst (λ items. c.loop-inputs.inputs-index < length items) c.deref-inputs-items.ensures.value c.loop-inputs-test.true)
+          before.0 c.carry_out.ensures.performed greater.0 greater.1 greater.2,
       at_most,
     )
 
 pub returns-clause-each : goal.returns-clause-each
 returns-clause-each g c =
     subst (λ inputs. EndWith c.args.asked.now.command inputs c.loop-inputs.status)
-    (take_all c.loop-inputs.inputs-index c.args.asked.now.inputs.items c.loop-inputs-test.false) c.loop-inputs.invariant.0
+    (take_all c.loop-inputs.inputs-index c.args.asked.now.inputs.items
+        (subst (λ items. length items ≤ c.loop-inputs.inputs-index) c.deref-inputs-items.ensures.value c.loop-inputs-test.false))
+    c.loop-inputs.invariant.0

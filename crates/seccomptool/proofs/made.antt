@@ -1,0 +1,2 @@
+-- Lemmas for the functions of `made`.
+pub mod Taken

@@ -8,7 +8,8 @@ returns g c = (
   c.in_ok-subject.subject,
   c.in_ok-subject.ensures,
   c.in_ok-found.found,
-  IfOk-at_ok (IsDiff c.args.terms.target c.args.terms.relation c.in_ok-subject.subject (text_of c.args.filter) c.args.old.now c.args.new.now)
+  IfOk-at_ok (IsDiff c.args.terms.target c.args.terms.relation c.in_ok-subject.subject (text_of c.args.filter) c.args.old.now
+      c.args.new.now)
       c.in_ok-found.was c.diff_of-found.ensures,
   c.verdict.ensures,
 )

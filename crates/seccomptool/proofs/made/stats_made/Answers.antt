@@ -7,7 +7,8 @@ returns-in-Policy c = (
   (
     c.in_ok-subject_of.field-0,
     c.in_ok-subject_of.ensures,
-    subst (λ k. IsMeasuredAs c.args.arch k c.args.given.now) (sym c.in-Policy.is) (c.in_ok-all-in-Policy.all.items, c.in_ok-all-in-Policy.ensures),
+    subst (λ k. IsMeasuredAs c.args.arch k c.args.given.now) (sym c.in-Policy.is)
+        (c.in_ok-all-in-Policy.all.items, c.in_ok-all-in-Policy.ensures),
   ),
   c.plain.ensures,
 )
@@ -17,7 +18,8 @@ returns c = (
   (
     c.in_ok-subject_of.field-0,
     c.in_ok-subject_of.ensures,
-    subst (λ k. IsMeasuredAs c.args.arch k c.args.given.now) (sym c.in-Profile.is) (c.in_ok-measure-in-Profile.measure, c.in_ok-measure-in-Profile.ensures),
+    subst (λ k. IsMeasuredAs c.args.arch k c.args.given.now) (sym c.in-Profile.is)
+        (c.in_ok-measure-in-Profile.measure, c.in_ok-measure-in-Profile.ensures),
   ),
   c.plain-in-Profile.ensures,
 )

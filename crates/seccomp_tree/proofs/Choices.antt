@@ -92,7 +92,7 @@ module _ (c : Condition) (fit unfit : Target) (steps : List Step) (plain : is_pl
         | inl less ↦
             let none : 0 ≡ a = omega arith in
             subst (IsChosen (Compares c.operator a value) fit unfit) (sym (h.below a less))
-                (subst (λ n. IsChosen (Compares c.operator n value) fit unfit low) none first)
+            (subst (λ n. IsChosen (Compares c.operator n value) fit unfit low) none first)
         | inr le ↦ subst (IsChosen (Compares c.operator a value) fit unfit) (sym (h.from a le))
             (sides_above c.operator a 1 value fit unfit high plain (omega arith) (omega arith) second)
       ])
@@ -106,13 +106,13 @@ module _ (c : Condition) (fit unfit : Target) (steps : List Step) (plain : is_pl
         | inr le ↦
             let at : value ≡ a = omega arith in
             subst (IsChosen (Compares c.operator a value) fit unfit) (sym (h.from a le))
-                (subst (λ n. IsChosen (Compares c.operator n value) fit unfit high) at second)
+            (subst (λ n. IsChosen (Compares c.operator n value) fit unfit high) at second)
       ])
 
   pub choices_inner : (low mid high : Target) (two : List Step) → 1 ≤ value → value + 1 < size
       → IsChosen (Compares c.operator 0 value) fit unfit low
       → IsChosen (Compares c.operator value value) fit unfit mid → IsChosen (Compares c.operator (value + 1) value) fit unfit high
-          → AreTwo low value mid two
+      → AreTwo low value mid two
       → IsPushed two (value + 1) high steps → AreChoices c fit unfit steps
   choices_inner low mid high two some inner first second third h pushed =
       choices_are (steps_more (value + 1 + 1) size steps (omega arith) (omega arith) pushed.are)

@@ -149,8 +149,13 @@ in_run c f d [] run is first index size (suc k) x lt = absurd (omega arith)
 in_run c f d (g ∷ rest) run is first index size (suc k) x lt =
     let next = alike_is f (only g.conditions) (subst (λ o. alike o (only g.conditions) ≡ true) is run.0) in
     let own = only_is g.conditions next.0 next.1 in
-    let here : IsLike c g.conditions = record { condition = next.0; whole = own.0; index = sym next.2 ∙ index; size = sym next.3 ∙ size;
-        plain = own.1 } in
+    let here : IsLike c g.conditions = record {
+      condition = next.0;
+      whole = own.0;
+      index = sym next.2 ∙ index;
+      size = sym next.3 ∙ size;
+      plain = own.1;
+    } in
     in_run c next.0 g rest run.1 next.1 here (sym next.2 ∙ index) (sym next.3 ∙ size) k x (omega arith)
 
 -- each ruling of a run has one condition, of the same argument
@@ -202,7 +207,7 @@ run_one c x (e ∷ []) d after steps one is like own fits h = record {
         → IsChosen (Holds x r) (Give d.value) after (found_in steps (part_of x.arg_len (argument_at r x.arg_index)))
     own_choice r rec =
         chosen_plain x r (Give d.value) after _ h.plain
-            (h.each (part_of x.arg_len (argument_at r x.arg_index)) (part_fits x.arg_len r x.arg_index rec))
+        (h.each (part_of x.arg_len (argument_at r x.arg_index)) (part_fits x.arg_len r x.arg_index rec))
 
     go : (r : List ℕ) → IsRecord r → (t : Target) → Chooses after r (e ∷ []) t
         → found_in steps (part_of c.arg_len (argument_at r c.arg_index)) ≡ t

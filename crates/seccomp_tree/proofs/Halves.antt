@@ -28,7 +28,7 @@ half_in code steps lows high whole inside h =
       are,
       are_in_below code (2 ^ 32) lows (omega arith) are (λ a lt.
           subst (IsIn code) (sym (h.inside a (omega arith) (omega arith)))
-              (found_in_code code (2 ^ 64) steps (record { start = 0; target = Give 0 }) (high * 2 ^ 32 + a) (omega arith) whole inside)),
+          (found_in_code code (2 ^ 64) steps (record { start = 0; target = Give 0 }) (high * 2 ^ 32 + a) (omega arith) whole inside)),
     )
 
 pub half_room : (steps lows : List Step) (high : ℕ)
@@ -196,7 +196,7 @@ is_argument old mid new index steps highs t are h word =
           let high_same : word_at r (16 + 8 * index + 4) ≡ high = ap (λ i. word_at r i) at in
           let whole : argument_at r index ≡ high * 2 ^ 32 + low = omega (arith, number_halves r (16 + 8 * index), high_same) in
           let there : LeadsAlways old r (found_in steps (high * 2 ^ 32 + low)) w n = subst (λ u. LeadsAlways old r (found_in steps u) w n)
-              whole lead in
+          whole lead in
           let behind = (h.leads high (word_fits r (20 + 8 * index) rec)).1 r rec w n k few there in
           let start = word.leads r rec w (n + 2 + 2 * k) (suc k) (omega (arith, h.few, h.end)) behind in
           let count : n + 2 + 2 * k + 1 + 2 * suc k ≡ n + 5 + 4 * k = omega arith in

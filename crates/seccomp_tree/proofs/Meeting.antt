@@ -197,7 +197,7 @@ masked_some old mid new byte m value fit unfit t low small tested is = rw is rec
       let start = tested.leads r kept w n kept_small (subst (λ v. Leads old r v kept w n) which (lead kept kept_small)) in
       let at = starts_at r mid (length mid - 1) kept w (n + 1) (subst (λ v. Starts mid r v kept w (n + 1)) tested.last start) in
       let masked = stepped (mask m) mid r word kept w (n + 1) 0 (length mid - 1) kept_small (omega (arith, at.0)) (masks refl refl refl)
-          at.1 in
+      at.1 in
       let next = starts_at r (mask m ∷ mid) (length mid) word w (n + 1 + 1) masked in
       let loaded = stepped (load byte) (mask m ∷ mid) r a word w (n + 1 + 1) 0 (length mid) word_small (omega arith)
       (loads refl (omega (arith, rec.long)) refl refl) next.1 in

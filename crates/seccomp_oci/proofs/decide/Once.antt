@@ -105,5 +105,5 @@ module _ (arch : TargetArch) (container : Container) (p : Profile) (r : List ℕ
   default_decides default action entries n d same same_entries number is_default is none =
       subst IsDecided (sym is) (decided (record { action = action; entry = None })
       (by_default (subst (λ a. NoneMatches arch container a r p.entries) same
-          (subst (NoneMatches arch container default r) same_entries none))
+      (subst (NoneMatches arch container default r) same_entries none))
       (is_default ∙ ap (λ n. default_of arch default n) number ∙ ap (λ a. default_of arch a (word_at r 0)) same)) tt)

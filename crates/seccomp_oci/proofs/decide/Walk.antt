@@ -73,11 +73,11 @@ module _ (arch : TargetArch) (container : Container) (default : SeccompAction) w
       → f ≡ record { place = place; action = e.action } → IsSettling arch container default n entries f
   settles_at n entries place e f within read concerns none before is = subst (IsSettling arch container default n entries) (sym is)
       (record {
-    least = subst (IsFirstLeast (λ _. 0) (Settles arch container default n) entries) (ap (λ (e : Entry). e.action) (sym read))
-        (first_settles n entries place e within (subst (Concerns arch container default n) read concerns)
-        (ap (λ (e : Entry). e.args) (sym read) ∙ none) before);
-    at = record { entry = e; within = within; there = sym read; holds = (concerns, none, refl) };
-  })
+        least = subst (IsFirstLeast (λ _. 0) (Settles arch container default n) entries) (ap (λ (e : Entry). e.action) (sym read))
+            (first_settles n entries place e within (subst (Concerns arch container default n) read concerns)
+            (ap (λ (e : Entry). e.args) (sym read) ∙ none) before);
+        at = record { entry = e; within = within; there = sym read; holds = (concerns, none, refl) };
+      })
 
   module _ (r : List ℕ) where
     -- An entry that doesn't match changes nothing.

@@ -87,7 +87,7 @@ all_numbers concerns calls small are n = elim (cases_lt n 463) [
   | inl below ↦ are.made n below
   | inr above ↦ λ default r w ruled. by_none
       (All-weaker (λ c. All (λ n. n < 463) c.numbers) (λ (c : Concern). Contains c.numbers n × Any (λ cs. RuleHolds cs r) c.alternatives
-          → ⊥)
+      → ⊥)
       (λ c below met. let less = All-contains (λ n. n < 463) c.numbers n below met.0 in omega arith) concerns small)
       (nothing default r w (subst (λ rs. First default r rs w) (are.none n above) ruled))
 ]

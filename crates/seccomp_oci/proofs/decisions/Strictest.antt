@@ -27,7 +27,7 @@ module _ (n : ℕ) (r : List ℕ) where
   -- The first one of the least strictness that is met.
   pub least_at : (concerns : List Concern) (j : ℕ) (d : Concern) → j < length concerns → IsMetBy n r (get_or concerns j d)
       → All (AtLeast (strictness (get_or concerns j d).action)) concerns → All (Above (strictness (get_or concerns j d).action))
-          (take j concerns)
+      (take j concerns)
       → IsFirstLeast strictness (MatchesAs n r) concerns (get_or concerns j d).action
   least_at [] j d within met all done = absurd (omega arith)
   least_at (c ∷ concerns) zero d within met all done = first (met, refl) (All-weaker (AtLeast (strictness c.action))
@@ -48,7 +48,7 @@ module _ (n : ℕ) (r : List ℕ) where
     all = so_far.all;
     above = λ none. All-more (Above k) concerns j d within (so_far.above none)
         (λ met. let least = so_far.all none j d within met in omega_less (strictness (get_or concerns j d).action) least
-            (λ is. not is met.0));
+        (λ is. not is met.0));
   }
     where
       omega_less : (s : ℕ) → k ≤ s → (s ≡ k → ⊥) → k < s

@@ -13,7 +13,7 @@ returns-then-share_argument c = IfOk-weaker c.each_alone.result
     (λ all. (r : List ℕ) → SomeHold r (lists_of all.items) ↔ Any (IsMet r) c.args.args.now)
     (λ all. AreAlternatives c.args.args.now (lists_of all.items))
     (λ all hold. by_each c.args.args.now (lists_of all.items) (c.share_argument.ensures.0 c.if-share_argument.true) hold)
-        c.each_alone.ensures
+    c.each_alone.ensures
 
 pub returns : goal.returns
 returns c = subst (λ (all : List (Vec Condition Global)). AreAlternatives c.args.args.now (lists_of all)) (sym c.in_ok-vec.ensures.items)

@@ -11,7 +11,7 @@ pub returns-then-settles-clause-some : goal.returns-then-settles-clause-some
 returns-then-settles-clause-some c =
     let does = c.settles.ensures.0 c.if-settles.true in
     settles_at c.args.arch c.args.container.now c.args.default c.args.number c.args.entries.now c.loop-place.place
-        c.index-entries-place.result
+    c.index-entries-place.result
     _ c.loop-place-test.true c.index-entries-place.is does.0 does.1 c.loop-place.invariant
     (ap (λ (e : Entry). record { place = c.loop-place.place; action = e.action }) c.entry.view_is)
 

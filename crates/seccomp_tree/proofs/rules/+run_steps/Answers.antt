@@ -23,17 +23,17 @@ pub choices-requires : goal.choices-requires
 choices-requires t c =
     let like = only_like ((goal.at.choices-requires t c).After-ruling) in
     let item : c.index.result.now ≡ like.condition = c.index.ensures ∙ ap (λ (q : List Condition). get_or q 0 c.index.result.now)
-        like.whole in
+    like.whole in
     record { plain = subst (λ (x : Condition). is_plain x.operator ≡ true) (sym item) like.plain }
 
 pub returns-then-rulings-eq1-clause-ok : goal.returns-then-rulings-eq1-clause-ok
 returns-then-rulings-eq1-clause-ok t c =
     let like = only_like ((goal.at.returns-then-rulings-eq1-clause-ok t c).After-ruling) in
     let item : c.index.result.now ≡ like.condition = c.index.ensures ∙ ap (λ (q : List Condition). get_or q 0 c.index.result.now)
-        like.whole in
+    like.whole in
     let value : c.ruling.inside.value ≡ c.index-rulings-0.result.value = ap (λ (x : Ruling). x.value) c.ruling.view_is in
     let view : c.ruling.inside.conditions.items ≡ c.index-rulings-0.result.conditions = ap (λ (x : Ruling). x.conditions) c.ruling.view_is
-        in
+    in
     let own : IsLike c.args.condition.now c.index-rulings-0.result.conditions = record {
       condition = like.condition;
       whole = sym view ∙ like.whole;
@@ -51,18 +51,28 @@ run_steps-requires t c =
     let n = length c.args.rulings.now / 2 in
     let front = c.split_at.ensures.front in
     let long = length_take n c.args.rulings.now (omega arith) in
-    let falls : length c.split_at.result.0.now < t = omega (arith, ap length front, long, c.requires.some, c.decreases) in
-    (falls, (omega (arith, ap length front, long, c.requires.some), rw front
-        (like_take c.args.condition.now n c.args.rulings.now c.requires.run)))
+    let falls : length c.split_at.result.0.now < t = omega (arith, ap length front, long, c.requires.some, c.decreases) in (
+      falls,
+      (
+        omega (arith, ap length front, long, c.requires.some),
+        rw front
+            (like_take c.args.condition.now n c.args.rulings.now c.requires.run),
+      ),
+    )
 
 pub run_steps-requires-2 : goal.run_steps-requires-2
 run_steps-requires-2 t c =
     let n = length c.args.rulings.now / 2 in
     let back = c.split_at.ensures.back in
     let long = length-drop n c.args.rulings.now in
-    let falls : length c.split_at.result.1.now < t = omega (arith, ap length back, long, c.requires.some, c.decreases) in
-    (falls, (omega (arith, ap length back, long, c.requires.some), rw back
-        (like_drop c.args.condition.now n c.args.rulings.now c.requires.run)))
+    let falls : length c.split_at.result.1.now < t = omega (arith, ap length back, long, c.requires.some, c.decreases) in (
+      falls,
+      (
+        omega (arith, ap length back, long, c.requires.some),
+        rw back
+            (like_drop c.args.condition.now n c.args.rulings.now c.requires.run),
+      ),
+    )
 
 pub merged-requires : goal.merged-requires
 merged-requires t c =

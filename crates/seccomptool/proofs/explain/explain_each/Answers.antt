@@ -11,5 +11,5 @@ loop-call-preserved c =
     let call = get_or records l.call-index [] in
     rw c.in_ok-push.ensures.items
     (one_more (IsExplainedBy c.args.target c.args.filter.now) records l.all.items l.call-index call c.in_ok-explain_record.field-0
-        c.loop-call-test.true
+    c.loop-call-test.true
     (get_or_default records l.call-index [] call c.loop-call-test.true) l.invariant c.in_ok-explain_record.ensures)

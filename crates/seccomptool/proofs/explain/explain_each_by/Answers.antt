@@ -11,5 +11,5 @@ loop-call-preserved c =
     let call = get_or records l.call-index [] in
     rw c.in_ok-push.ensures.items
     (one_more (IsExplainedByProfile c.args.target c.args.container.now c.args.profile.now) records l.all.items l.call-index call
-        c.explained_by_profile.result c.loop-call-test.true
+    c.explained_by_profile.result c.loop-call-test.true
     (get_or_default records l.call-index [] call c.loop-call-test.true) l.invariant c.explained_by_profile.ensures)

@@ -6,9 +6,13 @@ pub returns-in-Policy : goal.returns-in-Policy
 returns-in-Policy c = (
   c.in_ok-subject_of.field-0,
   c.in_ok-subject_of.ensures,
-  subst (λ k. IsCheckedAs c.args.arch k c.args.denied c.args.allowed.now c.args.given.now c.found.result.verdict) (sym c.in-Policy.is)
-      (c.deref.result.now, c.in_ok-report-in-Policy.report, c.in_ok-report-in-Policy.ensures.report, c.found.ensures ∙
-          c.verdict_where-verdict.ensures),
+  subst (λ k. IsCheckedAs c.args.arch k c.args.denied c.args.allowed.now c.args.given.now c.found.result.verdict) (sym c.in-Policy.is) (
+    c.deref.result.now,
+    c.in_ok-report-in-Policy.report,
+    c.in_ok-report-in-Policy.ensures.report,
+    c.found.ensures ∙
+        c.verdict_where-verdict.ensures,
+  ),
 )
 
 pub returns : goal.returns

@@ -12,7 +12,7 @@ returns-in_ok-record-in-Some c =
     made_of_call (λ (made : Made). made.verdict ≡ Same) c.args.arch c.args.records.now
     (IsExplained c.args.arch (option_map (λ k. k.now) c.args.container) (text_of c.args.filter) c.args.given.now) c.args.call
     c.in-Some.call c.in-Some.is c.in_ok-record-in-Some.record.items c.deref.result.now c.in_ok-record-in-Some.ensures.recorded
-        c.deref.ensures.value
+    c.deref.ensures.value
     c.explain_records.result c.explain_records.ensures
 
 pub returns-in-None : goal.returns-in-None

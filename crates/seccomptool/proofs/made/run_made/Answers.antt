@@ -9,7 +9,7 @@ pub returns-in_ok-record-in-Some : goal.returns-in_ok-record-in-Some
 returns-in_ok-record-in-Some c =
     made_of_call (λ (made : Made). made.verdict ≡ Same) c.args.arch c.args.records.now (IsRun c.args.program.now) c.args.call
     c.in-Some.call c.in-Some.is c.in_ok-record-in-Some.record.items c.deref.result.now c.in_ok-record-in-Some.ensures.recorded
-        c.deref.ensures.value
+    c.deref.ensures.value
     c.run_records.result c.run_records.ensures
 
 pub returns-in-None : goal.returns-in-None

@@ -13,9 +13,9 @@ pub returns-in-Diff : goal.returns-in-Diff
 returns-in-Diff g c =
     subst (λ k. IfOk c.diff_made.result (λ made. IsCarriedOut k c.args.first.now c.args.second.now made.verdict)) (sym c.in-Diff.is)
     (subst
-        (λ container. IfOk c.diff_made.result
-            (λ made. IsCompared c.in-Diff.terms container (text_of c.in-Diff.filter) c.args.first.now c.args.second.now made.verdict))
-        c.as_ref-in-Diff.ensures.value c.diff_made.ensures)
+    (λ container. IfOk c.diff_made.result
+    (λ made. IsCompared c.in-Diff.terms container (text_of c.in-Diff.filter) c.args.first.now c.args.second.now made.verdict))
+    c.as_ref-in-Diff.ensures.value c.diff_made.ensures)
 
 pub returns-in-Verify : goal.returns-in-Verify
 returns-in-Verify g c =

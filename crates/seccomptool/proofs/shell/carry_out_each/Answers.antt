@@ -27,5 +27,5 @@ pub returns-clause-each : goal.returns-clause-each
 returns-clause-each g c =
     subst (λ inputs. EndWith c.args.asked.now.command inputs c.loop-inputs.status)
     (take_all c.loop-inputs.inputs-index c.args.asked.now.inputs.items
-        (subst (λ items. length items ≤ c.loop-inputs.inputs-index) c.deref-inputs-items.ensures.value c.loop-inputs-test.false))
+    (subst (λ items. length items ≤ c.loop-inputs.inputs-index) c.deref-inputs-items.ensures.value c.loop-inputs-test.false))
     c.loop-inputs.invariant.0

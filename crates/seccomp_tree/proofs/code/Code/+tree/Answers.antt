@@ -58,7 +58,7 @@ returns-then-not-is_row-clause-ok t c =
     (λ u h.
     tree_halves c.args.self.now c.tree.new.self c.tree-then-not-is_row.new.self c.test.new.self steps (length steps / 2) _
     c.in_ok-upper.upper c.in_ok-lower.lower u refl c.requires.ascend (omega (arith, c.requires.some))
-        (elim (cases_lt 6 (row steps)) [ inl lt ↦ lt | inr le ↦ absurd (false≢true (c.if-not-is_row.ensures.1 le)) ])
+    (elim (cases_lt 6 (row steps)) [ inl lt ↦ lt | inr le ↦ absurd (false≢true (c.if-not-is_row.ensures.1 le)) ])
     (rw all at c.in_ok-upper.ensures.ok) c.in_ok-lower.ensures.ok h)
     c.test.ensures.ok
 
@@ -93,5 +93,5 @@ returns-clause-ok t c =
     (λ u h.
     tree_first c.args.self.now c.tree-2.new.self c.test-2.new.self steps _ c.in_ok-rest-2.rest u c.requires.ascend
     (omega (arith, c.requires.some)) (sym c.stands_out.ensures ∙ c.if-stands_out.false) (c.is_row.ensures.0 c.if-not-is_row.false)
-        (rw all at c.in_ok-rest-2.ensures.ok) h)
+    (rw all at c.in_ok-rest-2.ensures.ok) h)
     c.test-2.ensures.ok

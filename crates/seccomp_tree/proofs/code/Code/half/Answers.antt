@@ -25,7 +25,7 @@ returns-clause-ok c =
     let e = c.deref.ensures.value in
     IfOk-weaker c.word.result _ _
     (λ t h. half_of_word a.self.now c.word.new.self a.index a.steps.now c.push_part.new.steps.items a.high t c.requires.are part
-        (rw e at h))
+    (rw e at h))
     c.word.ensures.ok
 
 pub returns-clause-err : goal.returns-clause-err

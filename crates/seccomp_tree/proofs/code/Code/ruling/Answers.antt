@@ -19,7 +19,7 @@ loop-left-init c =
       subst (λ v. IsRulingMet c.args.self.now (drop c.len-left.result d.conditions) d.value c.args.after (Give v) c.args.self.now)
           (sym value)
           (ruling_none c.args.self.now d.value c.args.after (drop c.len-left.result d.conditions)
-              (drop_all c.len-left.result d.conditions (omega
+          (drop_all c.len-left.result d.conditions (omega
           arith)) fits),
     )
 
@@ -38,7 +38,7 @@ returns-in_err-target-clause-err c =
     drop_more d.conditions k x lt ∙ ap (λ (y : Condition). y ∷ drop (k + 1) d.conditions) (sym item)
     ∙ ap (λ n. x ∷ drop n d.conditions) more in
     let room = ruling_room c.args.self.now l.self d.value c.args.after l.target d.conditions k x (drop l.left d.conditions) cons
-        l.invariant.1 in
+    l.invariant.1 in
     rw (p.1, p.2) (λ is. let full = c.in_err-target.ensures.err is in omega (arith, full, room))
 
 pub loop-left-preserved : goal.loop-left-preserved
@@ -58,7 +58,7 @@ loop-left-preserved c =
       subst (λ (q : List Condition). IsRulingMet c.args.self.now q d.value c.args.after c.in_ok-target.target c.condition.new.self)
           (sym cons)
           (ruling_one c.args.self.now l.self c.condition.new.self d.value c.args.after l.target c.in_ok-target.target x
-              (drop l.left d.conditions)
+          (drop l.left d.conditions)
           l.invariant.1 c.in_ok-target.ensures.ok),
     )
 

@@ -29,7 +29,7 @@ returns-clause-ok c =
     let steps = c.deref.result.now in
     let h = subst (λ (l : List Step). AreCallSteps old d l mid) (sym c.deref.ensures.value) c.in_ok-steps.ensures.ok in
     IfOk-weaker c.word.result (λ t. IsWord mid 0 steps t new) (λ t. IsCallsTarget old d t new)
-        (λ t w. calls_target d old mid new steps t h w)
+    (λ t w. calls_target d old mid new steps t h w)
     c.word.ensures.ok
 
 pub returns-clause-err : goal.returns-clause-err

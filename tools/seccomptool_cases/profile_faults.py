@@ -37,14 +37,16 @@ OTHERS = {
 
 # The keys of a profile, an entry, a condition and of what an entry includes or excludes, each with what may stand there.
 OF_PROFILE = {"defaultAction": ACTION, "defaultErrnoRet": ACTION_NUMBER, "defaultErrno": TEXT_OR_NULL, "architectures": LIST,
-              "archMap": LIST, "flags": LIST, "syscalls": LIST}
+              "archMap": LIST, "flags": LIST, "syscalls": LIST, "comment": TEXT_OR_NULL, "$schema": TEXT_OR_NULL}
 OF_ENTRY = {"names": LIST, "name": TEXT, "action": ACTION, "errnoRet": ACTION_NUMBER, "errno": TEXT_OR_NULL, "args": LIST,
             "includes": OBJECT, "excludes": OBJECT, "comment": TEXT_OR_NULL}
+# Objects of an entry that may be null too, as runtimes take them.
+MAY_BE_NULL = ("includes", "excludes")
 OF_CONDITION = {"index": INDEX, "value": NUMBER, "valueTwo": NUMBER_OR_NULL, "op": OPERATOR}
 OF_CRITERIA = {"caps": LIST, "arches": LIST, "minKernel": VERSION}
 
 # The same keys as they are listed where another stands.
-PROFILE_KEYS = "defaultAction, defaultErrnoRet, defaultErrno, architectures, archMap, flags or syscalls"
+PROFILE_KEYS = "defaultAction, defaultErrnoRet, defaultErrno, architectures, archMap, flags, syscalls, comment or $schema"
 ENTRY_KEYS = "names, name, action, errnoRet, errno, args, includes, excludes or comment"
 CONDITION_KEYS = "index, value, valueTwo or op"
 CRITERIA_KEYS = "caps, arches or minKernel"
@@ -115,7 +117,7 @@ ENTRY, CONDITION = "syscalls[1]", "syscalls[1].args[1]"
 WRONG_VALUES = [
     *[(f"{key}", stands(form, it), {**profile(), key: it}) for key, form in OF_PROFILE.items() for it in OTHERS[form]],
     *[(f"{ENTRY}.{key}", stands(form, it), second({**without(entry("read"), "names" if key == "name" else ""), key: it}))
-      for key, form in OF_ENTRY.items() for it in OTHERS[form]],
+      for key, form in OF_ENTRY.items() for it in OTHERS[form] if it is not None or key not in MAY_BE_NULL],
     *[(f"{CONDITION}.{key}", stands(form, it), in_condition({**ARGUMENT, key: it}))
       for key, form in OF_CONDITION.items() for it in OTHERS[form]],
     *[(f"{ENTRY}.{part}.{key}", stands(form, it), second(entry("read", **{part: {key: it}})))
@@ -150,7 +152,7 @@ UNKNOWN = [("Names", "Names"), ("priority", "priority"), ("", ""), ("\u00b5", "\
            ("a\\b", r"a\x5cb"), ("\u007f", r"\x7f"), ("\u009b2J", r"\xc2\x9b2J"), ("\u001b[2J", r"\x1b[2J")]
 UNKNOWN_KEYS = [
     *[("the profile", strange(it, PROFILE_KEYS), profile(**{key: None}))
-      for key, it in (*UNKNOWN, *[(it, it) for it in ("listenerPath", "listenerMetadata", "defaultaction", "comment", "names")])],
+      for key, it in (*UNKNOWN, *[(it, it) for it in ("listenerPath", "listenerMetadata", "defaultaction", "names")])],
     *[(ENTRY, strange(it, ENTRY_KEYS), second(entry("read", **{key: None})))
       for key, it in (*UNKNOWN, ("nams", "nams"), ("index", "index"), ("defaultAction", "defaultAction"))],
     *[(CONDITION, strange(it, CONDITION_KEYS), in_condition({**ARGUMENT, key: None}))

@@ -39,7 +39,7 @@ HELP = ("-h", "--help")
 NOTES = re.compile(r"(?m)^seccomptool: .*: \d+ warnings?; seccomptool check tells (?:it|them)\n")
 
 # What stands in front of what seccomptool reports: its name, and a file's where it is about one.
-IN_FRONT = re.compile(r"seccomptool: (standard (input|output): |[\w./-]+: )?")
+IN_FRONT = re.compile(r"seccomptool: (standard (input|output): |[\w./\\\[-]+: )?")
 
 # What is reported of a policy of wrong shape, as the library does.
 WRONG = tuple(FRONTEND + it for it in ("Json filter has a wrong shape: ", NO_OBJECT, INDEX, NO_CONDITIONS))
@@ -61,6 +61,7 @@ WRONG_AT = re.compile(
 UNSAID_AT = re.compile(
     r'(unknown system call ".*" on \w+(; did you mean "\w+"\?)?'
     r"|needs \d+ instructions in the (linear|tree) layout; 4096 fit(; \d+ in the (linear|tree) layout)?"
+    r"|needs more than 4096 instructions in the tree layout(; \d+ in the linear layout)?"
     r"|expected two actions that differ, found the same one twice)\n"
 )
 
@@ -102,7 +103,7 @@ def names_in(words):
 
 def is_profile(words, text):
     """Returns whether a command of seccomptool takes a text for a profile's."""
-    of_profiles = (["check"], ["diff"], ["explain"], ["stats"])
+    of_profiles = (["check"], ["compile"], ["diff"], ["explain"], ["stats"])
     if text is None or words[:1] not in of_profiles or any(it.startswith(("-f", "--filter")) for it in words):
         return False
     try:
@@ -123,7 +124,7 @@ def policy_of(case, files):
         names = names_in(words[1:])
         several = words[0] == "check" and len(names) > 1
         # What `diff` reports may be about its second policy.
-        of_new = words[0] == "diff" and case.errors.startswith(f"seccomptool: {names[-1]}: ")
+        of_new = words[0] == "diff" and names and case.errors.startswith(f"seccomptool: {names[-1]}: ")
         name = None if several else names[-1] if of_new else (names or ["-"])[0]
     if name == "-" and "<" in words:
         name = words[words.index("<") + 1]

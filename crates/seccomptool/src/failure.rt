@@ -72,6 +72,9 @@ pub(crate) fn note(rt: &(impl Eprint + AllocGlobal), notes: &[u8]) {
 // Where a failure of a command is: faults that aren't of the words are of the first one that is read, those of two filters that
 // are compared aside, and those of a program that is verified.
 fn place_of(command: &Command<'_>, failure: &Failure) -> Place {
+    if is_out_of_memory(failure) {
+        return Place::Nowhere;
+    }
     match failure {
         Failure::First(_) => Place::First,
         Failure::Second(_) => Place::Second,
@@ -80,6 +83,16 @@ fn place_of(command: &Command<'_>, failure: &Failure) -> Place {
         Failure::Onto => Place::Output,
         Failure::Output(_) => Place::Output,
         Failure::Engine(error) => place_in(command, error),
+    }
+}
+
+// Whether memory ran out while something was read or written: then that has no part in it.
+fn is_out_of_memory(failure: &Failure) -> bool {
+    match failure {
+        Failure::First(error) => error.kind() == ErrorKind::OutOfMemory,
+        Failure::Second(error) => error.kind() == ErrorKind::OutOfMemory,
+        Failure::Output(error) => error.kind() == ErrorKind::OutOfMemory,
+        _ => false,
     }
 }
 

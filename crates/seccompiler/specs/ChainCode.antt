@@ -6,8 +6,8 @@ use Rattle.seccompiler.specs.declared.bpf.sock_filter.{sock_filter}
 use Rattle.seccompiler.specs.Code.{jump}
 use Rattle.seccompiler.specs.Machine.{IsRecord, Goes, AreInRange}
 use Rattle.seccompiler.specs.Pieces.{IsInside, Leads}
-use Rattle.seccompiler.specs.Policy.{Rule, Chain, RuleHolds, ChainMatches, chain_under}
-use Rattle.seccompiler.specs.Layout.{greatest_offset, rule_length, rule_steps, chain_length, chain_steps, chains_length, chains_steps}
+use Rattle.seccompiler.specs.Policy.{Chain, RuleHolds, ChainMatches, chain_under}
+use Rattle.seccompiler.specs.Layout.{greatest_offset, rule_steps, chain_length, chain_steps, chains_length, chains_steps}
 use Rattle.seccompiler.specs.Layout.{rules_length}
 
 -- The three jumps of a relay in front of code whose failure exit is o places behind them.

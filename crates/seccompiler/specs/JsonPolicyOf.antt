@@ -30,9 +30,13 @@ rules_of (Some conditions) = map condition_of conditions ∷ []
 abbrev pub IsFor : TargetArch → ℤ → JsonRule → Type 0
 IsFor arch number entry = number_of (table_of arch) entry.syscall ≡ Some number
 
+-- Whether a call's number, if it has one, is this one.
+abbrev pub is_number : ℤ → Option ℤ → Bool
+is_number number found = option_eq int_eq (Some number) found
+
 -- Whether the entry's call has this number.
 abbrev pub is_for : TargetArch → ℤ → JsonRule → Bool
-is_for arch number entry = option_eq int_eq (Some number) (number_of (table_of arch) entry.syscall)
+is_for arch number entry = is_number number (number_of (table_of arch) entry.syscall)
 
 -- The rules that an entry adds to the chain of a number: its own, if its call has this number.
 abbrev pub rules_for : TargetArch → ℤ → JsonRule → List Rule

@@ -1,6 +1,6 @@
 -- For `write_rule` and `write_rules`: what the rules of a chain do, each with its return behind it, one after another.
-use Rattle.std.proofs.Common.{◌≡◌, ℕ, zero, suc, ◌+◌, ◌<◌, ◌≤◌, ◌^◌, List, [], ◌∷◌, ◌++◌, length, refl, sym, ap, ◌∙◌, subst, arith, length-append, ◌⊎◌}
-use Rattle.std.proofs.Common.{inl, inr, ⊎_elim, get_or, take, drop}
+use Rattle.std.proofs.Common.{◌≡◌, ℕ, zero, suc, ◌+◌, ◌<◌, ◌≤◌, ◌^◌, List, [], ◌∷◌, ◌++◌, length, refl, sym, ap, ◌∙◌}
+use Rattle.std.proofs.Common.{subst, arith, length-append, ◌⊎◌, inl, inr, ⊎_elim, get_or, take, drop}
 use Rattle.std.specs.Prelude.{Any, sum_by}
 use Rattle.std.proofs.lemmas.List.Quantifiers.{Any-push}
 use Rattle.std.proofs.lemmas.List.Sums.{sum_by_push, sum_by-append, sum_by-cons}
@@ -70,7 +70,10 @@ with_return q w own fits h =
           (block_give w 0) (omega arith) (omega arith);
       enters = λ r rec a small.
           ⊎_elim
-          (λ t. inl (any_here (λ x. RuleHolds x r) q t.0, returns_back own (give w ∷ []) r a w (leads_front own (give w ∷ []) r 0 a (length own) t.1) (0, gives w [] r _)))
+          (λ t. inl (
+            any_here (λ x. RuleHolds x r) q t.0,
+            returns_back own (give w ∷ []) r a w (leads_front own (give w ∷ []) r 0 a (length own) t.1) (0, gives w [] r _),
+          ))
           (λ t. inr (
             λ any. t.0 (any_only (λ x. RuleHolds x r) q any),
             leads_to p r 0 a _ _ (sym len) (leads_front own (give w ∷ []) r 0 a (length own + 1) t.1),

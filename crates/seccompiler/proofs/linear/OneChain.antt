@@ -53,7 +53,11 @@ module _ (n mismatch matched : ℕ) (fits : n < 2 ^ 32) (fits_mismatch : mismatc
         enters = λ r rec. inl (
           inl refl,
           returns_back (jump_equal n 0 1 ∷ jump 1 ∷ jump 2 ∷ []) (give matched ∷ give mismatch ∷ []) r n matched
-              record { count = 2; accumulator = n; goes = then_step (then_step stays (on_number p r n refl fits)) (on_jump p r 1 n 1 refl fits) }
+              record {
+                count = 2;
+                accumulator = n;
+                goes = then_step (then_step stays (on_number p r n refl fits)) (on_jump p r 1 n 1 refl fits);
+              }
               (0, gives matched (give mismatch ∷ []) r n),
         );
         passes = λ r a small differs. then_step (then_step stays (on_others p r n a refl small differs)) (on_jump p r 2 a 2 refl small);

@@ -145,8 +145,10 @@ body_relay q code o k body =
       ranges = ranges_join (relay_code o) code
           (ranges_from (relay_code o) (jump_in_range 2 (omega arith), (far, (far, tt)))) body.ranges;
       closed = closed_join (relay_code o) code (length p + 2) (length code + 2) (length p + 2)
-          (closed_from (relay_code o) (length p + 2)
-          (inside_jump refl (omega arith), (inside_jump refl (omega (arith, body.near)), (inside_jump refl (omega (arith, body.near)), tt))))
+          (closed_from (relay_code o) (length p + 2) (
+            inside_jump refl (omega arith),
+            (inside_jump refl (omega (arith, body.near)), (inside_jump refl (omega (arith, body.near)), tt)),
+          ))
           body.closed (omega arith) (omega arith);
       enters = λ r rec a small.
           exits_behind (relay_code o) code r a (RuleHolds q r) (on_jump p r 0 a 2 refl small) (body.enters r rec a small);

@@ -14,6 +14,10 @@ abbrev pub found_in : List Step → ℕ → Target
 found_in [] a = Give 0
 found_in (x ∷ steps) a = found_from x.target steps a
 
+-- One target for all numbers.
+abbrev pub single : Target → List Step
+single target = record { start = 0; target = target } ∷ []
+
 -- The steps start at a number or above it and below the size, each above the one before it.
 abbrev pub AscendFrom : ℕ → ℕ → List Step → Type 0
 AscendFrom size start [] = ⊤

@@ -96,7 +96,7 @@ module _ (c : Condition) (target : Target) (others : List Step) (plain : is_plai
 
   pub laid_none : value ≡ 0 → AreLaidTo c target others value 0 []
   laid_none z = record {
-    are = record { first = λ lt. absurd (omega (arith, z)); ascend = tt };
+    are = record { first = λ lt. absurd (omega (arith, z)); ascend = tt; tight = tt };
     each = λ a lt. absurd (omega (arith, z));
     few = omega arith;
     plain = plain;

@@ -1,5 +1,5 @@
 -- Conditions as targets: what choices and masks make of them.
-use Rattle.std.proofs.Common.{◌≡◌, ℕ, suc, ◌+◌, ◌-◌, ◌*◌, ◌/◌, ◌%◌, ◌<◌, ◌≤◌, ◌^◌, List, ◌∷◌, length, true, refl}
+use Rattle.std.proofs.Common.{◌≡◌, ℕ, suc, ◌+◌, ◌-◌, ◌*◌, ◌/◌, ◌%◌, ◌<◌, ◌≤◌, ◌^◌, List, [], ◌∷◌, length, true, refl}
 use Rattle.std.proofs.Common.{sym, ap, ◌∙◌, subst, inl, inr, arith}
 use Rattle.std.specs.Prelude.{bit_and, ◌⊎◌, if◌then◌else◌}
 use Rattle.std.specs.Int.Bits.{and_lt, and_zero_r}
@@ -10,7 +10,8 @@ use Rattle.seccompiler.specs.declared.backend.SeccompCmpArgLen.TheVariants.{Dwor
 use Rattle.seccompiler.specs.declared.backend.SeccompCmpOp.{SeccompCmpOp}
 use Rattle.seccompiler.specs.declared.backend.SeccompCmpOp.TheVariants.{Eq, Ge, Gt, Le, Lt, MaskedEq, Ne}
 use Rattle.seccompiler.specs.Machine.{IsRecord, word_at, argument_at, loads, masks}
-use Rattle.seccompiler.specs.Policy.{Condition, Compares, Holds, part_of, operator_part}
+use Rattle.std.proofs.lemmas.List.Elements.{All-nil, All-cons, All-head, All-tail}
+use Rattle.seccompiler.specs.Policy.{Condition, Compares, Holds, RuleHolds, part_of, operator_part}
 use Rattle.seccompiler.specs.Code.{load, mask}
 use Rattle.seccompiler.proofs.Words.{word_fits, number_halves, mask_halves}
 use Rattle.seccomp_tree.specs.declared.code.Test.TheVariants.{Equal}
@@ -55,6 +56,16 @@ pub holds_or_not : (c : Condition) (r : List ℕ) → Holds c r ⊎ (Holds c r �
 holds_or_not c r =
     compares_or_not (operator_part c.arg_len c.operator) (part_of c.arg_len (argument_at r c.arg_index)) (part_of c.arg_len c.value)
 
+pub rule_or_not : (q : List Condition) (r : List ℕ) → RuleHolds q r ⊎ (RuleHolds q r → ⊥)
+rule_or_not [] r = inl (All-nil (λ (c : Condition). Holds c r))
+rule_or_not (c ∷ q) r = elim (holds_or_not c r) [
+  | inl h ↦ elim (rule_or_not q r) [
+    | inl g ↦ inl (All-cons (λ (x : Condition). Holds x r) c q h g)
+    | inr not ↦ inr (λ all. not (All-tail (λ (x : Condition). Holds x r) c q all))
+  ]
+  | inr not ↦ inr (λ all. not (All-head (λ (x : Condition). Holds x r) c q all))
+]
+
 -- ---- parts
 
 pub part_of_word : (old new : List sock_filter) (index : ℕ) (steps : List Step) (t : Target) → IsWord old (16 + 8 * index) steps t new
@@ -91,20 +102,7 @@ plain_operator l (MaskedEq m) plain = absurd (cc)
 
 pub plain_cost : (l : SeccompCmpArgLen) (o : SeccompCmpOp) → is_plain o ≡ true
     → (condition_steps l o ≡ part_steps l 2) × (condition_length l o ≡ part_length l 3)
-plain_cost Dword (MaskedEq m) plain = absurd (cc)
-plain_cost Qword (MaskedEq m) plain = absurd (cc)
-plain_cost Dword Eq plain = (refl, refl)
-plain_cost Dword Ne plain = (refl, refl)
-plain_cost Dword Ge plain = (refl, refl)
-plain_cost Dword Gt plain = (refl, refl)
-plain_cost Dword Le plain = (refl, refl)
-plain_cost Dword Lt plain = (refl, refl)
-plain_cost Qword Eq plain = (refl, refl)
-plain_cost Qword Ne plain = (refl, refl)
-plain_cost Qword Ge plain = (refl, refl)
-plain_cost Qword Gt plain = (refl, refl)
-plain_cost Qword Le plain = (refl, refl)
-plain_cost Qword Lt plain = (refl, refl)
+plain_cost l o plain = rw plain (refl, refl)
 
 pub shorter_part : (l : SeccompCmpArgLen) (n m : ℕ) → n ≤ m → part_length l n ≤ part_length l m
 shorter_part Dword n m le = omega arith

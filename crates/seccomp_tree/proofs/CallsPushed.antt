@@ -1,6 +1,5 @@
 -- Steps over call numbers: one call number more.
-use Rattle.std.proofs.Common.{◌≡◌, ℕ, ◌+◌, ◌<◌, ◌≤◌, ◌^◌, List, [], ◌∷◌, length, true, false, Vec, refl, sym, ap, ◌∙◌}
-use Rattle.std.proofs.Common.{subst, ⊎_elim, arith}
+use Rattle.std.proofs.Common.{◌≡◌, ℕ, ◌+◌, ◌<◌, ◌≤◌, ◌^◌, List, [], ◌∷◌, length, true, false, Vec, refl, sym, ap, ◌∙◌, subst, ⊎_elim, arith}
 use Rattle.std.proofs.Common.{nat_eq, if◌then◌else◌}
 use Rattle.std.proofs.lemmas.Bool.Decides.{nat_tests}
 use Rattle.std.proofs.lemmas.Bool.{cases_lt}
@@ -19,8 +18,7 @@ use Rattle.seccomp_tree.specs.Decisions.{Ruling, rules_length}
 use Rattle.seccomp_tree.specs.Decided.{DecisionSet, default_for, rulings_for, calls_of}
 use Rattle.seccomp_tree.specs.TreeProgram.{calls_length}
 use Rattle.seccomp_tree.specs.CallSteps.{IsAnswer, IsAnswered, AreDefaultsPushed, AreAnswers, AreCallSteps, HaveNone, IsCallPushed}
-use Rattle.seccomp_tree.proofs.Growing.{grows_not, grows_on, is_in_grown, grown_long}
-use Rattle.seccomp_tree.proofs.Runs.{leads_grown}
+use Rattle.seccomp_tree.proofs.Runs.{grows_not, grows_on, is_in_grown, grown_long, leads_grown}
 
 answer_grown : (old new : List sock_filter) (most default : ℕ) (rulings : List Ruling) (t : Target) → Grows old most new
     → IsAnswer old default rulings t → IsAnswer new default rulings t

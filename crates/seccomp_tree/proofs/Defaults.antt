@@ -15,7 +15,8 @@ use Rattle.seccomp_tree.proofs.Begun.{steps_more}
 -- numbers that no start parts have one default
 same_from : (value : ℕ) (defaults : List DefaultValue) (m n : ℕ)
     → ((k : ℕ) (d : DefaultValue) → k < length defaults
-    → ((get_or defaults k d).start ≤ m × ((get_or defaults k d).start ≤ n)) ⊎ (m < (get_or defaults k d).start × (n < (get_or defaults k d).start)))
+    → ((get_or defaults k d).start ≤ m × ((get_or defaults k d).start ≤ n))
+    ⊎ (m < (get_or defaults k d).start × (n < (get_or defaults k d).start)))
     → default_from value defaults m ≡ default_from value defaults n
 same_from value [] m n parts = refl
 same_from value (x ∷ defaults) m n parts = elim (parts 0 x (omega arith)) [

@@ -13,14 +13,16 @@
  *     #include <seccompiler.h>
  *     #include <stdio.h>
  *
- *     // Writes the program of a policy's filter "main_thread" into the array. Where there is none,
- *     // it prints why on standard error. Returns the number of instructions, or -1.
- *     int program_of(const char *policy, size_t length, struct sock_filter program[4096])
+ *     // Writes the program of a policy's filter "main_thread" into the array.
+ *     // Returns its length, or prints why there is none, and returns -1.
+ *     int program_of(const char *policy, size_t length,
+ *                    struct sock_filter program[4096])
  *     {
  *         char message[256];
- *         int64_t count = seccompiler_compile(policy, length, AUDIT_ARCH_X86_64, "main_thread", 11,
- *                                             SECCOMPILER_LAYOUT_LINEAR, program, 4096, message,
- *                                             sizeof message);
+ *         int64_t count = seccompiler_compile(
+ *             policy, length, AUDIT_ARCH_X86_64, "main_thread", 11,
+ *             SECCOMPILER_LAYOUT_LINEAR, program, 4096,
+ *             message, sizeof message);
  *         if (count < 0) {
  *             fprintf(stderr, "%s\n", message);
  *             return -1;
@@ -49,7 +51,8 @@
  * chains, rules, conditions, and how many of each
  *     A filter without JSON. A chain stands for the rules of one system call, and counts them. The array
  *     `rules` has the rules of all chains, those of the first chain first, then those of the second.
- *     Likewise each rule counts its conditions, and `conditions` has those of all rules.
+ *     Likewise each rule counts its conditions, and `conditions` has those of all rules. So whoever sorts
+ *     chains has to sort rules and conditions with them. seccompiler_rules.h takes rules in any order.
  *
  * mismatch_kind, mismatch_data, match_kind, match_data
  *     The action for calls that no chain matches, and the one for calls that a chain matches. A kind is
@@ -183,21 +186,21 @@ extern "C" {
 /* The rules for one system call. It is matched where one of them holds, or where there are none. */
 struct seccompiler_chain {
     int64_t number; /* of the system call */
-    size_t rules;   /* how many rules it has; in `rules` they follow those of the chains before */
+    size_t rules;   /* how many; after those of the chains before */
 };
 
 /* A rule, which holds where all its conditions do. */
 struct seccompiler_rule {
-    size_t conditions; /* how many it has; in `conditions` they follow those of the rules before */
+    size_t conditions; /* how many; after those of the rules before */
 };
 
 /* A condition on an argument of the system call. Arguments are compared as unsigned numbers. */
 struct seccompiler_condition {
     uint64_t value;   /* what the argument is compared with */
-    uint64_t mask;    /* of SECCOMPILER_MASKED_EQ; with another operator it is ignored */
+    uint64_t mask;    /* of SECCOMPILER_MASKED_EQ; else it is ignored */
     uint8_t argument; /* its index, 0 to 5 */
     uint8_t length;   /* SECCOMPILER_DWORD or SECCOMPILER_QWORD */
-    uint8_t op;       /* the operator, SECCOMPILER_EQ to SECCOMPILER_MASKED_EQ */
+    uint8_t op;       /* SECCOMPILER_EQ to SECCOMPILER_MASKED_EQ */
 };
 
 /*

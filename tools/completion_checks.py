@@ -1,5 +1,6 @@
 #!/usr/bin/env python3
-"""Checks of the completions for bash, a part of tools/check-documents. It needs the built programs, and bash.
+"""Checks of the completions, a part of tools/check-documents. It needs the built programs, and bash; zsh and fish are asked
+where they are installed.
 
 usage: tools/completion_checks.py
 
@@ -16,8 +17,10 @@ Prints each difference, and as its last line 'N passed, M failed'.
 """
 
 import json
+import os
 import pathlib
 import re
+import shutil
 import subprocess
 import sys
 import tempfile
@@ -154,6 +157,44 @@ def compare_seccompc(results, folder):
                 results.compare(f"seccompc {command}: {kind}", (stated,), (completed(folder, "seccompc", *words),))
 
 
+# What zsh and fish complete for a line, one word below the other: zsh's function calls others, which print what they are given.
+ASKED_OF = {
+    "zsh": ("""_describe() { print -l -- ${(P)2%%:*} }; compadd() { shift; print -l -- $@ }; _files() { print -l -- * }
+            file=$1; shift; words=("$@"); CURRENT=$#; source $file""", "_seccomptool"),
+    "fish": ("""source $argv[1]; complete -C"$(string join ' ' -- $argv[2..])" | string replace -r '\\t.*' ''""", "seccomptool.fish"),
+}
+
+
+def completed_by(shell, folder, *words):
+    """Returns what this shell completes for the last of these words behind the program, in order."""
+    script, name = ASKED_OF[shell]
+    command = {"zsh": ["zsh", "-f", "-c", script, "zsh"], "fish": ["fish", "-N", "-c", script]}[shell]
+    command += [TOP / f"completions/{name}", "./seccomptool", *words]
+    ran = subprocess.run(command, cwd=folder, capture_output=True, text=True, timeout=SECONDS, env={**os.environ, "HOME": str(folder)})
+    return sorted(ran.stdout.splitlines()) + ran.stderr.splitlines()
+
+
+def compare_shell(results, folder, shell):
+    """Compares what zsh or fish completes with the program's help: commands, and of each its options and their values."""
+    if shutil.which(shell) is None:
+        print(f"{shell} isn't installed, so it completes nothing")
+        return
+    commands = commands_of(printed(folder, "./seccomptool --help"))
+    files = sorted(it.name for it in folder.iterdir())
+    for words in ([""], ["help", ""]):
+        results.compare(f"{shell}: seccomptool {words}", (sorted(commands),), (completed_by(shell, folder, *words),))
+    for command in (it for it in commands if it != "help"):
+        found = OPTION.findall(printed(folder, f"./seccomptool help {command}"))
+        options = sorted(option for _, option, _, _ in found)
+        given = [it for it in completed_by(shell, folder, command, "--") if it.startswith("--")]
+        results.compare(f"{shell}: seccomptool {command} --", (options,), (given,))
+        for short, option, kind, values in found:
+            wanted = sorted(values.split(", ")) if values else files
+            for form in (it for it in (short, option) if it and kind):
+                given = completed_by(shell, folder, command, form, "")
+                results.compare(f"{shell}: seccomptool {command} {form}", (wanted,), (given,))
+
+
 def compare_filters(results, folder):
     """Compares the filters that are completed with those of policies, where one of their names is a trap."""
     stated = sorted(quoted(it) for it in FILTERS)
@@ -192,6 +233,8 @@ def compare_completions(results, programs):
         compare_commands(results, folder)
         compare_input(results, folder)
         compare_seccompc(results, folder)
+        for shell in ASKED_OF:
+            compare_shell(results, folder, shell)
         compare_filters(results, folder)
         for name in NAMES:
             (folder / name).unlink()

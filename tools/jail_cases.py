@@ -1,5 +1,6 @@
 """What tools/try-jail runs: policies, commands, and what they have to answer."""
 
+import errno
 import os
 import signal
 
@@ -70,8 +71,13 @@ POLICIES = {
         "no seccomp": filter_of({"errno": 13}, "allow", "seccomp"),
         "seccomp as if done": filter_of({"errno": 0}, "allow", "seccomp"),
         "no memory to read": filter_of({"errno": 12}, "allow", when("read", (0, "dword", "eq", 0))),
+        "nothing logged": filter_of({"errno": 13}, "allow", when("seccomp", (1, "dword", {"masked_eq": 2}, 2))),
     },
+    "one.json": {"the only": CALLS},
+    "--strict": {"the only": CALLS},
     "empty": "",
+    "zero": bytes(8),
+    "zeros": bytes(8 * 4096),
     "no-json.json": "{1}",
     "no-text.json": b'{"\xff": 1}',
     "list.json": [],
@@ -106,7 +112,8 @@ REFUSED = [
     ("equal-actions.json", "a", "a: expected two actions that differ, found the same one twice"),
     ("no-filters.json", "a", NO_FILTER + "a."),
     ("no-filters.json", "", NO_FILTER + "."),
-    ("actions.json", b"\xff", NO_FILTER + "\udcff."),
+    ("actions.json", b"\xff", NO_FILTER + "\\xff."),
+    ("actions.json", "a\x1b]\u0085", NO_FILTER + "a\\x1b]\\xc2\\x85."),
     # Names are parted at commas, and the command isn't run where one of them is no filter's.
     ("comma.json", "a,b", NO_FILTER + "b."),
     ("comma.json", "a,", NO_FILTER + "."),
@@ -158,6 +165,7 @@ CALLED = [
     ("errno,", "sched_yield", "errno 1000: Unknown error 1000\n", 0),
     (",errno", "sched_yield", "errno 1: Operation not permitted\n", 0),
     ("errno,no seccomp", "sched_yield", "errno 1: Operation not permitted\n", 0),
+    ("nothing logged,errno", "sched_yield", "errno 1: Operation not permitted\n", 0),
     # Where a filter answers `seccomp` with 0, the next one isn't installed, and neither jailer notices.
     ("seccomp as if done,errno", "sched_yield", "0\n", 0),
 ]
@@ -166,12 +174,13 @@ CALLED = [
 FAKED = [f"errno {it}" for it, number in LARGE_ERRNOS.items() if number == 0]
 
 # Filters of actions.json that can't be installed one behind the other: the first that isn't, and the call that fails,
-# which the jailer in Rust names.
+# which the jailer in Rust names. With --log the flags of `seccomp` have SECCOMP_FILTER_FLAG_LOG, which is 2.
 UNINSTALLED = [
-    ("no seccomp,errno", "errno", "seccomp"),
-    ("errno,no seccomp,errno 0,log", "errno 0", "seccomp"),
-    ("no prctl,errno", "errno", "prctl"),
-    ("no prctl,", "", "prctl"),
+    ([], "no seccomp,errno", "errno", "seccomp"),
+    ([], "errno,no seccomp,errno 0,log", "errno 0", "seccomp"),
+    ([], "no prctl,errno", "errno", "prctl"),
+    ([], "no prctl,", "", "prctl"),
+    (["--log"], "nothing logged,errno", "errno", "seccomp"),
 ]
 
 # Other commands under a filter of actions.json: standard output, and the status.
@@ -185,6 +194,49 @@ PASSED = [
     ("log", ["grep", "-E", "^(NoNewPrivs|Seccomp):", "/proc/self/status"],
      "NoNewPrivs:\t1\nSeccomp:\t2\n", 0),
 ]
+
+# Lines for a shell, in which JAIL is a jailer with its layout, and CALL the program `call`; standard output; and what is reported,
+# if anything is: what it is about and why, by its text or an errno, and the kernel's call that failed. The exit status is 125
+# then, and else 0. The tool in front is what stands for seccomptool beside the jailer.
+EXPECTED = "1 to 4096 instructions of 8 bytes are expected, found "
+LINES = [
+    # The only filter needs no name, and `--` ends the options.
+    ("JAIL one.json -- CALL sched_yield", answer_of(1000)),
+    ("JAIL one.json 'the only' -- CALL sched_yield", answer_of(1000)),
+    ("JAIL --log -- --strict -- CALL sched_yield", answer_of(1000)),
+    ("JAIL actions.json -- touch run", "", "actions.json", "It has several filters, so one has to be named."),
+    ("JAIL no-filters.json -- touch run", "", "no-filters.json", "It has no filter."),
+    ("JAIL list.json -- touch run", "", "list.json", "the policy: expected an object of filters, found an empty array"),
+    ("JAIL missing.json -- touch run", "", "missing.json", errno.ENOENT),
+    (r"""JAIL "$(printf '\033]\302\205')" -- touch run""", "", r"\x1b]\xc2\x85", errno.ENOENT),
+    # Descriptors are kept or closed, and standard streams are there.
+    ("JAIL one.json -- sh -c 'cat <&9' 9<list.json", "[]"),
+    ("JAIL --close-fds one.json -- sh -c '[ ! -e /proc/$$/fd/9 ] && [ -e /proc/$$/fd/2 ]' 9<list.json", ""),
+    ("JAIL one.json -- readlink /proc/self/fd/0 <&-", "/dev/null\n"),
+    ("JAIL one.json -- cat list.json <&- >&- 2>&-", ""),
+    # What is no program, or none that a kernel takes. The longest has no end.
+    ("JAIL --program empty touch run", "", "empty", EXPECTED + "0 bytes"),
+    ("JAIL --program list.json touch run", "", "list.json", EXPECTED + "2 bytes"),
+    ("JAIL --program /dev/zero touch run", "", "/dev/zero", EXPECTED + "more than 32768 bytes"),
+    ("JAIL --program zero touch run", "", "zero: installing the program", errno.EINVAL, "seccomp"),
+    ("JAIL --program zeros -- touch run", "", "zeros: installing the program", errno.EINVAL, "seccomp"),
+    ("JAIL --program missing.bpf touch run", "", "missing.bpf", errno.ENOENT),
+    ("JAIL --program . touch run", "", ".", errno.EISDIR),
+    # What stands for seccomptool prints its arguments, and writes what they are.
+    ("allows: JAIL --oci --cap C --kernel 1 --strict -- echo run 2>&1", "compile --oci -a ARCH --cap C --kernel 1 -- --strict\nrun\n"),
+    ("allows: env --ignore-signal=CHLD JAIL --oci p -- grep SigIgn /proc/self/status 2>&1",
+     "compile --oci -a ARCH -- p\nSigIgn:\t0000000000010000\n"),
+    ("allows: JAIL --oci p cat list.json <&- >&- 2>&-", ""),
+    ("is killed: JAIL --oci p touch run", "", "seccomptool", "killed by signal 9"),
+    ("has no end: JAIL --oci p touch run", "", "p", EXPECTED + "more than 32768 bytes"),
+    ("isn't there: JAIL --oci p touch run", "", "seccomptool", errno.ENOENT),
+    ("JAIL --version", "NAME VERSION\n"),
+]
+# What stands for seccomptool: lines of a shell. The first of them writes an instruction, which allows all calls.
+TOOLS = {
+    "allows": r"""echo "$@" >&2; printf '\006\000\000\000\000\000\377\177'""", "is killed": "kill -9 $$",
+    "has no end": "cat /dev/zero", "isn't there": None,
+}
 
 # Words of seccomptool that read standard input, whose reading is refused for want of memory.
 READING = [

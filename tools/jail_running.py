@@ -57,9 +57,11 @@ class Jailer:
         """Returns the text of an error number, as the program says it."""
         return os.strerror(number) + (f" (os error {number})" if self.name == "jail-rs" else "")
 
-    def told(self, what, why):
-        """Returns the line that the program writes of an error number, or of a text."""
-        return f"{self.name}: {what}: {self.error(why) if isinstance(why, int) else why}\n"
+    def told(self, what, why, failing="", hint=""):
+        """Returns the line that the program writes of an error number, or of a text. The jailer in Rust names a failing
+        call of the kernel."""
+        front = f"{failing}: " if failing and self.name == "jail-rs" else ""
+        return f"{self.name}: {what}: {front}{self.error(why) if isinstance(why, int) else why}{hint}\n"
 
 
 def step(results, what, words, place=TOP):

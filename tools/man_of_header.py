@@ -3,6 +3,9 @@
 import datetime
 import pathlib
 import re
+import textwrap
+
+from man_of_help import escaped, hanging
 
 TOP = pathlib.Path(__file__).resolve().parent.parent
 HEADER = TOP / "include/seccompiler.h"
@@ -12,12 +15,6 @@ PART = re.compile(r"^/\*(.*?)\*/\n((?:(?!/\*|\n)[^\n]*\n)*)", re.M | re.S)
 HEADING = re.compile(r"^([A-Z]+(?:,? [A-Z]+)*)$")
 FUNCTION = re.compile(r"\b(seccompiler_\w+)\(")
 DEFINE = re.compile(r"^#define (SECCOMPILER_\w+) (\S+)$", re.M)
-
-
-def escaped(text):
-    """Returns a text as roff shows it."""
-    text = text.replace("\\", r"\e").replace("-", r"\-")
-    return re.sub(r"^([.'])", r"\\&\1", text, flags=re.M)
 
 
 def plain(comment):
@@ -91,7 +88,7 @@ def functions(found):
         name = FUNCTION.search(behind)
         if name and not behind.startswith("#"):
             names.append(name[1])
-            declarations += [*behind.splitlines(), ""]
+            declarations.append(" ".join(behind.split()))
             text += f".SS {name[1]}\n" + running(plain(comment)).removeprefix(".PP\n")
     return names, declarations, text
 
@@ -117,13 +114,13 @@ def page(version, seconds, licence):
         f'.\\" Made by tools/make-man of include/seccompiler.h. {licence}\n',
         f'.TH SECCOMPILER 3 "{day}" "seccompiler {version}" "Library Functions"\n.nh\n.ad l\n',
         f".SH NAME\n{', '.join(names)} \\- {escaped(about)}\n",
-        ".SH SYNOPSIS\n", verbatim(["#include <seccompiler.h>", "", *declarations]),
+        ".SH SYNOPSIS\n", verbatim(["#include <seccompiler.h>"]), *(f".PP\n{hanging(it)}" for it in declarations),
         ".PP\n", escaped("cc program.c $(pkg-config --cflags --libs seccompiler)"), "\n",
         ".SH DESCRIPTION\n", running(first[1:]).removeprefix(".PP\n"), text,
         ".SH STRUCTURES\n", structures(found).removeprefix(".PP\n"),
         ".SH CONSTANTS\n", defined(found, False),
         ".SH ERRORS\n", defined(found, True),
-        *(f".SH {heading}\n" + (verbatim(lines) if heading == "EXAMPLE" else running(lines).removeprefix(".PP\n"))
+        *(f".SH {heading}\n" + (verbatim(textwrap.dedent("\n".join(lines)).splitlines()) if heading == "EXAMPLE" else running(lines).removeprefix(".PP\n"))
           for heading, lines in sections.items()),
         ".SH SEE ALSO\n.BR seccomptool (1),\n.BR seccompc (1),\n.BR seccomp (2)\n",
     ])

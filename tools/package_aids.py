@@ -36,9 +36,10 @@ def check_pages(results, unpacked):
     top = unpacked / "share/man"
     for page in sorted(top.glob("*/*")):
         part = page.suffix[1:]
-        out, err, status = run(["man", "--warnings", "-M", top, part, page.stem], unpacked, LC_ALL="C", MANWIDTH="120")
+        out, err, status = run(["man", "--warnings", "-M", top, part, page.stem], unpacked, LC_ALL="C", MANWIDTH="80")
         found = f"{page.stem.upper()}({part})" in out, err, status
         results.compare(f"man {part} {page.stem}", (True, "", 0), found)
+        results.compare(f"man {part} {page.stem}: wide lines", [], [it for it in out.splitlines() if len(it) > 80])
 
 
 def check_aids(results, unpacked):

@@ -53,7 +53,8 @@ def write_project(unpacked, place):
 
 
 def check_alone(results, unpacked, folder, environment):
-    """Builds the crate alone: where the library is named, and where it isn't, and the crate says what to do."""
+    """Builds the crate alone: with a library that is named, and without one, when the crate says what to do and only what links
+    fails."""
     alone = folder / "alone"
     shutil.copytree(unpacked / CRATE, alone)
     # At the top of a project the crate wants all that any of its features takes.
@@ -64,9 +65,10 @@ def check_alone(results, unpacked, folder, environment):
     out, err, status = run(["cargo", "build", "--offline"], alone, **environment, **named)
     results.compare(f"the crate with a library that is named: {err[-500:]}", 0, status)
     for more in ({}, {"SECCOMPILER_LIB": str(alone)}):
-        out, err, status = run(["cargo", "build", "--offline"], alone, **environment, **more)
-        found = "isn't found" in err and "SECCOMPILER_LIB" in err and "rt lib" in err, status
-        results.compare(f"the crate without a library: {err[-500:]}", (True, 101), found)
+        for command, wanted in (("check", 0), ("doc", 0), ("build", 101)):
+            out, err, status = run(["cargo", command, "--offline", "--features", "json"], alone, **environment, **more)
+            found = "isn't found" in err and "SECCOMPILER_LIB" in err and "rt lib" in err, status
+            results.compare(f"cargo {command} without a library: {err[-500:]}", (True, wanted), found)
 
 
 def check_style(results, place, environment):

@@ -1,11 +1,5 @@
 /*
- * call CALL [ARGUMENT]..
- *
- * Makes one system call, to try what a filter does with it: `jail POLICY FILTER call CALL`. CALL is a name,
- * as in a policy, or a number, as of a call that has no name. Its arguments are up to six numbers, and 0 where
- * they are left out. Numbers are as in C: decimal, behind 0x hexadecimal, and behind 0 octal. A line prints
- * what the call returned, or its error number. The exit status is 0 where the call was made, and 125 where there is no such call or the
- * arguments are wrong.
+ * call: makes one system call, to try what a filter does with it. `call --help` says how.
  */
 
 #define _GNU_SOURCE
@@ -21,12 +15,36 @@
 #include "architecture.h"
 #include "seccompiler.h"
 
+#ifndef VERSION
+#define VERSION "unversioned"
+#endif
+
 enum { FAILED = 125, ARGUMENTS = 6 };
+
+static const char usage[] = "usage: call CALL [ARGUMENT]..\n";
+
+static const char help[] =
+    "\n"
+    "Makes one system call, to try what a filter does with it: its name or its\n"
+    "number, and up to six arguments, 0 if they are left out. Numbers are as in C:\n"
+    "decimal, after 0x hexadecimal, after 0 octal. Prints what the call returned, or\n"
+    "the errno and its text.\n"
+    "\n"
+    "Options:\n"
+    "  --help     print this\n"
+    "  --version  print the version\n"
+    "\n"
+    "Exit status: 0 if the call was made; 125 if there is no such call, or the\n"
+    "arguments are wrong\n";
 
 /* Says what is wrong with a word, and ends. */
 static _Noreturn void fail(const char *word, const char *reason)
 {
-    fprintf(stderr, "call: %s: %s\n", word, reason);
+    fputs("call: ", stderr);
+    for (; *word != '\0'; word++)
+        /* Other bytes may steer a terminal. */
+        fprintf(stderr, *word >= ' ' && *word <= '~' ? "%c" : "\\x%02x", (unsigned char)*word);
+    fprintf(stderr, ": %s\n", reason);
     exit(FAILED);
 }
 
@@ -57,8 +75,12 @@ int main(int count, char **words)
     long number;
     long result;
 
+    if (count == 2 && strcmp(words[1], "--help") == 0)
+        return printf("%s%s", usage, help) < 0 || fflush(stdout) != 0 ? FAILED : 0;
+    if (count == 2 && strcmp(words[1], "--version") == 0)
+        return puts("call " VERSION) < 0 || fflush(stdout) != 0 ? FAILED : 0;
     if (count < 2 || count > 2 + ARGUMENTS) {
-        fputs("usage: call CALL [ARGUMENT]..\n", stderr);
+        fputs(usage, stderr);
         return FAILED;
     }
     number = call_of(words[1]);

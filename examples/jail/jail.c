@@ -1,36 +1,14 @@
 /*
- * jail [--tree] POLICY FILTER[,FILTER].. COMMAND [ARGUMENT]..
- * jail --program PROGRAM COMMAND [ARGUMENT]..
- * jail --oci [--cap CAP].. [--kernel KERNEL] PROFILE [--] COMMAND [ARGUMENT]..
+ * jail: runs a command under seccomp filters. `jail --help` prints its forms, its options and its exit statuses.
  *
- * Runs a command under filters. POLICY is a file of filters as JSON text, each FILTER the name of one of
- * them. They are compiled for the architecture that this program is built for, with --tree in the layout
- * of a tree. They hold for the command and for all that the command starts, and nothing can take them off
- * again.
+ * It compiles a policy's filters by the library for C, or reads a program, or has `seccomptool compile` compile a
+ * profile. It installs the programs for all its threads, and replaces itself with the command. So the filters hold for
+ * the command, for all that the command starts, and for the last steps of this program: execve, and if that fails, write
+ * and exit_group. Nothing can remove them.
  *
- * Or it is run under the program of the file PROGRAM, its instructions one after the other as the kernel
- * takes them, 8 bytes each: what `seccomptool compile` writes.
- *
- * Or under the program that `seccomptool compile --oci` writes for the file PROFILE, a profile of a
- * container runtime, and for a container with these capabilities on this kernel. It is the `seccomptool`
- * beside this program, or else that of PATH; what it says on standard error stands there.
- *
- * Of several filters the kernel takes the strictest answer, and of several error numbers that of the
- * filter installed last. They are installed in the order in which they are named, so each but the last
- * has to allow `prctl` and `seccomp`. Names are parted at every comma: an empty one is a name too, and a
- * filter whose name holds a comma can't be named here. Where one answers `seccomp` with error number 0, the
- * next one isn't installed, and nothing tells: the kernel's answer is the same.
- *
- * The command takes this process over, so its exit status is that of the command. Where it doesn't come
- * to that, a line on standard error says why, and the status is
- *
- *   125  the words are no command of this program, the policy or program can't be read, one of the filters
- *        or the profile is refused, or the kernel doesn't take one of them: nothing was run
- *   126  the command can't be run
- *   127  there is no such command
- *
- * as env(1) has them. All filters are compiled before the first is installed. From then on they hold for
- * the last steps of this program: it makes execve, and where that fails, write and exit_group.
+ * All filters are compiled before the first is installed. They are installed in the order of their names, so each but
+ * the last has to allow prctl and seccomp. If one answers seccomp with errno 0, the next one isn't installed, and
+ * nothing reports it.
  */
 
 #define _GNU_SOURCE
@@ -39,30 +17,68 @@
 #include <fcntl.h>
 #include <limits.h>
 #include <linux/filter.h>
+#include <signal.h>
 #include <stdint.h>
 #include <stdio.h>
 #include <stdlib.h>
 #include <string.h>
+#include <sys/syscall.h>
 #include <sys/wait.h>
 #include <unistd.h>
 
 #include "architecture.h"
-#include "seccompiler.h"
+#include "seccompiler_file.h"
 #include "seccompiler_install.h"
+
+#ifndef VERSION
+#define VERSION "unversioned"
+#endif
+#ifndef SECCOMP_FILTER_FLAG_LOG
+#define SECCOMP_FILTER_FLAG_LOG 2
+#endif
+#ifndef SYS_close_range
+#define SYS_close_range 436
+#endif
 
 enum { FAILED = 125, CANNOT_RUN = 126, NOT_FOUND = 127 };
 
-/* The bytes of a policy. */
-struct text {
-    char *bytes;
-    size_t length;
+static const char usage[] =
+    "usage: jail [OPTION].. POLICY FILTER[,FILTER].. [--] COMMAND [ARGUMENT]..\n"
+    "       jail [OPTION].. POLICY -- COMMAND [ARGUMENT]..\n"
+    "       jail [OPTION].. --program PROGRAM [--] COMMAND [ARGUMENT]..\n"
+    "       jail [OPTION].. --oci [--cap CAP].. [--kernel KERNEL] PROFILE [--] COMMAND [ARGUMENT]..\n";
+
+static const char help[] =
+    "\n"
+    "Runs a command under seccomp filters: those of a policy with these names, or\n"
+    "the only one that the policy has; or the program of a file, 8 bytes for each\n"
+    "instruction; or what `seccomptool compile --oci` makes of a profile.\n"
+    "\n"
+    "Options:\n"
+    "  --tree       compile the policy's filters in the tree layout\n"
+    "  --log        log calls that aren't allowed, those with an errno too\n"
+    "  --close-fds  close the descriptors above 2; else the command has them\n"
+    "  --help       print this\n"
+    "  --version    print the version\n"
+    "\n"
+    "Standard streams that are closed are opened as /dev/null.\n"
+    "\n"
+    "Exit status: the command's; 125 if nothing was run, 126 if the command can't be\n"
+    "run, 127 if it doesn't exist\n";
+
+/* What the options ask for: a layout, flags of seccomp(2), and whether descriptors are closed. */
+struct options {
+    uint32_t layout;
+    unsigned int flags;
+    int closes;
 };
 
-/* A policy, the file that it is from, and the layout of what is compiled from it. */
+/* A file, the text of a policy that it is, and what is asked for. */
 struct policy {
     const char *path;
-    struct text text;
-    uint32_t layout;
+    char *text;
+    size_t length;
+    struct options options;
 };
 
 /* What is to be installed: so many instructions of the array, of the filter of this name. */
@@ -70,155 +86,155 @@ struct program {
     struct sock_filter instructions[BPF_MAXINSNS];
     unsigned short length;
     const char *name;
-    int name_length;
 };
 
-/* Says at what an error, whose number is in errno, stands in the way, and ends with this status. */
-static _Noreturn void fail(int status, const char *what)
+/* Prints a text on standard error: bytes that aren't printable ASCII by their numbers, since they may steer a terminal. */
+static void show(const char *text)
 {
-    fprintf(stderr, "jail: %s: %s\n", what, strerror(errno));
+    for (; *text != '\0'; text++)
+        fprintf(stderr, *text >= ' ' && *text <= '~' ? "%c" : "\\x%02x", (unsigned char)*text);
+}
+
+/* Prints the beginning of an error's line: what it is about. */
+static void begin(const char *what)
+{
+    fputs("jail: ", stderr);
+    show(what);
+    fputs(": ", stderr);
+}
+
+/* Reports what stands in the way of something, and ends with this exit status. */
+static _Noreturn void fail_for(int status, const char *what, const char *why)
+{
+    begin(what);
+    show(why);
+    fputc('\n', stderr);
     exit(status);
 }
 
-/* Gives the text room for more bytes, and returns for how many in all. */
-static size_t enlarge(struct text *text, size_t room, const char *path)
+/* The same of the error in errno. */
+static _Noreturn void fail(int status, const char *what)
 {
-    size_t larger = room == 0 ? 65536 : 2 * room;
-    char *bytes = larger > room ? realloc(text->bytes, larger) : NULL;
-
-    if (bytes == NULL) {
-        errno = ENOMEM;
-        fail(FAILED, path);
-    }
-    text->bytes = bytes;
-    return larger;
+    fail_for(status, what, strerror(errno));
 }
 
-/* Returns what is left of an open file, and closes it. Failures are those of this path. */
-static struct text read_rest(int file, const char *path)
+/* Opens the standard streams that are closed, so that no other file becomes one of them. */
+static void open_streams(void)
 {
-    struct text text = {NULL, 0};
-    size_t room = 0;
-    ssize_t count;
+    for (int stream = STDIN_FILENO; stream <= STDERR_FILENO; stream++)
+        if (fcntl(stream, F_GETFD) < 0 && open("/dev/null", O_RDWR) != stream)
+            _exit(FAILED);
+}
 
-    do {
-        if (text.length == room)
-            room = enlarge(&text, room, path);
-        count = read(file, text.bytes + text.length, room - text.length);
+/* Reads up to so many bytes, and returns how many there were. */
+static size_t read_up_to(int file, char *bytes, size_t room, const char *path)
+{
+    size_t length = 0;
+    ssize_t count = 1;
+
+    while (length < room && count != 0) {
+        count = read(file, bytes + length, room - length);
         if (count > 0)
-            text.length += (size_t)count;
+            length += (size_t)count;
         else if (count < 0 && errno != EINTR)
             fail(FAILED, path);
-    } while (count != 0);
-    if (close(file) != 0)
-        fail(FAILED, path);
-    return text;
+    }
+    return length;
 }
 
-/* Returns the whole file. */
-static struct text read_whole(const char *path)
-{
-    int file = open(path, O_RDONLY | O_CLOEXEC);
-
-    if (file < 0)
-        fail(FAILED, path);
-    return read_rest(file, path);
-}
-
-/* Compiles the filter that the program is named after; where it is rejected, says why, and ends. */
+/* Compiles the filter that the program is named after, or the only one; if it is rejected, reports why, and ends. */
 static void compile(const struct policy *policy, struct program *program)
 {
     char reason[4097];
-    int64_t length = seccompiler_compile(policy->text.bytes, policy->text.length, ARCHITECTURE,
-                                         program->name, (size_t)program->name_length, policy->layout,
-                                         program->instructions, BPF_MAXINSNS, reason, sizeof reason);
+    int64_t length = seccompiler_compile_only(policy->text, policy->length, ARCHITECTURE, program->name,
+                                              policy->options.layout, program->instructions, BPF_MAXINSNS, reason,
+                                              sizeof reason);
 
-    if (length == SECCOMPILER_NO_FILTER)
-        fprintf(stderr, "jail: %s: No filter has this name: %.*s.\n", policy->path, program->name_length,
-                program->name);
-    else if (length < 0)
-        fprintf(stderr, "jail: %s: %s\n", policy->path, reason);
-    if (length < 0)
+    if (length == SECCOMPILER_NO_FILTER && program->name != NULL) {
+        begin(policy->path);
+        fputs("No filter has this name: ", stderr);
+        show(program->name);
+        fputs(".\n", stderr);
         exit(FAILED);
+    }
+    if (length < 0)
+        fail_for(FAILED, policy->path, reason);
     program->length = (unsigned short)length;
+    if (program->name == NULL)
+        program->name = "the only filter";
 }
 
-/* Compiles each filter whose name stands between commas, and counts them. */
-static struct program *compile_each(const struct policy *policy, const char *names, size_t *count)
+/* Compiles each filter whose name stands between commas, or the only one if there are no names, and counts them. */
+static struct program *compile_each(struct policy *policy, char *names, size_t *count)
 {
     struct program *programs;
 
+    policy->text = seccompiler_read_file(policy->path, &policy->length);
+    if (policy->text == NULL)
+        fail(FAILED, policy->path);
     *count = 1;
-    for (const char *at = names; *at != '\0'; at++)
+    for (const char *at = names; at != NULL && *at != '\0'; at++)
         *count += *at == ',';
     programs = calloc(*count, sizeof *programs);
     if (programs == NULL)
         fail(FAILED, policy->path);
     for (size_t k = 0; k < *count; k++) {
-        programs[k].name = names;
-        programs[k].name_length = (int)strcspn(names, ",");
+        programs[k].name = strsep(&names, ",");
         compile(policy, &programs[k]);
-        names += programs[k].name_length + 1;
     }
+    free(policy->text);
     return programs;
 }
 
-/* Copies the instructions that these bytes of a path are; where they are none, or more than the kernel takes, says so and ends. */
-static void take_program(struct text text, const char *path, struct program *program)
+/* The bytes of a program, and one more: so much of a file is read, however long it is. */
+static char bytes_of_program[BPF_MAXINSNS * sizeof(struct sock_filter) + 1];
+
+/* Takes the instructions that so many bytes are. If they are none, or more than the kernel takes, ends. */
+static void take_program(size_t length, const char *path, struct program *program)
 {
-    if (text.length == 0 || text.length % sizeof(struct sock_filter) != 0 || text.length > sizeof program->instructions) {
-        fprintf(stderr, "jail: %s: 1 to 4096 instructions of 8 bytes are expected, found %zu bytes\n", path, text.length);
-        exit(FAILED);
+    const size_t most = sizeof bytes_of_program - 1;
+    char why[100];
+
+    if (length == 0 || length % sizeof(struct sock_filter) != 0) {
+        snprintf(why, sizeof why, "1 to 4096 instructions of 8 bytes are expected, found %s%zu bytes",
+                 length > most ? "more than " : "", length > most ? most : length);
+        fail_for(FAILED, path, why);
     }
-    memcpy(program->instructions, text.bytes, text.length);
-    program->length = (unsigned short)(text.length / sizeof(struct sock_filter));
+    memcpy(program->instructions, bytes_of_program, length);
+    program->length = (unsigned short)(length / sizeof(struct sock_filter));
     program->name = "the program";
-    program->name_length = (int)strlen(program->name);
-    free(text.bytes);
 }
 
-/* Installs the program for all threads of this process, and rules new privileges out. */
+/* Installs the program for all threads of this process, and sets no_new_privs. */
 static void install(const struct policy *policy, const struct program *program, const char *hint)
 {
-    long answer = seccompiler_install(program->instructions, program->length, SECCOMP_FILTER_FLAG_TSYNC);
+    long answer = seccompiler_install(program->instructions, program->length,
+                                      SECCOMP_FILTER_FLAG_TSYNC | policy->options.flags);
 
     if (answer == 0)
         return;
-    fprintf(stderr, "jail: %s: installing %.*s: ", policy->path, program->name_length, program->name);
+    begin(policy->path);
+    fputs("installing ", stderr);
+    show(program->name);
     if (answer < 0)
-        fprintf(stderr, "%s%s\n", strerror((int)-answer), hint);
+        fprintf(stderr, ": %s%s\n", strerror((int)-answer), hint);
     else
-        fprintf(stderr, "thread %ld has another filter\n", answer);
+        fprintf(stderr, ": thread %ld has another filter\n", answer);
     exit(FAILED);
 }
 
-/* Installs one program after the other. The filters that are installed hold for what installs the next. */
-static void install_each(const struct policy *policy, const struct program *programs, size_t count)
+/* Installs one program after the other, and runs the command in the place of this process. */
+static _Noreturn void run_under(const struct policy *policy, const struct program *programs, size_t count, char **command)
 {
+    if (policy->options.closes && syscall(SYS_close_range, 3U, ~0U, 0U) != 0)
+        fail(FAILED, "--close-fds");
     for (size_t k = 0; k < count; k++)
-        install(policy, &programs[k],
-                k == 0 ? "" : "; each filter before it has to allow prctl and seccomp");
-}
-
-/* Runs the command in the place of this process. */
-static _Noreturn void execute(char **command)
-{
+        install(policy, &programs[k], k == 0 ? "" : "; each filter before it has to allow prctl and seccomp");
     execvp(command[0], command);
     fail(errno == ENOENT ? NOT_FOUND : CANNOT_RUN, command[0]);
 }
 
-/* Runs a command under the program that these bytes of a path are. */
-static _Noreturn void run_under_program(struct text text, const char *path, char **command)
-{
-    static struct program program;
-    struct policy policy = {.path = path};
-
-    take_program(text, path, &program);
-    install(&policy, &program, "");
-    execute(command);
-}
-
-/* Makes this process the seccomptool beside this program, or else that of PATH, with these words. */
+/* Makes this process the seccomptool beside this program, or else that of PATH, with these arguments. */
 static _Noreturn void become_seccomptool(char **words)
 {
     char path[PATH_MAX + sizeof "seccomptool"];
@@ -234,77 +250,146 @@ static _Noreturn void become_seccomptool(char **words)
     fail(FAILED, "seccomptool");
 }
 
-/* Returns what `seccomptool compile --oci` writes with so many words behind it; where it fails, ends. */
-static struct text compile_profile(char **words, size_t count, const char *path)
+/* Starts seccomptool with these arguments, and returns how many bytes of a program it wrote; if it failed, ends. */
+static size_t read_output(char **words, const char *path)
 {
-    static char *const front[] = {"seccomptool", "compile", "--oci", "-a", ARCHITECTURE_NAME};
-    const size_t fronts = sizeof front / sizeof *front;
-    char **all = calloc(fronts + count + 1, sizeof *all);
-    struct text text;
+    struct sigaction usual = {.sa_handler = SIG_DFL}, before;
     int ends[2], status;
+    char why[40];
+    size_t length;
     pid_t child;
 
-    if (all == NULL || pipe2(ends, O_CLOEXEC) != 0)
+    /* While SIGCHLD is ignored, as it may have been before, there is no exit status to wait for. */
+    sigaction(SIGCHLD, &usual, &before);
+    if (pipe2(ends, O_CLOEXEC) != 0)
         fail(FAILED, path);
-    memcpy(all, front, sizeof front);
-    memcpy(all + fronts, words, count * sizeof *words);
     child = fork();
     if (child == 0 && dup2(ends[1], STDOUT_FILENO) >= 0)
-        become_seccomptool(all);
+        become_seccomptool(words);
     if (child <= 0)
         fail(FAILED, path);
     close(ends[1]);
-    text = read_rest(ends[0], path);
+    length = read_up_to(ends[0], bytes_of_program, sizeof bytes_of_program, path);
+    close(ends[0]);
     if (waitpid(child, &status, 0) != child)
         fail(FAILED, path);
-    if (status != 0)
+    sigaction(SIGCHLD, &before, NULL);
+    snprintf(why, sizeof why, "killed by signal %d", WTERMSIG(status));
+    if (length < sizeof bytes_of_program && WIFSIGNALED(status))
+        fail_for(FAILED, words[0], why);
+    if (length < sizeof bytes_of_program && status != 0)
         exit(FAILED);
-    free(all);
-    return text;
+    return length;
 }
 
-/* Runs a command under the program of a profile: these words are what stands behind --oci, and end with NULL. */
-static void run_under_profile(char **words)
+/* Has seccomptool compile a profile, with so many of the words as options. */
+static void compile_profile(char **words, size_t count, const char *path, struct program *program)
 {
+    static char *const front[] = {"seccomptool", "compile", "--oci", "-a", ARCHITECTURE_NAME};
+    const size_t fronts = sizeof front / sizeof *front;
+    char **all = calloc(fronts + count + 3, sizeof *all);
+
+    if (all == NULL)
+        fail(FAILED, path);
+    memcpy(all, front, sizeof front);
+    memcpy(all + fronts, words, count * sizeof *words);
+    /* The path may begin as an option does. */
+    all[fronts + count] = "--";
+    all[fronts + count + 1] = words[count];
+    take_program(read_output(all, path), path, program);
+    free(all);
+}
+
+/* Ends with the usage. */
+static _Noreturn void misuse(void)
+{
+    fputs(usage, stderr);
+    exit(FAILED);
+}
+
+/* Returns whether this is an option of a profile, which has a value. */
+static int is_of_profile(const char *word)
+{
+    return strcmp(word, "--cap") == 0 || strcmp(word, "--kernel") == 0 || strcmp(word, "--runtime") == 0;
+}
+
+/* Returns the words of the command: without `--` in front, and at least one. */
+static char **command_of(char **words)
+{
+    if (*words != NULL && strcmp(*words, "--") == 0)
+        words++;
+    if (*words == NULL)
+        misuse();
+    return words;
+}
+
+/* Runs a command under the program of a file, or of a profile. */
+static _Noreturn void run_under_program(struct policy *policy, char **words, int is_profile)
+{
+    static struct program program;
     size_t count = 0;
+    char **command;
 
-    while (words[count] != NULL && words[count + 1] != NULL
-           && (strcmp(words[count], "--cap") == 0 || strcmp(words[count], "--kernel") == 0))
-        count += 2;
-    if (words[count] != NULL && words[count + 1] != NULL) {
-        char **command = words + count + 1;
+    while (is_profile && words[count] != NULL && is_of_profile(words[count]))
+        count += words[count + 1] != NULL ? 2 : 1;
+    if (words[count] == NULL || policy->options.layout != SECCOMPILER_LAYOUT_LINEAR)
+        misuse();
+    policy->path = words[count];
+    command = command_of(words + count + 1);
+    if (is_profile) {
+        compile_profile(words, count, policy->path, &program);
+    } else {
+        int file = open(policy->path, O_RDONLY | O_CLOEXEC);
 
-        command += strcmp(command[0], "--") == 0;
-        if (command[0] != NULL)
-            run_under_program(compile_profile(words, count + 1, words[count]), words[count], command);
+        if (file < 0)
+            fail(FAILED, policy->path);
+        take_program(read_up_to(file, bytes_of_program, sizeof bytes_of_program, policy->path), policy->path, &program);
+        close(file);
     }
+    run_under(policy, &program, 1, command);
+}
+
+/* Takes an option; returns whether it is one. */
+static int take_option(const char *word, struct options *options)
+{
+    if (strcmp(word, "--tree") == 0)
+        options->layout = SECCOMPILER_LAYOUT_TREE;
+    else if (strcmp(word, "--log") == 0)
+        options->flags = SECCOMP_FILTER_FLAG_LOG;
+    else if (strcmp(word, "--close-fds") == 0)
+        options->closes = 1;
+    else
+        return 0;
+    return 1;
 }
 
 int main(int count, char **words)
 {
-    struct policy policy = {.layout = SECCOMPILER_LAYOUT_LINEAR};
+    struct policy policy = {.options = {.layout = SECCOMPILER_LAYOUT_LINEAR}};
     struct program *programs;
+    char **command;
     size_t program_count;
 
-    if (count > 3 && strcmp(words[1], "--program") == 0)
-        run_under_program(read_whole(words[2]), words[2], words + 3);
-    if (count > 3 && strcmp(words[1], "--oci") == 0)
-        run_under_profile(words + 2);
-    if (count > 1 && strcmp(words[1], "--tree") == 0) {
-        policy.layout = SECCOMPILER_LAYOUT_TREE;
-        count--;
+    open_streams();
+    if (count == 2 && strcmp(words[1], "--help") == 0)
+        return printf("%s%s", usage, help) < 0 || fflush(stdout) != 0 ? FAILED : 0;
+    if (count == 2 && strcmp(words[1], "--version") == 0)
+        return puts("jail " VERSION) < 0 || fflush(stdout) != 0 ? FAILED : 0;
+    words += count > 0;
+    while (*words != NULL && take_option(*words, &policy.options))
         words++;
-    }
-    if (count < 4 || strcmp(words[1], "--program") == 0 || strcmp(words[1], "--oci") == 0) {
-        fputs("usage: jail [--tree] POLICY FILTER[,FILTER].. COMMAND [ARGUMENT]..\n"
-              "       jail --program PROGRAM COMMAND [ARGUMENT]..\n"
-              "       jail --oci [--cap CAP].. [--kernel KERNEL] PROFILE [--] COMMAND [ARGUMENT]..\n", stderr);
-        return FAILED;
-    }
-    policy.path = words[1];
-    policy.text = read_whole(policy.path);
-    programs = compile_each(&policy, words[2], &program_count);
-    free(policy.text.bytes);
-    install_each(&policy, programs, program_count);
-    execute(words + 3);
+    if (*words != NULL && strcmp(*words, "--program") == 0)
+        run_under_program(&policy, words + 1, 0);
+    if (*words != NULL && strcmp(*words, "--oci") == 0)
+        run_under_program(&policy, words + 1, 1);
+    if (*words != NULL && strcmp(*words, "--") == 0)
+        words++;
+    else if (*words != NULL && strncmp(*words, "--", 2) == 0)
+        misuse();
+    if (*words == NULL || words[1] == NULL)
+        misuse();
+    policy.path = words[0];
+    command = command_of(words + 2);
+    programs = compile_each(&policy, strcmp(words[1], "--") == 0 ? NULL : words[1], &program_count);
+    run_under(&policy, programs, program_count, command);
 }

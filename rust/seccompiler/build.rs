@@ -9,10 +9,12 @@
 //!
 //! A package has `libseccompiler.a`, which is whole. What `rt lib` makes, `libseccompiler_c.a`, wants an archive of the
 //! kit as well, through which it asks for memory: in the folder that `RATTLE_KIT` names, or in the kit of `rt`.
+//!
+//! If it isn't found, a warning says what to do, and only what links fails: `cargo check`, `doc` and `clippy` don't.
 
 use std::env;
 use std::path::{Path, PathBuf};
-use std::process::{self, Command};
+use std::process::Command;
 
 /// The archive of a package, and that of the repository.
 const WHOLE: &str = "libseccompiler.a";
@@ -99,7 +101,10 @@ fn main() {
         println!("cargo:rerun-if-env-changed={variable}");
     }
     if let Err(text) = link_library() {
-        eprintln!("{text}");
-        process::exit(1);
+        for line in text.lines() {
+            println!("cargo:warning={line}");
+        }
+        // rustc looks for it as soon as it makes more than metadata.
+        println!("cargo:rustc-link-lib=static=seccompiler");
     }
 }

@@ -6,7 +6,7 @@ use Rattle.seccomp_tree.specs.declared.steps.Target.{Target}
 use Rattle.seccomp_tree.specs.declared.steps.Target.TheVariants.{Give, At}
 use Rattle.seccomp_tree.specs.declared.steps.Step.{Step}
 use Rattle.seccomp_tree.specs.declared.decisions.DefaultValue.{DefaultValue}
-use Rattle.seccomp_tree.specs.Steps.{found_in, AreSteps, AreTight}
+use Rattle.seccomp_tree.specs.Steps.{found_in, AreSteps}
 use Rattle.seccomp_tree.specs.Code.{IsIn, IsTested, Grows, LeadsAlways, StartsAlways}
 use Rattle.seccomp_tree.specs.Decisions.{Ruling, First, Takes, rules_length}
 use Rattle.seccomp_tree.specs.Decided.{DecisionSet, default_for, rulings_for}
@@ -29,23 +29,20 @@ pub record IsAnswered (old : List sock_filter) (default : ℕ) (rulings : List R
   pub grows : Grows old (rules_length rulings) new
   pub answer : IsAnswer new default rulings t
 
--- Steps have for each number what the default values are, which are words.
-pub record AreDefaults (defaults : List DefaultValue) (steps : List Step) : Type 0 where
-  pub are : AreSteps (2 ^ 32) steps
-  pub found : (n : ℕ) → found_in steps n ≡ Give (default_for defaults n)
-  pub words : (n : ℕ) → default_for defaults n < 2 ^ 32
+-- A number behind this one, up to which the default is the same.
+pub record IsNextDefault (defaults : List DefaultValue) (number next : ℕ) : Type 0 where
+  pub above : number < next
+  pub same : (n : ℕ) → number ≤ n → n < next → default_for defaults n ≡ default_for defaults number
 
--- From the start up to the end the steps have what the others have, and below what they had.
-pub record IsRangePushed (old others : List Step) (start end : ℕ) (new : List Step) : Type 0 where
+-- From the start up to the end the steps have the default values, which are words, and below what they had.
+pub record AreDefaultsPushed (old : List Step) (defaults : List DefaultValue) (start end : ℕ) (new : List Step) : Type 0 where
   pub are : AreSteps end new
-  pub inside : (n : ℕ) → start ≤ n → n < end → found_in new n ≡ found_in others n
+  pub inside : (n : ℕ) → start ≤ n → n < end → (found_in new n ≡ Give (default_for defaults n)) × (default_for defaults n < 2 ^ 32)
   pub below : (n : ℕ) → n < start → found_in new n ≡ found_in old n
-  pub tight : AreTight old → AreTight new
 
 -- The steps over the numbers below one answer each of them.
 pub record AreAnswers (d : DecisionSet) (next : ℕ) (code : List sock_filter) (steps : List Step) : Type 0 where
   pub are : AreSteps next steps
-  pub tight : AreTight steps
   pub each : (n : ℕ) → n < next → IsAnswer code (default_for d.defaults n) (rulings_for d.calls n) (found_in steps n)
 
 -- The numbers from one up to another have no rulings.

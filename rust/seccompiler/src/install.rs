@@ -38,7 +38,7 @@ const EINVAL: i32 = 22;
 /// # Ok::<(), Box<dyn std::error::Error>>(())
 /// ```
 pub fn apply_filter(bpf_filter: BpfProgramRef<'_>) -> Result<()> {
-    install(bpf_filter, 0)
+    apply_filter_with_flags(bpf_filter, 0)
 }
 
 /// Installs a program for all threads of the process, by `SECCOMP_FILTER_FLAG_TSYNC`.
@@ -48,19 +48,26 @@ pub fn apply_filter(bpf_filter: BpfProgramRef<'_>) -> Result<()> {
 /// Those of [`apply_filter`]; and `ThreadSync` where a thread can't take the program, as it has a filter that the
 /// calling thread doesn't have. No thread has taken the program then.
 pub fn apply_filter_all_threads(bpf_filter: BpfProgramRef<'_>) -> Result<()> {
-    install(bpf_filter, SECCOMP_FILTER_FLAG_TSYNC)
+    apply_filter_with_flags(bpf_filter, SECCOMP_FILTER_FLAG_TSYNC)
 }
 
-/// Installs a program with these flags of `seccomp(2)`.
-fn install(program: BpfProgramRef<'_>, flags: c_ulong) -> Result<()> {
-    if program.is_empty() {
+/// Installs a program with these flags of `seccomp(2)`, such as 2, `SECCOMP_FILTER_FLAG_LOG`.
+///
+/// An addition.
+///
+/// # Errors
+///
+/// Those of [`apply_filter`]; and `ThreadSync` if `seccomp` returns a positive number, which with
+/// `SECCOMP_FILTER_FLAG_TSYNC` is that of a thread, and with `SECCOMP_FILTER_FLAG_NEW_LISTENER` a descriptor.
+pub fn apply_filter_with_flags(bpf_filter: BpfProgramRef<'_>, flags: c_ulong) -> Result<()> {
+    if bpf_filter.is_empty() {
         return Err(Error::EmptyFilter);
     }
-    let Ok(length) = u16::try_from(program.len()) else {
+    let Ok(length) = u16::try_from(bpf_filter.len()) else {
         return Err(Error::Seccomp(io::Error::from_raw_os_error(EINVAL)));
     };
     sys::rule_out_new_privileges().map_err(Error::Prctl)?;
-    match sys::set_mode_filter(program, length, flags) {
+    match sys::set_mode_filter(bpf_filter, length, flags) {
         Ok(0) => Ok(()),
         Ok(thread) => Err(Error::ThreadSync(thread)),
         Err(error) => Err(Error::Seccomp(error)),

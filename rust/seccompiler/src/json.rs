@@ -1,10 +1,11 @@
 //! Filters from JSON.
 
 use crate::backend::{BackendError, TargetArch};
-use crate::library::{self, filled, OUT_OF_MEMORY, TOO_LARGE};
+use crate::library::{self, filled, reserved, NO_FILTER, NO_ROOM, OUT_OF_MEMORY, TOO_LARGE};
 use crate::program::{BpfProgram, Layout, BLANK, BPF_MAX_LEN};
 use crate::sys::{self, Named};
 use crate::{BpfMap, Error, Result};
+use std::borrow::Cow;
 use std::error;
 use std::fmt;
 use std::io::{self, Read};
@@ -15,35 +16,40 @@ const MESSAGE: usize = 4096;
 /// The most bytes of a message for each byte of the policy: a name's control characters are written as `\x` and two digits.
 const MESSAGE_PER_BYTE: usize = 4;
 
-/// Why a text gives no filters: a sentence that names the cause, or the error of its reader.
-///
-/// The crate's error has a variant for each of three kinds of causes, but can't be named outside of it.
-#[derive(Debug)]
-pub struct JsonFrontendError(Cause);
+/// Room for a message that shows nothing of the policy.
+const SHORT_MESSAGE: usize = 256;
 
-/// What stands in the way.
+/// How the messages of texts begin that are no JSON.
+const NO_JSON: [&str; 2] = ["Error parsing Json: ", "Repeated key"];
+
+/// Why a text gives no filters, by kinds of causes.
+///
+/// The crate's error has three variants too, but can't be named outside of it.
 #[derive(Debug)]
-enum Cause {
-    /// The text can't be read.
+#[non_exhaustive]
+pub enum JsonFrontendError {
+    /// The reader failed.
     Read(io::Error),
-    /// The text is rejected.
-    Text(String),
+    /// The text is no JSON in UTF-8, nests too deep, or repeats a key: a sentence that says so.
+    Json(String),
+    /// The text is JSON, and not a policy for the architecture: the path of the place, and what is wrong there.
+    Policy(String),
 }
 
 impl error::Error for JsonFrontendError {
     fn source(&self) -> Option<&(dyn error::Error + 'static)> {
-        match &self.0 {
-            Cause::Read(error) => Some(error),
-            Cause::Text(_) => None,
+        match self {
+            JsonFrontendError::Read(error) => Some(error),
+            _ => None,
         }
     }
 }
 
 impl fmt::Display for JsonFrontendError {
     fn fmt(&self, f: &mut fmt::Formatter<'_>) -> fmt::Result {
-        match &self.0 {
-            Cause::Read(error) => write!(f, "Error parsing Json: {error}"),
-            Cause::Text(text) => f.write_str(text),
+        match self {
+            JsonFrontendError::Read(error) => write!(f, "Error parsing Json: {error}"),
+            JsonFrontendError::Json(text) | JsonFrontendError::Policy(text) => f.write_str(text),
         }
     }
 }
@@ -102,24 +108,64 @@ pub fn compile_from_json_in<R: Read>(
         .read_to_end(&mut text)
         .map_err(|error| match error.kind() {
             io::ErrorKind::OutOfMemory => Error::Backend(BackendError::OutOfMemory),
-            _ => Error::JsonFrontend(JsonFrontendError(Cause::Read(error))),
+            _ => Error::JsonFrontend(JsonFrontendError::Read(error)),
         })?;
     let mut policy = Policy::of(&text, arch)?;
-    let names = policy.names()?;
+    policy.accept(layout)?;
+    let mut filters = Vec::new();
+    for member in Members(&text) {
+        let name = Policy::of_member(member, arch)?.name()?;
+        filters
+            .try_reserve(1)
+            .map_err(|_| BackendError::OutOfMemory)?;
+        filters.push((name, member));
+    }
+    // Of filters that are too large the first by name is reported.
+    filters.sort_unstable();
     let mut programs = BpfMap::new();
     programs
-        .try_reserve(names.len())
+        .try_reserve(filters.len())
         .map_err(|_| BackendError::OutOfMemory)?;
-    for name in names {
-        let program = policy.program(&name, layout)?;
+    for (name, member) in filters {
+        let program = Policy::of_member(member, arch)?.program(&name, layout)?;
         programs.insert(name, program);
     }
     Ok(programs)
 }
 
+/// The members of an object that a JSON text is, each as it stands there, without the commas between. The library has
+/// accepted the text: so it is whole, and needs no other look.
+struct Members<'a>(&'a [u8]);
+
+impl<'a> Iterator for Members<'a> {
+    type Item = &'a [u8];
+
+    fn next(&mut self) -> Option<&'a [u8]> {
+        let (mut depth, mut in_string, mut escaped) = (0_usize, false, false);
+        let start = self.0.iter().position(|byte| *byte == b'"')?;
+        for (place, byte) in self.0.iter().enumerate().skip(start) {
+            match byte {
+                _ if escaped => escaped = false,
+                b'\\' => escaped = true,
+                b'"' => in_string = !in_string,
+                _ if in_string => {}
+                b'{' | b'[' => depth += 1,
+                b'}' | b']' if depth > 0 => depth -= 1,
+                b',' | b'}' if depth == 0 => {
+                    let member = &self.0[start..place];
+                    self.0 = &self.0[place + 1..];
+                    return Some(member);
+                }
+                _ => {}
+            }
+        }
+        None
+    }
+}
+
 /// A policy, and what the library writes of it.
 struct Policy<'a> {
-    text: &'a [u8],
+    text: Cow<'a, [u8]>,
     arch: TargetArch,
     /// Room for a message. What it shows of the policy are names and a value, which stand in the policy.
     message: Vec<u8>,
@@ -130,6 +176,7 @@ impl<'a> Policy<'a> {
     fn of(text: &'a [u8], arch: TargetArch) -> Result<Self> {
         let told = text.len().saturating_mul(MESSAGE_PER_BYTE);
         let message = filled(0, told.saturating_add(MESSAGE))?;
+        let text = Cow::Borrowed(text);
         Ok(Policy {
             text,
             arch,
@@ -137,34 +184,49 @@ impl<'a> Policy<'a> {
         })
     }
 
-    /// Returns the names of the filters, ascending.
-    fn names(&mut self) -> Result<Vec<String>> {
-        const NO_FILTER: i64 = -5;
+    /// Returns the policy that has this member of another one alone, which was accepted. So each filter is read three times,
+    /// however many there are.
+    fn of_member(member: &[u8], arch: TargetArch) -> Result<Self> {
+        let mut text = reserved(member.len() + 2)?;
+        text.push(b'{');
+        text.extend_from_slice(member);
+        text.push(b'}');
+        let (text, message) = (Cow::Owned(text), filled(0, SHORT_MESSAGE)?);
+        Ok(Policy {
+            text,
+            arch,
+            message,
+        })
+    }
+
+    /// Asks whether the library accepts all filters. Whether there is one with the empty name doesn't matter, nor how large.
+    fn accept(&mut self, layout: Layout) -> Result<()> {
+        let filter = Named {
+            policy: &self.text,
+            architecture: self.arch.audit_arch(),
+            name: &[],
+        };
+        match sys::compile(filter, layout as u32, &mut [], &mut self.message) {
+            NO_FILTER | NO_ROOM | TOO_LARGE => Ok(()),
+            answer => Err(self.rejection(answer)),
+        }
+    }
+
+    /// Returns the name of the first filter.
+    fn name(&mut self) -> Result<String> {
         // A name stands in the text, and a byte 0 behind it here.
         let mut room = filled(0, self.text.len().saturating_add(1))?;
-        let mut names = Vec::new();
-        loop {
-            let answer = sys::filter_name(self.text, names.len(), &mut room, &mut self.message);
-            match usize::try_from(answer) {
-                Ok(length) => {
-                    names
-                        .try_reserve(1)
-                        .map_err(|_| BackendError::OutOfMemory)?;
-                    names.push(library::text(&room[..length])?);
-                }
-                Err(_) if answer == NO_FILTER => {
-                    self.message.fill(0);
-                    return Ok(names);
-                }
-                Err(_) => return Err(self.rejection(answer)),
-            }
+        let answer = sys::filter_name(&self.text, 0, &mut room, &mut self.message);
+        match usize::try_from(answer) {
+            Ok(length) => Ok(library::text(&room[..length])?),
+            Err(_) => Err(self.rejection(answer)),
         }
     }
 
     /// Returns the program of the filter of this name, in a layout.
     fn program(&mut self, name: &str, layout: Layout) -> Result<BpfProgram> {
         let filter = Named {
-            policy: self.text,
+            policy: &self.text,
             architecture: self.arch.audit_arch(),
             name: name.as_bytes(),
         };
@@ -190,7 +252,10 @@ impl<'a> Policy<'a> {
             (TOO_LARGE, length) => {
                 BackendError::FilterTooLarge(length.unwrap_or(BPF_MAX_LEN + 1)).into()
             }
-            _ => JsonFrontendError(Cause::Text(message)).into(),
+            _ if NO_JSON.iter().any(|front| message.starts_with(front)) => {
+                JsonFrontendError::Json(message).into()
+            }
+            _ => JsonFrontendError::Policy(message).into(),
         }
     }
 }

@@ -10,7 +10,7 @@
 //!   matched by a rule under their number, and one for all others. An empty list of rules matches its call always.
 //! - A [`BpfProgram`] is made of a filter by `try_into`, and [`apply_filter`] or [`apply_filter_all_threads`] hands it
 //!   to the kernel.
-//! - [`compile_from_json`], with the feature `json`, makes programs of a JSON text.
+//! - `compile_from_json`, with the feature `json`, makes programs of a JSON text.
 //!
 //! The types hold data. What is accepted, decided and compiled is asked of the project's library for C, which is linked
 //! in, and of whose functions it is proved what they answer. Of this crate nothing is proved: that it hands over what it
@@ -28,16 +28,22 @@
 //!   [`BackendError::InvalidSyscallNumber`]; the crate panics.
 //! - Where memory runs out, calls that return a `Result` return [`BackendError::OutOfMemory`]; the crate aborts.
 //!   So a `match` on [`BackendError`] without a last arm `_` wants arms for these two.
-//! - The error of the JSON front end, [`JsonFrontendError`], is a text that names the cause. Texts of a wrong
-//!   form are the library's own, and of several faults another one may be named first. Forms of JSON filters that the
-//!   crate takes beside the documented ones, as `{"allow": null}`, are rejected.
+//! - The error of the JSON front end, `JsonFrontendError`, has a name, and its three variants are these causes: the
+//!   reader, the text, the policy. Texts of a wrong form are the library's own, and of several faults another one may be
+//!   named first. Forms of JSON filters that the crate takes beside the documented ones, as `{"allow": null}`, are
+//!   rejected.
 //! - [`apply_filter`] rejects a program of more than 65535 instructions, where the crate cuts off its end.
 //! - `Deserialize` of [`SeccompCmpOp`], [`SeccompCmpArgLen`] and [`SeccompAction`] comes with the feature `serde`, which
 //!   is off by default, and not with `json`.
-//! - It is built for Linux on x86_64 alone, and links the library for C. It compiles *for* x86_64, aarch64 and riscv64.
 //!
-//! Added are [`Layout`] with [`SeccompFilter::to_bpf_in`] and [`compile_from_json_in`], [`SeccompFilter::decide`],
-//! [`check`], [`run`], and [`compare`] with its types.
+//! Added are [`Layout`] with [`SeccompFilter::to_bpf_in`] and `compile_from_json_in`, [`SeccompFilter::decide`],
+//! [`apply_filter_with_flags`], [`check`], [`run`], and [`compare`] with its types.
+//!
+//! # Features and hosts
+//!
+//! `json` has `compile_from_json`, and `serde` has `Deserialize` of operators, lengths and actions. The library is built
+//! for Linux on x86_64. On other hosts, such as aarch64 and riscv64, and without the library, `cargo check`, `doc` and
+//! `clippy` work, and what links fails. Filters may be for all three.
 //!
 //! # Examples
 //!
@@ -86,7 +92,7 @@ mod sys;
 pub use backend::{BackendError, SeccompAction, SeccompCmpArgLen, SeccompCmpOp, TargetArch};
 pub use condition::SeccompCondition;
 pub use filter::SeccompFilter;
-pub use install::{apply_filter, apply_filter_all_threads};
+pub use install::{apply_filter, apply_filter_all_threads, apply_filter_with_flags};
 #[cfg(feature = "json")]
 pub use json::{compile_from_json, compile_from_json_in, JsonFrontendError};
 pub use program::{

@@ -8,7 +8,11 @@ use crate::program::{sock_filter, BpfProgram, Layout, BLANK};
 use crate::sys::{self, Arrays, Chain, Condition, Rule};
 
 pub(crate) const OUT_OF_MEMORY: i64 = -1;
+#[cfg(feature = "json")]
+pub(crate) const NO_FILTER: i64 = -5;
 pub(crate) const TOO_LARGE: i64 = -6;
+#[cfg(feature = "json")]
+pub(crate) const NO_ROOM: i64 = -7;
 pub(crate) const NOT_CHECKED: i64 = -8;
 const BAD_ARGUMENT: i64 = -13;
 const EMPTY_RULE: i64 = -16;

@@ -79,6 +79,33 @@ fn each_filter_has_its_program() {
     assert!(none.is_empty());
 }
 
+/// Each name has what could end a filter in the text, and each filter a number of its own. If the text were read again for each
+/// of them, this would take minutes.
+#[test]
+fn many_filters_are_told_apart() {
+    let name = |k: usize| format!("{k}\"}},{{[\\\u{e9}");
+    let filter = |k: usize| {
+        let args = format!(r#"[{{"index": 0, "type": "qword", "op": "eq", "val": {k}}}]"#);
+        let entry = format!(r#"{{"syscall": "read", "args": {args}, "comment": "]}}\\\" }}"}}"#);
+        format!(
+            r#" "{}" : {{"mismatch_action": "trap", "match_action": "allow", "filter": [{entry}]}} "#,
+            name(k).replace('\\', r"\\").replace('"', r#"\""#)
+        )
+    };
+    let text = (0..2000).map(filter).collect::<Vec<_>>().join(",\n");
+    let text = format!("\t{{{text}}}\n");
+    let programs = compile_from_json(text.as_bytes(), TargetArch::x86_64).expect("a policy");
+    assert_eq!(programs.len(), 2000);
+    for k in 0..2000 {
+        let mut record = [0; 64];
+        record[4..8].copy_from_slice(&0xc000_003e_u32.to_le_bytes());
+        for (given, answer) in [(k, ALLOW), (k + 1, TRAP)] {
+            record[16..24].copy_from_slice(&(given as u64).to_le_bytes());
+            assert_eq!(run(&programs[&name(k)], &record), Ok(answer), "{k}");
+        }
+    }
+}
+
 /// `close` is 3 on x86_64 and 57 elsewhere.
 #[test]
 fn numbers_are_those_of_the_architecture() {
@@ -140,6 +167,7 @@ fn what_is_no_policy_is_told() {
             panic!("{error:?}");
         };
         assert_eq!(inner.to_string(), told);
+        assert!(matches!(inner, JsonFrontendError::Policy(text) if text == told));
         assert_eq!(error.to_string(), format!("Json Frontend error: {inner}"));
         let source = error.source().expect("the front end's");
         assert_eq!(source.to_string(), inner.to_string());
@@ -158,7 +186,12 @@ fn what_is_no_json_is_told() {
         b"{\"\xff\": 1}",
         &[b'['; 200],
     ] {
-        let text_of_error = refused(text).to_string();
+        let error = refused(text);
+        assert!(
+            matches!(&error, Error::JsonFrontend(JsonFrontendError::Json(_))),
+            "{error:?}"
+        );
+        let text_of_error = error.to_string();
         let front = "Json Frontend error: Error parsing Json: ";
         assert!(text_of_error.starts_with(front), "{text_of_error}");
         assert!(text_of_error.len() > front.len(), "{text_of_error}");
@@ -209,6 +242,10 @@ fn a_failed_read_is_the_source_of_the_error() {
         error.to_string(),
         "Json Frontend error: Error parsing Json: the pipe broke"
     );
+    assert!(matches!(
+        &error,
+        Error::JsonFrontend(JsonFrontendError::Read(_))
+    ));
     let inner = error
         .source()
         .and_then(|it| it.source())

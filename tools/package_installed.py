@@ -1,0 +1,106 @@
+"""The pages of the package where they are installed, and Debian's packages of the same files; parts of tools/check-package."""
+
+import gzip
+import os
+import re
+import shutil
+
+from console_blocks import blocks_of, commands_of, is_jailed
+from package_forms import ENVIRONMENT, TOP, run
+from page_checks import anchors_of
+
+DOC = "share/doc/seccompiler"
+LINK = re.compile(r"\]\(([^()\s]+)\)")
+
+# What a page's block begins with that needs a checkout or other programs.
+ELSEWHERE = re.compile(r"^\$ (tools/|bench/|rt |cargo|git |\.ci/|examples/jail/build)", re.M)
+
+# Where what Debian's packages have lies in the other.
+PLACES = (("share/zsh/vendor-completions/", "share/zsh/site-functions/"),)
+# What they have in another form, or alone.
+OWN = re.compile(r"share/doc/[^/]*/(copyright|changelog\.gz|changelog\.Debian\.gz)$")
+LEFT_OUT = re.compile(r"share/doc/seccompiler/(CHANGELOG\.md|LICENSE-[A-Z0-9a-z-]*|NOTICE)$|README$")
+
+
+def check_links(results, unpacked):
+    """Follows each link of the pages to its file and heading."""
+    pages = sorted((unpacked / DOC / "docs").glob("*.md"))
+    for page in pages:
+        for target in LINK.findall(page.read_text(encoding="utf-8")):
+            path, _, anchor = target.partition("#")
+            if "://" not in target:
+                there = page if not path else page.parent / path
+                is_right = there.exists() and (not anchor or anchor in anchors_of(there))
+                results.compare(f"{page.name}: {target}", True, is_right)
+    results.compare("pages with links", True, len(pages) > 9)
+
+
+def check_commands(results, unpacked, folder, why):
+    """Runs the pages' commands beside their folder, with the programs on the path, and compares what they print."""
+    beside = folder / "beside"
+    shutil.copytree(unpacked / DOC, beside)
+    path = f"{unpacked / 'bin'}:{ENVIRONMENT['PATH']}"
+    tried = 0
+    for page in sorted((beside / "docs").glob("*.md")):
+        for number, lines in blocks_of(page):
+            if ELSEWHERE.search("\n".join(lines)) or (is_jailed(lines) and why is not None):
+                continue
+            status, commands = 0, commands_of(lines)
+            for (command, shown), then in zip(commands, [*commands[1:], ["", ""]]):
+                out, _, status = run(["sh", "-c", f"exec 2>&1; (exit {status}); {command}"], beside, PATH=path, LC_ALL="C")
+                wanted = status if then[0] == "echo $?" else 0
+                results.compare(f"{DOC}/docs/{page.name}:{number}: {command}", (shown, wanted), (out, status))
+                tried += 1
+    results.compare("commands of pages", True, tried > 50)
+
+
+def check_unit(results, unpacked, folder):
+    """Lets systemd look at the example of a unit, with the jailer of the package."""
+    text = (unpacked / DOC / "examples/jailed.service").read_text(encoding="utf-8")
+    program = re.search(r"^ExecStart=.* (/usr/bin/\S+) ", text, re.M)
+    found = shutil.which("systemd-analyze", path=ENVIRONMENT["PATH"])
+    if found is None or not os.path.exists(program[1]):
+        print(f"systemd-analyze or {program[1]} isn't installed, so the unit isn't looked at")
+        return
+    unit = folder / "jailed.service"
+    unit.write_text(text.replace("/usr/bin/jail ", f"{unpacked}/bin/jail "), encoding="utf-8")
+    results.compare("systemd-analyze verify", ("", "", 0), run(["systemd-analyze", "verify", unit], folder))
+
+
+def files_of(top):
+    """Returns the bytes of each file below the folder, or where it links to; what is compressed as it was before."""
+    files = {}
+    for path in sorted(it for it in top.rglob("*") if it.is_symlink() or it.is_file()):
+        name = str(path.relative_to(top))
+        if path.is_symlink():
+            files[name] = os.readlink(path)
+        elif "share/man/" in name and path.suffix == ".gz":
+            files[name.removesuffix(".gz")] = gzip.decompress(path.read_bytes())
+        else:
+            files[name] = path.read_bytes()
+    return files
+
+
+def check_debian(results, unpacked, packages, folder):
+    """Unpacks Debian's packages into one folder, and compares its files with the package's; lets lintian look for errors."""
+    if not packages:
+        print("dpkg-deb isn't installed, so no packages of Debian's kind are made")
+        return
+    root = folder / "root"
+    for package in packages:
+        results.compare(f"dpkg-deb -x {package.name}", ("", "", 0), run(["dpkg-deb", "-x", package, root], folder))
+        if shutil.which("lintian", path=ENVIRONMENT["PATH"]):
+            words = ["lintian", "--allow-root", "--fail-on", "error", "--tag-display-limit", "0", "-L", "error", package]
+            results.compare(f"lintian {package.name}", ("", "", 0), run(words, folder))
+    found = {}
+    for name, content in files_of(root / "usr").items():
+        for there, here in PLACES:
+            name = name.replace(there, here)
+        found[name] = content
+    wanted = {it: content for it, content in files_of(unpacked).items() if not LEFT_OUT.match(it)}
+    found = {it: content for it, content in found.items() if not OWN.match(it)}
+    results.compare("the files of Debian's packages", sorted(wanted), sorted(found))
+    results.compare("files that differ there", [], [it for it in wanted if wanted[it] != found.get(it)])
+    versions = re.findall(r"^## \[(\d\S*)\]", (TOP / "CHANGELOG.md").read_text(), re.M)
+    names = [f"{it}_{versions[0]}-1_amd64.deb" for it in ("libseccompiler-dev", "seccompiler")]
+    results.compare("Debian's packages", names, sorted(it.name for it in packages))

@@ -1,9 +1,9 @@
 """Random decisions with several return values and all operators: what the tree of each returns is compared with what is decided.
 
 `decide` below is the definition, written from the meaning of the operators alone. Per decisions the program of
-crates/seccomp_vectors is asked for the instructions, whether a kernel takes them, and for a few records what is decided, what
-the program returns and in how many steps; a machine that is written here runs the instructions on these records and more. The
-records lie at the values of the conditions and beside them. `try_on_kernel` installs some programs, and makes the calls.
+crates/seccomp_vectors is asked for the instructions, and for a record what is decided, and what the program returns, which has
+to be one that a kernel takes, and in how many steps; a machine that is written here runs the instructions on this record and
+on more. The records lie at the values of the conditions and beside them. `try_on_kernel` installs some programs, and makes the calls.
 """
 
 import ctypes
@@ -15,7 +15,7 @@ import subprocess
 import driver_rows
 from running_kernel import SECCOMP
 
-COUNT, SEED, RECORDS, ASKED = 10_000, 57, 24, 2
+COUNT, SEED, RECORDS, ASKED = 10_000, 57, 24, 1
 ON_KERNEL = 200
 
 # From linux/audit.h.
@@ -149,24 +149,22 @@ def ask(all_of):
     """Asks crates/seccomp_vectors about decisions with records; returns the answers of each."""
     rows = []
     for decisions, records in all_of:
-        rows += [*statements_of(decisions), "instructions of decisions", "check of decisions"]
+        rows += [*statements_of(decisions), "instructions of decisions"]
         for record in records[:ASKED]:
             rows += [f"decided {words_of(record)}", f"record {words_of(record)} of decisions"]
     words = [driver_rows.TOP / "tools/run-program", driver_rows.CRATE.name]
     ran = subprocess.run(words, input="\n".join(rows), capture_output=True, text=True, check=True)
     answers = iter([it.partition(" => ")[2] for it in ran.stdout.split("\n") if " => " in it])
-    return [[next(answers) for _ in range(2 + 2 * len(records[:ASKED]))] for _, records in all_of]
+    return [[next(answers) for _ in range(1 + 2 * len(records[:ASKED]))] for _, records in all_of]
 
 
 def fault_of(decisions, records, answers):
     """Returns what is wrong with answers about decisions, or nothing."""
-    if answers[1] != "checked":
-        return answers[:2]
     code = list(instructions_of(answers[0]))
     for place, record in enumerate(records):
         wanted = decide(decisions, record)
         value, steps = run(code, record)
-        told = answers[2 + 2 * place:4 + 2 * place] if place < ASKED else [f"{wanted:#010x}", f"{value:#010x} {steps}"]
+        told = answers[1 + 2 * place:3 + 2 * place] if place < ASKED else [f"{wanted:#010x}", f"{value:#010x} {steps}"]
         if value != wanted or told != [f"{wanted:#010x}", f"{wanted:#010x} {steps}"]:
             return words_of(record), f"{wanted:#010x}", f"{value:#010x} {steps}", told
     return None

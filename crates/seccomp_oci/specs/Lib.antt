@@ -10,12 +10,12 @@ pub mod Errnos
 pub mod ProfileShape
 pub mod ProfileText
 pub mod Decision
-pub mod Defaults
 pub mod ProfileDecisions
 pub mod Decided
 pub mod Doubts
 pub mod CompiledProfile
 pub mod LeftOut
 -- Between layers. No promise rests on how these are worded.
+pub mod Defaults
 pub mod Concerns
 pub mod Rulings

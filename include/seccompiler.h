@@ -354,10 +354,10 @@ int64_t seccompiler_run(const struct sock_filter *program, size_t count,
  * a call for which it doesn't into `difference`, in little-endian bytes. Else `difference` is as it was.
  *
  * Returns a code in these cases: UNKNOWN_ARCHITECTURE; UNKNOWN_RELATION; NOT_CHECKED, where one of the programs
- * doesn't pass seccompiler_check; or OUT_OF_MEMORY or UNDECIDED in place of 1 or 0. The comparison splits the
- * calls into sets of which it knows what the programs return, and looks at `most` sets at most. Most pairs of
- * programs take some sets for each test, and a million sets take some tenths of a second. That UNDECIDED comes
- * only after `most` sets is not proved.
+ * doesn't pass seccompiler_check, which here takes the operation BPF_JMP | BPF_JSET | BPF_K as well; or
+ * OUT_OF_MEMORY or UNDECIDED in place of 1 or 0. The comparison splits the calls into sets of which it knows what
+ * the programs return, and looks at `most` sets at most. Most pairs of programs take some sets for each test, and a
+ * million sets take some tenths of a second. That UNDECIDED comes only after `most` sets is not proved.
  */
 int64_t seccompiler_compare(const struct sock_filter *program, size_t count,
                             const struct sock_filter *other, size_t other_count,

@@ -1,4 +1,6 @@
 -- The lemmas of the modules.
+pub mod OneEnd
+pub mod OfSeven
 pub mod Words
 pub mod Masks
 pub mod StepsOnSets

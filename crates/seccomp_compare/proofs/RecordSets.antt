@@ -1,5 +1,5 @@
 -- For `sets` and `tasks`: sets of records, and what is known of two programs on them.
-use Rattle.std.proofs.Common.{◌≡◌, ℕ, ◌+◌, ◌-◌, ◌*◌, ◌<◌, List, length, Some, refl, sym, ap, ◌∙◌, subst, arith, ◌⊎◌, inl, inr, ⊎_elim, ◌^◌}
+use Rattle.std.proofs.Common.{◌≡◌, ℕ, ◌+◌, ◌*◌, ◌<◌, List, length, Some, sym, ap, ◌∙◌, subst, arith, ◌⊎◌, inl, inr, ⊎_elim, ◌^◌}
 use Rattle.std.specs.Prelude.{slice_get, slice_set, bit_and}
 use Rattle.std.specs.Int.Bits.{and_zero_r}
 use Rattle.std.proofs.Math.ListN.{get_or, set}
@@ -7,14 +7,15 @@ use Rattle.std.proofs.lemmas.Bool.{cases_eq}
 use Rattle.std.proofs.lemmas.List.{get_or-set_same, get_or-set_other, length-set}
 use Rattle.std.proofs.lemmas.Option.{slice_get_within, slice_get-get_or, get_or_from_slice_get}
 use Rattle.seccompiler.specs.declared.bpf.sock_filter.{sock_filter}
-use Rattle.seccompiler.specs.Machine.{IsRecord, word_at, stays, Ends}
+use Rattle.seccompiler.specs.Machine.{IsRecord, word_at}
+use Rattle.seccomp_compare.specs.Machine.{EndsFrom, Ends, returns}
 use Rattle.seccomp_compare.specs.declared.follow.At.{At}
 use Rattle.seccomp_compare.specs.declared.Relation.{Relation}
 use Rattle.seccomp_compare.specs.Compare.{Related, AnswersRelated, AnswersUnrelated}
 use Rattle.seccomp_compare.proofs.Words.{word_fits}
 use Rattle.seccomp_compare.specs.declared.values.Values.{Values}
 use Rattle.seccomp_compare.specs.WordSets.{HasValue, IsTight}
-use Rattle.seccomp_compare.specs.RecordSets.{IsIn, AreTight, accumulator, Reaches}
+use Rattle.seccomp_compare.specs.RecordSets.{IsIn, AreTight, Reaches}
 
 -- what stands in a list after a write: the new value at its place, the old ones elsewhere
 pub set_found : (part : List Values) (w : ℕ) (v : Values) (j : ℕ) (s : Values) → slice_get (slice_set part w v) j ≡ Some s
@@ -103,16 +104,7 @@ tight_narrowed part w v tight new_tight = record {
 -- where a program comes to a return, its run ends
 pub ends_at : (p : List sock_filter) (r : List ℕ) (at : At) (i : sock_filter) (before : Reaches p r at) → slice_get p at.place ≡ Some i
     → i.code ≡ 0x06 → Ends p r (before.steps + 1) i.k
-ends_at p r at i before here returns = record {
-  place = at.place;
-  accumulator = accumulator r at;
-  instruction = i;
-  some = omega arith;
-  goes = let same : before.steps + 1 - 1 ≡ before.steps = omega arith in rw same before.goes;
-  here = here;
-  returns = returns;
-  value = refl;
-}
+ends_at p r at i before here code = before.ends 1 i.k (returns i here code)
 
 -- two programs that come to returns of related words answer so
 pub related_at : (relation : Relation) (p q : List sock_filter) (r : List ℕ) (p_at q_at : At) (i j : sock_filter) → Reaches p r p_at
@@ -146,4 +138,10 @@ unrelated_at relation p q r p_at q_at i j to_p to_q here_p here_q returns_p retu
 
 -- each run comes to its start
 pub reaches_start : (p : List sock_filter) (r : List ℕ) → Reaches p r (record { place = 0; word = 0; mask = 0 })
-reaches_start p r = record { steps = 0; goes = let none : bit_and (word_at r (4 * 0)) 0 ≡ 0 = and_zero_r _ in rw none stays }
+reaches_start p r = record {
+  steps = 0;
+  ends = λ n w e.
+      let none : bit_and (word_at r (4 * 0)) 0 ≡ 0 = and_zero_r _ in
+      let same : n ≡ 0 + n = omega arith in
+      subst (λ m. Ends p r m w) same (subst (λ a. EndsFrom p r 0 a n w) none e);
+}

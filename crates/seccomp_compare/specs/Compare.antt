@@ -5,7 +5,8 @@ use Rattle.seccomp_compare.specs.declared.Relation.{Relation}
 use Rattle.seccomp_compare.specs.declared.Relation.TheVariants.{Alike, AtMostAsPermissive}
 use Rattle.seccomp_compare.specs.declared.Comparison.{Comparison}
 use Rattle.seccomp_compare.specs.declared.Comparison.TheVariants.{Holds, Fails, Undecided}
-use Rattle.seccompiler.specs.Machine.{IsRecord, word_at, Ends}
+use Rattle.seccompiler.specs.Machine.{IsRecord, word_at}
+use Rattle.seccomp_compare.specs.Machine.{Ends}
 
 -- A set of calls: those whose architecture words lie within two bounds, and whose numbers do within two, all included.
 pub record CallSet : Type 0 where

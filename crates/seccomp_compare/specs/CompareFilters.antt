@@ -6,10 +6,10 @@ use Rattle.seccompiler.specs.declared.backend.BackendError.TheVariants.{OutOfMem
 use Rattle.seccomp_compare.specs.declared.Relation.{Relation}
 use Rattle.seccomp_compare.specs.declared.Comparison.{Comparison}
 use Rattle.seccomp_compare.specs.declared.Comparison.TheVariants.{Holds, Fails, Undecided}
-use Rattle.seccompiler.specs.Machine.{Ends}
 use Rattle.seccompiler.specs.Policy.{Filter, IsDecision}
 use Rattle.seccompiler.specs.Compiled.{numbers_of, AreCallNumbers}
 use Rattle.seccomp_tree.specs.Layouts.{IsFitting, IsFittingRefusal}
+use Rattle.seccomp_compare.specs.Machine.{Ends}
 use Rattle.seccomp_compare.specs.Compare.{CallSet, IsCallOf, Related}
 
 -- Two filters name words for the record of which the relation holds.

@@ -1,6 +1,7 @@
 -- The definitions that the contracts cite.
 
--- What is promised: programs and filters compared.
+-- What is promised: the machine for programs of any compiler; programs and filters compared.
+pub mod Machine
 pub mod Compare
 pub mod CompareFilters
 -- Between layers: what private functions promise each other.

@@ -1,7 +1,8 @@
 -- Sets of call records, and runs on all records of a set.
-use Rattle.std.specs.Prelude.{◌≡◌, ℕ, ◌*◌, ◌<◌, ◌≤◌, List, length, Some, slice_get, bit_and}
+use Rattle.std.specs.Prelude.{◌≡◌, ℕ, ◌+◌, ◌*◌, ◌<◌, ◌≤◌, List, length, Some, slice_get, bit_and}
 use Rattle.seccompiler.specs.declared.bpf.sock_filter.{sock_filter}
-use Rattle.seccompiler.specs.Machine.{IsRecord, word_at, Goes}
+use Rattle.seccompiler.specs.Machine.{IsRecord, word_at}
+use Rattle.seccomp_compare.specs.Machine.{EndsFrom, Ends}
 use Rattle.seccomp_compare.specs.declared.values.Values.{Values}
 use Rattle.seccomp_compare.specs.declared.follow.At.{At}
 use Rattle.seccomp_compare.specs.WordSets.{HasValue, IsTight}
@@ -14,10 +15,10 @@ pub record IsIn (part : List Values) (r : List ℕ) : Type 0 where
 abbrev pub accumulator : List ℕ → At → ℕ
 accumulator r at = bit_and (word_at r (4 * at.word)) at.mask
 
--- The program's run on this record comes here.
+-- The program's run on this record comes here: as it ends from here on, it ends.
 pub record Reaches (p : List sock_filter) (r : List ℕ) (at : At) : Type 0 where
   pub steps : ℕ
-  pub goes : Goes p r 0 0 steps at.place (accumulator r at)
+  pub ends : (n w : ℕ) → EndsFrom p r at.place (accumulator r at) n w → Ends p r (steps + n) w
 
 -- All records of the set come here.
 pub record Stands (p : List sock_filter) (part : List Values) (at : At) : Type 0 where

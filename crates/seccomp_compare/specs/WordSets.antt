@@ -1,5 +1,5 @@
 -- Sets of 32-bit words, and the tests of instructions.
-use Rattle.std.specs.Prelude.{◌≡◌, ℕ, ◌<◌, ◌≤◌, ◌↔◌, ◌⊎◌, ◌^◌, Bool, IsTrue, bit_and, bit_or}
+use Rattle.std.specs.Prelude.{◌≡◌, ◌≢◌, ℕ, ◌<◌, ◌≤◌, ◌↔◌, ◌⊎◌, ◌^◌, Bool, IsTrue, bit_and, bit_or}
 use Rattle.seccompiler.specs.declared.bpf.sock_filter.{sock_filter}
 use Rattle.seccomp_compare.specs.declared.values.Values.{Values}
 
@@ -28,14 +28,16 @@ pub record AreHalves (s low high : Values) : Type 0 where
 abbrev pub IsTight : Values → Type 0
 IsTight s = s.least ≤ s.most → HasValue s (bit_or s.least s.value)
 
--- The instruction is one of the three tests.
+-- The instruction is one of the four tests.
 pub data IsTest (i : sock_filter) : Type 0 where
   tests_equal : i.code ≡ 0x15 → IsTest i
   tests_greater : i.code ≡ 0x25 → IsTest i
   tests_at_least : i.code ≡ 0x35 → IsTest i
+  tests_bits : i.code ≡ 0x45 → IsTest i
 
 -- What the test of an instruction says of the accumulator.
 pub data Passes (i : sock_filter) (a : ℕ) (holds : Bool) : Type 0 where
   passes_equal : i.code ≡ 0x15 → (IsTrue holds ↔ a ≡ i.k) → Passes i a holds
   passes_greater : i.code ≡ 0x25 → (IsTrue holds ↔ i.k < a) → Passes i a holds
   passes_at_least : i.code ≡ 0x35 → (IsTrue holds ↔ i.k ≤ a) → Passes i a holds
+  passes_bits : i.code ≡ 0x45 → (IsTrue holds ↔ bit_and a i.k ≢ 0) → Passes i a holds

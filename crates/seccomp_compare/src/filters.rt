@@ -3,7 +3,7 @@
 ghost use Rattle.std.specs.Prelude.{IfOk, IfErr, OnOk};
 ghost use Rattle.seccomp_compare.specs.CompareFilters.{ComparesFilters, IsCompilableInSome, IsComparisonRefusal, ComparesProgram};
 ghost use Rattle.seccomp_tree.specs.Layouts.{IsFittingRefusal};
-ghost use Rattle.seccompiler.specs.Machine.{IsChecked};
+ghost use Rattle.seccomp_compare.specs.Machine.{IsChecked};
 
 use crate::{Calls, Comparison, Relation, compare};
 use seccomp_tree::fitting_bpf;
@@ -59,7 +59,7 @@ pub fn compare_filters(
 /// `Holds` says that on every call of the set the value that the program returns and the one that
 /// [`decide`](SeccompFilter::decide) gives are related, the program's first; `Fails` has a call of
 /// the set on which they aren't. The program must pass
-/// [`machine::check`](seccompiler::machine::check), and may be of any compiler. Whether it permits
+/// [`machine::check`](crate::machine::check), and may be of any compiler. Whether it permits
 /// nothing that the policy doesn't is `AtMostAsPermissive`.
 ///
 /// The filter's own program is made as [`compare_filters`] makes it, and `most` sets of records are

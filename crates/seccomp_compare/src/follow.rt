@@ -1,7 +1,8 @@
 // Runs of a program on all records of a set at once.
 
 ghost use Rattle.std.specs.Prelude.{◌≡◌, ◌≢◌, ℕ, ◌+◌, ◌*◌, ◌<◌, length, List, IfSome};
-ghost use Rattle.seccompiler.specs.Machine.{IsRecord, word_at, IsFine, IsChecked, Does};
+ghost use Rattle.seccompiler.specs.Machine.{IsRecord, word_at};
+ghost use Rattle.seccomp_compare.specs.Machine.{IsFine, IsChecked, Does};
 ghost use Rattle.seccomp_compare.specs.WordSets.{HasValue};
 ghost use Rattle.seccomp_compare.specs.RecordSets.{IsIn, accumulator, Reaches};
 

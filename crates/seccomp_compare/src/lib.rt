@@ -7,7 +7,7 @@
 //!   a filter.
 //! - [`rank`] says how much the action of a return value permits.
 //!
-//! A program may be of any compiler, as long as [`machine::check`](seccompiler::machine::check) passes it.
+//! A program may be of any compiler, as long as [`machine::check`] passes it.
 //!
 //! ```
 //! use seccomp_compare::{Calls, Comparison, Relation, compare_filters};
@@ -31,13 +31,14 @@
 mod calls;
 mod filters;
 mod follow;
+pub mod machine;
 mod sets;
 mod tasks;
 mod values;
 
 ghost use Rattle.std.specs.Prelude.{◌≡◌, ◌↔◌, IsTrue, IfOk, IsOkUnless};
 ghost use Rattle.seccompiler.specs.declared.backend.BackendError.TheVariants.{OutOfMemory};
-ghost use Rattle.seccompiler.specs.Machine.{IsChecked};
+ghost use Rattle.seccomp_compare.specs.Machine.{IsChecked};
 ghost use Rattle.seccomp_compare.specs.Compare.{Compares, Related, rank};
 
 pub use calls::Calls;
@@ -92,8 +93,7 @@ pub enum Comparison {
 
 /// Compares the answers of two programs for each call of a set.
 ///
-/// The programs must pass [`machine::check`](seccompiler::machine::check), and may be of any compiler. The
-/// comparison splits the calls by the tests of both programs, into sets of which it knows what the
+/// The programs must pass [`machine::check`], and may be of any compiler. The comparison splits the calls by the tests of both programs, into sets of which it knows what the
 /// programs return, and looks at `most` such sets at most. Most pairs of programs take a few sets for
 /// each test, some microseconds in all; tests under masks of several arguments in one rule may take
 /// many. A million sets take some tenths of a second.

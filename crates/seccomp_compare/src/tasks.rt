@@ -2,7 +2,7 @@
 
 ghost use Rattle.std.specs.Prelude.{◌≡◌, ◌<◌, ℕ, List, length, IfOk};
 ghost use Rattle.seccompiler.specs.declared.bpf.sock_filter.{sock_filter};
-ghost use Rattle.seccompiler.specs.Machine.{IsChecked};
+ghost use Rattle.seccomp_compare.specs.Machine.{IsChecked};
 ghost use Rattle.seccomp_compare.specs.RecordSets.{AreTight, LeavesSome};
 ghost use Rattle.seccomp_compare.specs.CompareTasks.{ComparesWithin, IsTask, AreParts, IsProgress};
 

@@ -3,7 +3,8 @@
 ghost use Rattle.std.specs.Prelude.{◌≡◌, ◌≢◌, ℕ, ◌^◌, ◌<◌, ◌≤◌, ◌↔◌, ◌⊎◌, IfSome, MatchOption, IsTrue, bit_and, bit_or};
 ghost use Rattle.seccomp_compare.specs.WordSets.{HasValue, KeepsKnown, AreSame, AreHalves, IsTight, IsTest, Passes};
 
-use seccompiler::bpf::{JUMP_EQUAL, JUMP_GREATER, sock_filter};
+use crate::machine::JUMP_IF_SET;
+use seccompiler::bpf::{JUMP_AT_LEAST, JUMP_EQUAL, JUMP_GREATER, sock_filter};
 
 /// Numbers of 32 bits of which some bits are known, within bounds under a mask.
 #[derive(Clone, Copy)]
@@ -123,6 +124,14 @@ fn is_at_least(values: Values, mask: u32, k: u32) -> Option<bool>
     }
 }
 
+// Whether each of them has one of the bits of k under the mask, or none has.
+fn has_bits(values: Values, mask: u32, k: u32) -> Option<bool>
+    ensures { IfSome result (λ holds. (x : ℕ) → x < 2 ^ 32 → HasValue values x → (IsTrue holds ↔ bit_and (bit_and x mask) k ≢ 0)) }
+{
+    let is_zero = is_equal(values, mask & k, 0)?;
+    Some(!is_zero)
+}
+
 // What the test of an instruction says of each of them under the mask, if it says one thing.
 pub(crate) fn outcome(values: Values, mask: u32, test: sock_filter) -> Option<bool>
     requires { IsTest test }
@@ -131,7 +140,8 @@ pub(crate) fn outcome(values: Values, mask: u32, test: sock_filter) -> Option<bo
     match test.code {
         JUMP_EQUAL => is_equal(values, mask, test.k),
         JUMP_GREATER => is_greater(values, mask, test.k),
-        _ => is_at_least(values, mask, test.k),
+        JUMP_AT_LEAST => is_at_least(values, mask, test.k),
+        _ => has_bits(values, mask, test.k),
     }
 }
 
@@ -239,8 +249,23 @@ pub(crate) fn halves(values: Values, mask: u32, test: sock_filter) -> (Values, V
     ensures lower { IsTight result.0 }
     ensures upper { IsTight result.1 }
 {
+    let (mask, test) = compared(mask, test);
     let (lower, upper) = raw_halves(bounded(values, mask), mask, test);
     (tightened(lower), tightened(upper))
+}
+
+// The bits that a test looks at, and what it compares them with: JSET says whether those of k are 0.
+fn compared(mask: u32, test: sock_filter) -> (u32, sock_filter) {
+    if test.code == JUMP_IF_SET {
+        let zero = sock_filter {
+            code: JUMP_EQUAL,
+            k: 0,
+            ..test
+        };
+        (mask & test.k, zero)
+    } else {
+        (mask, test)
+    }
 }
 
 // The same words, with bounds under this mask where their own bounds say no more than the known bits, and more than one

@@ -3,8 +3,8 @@
 use crate::codes::program;
 use crate::fault::Fault;
 use crate::words::next_32;
+use seccomp_compare::machine::{check, run};
 use seccomp_compare::{Calls, Comparison, Relation, compare, compare_filters, compare_program};
-use seccompiler::machine::{check, run};
 use seccompiler::{BpfProgramRef, SeccompFilter, TargetArch};
 use std::alloc::Global;
 use std::str::SplitWhitespace;

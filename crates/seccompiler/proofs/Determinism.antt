@@ -8,7 +8,7 @@ use Rattle.seccompiler.specs.Machine.{word_at, Does, loads, masks, jumps, is_equ
 use Rattle.seccompiler.specs.Machine.{is_less, Step, Goes, stays, then_step, Ends}
 
 -- Where an instruction leads.
-abbrev place_after : sock_filter → ℕ → ℕ → ℕ
+abbrev pub place_after : sock_filter → ℕ → ℕ → ℕ
 place_after i place a =
     if i.code == 0x05 then place + 1 + i.k
     else (if i.code == 0x15 then (if a == i.k then place + 1 + i.jt else (place + 1 + i.jf))
@@ -17,11 +17,11 @@ place_after i place a =
     else (place + 1))))
 
 -- What an instruction leaves in the accumulator.
-abbrev accumulator_after : sock_filter → List ℕ → ℕ → ℕ
+abbrev pub accumulator_after : sock_filter → List ℕ → ℕ → ℕ
 accumulator_after i r a = if i.code == 0x20 then word_at r i.k else (if i.code == 0x54 then bit_and a i.k else a)
 
 -- An instruction leads to the place that its fields and the accumulator name.
-place_after-does : (i : sock_filter) (r : List ℕ) (place a place' a' : ℕ) → Does i r place a place' a' → place' ≡ place_after i place a
+pub place_after-does : (i : sock_filter) (r : List ℕ) (place a place' a' : ℕ) → Does i r place a place' a' → place' ≡ place_after i place a
 place_after-does i r place a place' a' (loads code _ to _) = grind (arith, nat_tests)
 place_after-does i r place a place' a' (masks code to _) = grind (arith, nat_tests)
 place_after-does i r place a place' a' (jumps code to _) = grind (arith, nat_tests)
@@ -33,7 +33,8 @@ place_after-does i r place a place' a' (is_at_least code test to _) = grind (ari
 place_after-does i r place a place' a' (is_less code test to _) = grind (arith, nat_tests)
 
 -- So it is with the accumulator.
-accumulator_after-does : (i : sock_filter) (r : List ℕ) (place a place' a' : ℕ) → Does i r place a place' a' → a' ≡ accumulator_after i r a
+pub accumulator_after-does : (i : sock_filter) (r : List ℕ) (place a place' a' : ℕ) → Does i r place a place' a'
+    → a' ≡ accumulator_after i r a
 accumulator_after-does i r place a place' a' (loads code _ _ to) = grind (arith, nat_tests)
 accumulator_after-does i r place a place' a' (masks code _ to) = grind (arith, nat_tests)
 accumulator_after-does i r place a place' a' (jumps code _ to) = grind (arith, nat_tests)
@@ -45,7 +46,7 @@ accumulator_after-does i r place a place' a' (is_at_least code _ _ to) = grind (
 accumulator_after-does i r place a place' a' (is_less code _ _ to) = grind (arith, nat_tests)
 
 -- A return does nothing.
-does_not_return : (i : sock_filter) (r : List ℕ) (place a place' a' : ℕ) → Does i r place a place' a' → i.code ≢ 0x06
+pub does_not_return : (i : sock_filter) (r : List ℕ) (place a place' a' : ℕ) → Does i r place a place' a' → i.code ≢ 0x06
 does_not_return i r place a place' a' (loads code _ _ _) = λ returns. omega arith
 does_not_return i r place a place' a' (masks code _ _) = λ returns. omega arith
 does_not_return i r place a place' a' (jumps code _ _) = λ returns. omega arith

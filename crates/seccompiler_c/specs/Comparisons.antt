@@ -2,6 +2,7 @@
 use Rattle.std.specs.Prelude.{◌≡◌, ◌≢◌, ◌≤◌, ℕ, ℤ, pos, List}
 use Rattle.seccompiler.specs.Machine.{IsChecked, IsRecord, word_at}
 use Rattle.seccomp_compare.specs.Compare.{AnswersRelated, AnswersUnrelated}
+use Rattle.seccomp_compare.specs.Machine as compared
 use Rattle.seccompiler.specs.FirstUnfit.{IsFirstUnfit}
 use Rattle.seccompiler.specs.declared.bpf.sock_filter.{sock_filter}
 use Rattle.seccomp_compare.specs.declared.Relation.{Relation}
@@ -40,7 +41,7 @@ pub record Compared : Type 0 where
 
 -- Both programs may be run, the words name calls and a relation, and P holds of the relation.
 abbrev pub OfRelation : Compared → (Relation → Type 0) → Type 0
-OfRelation c P = (AreNoCalls c.calls → ⊥) × (IsChecked c.program × IsChecked c.other)
+OfRelation c P = (AreNoCalls c.calls → ⊥) × (compared.IsChecked c.program × compared.IsChecked c.other)
     × ((relation : Relation) × (c.relation ≡ relation_number relation) × P relation)
 
 -- Why nothing is compared, or no answer is found: for the first of these that is so. Want of memory and too few sets of
@@ -48,7 +49,8 @@ OfRelation c P = (AreNoCalls c.calls → ⊥) × (IsChecked c.program × IsCheck
 abbrev pub IsUncompared : Compared → Code → Type 0
 IsUncompared c UnknownArchitecture = AreNoCalls c.calls
 IsUncompared c UnknownRelation = (AreNoCalls c.calls → ⊥) × IsNoRelation c.relation
-IsUncompared c NotChecked = (AreNoCalls c.calls → ⊥) × (IsNoRelation c.relation → ⊥) × (IsChecked c.program × IsChecked c.other → ⊥)
+IsUncompared c NotChecked = (AreNoCalls c.calls → ⊥) × (IsNoRelation c.relation → ⊥)
+    × (compared.IsChecked c.program × compared.IsChecked c.other → ⊥)
 IsUncompared c OutOfMemory = OfRelation c (λ relation. Unit {0})
 IsUncompared c Undecided = OfRelation c (λ relation. Unit {0})
 IsUncompared c f = ⊥

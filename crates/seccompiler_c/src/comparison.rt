@@ -1,15 +1,14 @@
 // Comparisons of two programs.
 
 ghost use Rattle.std.specs.Prelude.{◌≡◌, ◌↔◌, ℕ, List, IsTrue, IfOk, IfErr, IfSome, IfNone, MatchOption};
-ghost use Rattle.seccompiler.specs.Machine.{IsChecked};
 ghost use Rattle.seccomp_compare.specs.Compare.{IsCallOf, AnswersRelated, AnswersUnrelated};
 ghost use Rattle.seccompiler_c.specs.Comparisons.{relation_number, IsNoRelation, IsAsked, AreNoCalls, OfRelation, IsUncompared};
 
 use crate::arguments::architecture_of;
 use crate::code::Code;
 use crate::codes::{SECCOMPILER_ALIKE, SECCOMPILER_ALL_CALLS, SECCOMPILER_AT_MOST_AS_PERMISSIVE};
+use seccomp_compare::machine::check;
 use seccomp_compare::{Calls, Comparison, Relation, compare};
-use seccompiler::machine::check;
 use seccompiler::sock_filter;
 use std::alloc::Global;
 

@@ -1,21 +1,23 @@
 -- For `compare_filters` and `compare_program`: what holds of the words of programs holds of the decisions of their filters.
-use Rattle.std.proofs.Common.{ℕ, List, sym, subst}
+use Rattle.std.proofs.Common.{ℕ, List, refl, sym, subst}
 use Rattle.seccompiler.specs.declared.bpf.sock_filter.{sock_filter}
 use Rattle.seccomp_compare.specs.declared.Relation.{Relation}
 use Rattle.seccomp_compare.specs.declared.Comparison.{Comparison}
 use Rattle.seccomp_compare.specs.declared.Comparison.TheVariants.{Holds, Fails, Undecided}
 use Rattle.seccompiler.specs.Compiled.{EndsAtDecision}
-use Rattle.seccompiler.specs.Machine.{IsChecked, IsRecord, Ends}
+use Rattle.seccompiler.specs.Machine.{IsRecord}
+use Rattle.seccomp_compare.specs.Machine.{IsChecked, Ends}
 use Rattle.seccompiler.specs.Policy.{Filter, IsDecision}
 use Rattle.seccomp_compare.specs.Compare.{CallSet, Compares, AnswersRelated, AnswersUnrelated}
 use Rattle.seccomp_compare.specs.CompareFilters.{ComparesFilters, DecisionsRelated, DecisionsUnrelated, ComparesProgram}
 use Rattle.seccomp_tree.specs.Layouts.{IsFitting, as_tree, as_linear}
-use Rattle.seccompiler.proofs.Determinism.{ends_only}
+use Rattle.seccomp_compare.proofs.OneEnd.{ends_only}
+use Rattle.seccomp_compare.proofs.OfSeven.{checked_of_seven, ends_of_seven}
 
 -- a filter's program, in either layout, may be run
 pub fitting_checked : (f : Filter) (p : List sock_filter) → IsFitting f p → IsChecked p
-fitting_checked f p (as_tree tree) = tree.tree.checked
-fitting_checked f p (as_linear large linear) = linear.checked
+fitting_checked f p (as_tree tree) = checked_of_seven p tree.tree.checked
+fitting_checked f p (as_linear large linear) = checked_of_seven p linear.checked
 
 fitting_decides : (f : Filter) (p : List sock_filter) → IsFitting f p → (r : List ℕ) → IsRecord r → EndsAtDecision f p r
 fitting_decides f p (as_tree tree) = tree.decides
@@ -26,7 +28,7 @@ ends_at_decision : (f : Filter) (p : List sock_filter) (r : List ℕ) (steps wor
     → IsDecision f r word
 ends_at_decision f p r steps word is rec ends =
     let at = fitting_decides f p is r rec in
-    subst (IsDecision f r) (sym (ends_only p r ends at.ends).1) at.decision
+    subst (IsDecision f r) (sym (ends_only p r ends (ends_of_seven p r at.steps at.word at.ends) refl refl).1) at.decision
 
 -- words that are related are decisions that are
 related_decisions : (relation : Relation) (f g : Filter) (p q : List sock_filter) (r : List ℕ) → IsFitting f p → IsFitting g q → IsRecord r

@@ -1,10 +1,11 @@
 // The examples of comparisons: of programs, of filters, and of sets of calls.
 
+use seccomp_compare::machine::{BPF_JSET, check, first_unfit, run};
 use seccomp_compare::{Calls, Comparison, Relation, compare, compare_filters};
 use seccompiler::bpf::{
     BPF_ABS, BPF_JEQ, BPF_JMP, BPF_K, BPF_LD, BPF_RET, BPF_W, bpf_jump, bpf_stmt,
 };
-use seccompiler::machine::check;
+use seccompiler::machine::Outcome;
 use seccompiler::{SeccompAction, SeccompFilter, TargetArch};
 use std::alloc::Global;
 use std::collections::BTreeMap;
@@ -33,6 +34,25 @@ fn programs(rt: HostRuntime) -> Result<(), Fail> {
     let answer = compare(alloc, &lax, &strict, &only_39, Relation::Alike, 1_000_000)?;
     assert!(rt; matches!(answer, Comparison::Holds));
     Ok(())
+}
+
+#[test]
+fn a_program_with_jset(rt: HostRuntime) {
+    // Allows a call unless its number has the bit of x32.
+    let program = [
+        bpf_stmt(BPF_LD | BPF_W | BPF_ABS, 0),
+        bpf_jump(BPF_JMP | BPF_JSET | BPF_K, 0x4000_0000, 0, 1),
+        bpf_stmt(BPF_RET | BPF_K, 0x8000_0000),
+        bpf_stmt(BPF_RET | BPF_K, 0x7fff_0000),
+    ];
+    assert!(rt; check(&program));
+    assert!(rt; first_unfit(&program[..2]) == Some(1));
+    let mut call = [0; 64];
+    let (steps, word) = (3, 0x7fff_0000);
+    assert!(rt; run(&program, &call) == Outcome { word, steps });
+    call[3] = 0x40;
+    let word = 0x8000_0000;
+    assert!(rt; run(&program, &call) == Outcome { word, steps });
 }
 
 // The filter that allows these calls of x86_64, and traps others.

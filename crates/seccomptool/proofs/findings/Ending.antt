@@ -15,6 +15,8 @@ use Rattle.seccomp_compare.specs.declared.Relation.{Relation}
 use Rattle.seccomp_compare.specs.declared.Relation.TheVariants.{Alike, AtMostAsPermissive}
 use Rattle.seccomp_compare.specs.declared.Comparison.TheVariants.{Holds}
 use Rattle.seccomp_compare.specs.Compare.{CallSet, Compares, IsCallOf, Related}
+use Rattle.seccomp_compare.specs.Machine as compared
+use Rattle.seccomp_compare.proofs.OfSeven.{ends_of_seven}
 
 -- Where an instruction that doesn't return leads: to a place behind it, in the program.
 record Leads (i : sock_filter) (r : List ℕ) (place a n : ℕ) : Type 0 where
@@ -118,12 +120,13 @@ pub same_holds : (calls : CallSet) (relation : Relation) (new old : List sock_fi
     → Compares calls relation new old Holds
 same_holds calls relation new old checked same = λ r own.
     let end = ends r own.record_is new checked (record { code = 0; jt = 0; jf = 0; k = 0 }) in
+    let of_compared = ends_of_seven new r end.0 end.1 end.2 in
     record {
       word = end.1;
       steps = end.0;
-      ends = end.2;
+      ends = of_compared;
       other_word = end.1;
       other_steps = end.0;
-      other_ends = subst (λ p. Ends p r end.0 end.1) same end.2;
+      other_ends = subst (λ p. compared.Ends p r end.0 end.1) same of_compared;
       related = itself relation end.1;
     }

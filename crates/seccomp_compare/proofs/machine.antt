@@ -1,0 +1,2 @@
+-- Lemmas for the functions of `machine`.
+pub mod CheckedLemmas

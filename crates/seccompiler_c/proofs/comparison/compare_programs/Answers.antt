@@ -24,7 +24,8 @@ returns-clause-compared c =
     let asked : Compared = record { program = p; other = q; relation = c.args.relation; calls = c.args.asked } in
     let Answer : Result (Option (List ℕ)) Code → Type 0 =
     λ result. IfOk result (λ answer. OfRelation asked (λ related. MatchOption answer
-    ((r : List ℕ) → IsAsked c.args.asked r → AnswersRelated related p q r) (λ r. IsAsked c.args.asked r × AnswersUnrelated related p q r))) in
+    ((r : List ℕ) → IsAsked c.args.asked r → AnswersRelated related p q r)
+    (λ r. IsAsked c.args.asked r × AnswersUnrelated related p q r))) in
     elim c.match-compare.branch [
       | in-Ok-Holds w ↦
           let known = rw w.in-Ok-Holds.field-0-is at w.in-Ok-Holds.ensures.compares in

@@ -22,13 +22,12 @@ length, operator and value. Questions are
                                   `part-of-rule RULE` and `part-of-condition CONDITION @ OFFSET` for code in the caller's buffer, or
                                   instructions, each maybe so many times, or `none`
     decide, copy, program_len     of the filter
-    agree NUMBER ..               whether both programs and the filter agree on these numbers and those beside them
-    most_steps END                the most steps of the tree below this number
-    made_by TEXT                  whether the filter `a` of a policy's text is equal
+    made_by TEXT, made_of TEXT    whether the filter `a` of a policy's text is equal, and the one that `make_seccomp_filter` makes of it
     decided NUMBER ..             of the decisions
     equal, compare_filters RELATION SETS [ARCH [LEAST GREATEST]]
                                   of the kept filter and the one above; RELATION is `alike` or `at_most`
-    compare_program RELATION ..   of the filter's linear program and the filter
+    compare_program RELATION .., compare_tree RELATION ..
+                                  of the filter's linear program or its tree, and the filter
     compare RELATION ..: CODE with CODE
     condition, copied_rule, equal_rules, holds, action, architecture, number
                                   of what stands behind
@@ -41,15 +40,13 @@ Where a call is rejected the answer is the error's text. In a TEXT `<3 x ENTRY>`
 """
 
 import collections
-import pathlib
 import re
 import subprocess
 
-import short_calls
+from running import PROGRAMS, TOP, run_refused
 
-TOP = pathlib.Path(__file__).resolve().parent.parent
 CRATE = TOP / "crates/seccomp_vectors"
-PROGRAM = CRATE / "out/seccomp_vectors"
+PROGRAM = PROGRAMS["seccomp_vectors"]
 MEMORY = TOP / "tools/rows/memory"
 
 STATEMENTS = ("#", "policy", "call", "calls", "decisions", "keep")
@@ -99,8 +96,8 @@ def compare_rows(results):
 class Refused:
     """Rows that are asked while requests for memory fail."""
 
-    def __init__(self, results, name, calls, folder):
-        self.results, self.name, self.calls = results, name, calls
+    def __init__(self, results, name, folder):
+        self.results, self.name, self.folder = results, name, folder
         rows = [COUNTED.fullmatch(row).groups() for row in lines_of(MEMORY / name)]
         self.rows, self.counts = [row for row, _ in rows], [count for _, count in rows]
         # How often each row is answered by that memory ran out, while one request fails alone.
@@ -111,7 +108,7 @@ class Refused:
     def told(self, how, number):
         """Returns whether a request failed, the status and the lines."""
         with open(self.given, "rb") as given:
-            is_refused, (status, output, _) = short_calls.run_refused([PROGRAM], self.calls, {how: number}, stdin=given)
+            is_refused, (status, output, _) = run_refused([PROGRAM], self.folder, {how: number}, stdin=given)
         return is_refused, status, output.decode().split("\n")
 
     def check(self, how, number):
@@ -148,6 +145,6 @@ class Refused:
                 self.results.tell(f"{self.name}:{place + 1}: {row[:100]}: a number of requests", False, ())
 
 
-def check_refused(results, name, calls, folder, step):
+def check_refused(results, name, folder, step):
     """Asks rows while requests for memory fail, one of so many."""
-    Refused(results, name, calls, folder).check_all(step)
+    Refused(results, name, folder).check_all(step)

@@ -16,7 +16,7 @@ usage: tools/page_checks.py [--long]
 - docs/CHECKS.md has the codes of warnings in the order of the definitions, in its table and as sections, and the first
   line of each section, without its marks, is what the code's definition says.
 - The picture in docs/ is what tools/make-picture makes of its source.
-- README.md names the version of the kit, where `rt` is installed to ask.
+- README.md names one kit. If `rt` says another, that is printed and is no failure.
 - A line of proofs or definitions has at most 140 characters, in each crate.
 
 Prints each difference, and as its last line 'N passed, M failed'. With --long it prints the sentences of more than
@@ -271,12 +271,15 @@ def compare_picture(results):
 
 
 def compare_kit(results):
-    """Compares the kit that README.md names with the one that is installed, if one is."""
-    named = re.findall(r"`rt version` says `([^`]+)`", (TOP / "README.md").read_text(encoding="utf-8"))
+    """Compares how many kits README.md names, and prints if another one is installed.
+
+    Another kit is no fault of a page: whether it proves the sources, `rt ci` says."""
+    named = re.findall(r"rattle-kit-\w+", (TOP / "README.md").read_text(encoding="utf-8"))
     results.compare("README.md names a kit", (1,), (len(named),))
-    if shutil.which("rt"):
-        version = subprocess.run(["rt", "version"], capture_output=True, text=True).stdout.split()
-        results.compare("README.md: the kit that `rt version` says", (named,), (version[:1],))
+    if shutil.which("rt") is not None:
+        version = subprocess.run(["rt", "version"], capture_output=True, text=True, check=False).stdout.split()
+        if version[:1] != named:
+            print(f"README.md names {named}, and `rt version` says {version[:1]}: name this one after a whole run")
 
 
 def plain(text):

@@ -20,8 +20,8 @@ import shlex
 import seccompc_cases
 import seccomptool_cases
 from program_cases import CASES, FILES, FRONTEND, INDEX
+from running import Case
 from seccompc_cases.policy_texts import NO_CONDITIONS, NO_OBJECT
-from seccomptool_cases.forms import Case
 
 TOP = pathlib.Path(__file__).resolve().parent.parent
 SCHEMA = TOP / "docs/policy.schema.json"
@@ -173,7 +173,7 @@ def judged_policies(results):
     others = set()
     for case in (Case(*it) for it in (*CASES, *seccompc_cases.CASES, *seccomptool_cases.CASES)):
         text, valid = policy_of(case, files), is_valid(case)
-        if text is None:
+        if text is None or case.calls:
             continue
         if isinstance(valid, str):
             results.compare(f"{case.words}: a message that tools/policy_schema.py doesn't know", ("",), (valid,))

@@ -41,6 +41,8 @@ import pathlib
 import re
 import struct
 
+from running import run
+
 ROWS = pathlib.Path(__file__).resolve().parent / "rows"
 
 # Names and numbers of calls, by architecture.
@@ -166,8 +168,8 @@ def outcome_of(code, record):
 class Policy:
     """A policy, and what the built programs make of it."""
 
-    def __init__(self, run, folder, arch, mismatch, match):
-        self.run, self.folder, self.arch, self.names = run, folder, arch, names_of(arch)
+    def __init__(self, folder, arch, mismatch, match):
+        self.folder, self.arch, self.names = folder, arch, names_of(arch)
         self.filter = {"mismatch_action": action(mismatch), "match_action": action(match), "filter": []}
         self.made = {}
 
@@ -187,7 +189,7 @@ class Policy:
 
     def listed(self):
         """Returns the linear program as `seccompc list` writes it."""
-        status, output, errors = self.run(f"./seccompc list {self.arch} < row.json", self.folder)
+        status, output, errors = run(f"./seccompc list {self.arch} < row.json", self.folder)
         head, *lines = output.splitlines() or [""]
         if status:
             return errors.rstrip("\n") if not output else f"{output}{errors}"
@@ -198,7 +200,7 @@ class Policy:
     def compiled(self):
         """Returns the tree as `seccomptool compile` writes it."""
         command = f"./seccomptool compile -q -a {self.arch} --layout tree -o row.bpf row.json"
-        status, output, errors = self.run(command, self.folder)
+        status, output, errors = run(command, self.folder)
         if status:
             return (output + errors).rstrip("\n")
         return list(struct.iter_unpack("<HBBI", (self.folder / "row.bpf").read_bytes()))
@@ -210,8 +212,8 @@ class Policy:
             raise NoRow("a record under a policy that is rejected")
         (self.folder / "row.json").write_text(json.dumps({"a": self.filter}))
         (self.folder / "row.bin").write_bytes(b"".join(records))
-        ran = self.run(f"./seccompc run {self.arch} row.json a < row.bin", self.folder)[1].splitlines()
-        told = self.run(f"./seccomptool explain -a {self.arch} --format word --records row.bin row.json", self.folder)
+        ran = run(f"./seccompc run {self.arch} row.json a < row.bin", self.folder)[1].splitlines()
+        told = run(f"./seccomptool explain -a {self.arch} --format word --records row.bin row.json", self.folder)
         decided = [line.split()[0] for line in told[1].splitlines()]
         if not len(ran) == len(decided) == len(records):
             return [f"{len(ran)} lines of run and {len(decided)} of explain"] * len(records)
@@ -222,7 +224,7 @@ class Policy:
         """Returns what `seccomptool diff` says of an old policy and this one."""
         for policy, name in ((old, "old.json"), (self, "row.json")):
             (self.folder / name).write_text(json.dumps({"a": policy.filter}))
-        status, output, errors = self.run(f"./seccomptool diff {words} -a {self.arch} old.json row.json", self.folder)
+        status, output, errors = run(f"./seccomptool diff {words} -a {self.arch} old.json row.json", self.folder)
         head, *lines = output.splitlines() or [""]
         if status == 0 and not lines:
             return head.removeprefix("filter a: ")
@@ -240,12 +242,12 @@ class Policy:
 class Bench:
     """Answers rows one after the other."""
 
-    def __init__(self, run, folder):
-        self.run, self.folder, self.policy, self.kept, self.is_asked = run, folder, None, None, True
+    def __init__(self, folder):
+        self.folder, self.policy, self.kept, self.is_asked = folder, None, None, True
 
     def begun(self, *words):
         """Returns a new policy of these words."""
-        return Policy(self.run, self.folder, *words)
+        return Policy(self.folder, *words)
 
     def of_rule(self, rule):
         """Returns the policy that allows call 7 by one rule, and traps all others."""
@@ -317,7 +319,7 @@ class Bench:
         text, _, record = rest.partition(" for ")
         (self.folder / "row.bpf").write_bytes(instructions(text))
         (self.folder / "row.bin").write_bytes(record_of(record or "0"))
-        _, output, errors = self.run("./seccomptool run --records row.bin row.bpf", self.folder)
+        _, output, errors = run("./seccomptool run --records row.bin row.bpf", self.folder)
         return (output + errors).strip().removeprefix("seccomptool: row.bpf: ")
 
     def held(self, rest):
@@ -362,10 +364,10 @@ def answered(bench, row):
         return ("a row that is understood", f"{type(fault).__name__}: {fault}")
 
 
-def compare_rows(results, run, folder):
+def compare_rows(results, folder):
     """Asks the built programs, in the folder where they are, each row of each file."""
     for path in sorted(ROWS.glob("*.rows")):
-        bench, rows = Bench(run, folder), rows_of(path)
+        bench, rows = Bench(folder), rows_of(path)
         for number, row in rows:
             compared = answered(bench, row)
             if compared:

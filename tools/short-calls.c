@@ -1,6 +1,6 @@
 /*
  * Calls that stand before the C library's in a built program, and fall short as the environment says.
- * tools/short_calls.py builds and preloads them.
+ * tools/running.py builds and preloads them.
  *
  * GRANTED: so many requests for memory are granted, and each behind them is refused.
  * REFUSED: the request for memory of this number, counted from 1, is refused alone.

@@ -1,14 +1,13 @@
 """What the built program seccompc is tried on by tools/check-documents beside tools/program_cases.py, and what it has
-to do: tables of policies and of calls. Forms of cases are those of tools/seccomptool_cases; but short.py has cases of
-tools/check-program, of a form of its own.
+to do: tables of policies, of calls, and of reads and writes that fall short.
 
 Expected values come from the definitions in crates/seccompiler/specs and crates/seccompc/specs, arithmetic or a
 kernel's headers, and never from the program's output.
 """
 
-from . import filters, lists, numbers, probes, runs, shapes, texts
+from . import filters, lists, numbers, probes, runs, shapes, short, texts
 
-MODULES = (lists, probes, runs, texts, numbers, shapes, filters)
+MODULES = (lists, probes, runs, texts, numbers, shapes, filters, short)
 
 FILES = {name: content for module in MODULES for name, content in getattr(module, "FILES", {}).items()}
 CASES = [case for module in MODULES for case in module.CASES]

@@ -1,11 +1,10 @@
-"""What seccompc has to do where reads and writes pass few bytes a call, or fail behind some, and where few of its
-requests for memory are granted. tools/check-program runs these, with the calls of tools/short-calls.c; the files
-are those of this package, and FILE of `run` has a descriptor of its own."""
+"""What seccompc has to do where reads and writes pass few bytes a call, or fail behind some; and, for tools/check-program, where few
+of its requests for memory are granted. The calls are those of tools/short-calls.c, and FILE of `run` has a descriptor of its own."""
 
 import errno
-from typing import NamedTuple, Union
 
 from program_cases import INDEX, PROBED, UNREAD, UNWRITTEN, USAGE
+from running import Calls, Case
 from seccomptool_cases.records import AARCH64, X86_64, record_of
 
 from .policies import LOGS, LOGS_LISTED, UNREAD_RECORDS
@@ -17,44 +16,22 @@ OUT_OF_MEMORY = "Out of memory.\n"
 UNTRACED = "run x86_64 run-logs.json a"
 
 
-class Calls(NamedTuple):
-    """Reads from a descriptor, or writes to it: at most so many bytes a call, and behind so many bytes in all each
-    call fails with an error number; without one none fails."""
-
-    descriptor: int
-    at_once: int
-    passed: int = 0
-    error: int = 0
-
-
-class Short(NamedTuple):
-    """What stands behind the program's name, its standard input, the status, standard output and standard error;
-    and the calls that fall short, if any."""
-
-    words: str
-    given: Union[str, bytes]
-    status: int
-    output: str
-    errors: str
-    calls: Union[Calls, None] = None
-
-
 def slow(words, given, output, *calls):
     """Returns the case of a command that writes this output all the same."""
-    return Short(words, given, 0, output, "", Calls(*calls))
+    return Case(words, 0, output, "", given, Calls(*calls))
 
 
 def unread(words, given, text, *calls):
     """Returns the cases of a reading that fails, with this text, and that wants memory."""
     return [
-        Short(words, given, 1, "", told, Calls(*calls, error))
+        Case(words, 1, "", told, given, Calls(*calls, error))
         for told, error in ((text, errno.EIO), (OUT_OF_MEMORY, errno.ENOMEM))
     ]
 
 
 def unwritten(words, given, output, at_once, taken, error):
     """Returns the case of a writing that fails behind so many bytes of this output."""
-    return Short(words, given, 1, output[:taken], UNWRITTEN, Calls(OUTPUT, at_once, taken, error))
+    return Case(words, 1, output[:taken], UNWRITTEN, given, Calls(OUTPUT, at_once, taken, error))
 
 
 # The records of examples/records.bin.
@@ -87,14 +64,14 @@ CASES = [
 
 # Commands that are granted one request for memory more at each run, and what they answer once they have enough.
 GRANTED = [
-    Short(PROBE, ALLOWED, 0, LINE, ""),
-    Short("list x86_64", LOGS, 0, LOGS_LISTED, ""),
-    Short("run x86_64 run-complex.json main_thread", record_of(102, X86_64), 0, "000503e8 25\n", ""),
+    Case(PROBE, 0, LINE, "", ALLOWED),
+    Case("list x86_64", 0, LOGS_LISTED, "", LOGS),
+    Case("run x86_64 run-complex.json main_thread", 0, "000503e8 25\n", "", record_of(102, X86_64)),
 ]
 
 # Two commands of words of the same lengths, of which one is none. Reading words takes no memory, and neither does
 # an index that no argument has, so both have enough of as many requests.
 ALIKE = [
-    Short("probe x86_64 1 6 0", "", 1, "", "Backend error: " + INDEX),
-    Short("Probe x86_64 1 6 0", "", 2, "", USAGE),
+    Case("probe x86_64 1 6 0", 1, "", "Backend error: " + INDEX),
+    Case("Probe x86_64 1 6 0", 2, "", USAGE),
 ]

@@ -1,8 +1,7 @@
-"""The form of a case, and what the cases of several commands name."""
-
-from typing import NamedTuple, Union
+"""What the cases of several commands name."""
 
 from program_cases import FRONTEND
+from running import Case, Failing
 
 # What stands in front of each message: the program, and the place that it is about.
 TOOL = "seccomptool: "
@@ -27,23 +26,6 @@ STEERS = LOGS.replace('"a"', r'"a\u009b"')
 
 # The words that choose each layout.
 LAYOUTS = (" --layout linear", " --layout=tree")
-
-
-class Failing(NamedTuple):
-    """Standard input that gives this text, and then fails."""
-
-    given: Union[str, bytes]
-
-
-class Case(NamedTuple):
-    """What stands behind the program's name, the status, standard output, and standard error; where one of these
-    ends with `..`, it only has to begin so. Standard input is empty where a case has none."""
-
-    words: str
-    status: int
-    output: Union[str, bytes]
-    errors: str
-    given: Union[str, bytes, Failing] = ""
 
 
 def writes(words, given, output):

@@ -30,7 +30,8 @@ above_none m from (x ∷ steps) h some = omega (arith, h.1.0)
 
 -- steps below a number are below a greater one
 pub steps_more : (m n : ℕ) (steps : List Step) → 0 < m → m ≤ n → AreSteps m steps → AreSteps n steps
-steps_more m n steps some le h = record { first = λ _. h.first some; ascend = ascend_more m n 0 0 steps le (omega arith) h.ascend }
+steps_more m n steps some le h =
+    record { first = λ _. h.first some; ascend = ascend_more m n 0 0 steps le (omega arith) h.ascend; tight = h.tight }
 
 -- starts rise
 pub starts_rise : (m from : ℕ) (steps : List Step) (k : ℕ) (d : Step) → AscendFrom m from steps → k < length steps
@@ -217,9 +218,27 @@ from_push t from (y ∷ steps) x a h le =
     let yes : nat_le y.start a ≡ true = grind (arith, nat_tests, h.1.0) in
     rw yes (from_push y.target (y.start + 1) steps x a h.1.1 le)
 
-pub pushed_more : (old : List Step) (x : Step) → AreSteps x.start old → IsPushed old x.start x.target (old ++ x ∷ [])
-pushed_more old x h = record {
-  are = record { first = λ _. zero_first old h; ascend = ascend_push 0 old x (omega arith) h.ascend };
+tight_from : (t : Target) (from : ℕ) (steps : List Step) (x : Step) → AscendFrom x.start from steps
+    → (found_from t steps x.start ≢ x.target)
+    → TightFrom t steps → TightFrom t (steps ++ x ∷ [])
+tight_from t from [] x h not tight = (not, tt)
+tight_from t from (y ∷ steps) x h not tight =
+    let yes : nat_le y.start x.start ≡ true = grind (arith, nat_tests, h.1.0) in
+    (tight.0, tight_from y.target (y.start + 1) steps x h.1.1 (rw yes at not) tight.1)
+
+tight_pushed : (old : List Step) (x : Step) → AreSteps x.start old → (1 ≤ length old → found_in old x.start ≢ x.target) → AreTight old
+    → AreTight (old ++ x ∷ [])
+tight_pushed [] x h not tight = tt
+tight_pushed (y ∷ old) x h not tight = tight_from y.target (y.start + 1) old x h.ascend.1.1 (not (omega arith)) tight
+
+pub pushed_more : (old : List Step) (x : Step) → AreSteps x.start old → (1 ≤ length old → found_in old x.start ≢ x.target)
+    → IsPushed old x.start x.target (old ++ x ∷ [])
+pushed_more old x h not = record {
+  are = record {
+    first = λ _. zero_first old h;
+    ascend = ascend_push 0 old x (omega arith) h.ascend;
+    tight = tight_pushed old x h not h.tight;
+  };
   from = λ a le. from old a h.ascend le;
   below = λ a lt. below old a h lt;
   few = omega (arith, length-append old (x ∷ []));
@@ -251,21 +270,6 @@ pushed_same old start target h some same =
       few = omega arith;
     }
 
--- ---- neighbours that differ
-
-tight_from : (t : Target) (from : ℕ) (steps : List Step) (x : Step) → AscendFrom x.start from steps
-    → (found_from t steps x.start ≢ x.target)
-    → TightFrom t steps → TightFrom t (steps ++ x ∷ [])
-tight_from t from [] x h not tight = (not, tt)
-tight_from t from (y ∷ steps) x h not tight =
-    let yes : nat_le y.start x.start ≡ true = grind (arith, nat_tests, h.1.0) in
-    (tight.0, tight_from y.target (y.start + 1) steps x h.1.1 (rw yes at not) tight.1)
-
-pub tight_pushed : (old : List Step) (x : Step) → AreSteps x.start old → (1 ≤ length old → found_in old x.start ≢ x.target) → AreTight old
-    → AreTight (old ++ x ∷ [])
-tight_pushed [] x h not tight = tt
-tight_pushed (y ∷ old) x h not tight = tight_from y.target (y.start + 1) old x h.ascend.1.1 (not (omega arith)) tight
-
 -- ---- the loop of `push_part`
 
 pub record PartOn (old others : List Step) (first last base i : ℕ) (new : List Step) : Type 0 where
@@ -276,13 +280,12 @@ pub record PartOn (old others : List Step) (first last base i : ℕ) (new : List
   pub done : begun others (base + at + 1) ≤ i
   pub found : (a : ℕ) → first ≤ base + a → begun others (base + a + 1) ≤ i → found_in new a ≡ found_in others (base + a)
   pub below : (a : ℕ) → base + a < first → found_in new a ≡ found_in old a
-  pub tight : AreTight old → AreTight new
   pub few : length new + begun others (first + 1) ≤ length old + 1 + i
 
 module _ (old others : List Step) (first last base : ℕ) (are : AreSteps (2 ^ 64) others) (order : base ≤ first) (some : first ≤ last) where
-  pub part_begins : (new : List Step) → (AreTight old → AreTight new) → IsPushed old (first - base) (found_in others first) new
+  pub part_begins : (new : List Step) → IsPushed old (first - base) (found_in others first) new
       → PartOn old others first last base (begun others (first + 1)) new
-  part_begins new tight pushed =
+  part_begins new pushed =
       let back : base + (first - base) ≡ first = omega arith in
       record {
         at = first - base;
@@ -294,7 +297,6 @@ module _ (old others : List Step) (first last base : ℕ) (are : AreSteps (2 ^ 6
             let more = begun_more others (first + 1) (base + a + 1) (omega arith) in
             pushed.from a (omega arith) ∙ found_same (2 ^ 64) others first (base + a) are (omega arith) (omega (arith, more));
         below = λ a lt. pushed.below a (omega arith);
-        tight = tight;
         few = omega (arith, pushed.few);
       }
 
@@ -311,9 +313,9 @@ module _ (old others : List Step) (first last base : ℕ) (are : AreSteps (2 ^ 6
       (omega arith, steps_more (h.at + 1) (s - base) new (omega arith) (omega arith) h.are)
 
   pub part_turn : (i : ℕ) (d : Step) (mid new : List Step) → i < begun others (last + 1) → PartOn old others first last base i mid
-      → (AreTight mid → AreTight new) → IsPushed mid ((get_or others i d).start - base) ((get_or others i d).target) new
+      → IsPushed mid ((get_or others i d).start - base) ((get_or others i d).target) new
       → PartOn old others first last base (i + 1) new
-  part_turn i d mid new lt h tight pushed =
+  part_turn i d mid new lt h pushed =
       let s = (get_or others i d).start in
       let room = part_room i d mid lt h in
       let within = begun_few others (last + 1) in
@@ -340,7 +342,6 @@ module _ (old others : List Step) (first last base : ℕ) (are : AreSteps (2 ^ 6
               ∙ sym (found_begun (2 ^ 64) others (base + a) d are (omega arith))
         ];
         below = λ a less. pushed.below a (omega (arith, above i d mid lt h)) ∙ h.below a less;
-        tight = λ t. tight (h.tight t);
         few = omega (arith, h.few, pushed.few);
       }
     where
@@ -366,6 +367,5 @@ module _ (old others : List Step) (first last base : ℕ) (are : AreSteps (2 ^ 6
     are = steps_more (h.at + 1) (last + 1 - base) new (omega arith) (omega (arith, h.high)) h.are;
     inside = λ a from to. h.found a from (omega (arith, begun_more others (base + a + 1) (last + 1) (omega arith)));
     below = h.below;
-    tight = h.tight;
     few = omega (arith, h.few);
   }

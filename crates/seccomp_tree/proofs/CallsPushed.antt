@@ -13,7 +13,7 @@ use Rattle.seccompiler.specs.declared.bpf.sock_filter.{sock_filter}
 use Rattle.seccomp_tree.specs.declared.steps.Target.{Target}
 use Rattle.seccomp_tree.specs.declared.steps.Target.TheVariants.{Give}
 use Rattle.seccomp_tree.specs.declared.steps.Step.{Step}
-use Rattle.seccomp_tree.specs.Steps.{found_in, AreTight, AreSteps, IsPushed, IsPartPushed}
+use Rattle.seccomp_tree.specs.Steps.{found_in, AreSteps, IsPushed, IsPartPushed}
 use Rattle.seccomp_tree.specs.Code.{Grows}
 use Rattle.seccomp_tree.specs.Decisions.{Ruling, rules_length}
 use Rattle.seccomp_tree.specs.Decided.{DecisionSet, default_for, rulings_for, calls_of}
@@ -43,7 +43,6 @@ range_none old others start end same below = record {
   are = subst (λ n. AreSteps n old) same below;
   inside = λ n le lt. absurd (omega arith);
   below = λ n lt. refl;
-  tight = λ h. h;
 }
 
 pub range_part : (old others : List Step) (start end : ℕ) (new : List Step) → 1 ≤ end → IsPartPushed old others start (end - 1) 0 new
@@ -53,7 +52,6 @@ range_part old others start end new some h = record {
   inside = λ n le lt.
       let at : 0 + n ≡ n = omega arith in h.inside n (omega arith) (omega arith) ∙ ap (λ k. found_in others k) at;
   below = λ n lt. h.below n (omega arith);
-  tight = h.tight;
 }
 
 -- with a range of defaults behind them the steps answer all numbers below its end
@@ -62,7 +60,6 @@ pub answers_range : (d : DecisionSet) (code : List sock_filter) (old defaults ne
     → AreAnswers d end code new
 answers_range d code old defaults new start end order h values none pushed = record {
   are = pushed.are;
-  tight = pushed.tight h.tight;
   each = λ n lt. ⊎_elim
       (λ (less : n < start). subst (IsAnswer code (default_for d.defaults n) (rulings_for d.calls n)) (sym (pushed.below n less)) (h.each n
       less))
@@ -76,13 +73,12 @@ answers_range d code old defaults new start end order h values none pushed = rec
 pub answers_call : (d : DecisionSet) (old new : List sock_filter) (steps mid pushed : List Step) (number default : ℕ) (rulings : List
     Ruling)
     (t : Target) → AreAnswers d number old mid → default ≡ default_for d.defaults number → rulings_for d.calls number ≡ rulings
-    → IsAnswered old default rulings t new → IsPushed mid number t pushed → (AreTight mid → AreTight pushed)
+    → IsAnswered old default rulings t new → IsPushed mid number t pushed
     → IsCallPushed old d number rulings pushed new
-answers_call d old new steps mid pushed number default rulings t h value here answered one tight = record {
+answers_call d old new steps mid pushed number default rulings t h value here answered one = record {
   grows = answered.grows;
   answers = record {
     are = one.are;
-    tight = tight h.tight;
     each = λ n lt. ⊎_elim
         (λ (less : n < number).
         subst (IsAnswer new (default_for d.defaults n) (rulings_for d.calls n)) (sym (one.below n less))
@@ -148,7 +144,7 @@ calls_begin d code entries steps same sorted empty = rw empty record {
   count = 0;
   grows = grows_not code 0;
   total = sym (ap calls_length same ∙ sym (omega arith));
-  answers = record { are = record { first = λ lt. absurd (omega arith); ascend = tt }; tight = tt; each = λ n lt. absurd (omega arith) };
+  answers = record { are = record { first = λ lt. absurd (omega arith); ascend = tt; tight = tt }; each = λ n lt. absurd (omega arith) };
 }
 
 -- what `push_call` needs

@@ -11,7 +11,7 @@ use Rattle.std.specs.Set.{is_member}
 use Rattle.seccompiler.specs.declared.bpf.sock_filter.{sock_filter}
 use Rattle.seccomp_tree.specs.declared.steps.Target.{Target}
 use Rattle.seccomp_tree.specs.declared.steps.Step.{Step}
-use Rattle.seccomp_tree.specs.Steps.{found_from, found_in, AscendFrom, AreSteps, AreTight, TightFrom}
+use Rattle.seccomp_tree.specs.Steps.{found_from, found_in, AscendFrom, AreSteps, TightFrom}
 use Rattle.seccomp_tree.specs.Decided.{DecisionSet, default_for, rulings_for}
 use Rattle.seccomp_tree.specs.TreeProgram.{AreRanges}
 use Rattle.seccomp_tree.specs.CallSteps.{IsAnswer, AreAnswers}
@@ -74,11 +74,11 @@ starts_long [] = refl
 starts_long (x ∷ steps) = ap (λ n. suc n) (starts_long steps)
 
 few_from : (d : DecisionSet) (code : List sock_filter) (starts : List ℕ) (steps : List Step) → AreRanges d starts → AreSteps (2 ^ 32) steps
-    → AreTight steps → ((n : ℕ) → n < 2 ^ 32 → IsAnswer code (default_for d.defaults n) (rulings_for d.calls n) (found_in steps n))
+    → ((n : ℕ) → n < 2 ^ 32 → IsAnswer code (default_for d.defaults n) (rulings_for d.calls n) (found_in steps n))
     → length steps ≤ length starts
 unfolding starts_of IsDistinct
-few_from d code starts [] ranges are tight each = absurd (are.first (omega arith))
-few_from d code starts (x ∷ steps) ranges are tight each =
+few_from d code starts [] ranges are each = absurd (are.first (omega arith))
+few_from d code starts (x ∷ steps) ranges are each =
     let long = starts_long (x ∷ steps) in
     let few = length-le_from_is_member nat_eq_equiv (starts_of (x ∷ steps)) starts
     (apart (x.start + 1) steps x.start (omega arith) are.ascend.1.1, distinct (x.start + 1) steps are.ascend.1.1)
@@ -86,11 +86,11 @@ few_from d code starts (x ∷ steps) ranges are tight each =
     (λ (e : nat_eq q x.start ≡ true).
     let same : q ≡ 0 = grind (arith, nat_tests, are.first (omega arith)) in ap (is_member nat_eq starts) same ∙ ranges.zero)
     (λ (e : nat_eq q x.start ≡ false).
-    members d code starts x.start x.target steps ranges are.ascend.1.1 tight (λ n le lt. each n lt) q
+    members d code starts x.start x.target steps ranges are.ascend.1.1 are.tight (λ n le lt. each n lt) q
     (ap (λ b. b || is_member nat_eq (starts_of steps) q) (sym e) ∙ h))
     (cases_Bool (nat_eq q x.start))) in
     omega (arith, long, few)
 
 pub fewest : (d : DecisionSet) (code : List sock_filter) (steps : List Step) (starts : List ℕ) → AreAnswers d (2 ^ 32) code steps
     → AreRanges d starts → length steps ≤ length starts
-fewest d code steps starts h ranges = few_from d code starts steps ranges h.are h.tight h.each
+fewest d code steps starts h ranges = few_from d code starts steps ranges h.are h.each

@@ -2,52 +2,26 @@
 use Rattle.std.proofs.Common.{◌≡◌, ℕ, zero, suc, ℤ, pos, List, [], ◌∷◌, map, Bool, true, false, cond, nat_eq, Option, Some, None, refl, sym}
 use Rattle.std.proofs.Common.{ap}
 use Rattle.std.proofs.Common.{◌∙◌, subst, ◌⊎◌, inl, inr, Any, arith, if◌then◌else◌, Less, Equal, Greater, ◌<◌, ◌<ℤ◌}
-use Rattle.std.specs.Prelude.{bit_and, unsigned_abs}
+use Rattle.std.specs.Prelude.{unsigned_abs}
 use Rattle.std.specs.BTreeMap.{is_at}
 use Rattle.std.specs.Map.{lookup}
 use Rattle.std.specs.Ordering.{int_cmp, is_eq, MatchOrdering}
 use Rattle.std.proofs.Common.{Ordering}
 use Rattle.std.specs.Cmp.{int_ranks}
 use Rattle.std.proofs.lemmas.Int.{ints}
-use Rattle.std.proofs.lemmas.Bool.{cases_eq, cases_lt}
 use Rattle.std.proofs.lemmas.Bool.Decides.{nat_tests}
-use Rattle.std.proofs.lemmas.List.Elements.{All-nil, All-cons, All-head, All-tail}
-use Rattle.seccompiler.specs.declared.backend.SeccompCmpOp.{SeccompCmpOp}
-use Rattle.seccompiler.specs.declared.backend.SeccompCmpOp.TheVariants.{Eq, Ge, Gt, Le, Lt, MaskedEq, Ne}
+use Rattle.std.proofs.lemmas.List.Elements.{All-nil, All-head, All-tail}
 use Rattle.seccompiler.specs.Architecture.{audit_word}
-use Rattle.seccompiler.specs.Machine.{word_at, argument_at}
-use Rattle.seccompiler.specs.Policy.{Condition, Compares, Holds, Rule, Chain, Filter, RuleHolds, ChainMatches, Matches, IsCallNumber}
+use Rattle.seccompiler.specs.Machine.{word_at}
+use Rattle.seccompiler.specs.Policy.{Condition, Holds, Rule, Chain, Filter, RuleHolds, ChainMatches, Matches, IsCallNumber}
 use Rattle.seccompiler.specs.Policy.{chain_under}
-use Rattle.seccompiler.specs.Policy.{IsDecision, other_architecture as other, policy_matches, policy_differs, part_of, operator_part}
+use Rattle.seccompiler.specs.Policy.{IsDecision, other_architecture as other, policy_matches, policy_differs}
 use Rattle.seccompiler.specs.Policy.{word_of}
 use Rattle.seccompiler.specs.Compiled.{AreCallNumbers, numbers_of}
+use Rattle.seccomp_tree.proofs.Meeting.{rule_or_not}
 use Rattle.seccomp_tree.specs.Decisions.{Ruling, First, here, behind, nothing}
 use Rattle.seccomp_tree.specs.Decided.{IsDecided, other_architecture, decided, rulings_for, default_for}
 use Rattle.seccomp_tree.specs.FilterDecisions.{rulings_of, call_of, decisions_of, DecideAs}
-
--- ---- each rule holds or doesn't
-
-holds_or_not : (c : Condition) (r : List ℕ) → Holds c r ⊎ (Holds c r → ⊥)
-holds_or_not c r = either (operator_part c.arg_len c.operator) (part_of c.arg_len (argument_at r c.arg_index)) (part_of c.arg_len c.value)
-  where
-    either : (o : SeccompCmpOp) (a v : ℕ) → Compares o a v ⊎ (Compares o a v → ⊥)
-    either Eq a v = cases_eq a v
-    either Ne a v = elim (cases_eq a v) [ inl e ↦ inr (λ not. not e) | inr not ↦ inl not ]
-    either Ge a v = elim (cases_lt a v) [ inl lt ↦ inr (λ h. absurd (omega arith)) | inr le ↦ inl le ]
-    either Gt a v = elim (cases_lt v a) [ inl lt ↦ inl lt | inr le ↦ inr (λ h. absurd (omega arith)) ]
-    either Le a v = elim (cases_lt v a) [ inl lt ↦ inr (λ h. absurd (omega arith)) | inr le ↦ inl le ]
-    either Lt a v = elim (cases_lt a v) [ inl lt ↦ inl lt | inr le ↦ inr (λ h. absurd (omega arith)) ]
-    either (MaskedEq m) a v = cases_eq (bit_and a m) (bit_and v m)
-
-rule_or_not : (q : Rule) (r : List ℕ) → RuleHolds q r ⊎ (RuleHolds q r → ⊥)
-rule_or_not [] r = inl (All-nil (λ (c : Condition). Holds c r))
-rule_or_not (c ∷ q) r = elim (holds_or_not c r) [
-  | inl h ↦ elim (rule_or_not q r) [
-    | inl g ↦ inl (All-cons (λ (x : Condition). Holds x r) c q h g)
-    | inr not ↦ inr (λ all. not (All-tail (λ (x : Condition). Holds x r) c q all))
-  ]
-  | inr not ↦ inr (λ all. not (All-head (λ (x : Condition). Holds x r) c q all))
-]
 
 -- ---- the first of a chain's rulings
 

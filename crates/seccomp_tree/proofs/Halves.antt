@@ -125,7 +125,7 @@ highs_none code index steps are = record {
   turns = 0;
   soon = λ _. omega (arith, begun_some (2 ^ 64) steps (1 * 2 ^ 32 - 1) are (omega arith));
   end = omega arith;
-  are = record { first = λ lt. absurd (omega arith); ascend = tt };
+  are = record { first = λ lt. absurd (omega arith); ascend = tt; tight = tt };
   few = omega arith;
   grows = grows_not code _;
   leads = λ h lt. absurd (omega arith);

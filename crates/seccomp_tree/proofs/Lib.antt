@@ -4,7 +4,6 @@ pub mod Growing
 pub mod Runs
 pub mod Soundness
 pub mod Meeting
-pub mod Choosing
 pub mod Ruled
 pub mod Reaching
 pub mod Testing

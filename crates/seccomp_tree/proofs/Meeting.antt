@@ -1,5 +1,5 @@
 -- Conditions as targets: what choices and masks make of them.
-use Rattle.std.proofs.Common.{◌≡◌, ℕ, suc, ◌+◌, ◌-◌, ◌*◌, ◌/◌, ◌%◌, ◌<◌, ◌≤◌, ◌^◌, List, ◌∷◌, length, true, refl}
+use Rattle.std.proofs.Common.{◌≡◌, ℕ, suc, ◌+◌, ◌-◌, ◌*◌, ◌/◌, ◌%◌, ◌<◌, ◌≤◌, ◌^◌, List, [], ◌∷◌, length, true, refl}
 use Rattle.std.proofs.Common.{sym, ap, ◌∙◌, subst, inl, inr, arith}
 use Rattle.std.specs.Prelude.{bit_and, ◌⊎◌, if◌then◌else◌}
 use Rattle.std.specs.Int.Bits.{and_lt, and_zero_r}
@@ -10,23 +10,24 @@ use Rattle.seccompiler.specs.declared.backend.SeccompCmpArgLen.TheVariants.{Dwor
 use Rattle.seccompiler.specs.declared.backend.SeccompCmpOp.{SeccompCmpOp}
 use Rattle.seccompiler.specs.declared.backend.SeccompCmpOp.TheVariants.{Eq, Ge, Gt, Le, Lt, MaskedEq, Ne}
 use Rattle.seccompiler.specs.Machine.{IsRecord, word_at, argument_at, loads, masks}
-use Rattle.seccompiler.specs.Policy.{Condition, Compares, Holds, part_of, operator_part}
+use Rattle.std.proofs.lemmas.List.Elements.{All-nil, All-cons, All-head, All-tail}
+use Rattle.seccompiler.specs.Policy.{Condition, Compares, Holds, RuleHolds, part_of, operator_part}
 use Rattle.seccompiler.specs.Code.{load, mask}
 use Rattle.seccompiler.proofs.Words.{word_fits, number_halves, mask_halves}
 use Rattle.seccomp_tree.specs.declared.code.Test.TheVariants.{Equal}
 use Rattle.seccomp_tree.specs.declared.steps.Target.{Target}
 use Rattle.seccomp_tree.specs.declared.steps.Target.TheVariants.{At}
 use Rattle.seccomp_tree.specs.declared.steps.Step.{Step}
-use Rattle.seccomp_tree.specs.Steps.{found_in}
-use Rattle.seccomp_tree.specs.Intervals.{numbers_of, is_plain, IsChosen, AreChoices}
-use Rattle.seccomp_tree.specs.Code.{Starts, Leads, LeadsAlways, StartsAlways, IsIn, AreIn}
+use Rattle.seccomp_tree.specs.Steps.{found_in, single}
+use Rattle.seccomp_tree.specs.Intervals.{numbers_of, is_plain, IsChosen, AreLaid}
+use Rattle.seccomp_tree.specs.Code.{Starts, Leads, LeadsAlways, StartsAlways, IsIn}
 use Rattle.seccomp_tree.specs.Code.{chosen, IsTested, IsWord, IsArgument}
 use Rattle.seccomp_tree.specs.Conditions.{part_length, part_steps, condition_length, condition_steps, IsPart, IsMasked}
 use Rattle.seccomp_tree.specs.Conditions.{IsConditionMet}
 use Rattle.seccomp_tree.proofs.Growing.{grows_not, grows_one, grows_on}
 use Rattle.seccomp_tree.proofs.Runs.{starts_more, starts_by, leads_by, leads_grown}
-use Rattle.seccomp_tree.proofs.Begun.{are_in_below}
-use Rattle.seccomp_tree.proofs.Choices.{compares_or_not, numbers_many, chosen_alike, chosen_yes, chosen_no}
+use Rattle.seccomp_tree.proofs.Begun.{begun_few}
+use Rattle.seccomp_tree.proofs.Choices.{compares_or_not, chosen_alike, chosen_yes, chosen_no}
 use Rattle.seccomp_tree.proofs.Reaching.{stepped, starts_at}
 
 -- ---- numbers of an argument
@@ -55,6 +56,16 @@ pub holds_or_not : (c : Condition) (r : List ℕ) → Holds c r ⊎ (Holds c r �
 holds_or_not c r =
     compares_or_not (operator_part c.arg_len c.operator) (part_of c.arg_len (argument_at r c.arg_index)) (part_of c.arg_len c.value)
 
+pub rule_or_not : (q : List Condition) (r : List ℕ) → RuleHolds q r ⊎ (RuleHolds q r → ⊥)
+rule_or_not [] r = inl (All-nil (λ (c : Condition). Holds c r))
+rule_or_not (c ∷ q) r = elim (holds_or_not c r) [
+  | inl h ↦ elim (rule_or_not q r) [
+    | inl g ↦ inl (All-cons (λ (x : Condition). Holds x r) c q h g)
+    | inr not ↦ inr (λ all. not (All-tail (λ (x : Condition). Holds x r) c q all))
+  ]
+  | inr not ↦ inr (λ all. not (All-head (λ (x : Condition). Holds x r) c q all))
+]
+
 -- ---- parts
 
 pub part_of_word : (old new : List sock_filter) (index : ℕ) (steps : List Step) (t : Target) → IsWord old (16 + 8 * index) steps t new
@@ -80,16 +91,6 @@ part_of_argument old new index steps t argument = record {
 
 -- ---- conditions without a mask
 
--- one of two targets is inside where both are
-pub choices_in : (code : List sock_filter) (c : Condition) (fit unfit : Target) (steps : List Step)
-    → AreChoices c fit unfit steps → IsIn code fit → IsIn code unfit → AreIn code steps
-choices_in code c fit unfit steps h in_yes in_no =
-    are_in_below code (numbers_of c.arg_len) steps (omega (arith, numbers_many c.arg_len)) h.are
-    (λ a lt. elim (compares_or_not c.operator a (part_of c.arg_len c.value)) [
-      | inl met ↦ subst (IsIn code) (sym ((h.each a lt).met met)) in_yes
-      | inr not ↦ subst (IsIn code) (sym ((h.each a lt).unmet not)) in_no
-    ])
-
 plain_operator : (l : SeccompCmpArgLen) (o : SeccompCmpOp) → is_plain o ≡ true → operator_part l o ≡ o
 plain_operator l Eq plain = refl
 plain_operator l Ne plain = refl
@@ -101,20 +102,7 @@ plain_operator l (MaskedEq m) plain = absurd (cc)
 
 pub plain_cost : (l : SeccompCmpArgLen) (o : SeccompCmpOp) → is_plain o ≡ true
     → (condition_steps l o ≡ part_steps l 2) × (condition_length l o ≡ part_length l 3)
-plain_cost Dword (MaskedEq m) plain = absurd (cc)
-plain_cost Qword (MaskedEq m) plain = absurd (cc)
-plain_cost Dword Eq plain = (refl, refl)
-plain_cost Dword Ne plain = (refl, refl)
-plain_cost Dword Ge plain = (refl, refl)
-plain_cost Dword Gt plain = (refl, refl)
-plain_cost Dword Le plain = (refl, refl)
-plain_cost Dword Lt plain = (refl, refl)
-plain_cost Qword Eq plain = (refl, refl)
-plain_cost Qword Ne plain = (refl, refl)
-plain_cost Qword Ge plain = (refl, refl)
-plain_cost Qword Gt plain = (refl, refl)
-plain_cost Qword Le plain = (refl, refl)
-plain_cost Qword Lt plain = (refl, refl)
+plain_cost l o plain = rw plain (refl, refl)
 
 pub shorter_part : (l : SeccompCmpArgLen) (n m : ℕ) → n ≤ m → part_length l n ≤ part_length l m
 shorter_part Dword n m le = omega arith
@@ -136,20 +124,22 @@ chosen_one c r fit unfit t u h k = elim (holds_or_not c r) [
   | inr not ↦ h.unmet not ∙ sym (k.unmet not)
 ]
 
-pub met_by_choices : (old new : List sock_filter) (c : Condition) (fit unfit t : Target) (steps : List Step) → AreChoices c fit unfit steps
-    → IsPart old c.arg_len c.arg_index steps t new → IsConditionMet old c fit unfit t new
-met_by_choices old new c fit unfit t steps h part =
-    let cost = plain_cost c.arg_len c.operator h.plain in
-    let less = shorter_part c.arg_len (length steps) 3 h.few in
+pub met_by_steps : (old new : List sock_filter) (c : Condition) (fit unfit t : Target) (steps : List Step)
+    → AreLaid c fit (single unfit) steps → IsPart old c.arg_len c.arg_index steps t new → IsConditionMet old c fit unfit t new
+met_by_steps old new c fit unfit t steps h part =
+    let plain = h.plain in
+    let cost = plain_cost c.arg_len c.operator plain in
+    let few = begun_few (single unfit) (numbers_of c.arg_len) in
+    let less = shorter_part c.arg_len (length steps) 3 (omega (arith, h.few, few)) in
     record {
-      grows = record { front = part.grows.front; whole = part.grows.whole; few = omega (arith, part.grows.few, cost.1) };
+      grows = record { front = part.grows.front; whole = part.grows.whole; few = omega (arith, part.grows.few, cost.1, less) };
       inside = part.inside;
       leads = λ r rec u chosen w n lead.
           let x = part_of c.arg_len (argument_at r c.arg_index) in
-          let own = chosen_plain c r fit unfit (found_in steps x) h.plain (h.each x (part_fits c.arg_len r c.arg_index rec)) in
+          let own = chosen_plain c r fit unfit (found_in steps x) plain (h.each x (part_fits c.arg_len r c.arg_index rec)) in
           let same = chosen_one c r fit unfit u (found_in steps x) chosen own in
           subst (λ k. StartsAlways new r t w (n + k)) (sym cost.0)
-          (part.leads r rec w n 2 (omega (arith, h.few)) (subst (λ u. LeadsAlways old r u w n) same lead));
+          (part.leads r rec w n 2 (omega (arith, h.few, few)) (subst (λ u. LeadsAlways old r u w n) same lead));
     }
 
 -- where both targets are one, it is met at once

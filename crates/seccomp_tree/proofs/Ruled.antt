@@ -1,117 +1,174 @@
--- Rulings as a target, run by run from the last to the first.
-use Rattle.std.proofs.Common.{◌≡◌, ℕ, zero, suc, ◌+◌, ◌-◌, ◌<◌, ◌≤◌, ◌^◌, List, [], ◌∷◌, ◌++◌, length, take, drop, true, false, refl}
-use Rattle.std.proofs.Common.{sym, ap, ◌∙◌, subst, ◌⊎◌, inl, inr, Option, Some, None, arith}
-use Rattle.std.proofs.Common.{get_or, zero-add, take-append-drop}
-use Rattle.std.proofs.lemmas.List.{drop_more, drop_all, drop-drop, get_or_default}
-use Rattle.std.proofs.lemmas.Bool.{true≢false, cases_lt}
+-- Rulings as a target, from the last to the first: each is put in front of what there is behind it.
+use Rattle.std.proofs.Common.{◌≡◌, ℕ, zero, suc, ◌+◌, ◌*◌, ◌<◌, ◌≤◌, ◌^◌, List, [], ◌∷◌, length, drop, true, false, refl}
+use Rattle.std.proofs.Common.{sym, ap, ◌∙◌, subst, inl, inr, Option, Some, None, arith}
+use Rattle.std.specs.Prelude.{Bool, nat_eq, if◌then◌else◌}
+use Rattle.std.proofs.lemmas.Bool.{eqb-true, and_parts, false≢true, true≢false}
+use Rattle.std.proofs.lemmas.List.Elements.{All-nil, All-cons, All-head, All-tail}
 use Rattle.seccompiler.specs.declared.bpf.sock_filter.{sock_filter}
-use Rattle.seccompiler.specs.Machine.{IsRecord}
-use Rattle.seccompiler.specs.Policy.{Condition}
+use Rattle.seccompiler.specs.declared.backend.SeccompCmpArgLen.{SeccompCmpArgLen}
+use Rattle.seccompiler.specs.declared.backend.SeccompCmpArgLen.TheVariants.{Dword, Qword}
+use Rattle.seccompiler.specs.Machine.{IsRecord, argument_at}
+use Rattle.seccompiler.specs.Policy.{Condition, Holds, RuleHolds, part_of}
 use Rattle.seccomp_tree.specs.declared.steps.Target.{Target}
 use Rattle.seccomp_tree.specs.declared.steps.Target.TheVariants.{Give}
-use Rattle.seccomp_tree.specs.Code.{Leads, to_return, LeadsAlways}
-use Rattle.seccomp_tree.specs.Decisions.{Ruling, First, here, behind, nothing, alike, only, joins, joined, run_length, RunTakes}
-use Rattle.seccomp_tree.specs.Decisions.{length_behind, rules_length, Enters, goes_on, begins, Takes, stops, passes, ends}
-use Rattle.seccomp_tree.specs.Rules.{Chooses, chosen_here, chosen_behind, chosen_after, Joined, IsRun, IsApart, head, IsRunFrom, IsRunMet}
-use Rattle.seccomp_tree.specs.Rules.{AreRules}
+use Rattle.seccomp_tree.specs.declared.steps.Step.{Step}
+use Rattle.seccomp_tree.specs.Steps.{found_in, AreSteps, single}
+use Rattle.seccomp_tree.specs.Intervals.{numbers_of, is_plain, AreLaid}
+use Rattle.seccomp_tree.specs.Code.{Leads, LeadsAlways, to_return, AreIn, Grows}
+use Rattle.seccomp_tree.specs.Conditions.{part_length, part_steps, condition_length, condition_steps, IsPart, IsConditionMet}
+use Rattle.seccomp_tree.specs.Decisions.{Ruling, First, nothing, only, alike, same_length, joins, joined, conditions_length}
+use Rattle.seccomp_tree.specs.Decisions.{conditions_steps, rules_length, RunTakes, by_steps, by_conditions, Enters, goes_on, begins, Takes}
+use Rattle.seccomp_tree.specs.Decisions.{stops, passes, ends}
+use Rattle.seccomp_tree.specs.Rules.{IsRulingMet, AreRules, AreFit, rest_length, IsSettled, IsInFront, along, afresh, alone}
 use Rattle.seccomp_tree.proofs.Growing.{grows_not, grows_on, grown_long}
-use Rattle.seccomp_tree.proofs.Runs.{leads_more}
+use Rattle.seccomp_tree.proofs.Runs.{leads_by, leads_grown, leads_more}
+use Rattle.seccomp_tree.proofs.Begun.{begun_few, found_in_code}
+use Rattle.seccomp_tree.proofs.Choices.{numbers_many, chosen_alike, chosen_yes, chosen_no, laid_in}
+use Rattle.seccomp_tree.proofs.Deciding.{first_here, first_behind}
+use Rattle.seccomp_tree.proofs.Meeting.{holds_or_not, chosen_plain, part_fits, plain_cost}
 
--- the conditions of the last of the rulings, or these where there is none
-abbrev pub last : List Condition → List Ruling → List Condition
-last first [] = first
-last first (d ∷ rest) = last d.conditions rest
+-- ---- one ruling
 
--- ---- lists
+pub ruling_none : (old : List sock_filter) (value : ℕ) (after : Target) (conditions : List Condition) → conditions ≡ [] → value < 2 ^ 32
+    → IsRulingMet old conditions value after (Give value) old
+ruling_none old value after conditions empty fits = rw empty record {
+  grows = grows_not old 0;
+  inside = fits;
+  leads = λ r rec u chosen w n lead a small.
+      let is = chosen.met (All-nil (λ (c : Condition). Holds c r)) in
+      leads_more (n + 0) (omega arith) (subst (λ v. Leads old r v a w n) is (lead a small));
+}
 
-joined_exact : (first : List Condition) (run more : List Ruling) → Joined first run → joins (last first run) (head more) ≡ false
-    → joined first (run ++ more) ≡ length run
-joined_exact first [] [] h apart = refl
-joined_exact first [] (d ∷ more) h apart = rw apart refl
-joined_exact first (d ∷ run) more h apart = let rest = joined_exact d.conditions run more h.1 apart in rw h.0 (ap suc rest)
+pub ruling_one : (old mid new : List sock_filter) (value : ℕ) (after t u : Target) (c : Condition) (rest : List Condition)
+    → IsRulingMet old rest value after t mid → IsConditionMet mid c t after u new → IsRulingMet old (c ∷ rest) value after u new
+ruling_one old mid new value after t u c rest h one = record {
+  grows = grows_on old mid new (conditions_length rest) (condition_length c.arg_len c.operator) (conditions_length (c ∷ rest)) h.grows
+      one.grows
+      (omega arith);
+  inside = one.inside;
+  leads = λ r rec v chosen w n lead a small. leads_more (n + conditions_steps (c ∷ rest)) (omega arith) (elim (holds_or_not c r) [
+    | inl first ↦
+        let further = h.leads r rec v (chosen_alike (RuleHolds rest r) (RuleHolds (c ∷ rest) r) (Give value) after v
+        (λ others. All-cons (λ (x : Condition). Holds x r) c rest first others)
+        (λ all. All-tail (λ (x : Condition). Holds x r) c rest all) chosen) w n lead in
+        leads_more (suc (n + conditions_steps rest + condition_steps c.arg_len c.operator)) (omega arith)
+        (leads_by (one.leads r rec t (chosen_yes (Holds c r) t after first) w (n + conditions_steps rest) further a small))
+    | inr other ↦
+        let is = chosen.unmet (λ all. other (All-head (λ (x : Condition). Holds x r) c rest all)) in
+        leads_more (suc (n + conditions_steps rest + condition_steps c.arg_len c.operator)) (omega arith)
+        (leads_by (one.leads r rec after (chosen_no (Holds c r) t after other) w n
+        (λ b fits. leads_grown old mid (conditions_length rest) h.grows (subst (λ z. Leads old r z b w n) is (lead b fits))) a small))
+  ]);
+}
 
-length_joined : (first : List Condition) (run more : List Ruling) → Joined first run
-    → length_behind first (run ++ more) ≡ length_behind (last first run) more
-length_joined first [] more h = refl
-length_joined first (d ∷ run) more h =
-    rw h.0 (zero-add (length_behind d.conditions (run ++ more)) ∙ length_joined d.conditions run more h.1)
+conditions_less : (n : ℕ) (q : List Condition) → conditions_length (drop n q) ≤ conditions_length q
+conditions_less zero q = omega arith
+conditions_less (suc n) [] = omega arith
+conditions_less (suc n) (c ∷ q) = let h = conditions_less n q in omega arith
 
--- where no run goes on, rulings take as much as by themselves; and some behind others no more than all
-length_fresh : (p : List Condition) (rest : List Ruling) → joins p (head rest) ≡ false → length_behind p rest ≡ length_behind [] rest
-length_fresh p [] apart = refl
-length_fresh p (d ∷ rest) apart = rw apart refl
+-- how much room a condition takes at most, of what all take
+pub ruling_room : (old mid : List sock_filter) (value : ℕ) (after t : Target) (q : List Condition) (k : ℕ) (c : Condition) (rest : List
+    Condition)
+    → drop k q ≡ c ∷ rest → IsRulingMet old rest value after t mid → length mid + condition_length c.arg_len c.operator ≤ length old +
+    conditions_length q
+ruling_room old mid value after t q k c rest cons h =
+    let less = conditions_less k q in
+    let same : conditions_length (drop k q) ≡ condition_length c.arg_len c.operator + conditions_length rest = ap conditions_length cons in
+    let grown = grown_long old mid (conditions_length rest) h.grows in
+    omega (arith, grown.1)
 
-length_more : (first : List Condition) (front rest : List Ruling) → joins (last first front) (head rest) ≡ false
-    → length_behind [] rest ≤ length_behind first (front ++ rest)
-length_more first [] rest apart = omega (arith, length_fresh first rest apart)
-length_more first (d ∷ front) rest apart = omega (arith, length_more d.conditions front rest apart)
+-- ---- what a condition alone is
 
--- what is behind the last of some rulings
-last_part : (q : List Condition) (s n k : ℕ) (l : List Ruling) (d : Ruling) → 1 ≤ n → k + 1 ≡ s + n → k < length l
-    → last q (take n (drop s l)) ≡ (get_or l k d).conditions
-last_part q s zero k l d some at lt = absurd (omega arith)
-last_part q s (suc n) k [] d some at lt = absurd (omega arith)
-last_part q zero (suc zero) zero (x ∷ l) d some at lt = refl
-last_part q zero (suc zero) (suc k) (x ∷ l) d some at lt = absurd (omega arith)
-last_part q zero (suc (suc n)) zero (x ∷ l) d some at lt = absurd (omega arith)
-last_part q zero (suc (suc n)) (suc k) (x ∷ l) d some at lt =
-    last_part x.conditions zero (suc n) k l d (omega arith) (omega arith) (omega arith)
-last_part q (suc s) (suc n) zero (x ∷ l) d some at lt = absurd (omega arith)
-last_part q (suc s) (suc n) (suc k) (x ∷ l) d some at lt = last_part q s (suc n) k l d some (omega arith) (omega arith)
-
-head_item : (rulings : List Ruling) (n : ℕ) (d : Ruling) → n < length rulings → head (drop n rulings) ≡ (get_or rulings n d).conditions
-head_item [] n d lt = absurd (omega arith)
-head_item (x ∷ rulings) zero d lt = refl
-head_item (x ∷ rulings) (suc n) d lt = head_item rulings n d (omega arith)
-
-joins_nothing : (q : List Condition) → joins q [] ≡ false
-joins_nothing q = at (only q)
+pub only_is : (q : List Condition) (c : Condition) → only q ≡ Some c → (q ≡ c ∷ []) × (is_plain c.operator ≡ true)
+only_is [] c e = absurd (cc)
+only_is (x ∷ []) c e = plain (is_plain x.operator) refl
   where
-    at : (o : Option Condition) → alike o None ≡ false
-    at None = refl
-    at (Some c) = refl
+    plain : (b : Bool) → is_plain x.operator ≡ b → (x ∷ [] ≡ c ∷ []) × (is_plain c.operator ≡ true)
+    plain true is =
+        let same : Some x ≡ Some c = subst (λ b. (if b then Some x else None) ≡ Some c) is e in
+        let x_is : x ≡ c = cc in
+        (ap (λ (y : Condition). y ∷ []) x_is, subst (λ (y : Condition). is_plain y.operator ≡ true) x_is is)
+    plain false is = let other : None ≡ Some c = subst (λ b. (if b then Some x else None) ≡ Some c) is e in absurd (cc)
+only_is (x ∷ y ∷ q) c e = absurd (cc)
 
--- no run goes on over the end of a part
-part_apart : (q : List Condition) (rulings : List Ruling) (start end : ℕ) (d : Ruling) → start < end → end ≤ length rulings
-    → IsApart rulings end → joins (last q (take (end - start) (drop start rulings))) (head (drop end rulings)) ≡ false
-part_apart q rulings start end d some within apart = elim (cases_lt end (length rulings)) [
-  | inl lt ↦
-      let back = last_part q start (end - start) (end - 1) rulings d (omega arith) (omega arith) (omega arith) in
-      ap (λ p. joins p (head (drop end rulings))) back
-      ∙ ap (λ p. joins (get_or rulings (end - 1) d).conditions p) (head_item rulings end d lt) ∙ apart d (omega arith) lt
-  | inr le ↦ ap (λ l. joins (last q (take (end - start) (drop start rulings))) (head l)) (drop_all end rulings le)
-      ∙ joins_nothing (last q (take (end - start) (drop start rulings)))
-]
+same_length_is : (l m : SeccompCmpArgLen) → same_length l m ≡ true → l ≡ m
+same_length_is Dword Dword e = refl
+same_length_is Qword Qword e = refl
+same_length_is Dword Qword e = absurd (false≢true e)
+same_length_is Qword Dword e = absurd (false≢true e)
 
--- ---- walking through a run
+pub alike_is : (c d : Condition) → alike (Some c) (Some d) ≡ true → (c.arg_index ≡ d.arg_index) × (c.arg_len ≡ d.arg_len)
+alike_is c d e =
+    let both = and_parts (nat_eq c.arg_index d.arg_index) (same_length c.arg_len d.arg_len) e in
+    (eqb-true c.arg_index d.arg_index both.0, same_length_is c.arg_len d.arg_len both.1)
+
+only_length : (q : List Condition) (c : Condition) → only q ≡ Some c → conditions_length q ≡ part_length c.arg_len 3
+only_length q c is =
+    let own = only_is q c is in
+    ap conditions_length own.0 ∙ (let cost = plain_cost c.arg_len c.operator own.1 in omega (arith, cost.1))
+
+only_holds : (q : List Condition) (c : Condition) (r : List ℕ) → only q ≡ Some c → (Holds c r → RuleHolds q r) × (RuleHolds q r → Holds c r)
+only_holds q c r is =
+    let own = only_is q c is in (
+      λ h. subst (λ (l : List Condition). RuleHolds l r) (sym own.0) (All-cons (λ (x : Condition). Holds x r) c [] h (All-nil (λ (x :
+          Condition). Holds x r))),
+      λ h. All-head (λ (x : Condition). Holds x r) c [] (subst (λ (l : List Condition). RuleHolds l r) own.0 h),
+    )
+
+-- ---- how many steps rulings take
+
+abbrev pub head : List Ruling → List Condition
+head [] = []
+head (d ∷ rest) = d.conditions
+
+-- The steps of rulings whose run was entered.
+pub data Left (r : List ℕ) (d : Ruling) (rest : List Ruling) : ℕ → Type 0 where
+  stops_here : RuleHolds d.conditions r → Left r d rest 0
+  goes_further : (n : ℕ) → (RuleHolds d.conditions r → ⊥) → Takes r d.conditions rest n → Left r d rest n
 
 enters_joined : (first : List Condition) (d : Ruling) (rest : List Ruling) (n : ℕ) → joins first d.conditions ≡ true → Enters first d rest
     n → n ≡ 0
-enters_joined first d rest n along (goes_on e) = refl
-enters_joined first d rest n along (begins m apart takes) = absurd (true≢false (sym along ∙ apart))
+enters_joined first d rest n on (goes_on e) = refl
+enters_joined first d rest n on (begins m apart takes) = absurd (true≢false (sym on ∙ apart))
 
 enters_first : (first : List Condition) (d : Ruling) (rest : List Ruling) (n : ℕ) → joins first d.conditions ≡ false → Enters first d rest n
     → RunTakes d.conditions (1 + joined d.conditions rest) n
-enters_first first d rest n apart (goes_on along) = absurd (true≢false (sym along ∙ apart))
+enters_first first d rest n apart (goes_on on) = absurd (true≢false (sym on ∙ apart))
 enters_first first d rest n apart (begins m e takes) = takes
 
-abbrev Walked : ℕ → List ℕ → Target → List Condition → List Ruling → List Ruling → ℕ → ℕ → Type 0
-Walked default r after first run rest w n = Chooses after r run (Give w) ⊎ (Chooses after r run after × First default r rest w × Takes r
-    (last first run) rest n)
+takes_joined : (r : List ℕ) (first : List Condition) (d : Ruling) (rest : List Ruling) (n : ℕ) → joins first d.conditions ≡ true
+    → Takes r first (d ∷ rest) n → Left r d rest n
+takes_joined r first d rest n on (stops q e l m holds enters) =
+    let none = enters_joined first d rest m on enters in
+    subst (Left r d rest) (sym none) (stops_here holds)
+takes_joined r first d rest n on (passes q e l m k not enters takes) =
+    let none = enters_joined first d rest m on enters in
+    let count : k ≡ m + k = omega (arith, none) in
+    subst (Left r d rest) count (goes_further k not takes)
 
-walk : (default : ℕ) (r : List ℕ) (after : Target) (first : List Condition) (run rest : List Ruling) (w n : ℕ) → Joined first run
-    → First default r (run ++ rest) w → Takes r first (run ++ rest) n → Walked default r after first run rest w n
-walk default r after first [] rest w n h is takes = inr (chosen_after, is, takes)
-walk default r after first (d ∷ run) rest w n h (here x others holds) takes = inl (chosen_here d run holds)
-walk default r after first (d ∷ run) rest w n h (behind x others v not is) (stops p y z m holds enters) = absurd (not holds)
-walk default r after first (d ∷ run) rest w n h (behind x others v not is) (passes p y z m k apart enters takes) =
-    let none = enters_joined first d (run ++ rest) m h.0 enters in
-    let count : m + k ≡ k = omega arith in
-    elim (walk default r after d.conditions run rest w k h.1 is takes) [
-      | inl inside ↦ inl (chosen_behind d run (Give w) not inside)
-      | inr (chosen, further, more) ↦
-          inr (chosen_behind d run after not chosen, further, subst (λ (s : ℕ). Takes r (last d.conditions run) rest s) (sym count) more)
-    ]
+record IsBegun (r : List ℕ) (d : Ruling) (rest : List Ruling) (n : ℕ) : Type 0 where
+  run : ℕ
+  left : ℕ
+  takes : RunTakes d.conditions (1 + joined d.conditions rest) run
+  further : Left r d rest left
+  sum : run + left ≡ n
+
+takes_begun : (r : List ℕ) (first : List Condition) (d : Ruling) (rest : List Ruling) (n : ℕ) → joins first d.conditions ≡ false
+    → Takes r first (d ∷ rest) n → IsBegun r d rest n
+takes_begun r first d rest n apart (stops q e l m holds enters) = record {
+  run = m;
+  left = 0;
+  takes = enters_first first d rest m apart enters;
+  further = stops_here holds;
+  sum = omega arith;
+}
+takes_begun r first d rest n apart (passes q e l m k not enters takes) = record {
+  run = m;
+  left = k;
+  takes = enters_first first d rest m apart enters;
+  further = goes_further k not takes;
+  sum = refl;
+}
 
 takes_fresh : (r : List ℕ) (p : List Condition) (rest : List Ruling) (n : ℕ) → joins p (head rest) ≡ false → Takes r p rest n
     → Takes r [] rest n
@@ -121,190 +178,247 @@ takes_fresh r p (d ∷ rest) n apart (stops q e l m holds enters) = stops [] d r
 takes_fresh r p (d ∷ rest) n apart (passes q e l m k not enters takes) =
     passes [] d rest m k not (begins m refl (enters_first p d rest m apart enters)) takes
 
--- a run in front of rulings
-in_front : (old : List sock_filter) (default : ℕ) (run rest : List Ruling) (after t : Target) (mid new : List sock_filter) → IsRun run
-    → joins (last [] run) (head rest) ≡ false → IsRunMet mid run after t new → AreRules old rest default after mid
-    → (r : List ℕ) → IsRecord r → (w n : ℕ) → First default r (run ++ rest) w → Takes r [] (run ++ rest) n → LeadsAlways new r t w (n + 1)
-in_front old default [] rest after t mid new run end met further r rec w n is takes = absurd run
-in_front old default (d ∷ run) rest after t mid new joined_run end met further r rec w n is takes = go w n is takes
-  where
-    fee : (m : ℕ) → Enters [] d (run ++ rest) m → RunTakes d.conditions (length (d ∷ run)) m
-    fee m enters =
-        let exact = joined_exact d.conditions run rest joined_run end in
-        let whole : 1 + joined d.conditions (run ++ rest) ≡ length (d ∷ run) = omega (arith, exact) in
-        subst (λ j. RunTakes d.conditions j m) whole (enters_first [] d (run ++ rest) m refl enters)
+-- ---- what there is behind
 
-    inside : (w m k : ℕ) → Enters [] d (run ++ rest) m → Chooses after r (d ∷ run) (Give w) → LeadsAlways new r t w (m + k + 1)
-    inside w m k enters chosen a small =
-        leads_more (m + k + 1) (omega arith)
-        (met.leads r rec (Give w) w 1 m chosen (fee m enters) (λ b fits. to_return w b 1 (omega arith)) a small)
+-- Steps over what a condition compares, the only one of the first of the rulings, whose run is still to be entered.
+pub record ArePending (old : List sock_filter) (default : ℕ) (c : Condition) (d : Ruling) (rest : List Ruling) (steps : List Step)
+    (code : List sock_filter) : Type 0 where
+  pub own : only d.conditions ≡ Some c
+  pub before : ℕ
+  pub grows : Grows old before code
+  pub room : before + (1 + joined d.conditions rest) * part_length c.arg_len 3 ≤ rules_length (d ∷ rest)
+  pub few : length steps ≤ 2 * (1 + joined d.conditions rest) + 1
+  pub are : AreSteps (numbers_of c.arg_len) steps
+  pub inside : AreIn code steps
+  pub leads : (r : List ℕ) → IsRecord r → (w n : ℕ) → First default r (d ∷ rest) w → Left r d rest n
+      → LeadsAlways code r (found_in steps (part_of c.arg_len (argument_at r c.arg_index))) w (n + 1)
 
-    go : (w n : ℕ) → First default r (d ∷ (run ++ rest)) w → Takes r [] (d ∷ (run ++ rest)) n → LeadsAlways new r t w (n + 1)
-    go w n (here x others holds) (stops q y z m held enters) a small =
-        leads_more (m + 1) (omega arith) (inside d.value m 0 enters (chosen_here d run holds) a small)
-    go w n (here x others holds) (passes q y z m k not enters further') a small = absurd (not holds)
-    go w n (behind x others v not is) (stops q y z m holds enters) a small = absurd (not holds)
-    go w n (behind x others v not is) (passes q y z m k not' enters takes) a small =
-        elim (walk default r after d.conditions run rest w k joined_run is takes) [
-          | inl chosen ↦ inside w m k enters (chosen_behind d run (Give w) not chosen) a small
-          | inr (chosen, more, left) ↦
-              leads_more (m + k + 1) (omega arith)
-              (met.leads r rec after w (k + 1) m (chosen_behind d run after not chosen) (fee m enters)
-              (further.leads r rec w k more (takes_fresh r (last d.conditions run) rest k end left)) a small)
-        ]
+abbrev pub IsRest : List sock_filter → ℕ → List Ruling → Option Condition → List Step → List sock_filter → Type 0
+IsRest old default rulings None steps code =
+    (t : Target) × (steps ≡ single t) × (only (head rulings) ≡ None) × AreRules old rulings default t code
+IsRest old default rulings (Some c) steps code =
+    (d : Ruling) × (rest : List Ruling) × (rulings ≡ d ∷ rest) × ArePending old default c d rest steps code
 
-length_front : (run rest : List Ruling) → IsRun run → joins (last [] run) (head rest) ≡ false
-    → length_behind [] (run ++ rest) ≡ run_length (head run) (length run) + length_behind [] rest
-length_front [] rest h end = absurd h
-length_front (d ∷ run) rest h end =
-    let exact = joined_exact d.conditions run rest h end in
-    let further = length_joined d.conditions run rest h ∙ length_fresh (last d.conditions run) rest end in
-    let whole : 1 + joined d.conditions (run ++ rest) ≡ length (d ∷ run) = omega (arith, exact) in
-    let first = ap (λ n. run_length d.conditions n) whole in
-    omega (arith, first, further)
-
--- ---- the loop of `rules`
-
-pub record RulesOn (old : List sock_filter) (rulings : List Ruling) (default end : ℕ) (t : Target) (new : List sock_filter) : Type 0 where
-  pub within : end ≤ length rulings
-  pub apart : IsApart rulings end
-  pub rules : AreRules old (drop end rulings) default t new
-
-pub rules_none : (old : List sock_filter) (rulings : List Ruling) (default end : ℕ) → end ≡ length rulings → default < 2 ^ 32
-    → RulesOn old rulings default end (Give default) old
-rules_none old rulings default end all fits =
-    let empty = drop_all end rulings (omega arith) in
-    record {
-      within = omega arith;
-      apart = λ d some lt. absurd (omega arith);
-      rules = rw empty record {
-        grows = grows_not old _;
-        inside = fits;
-        leads = λ r rec w n is takes a small. given r w a n is;
-      };
-    }
+pub rest_none : (old : List sock_filter) (default : ℕ) → default < 2 ^ 32 → IsRest old default [] None (single (Give default)) old
+rest_none old default fits = (
+  Give default,
+  refl,
+  refl,
+  record {
+    grows = grows_not old 0;
+    inside = fits;
+    leads = λ r rec w n is takes a small. given r w a n is;
+  },
+)
   where
     given : (r : List ℕ) (w a n : ℕ) → First default r [] w → Leads old r (Give default) a w (n + 1)
     given r w a n nothing = to_return default a (n + 1) (omega arith)
 
-module _ (old mid : List sock_filter) (rulings : List Ruling) (default start end : ℕ) (after : Target) (d : Ruling) where
-  -- how all from the start on are cut
-  front_cut : RulesOn old rulings default end after mid → IsRunFrom rulings start end
-      → (drop start rulings ≡ take (end - start) (drop start rulings) ++ drop end rulings)
-      × (joins (last [] (take (end - start) (drop start rulings))) (head (drop end rulings)) ≡ false)
-  front_cut h from =
-      let some = from.some in
-      let at : start + (end - start) ≡ end = omega arith in (
-        sym (take-append-drop (end - start) (drop start rulings))
-            ∙ ap (λ (l : List Ruling). take (end - start) (drop start rulings) ++ l)
-            (drop-drop (end - start) start rulings ∙ ap (λ n. drop n rulings) at),
-        part_apart [] rulings start end d some h.within h.apart,
-      )
+pub rest_fit : (old : List sock_filter) (default : ℕ) (rulings : List Ruling) (like : Option Condition) (steps : List Step) (code : List
+    sock_filter)
+    → IsRest old default rulings like steps code → AreFit code like steps
+rest_fit old default rulings None steps code h = (h.0, h.1, h.3.inside)
+rest_fit old default rulings (Some c) steps code h = (h.3.are, h.3.inside)
 
-  pub rules_one : (new : List sock_filter) (t : Target) → RulesOn old rulings default end after mid → IsRunFrom rulings start end
-      → IsRunMet mid (take (end - start) (drop start rulings)) after t new → RulesOn old rulings default start t new
-  rules_one new t h from met =
-      let run = take (end - start) (drop start rulings) in
-      let rest = drop end rulings in
-      let c = front_cut h from in
-      let long = length_front run rest from.run c.1 in
-      let whole : AreRules old (run ++ rest) default t new = record {
-        grows = grows_on old mid new (length_behind [] rest) (run_length (head run) (length run)) (length_behind [] (run ++ rest))
-            h.rules.grows met.grows (omega (arith, long));
-        inside = met.inside;
-        leads = in_front old default run rest after t mid new from.run c.1 met h.rules;
-      } in
-      record {
-        within = omega (arith, h.within, from.some);
-        apart = from.begins;
-        rules = subst (λ (l : List Ruling). AreRules old l default t new) (sym c.0) whole;
-      }
+-- ---- a ruling laid over steps
 
-  -- how much room the run takes at most, of what all take
-  pub run_room : RulesOn old rulings default end after mid → IsRunFrom rulings start end
-      → length mid + run_length (head (take (end - start) (drop start rulings))) (length (take (end - start) (drop start rulings)))
-      ≤ length old + rules_length rulings
-  run_room h from =
-      let run = take (end - start) (drop start rulings) in
-      let rest = drop end rulings in
-      let c = front_cut h from in
-      let long = length_front run rest from.run c.1 in
-      let same = ap (λ (l : List Ruling). length_behind [] l) c.0 in
-      omega (arith, (grown_long old mid (length_behind [] rest) h.rules.grows).1, long, same, all)
-    where
-      all : length_behind [] (drop start rulings) ≤ rules_length rulings
-      all = elim (cases_lt 0 start) [
-        | inl some ↦
-            let z : start - 0 ≡ start = omega arith in
-            let parted = subst (λ n. joins (last [] (take n rulings)) (head (drop start rulings)) ≡ false) z
-            (part_apart [] rulings 0 start d some (omega (arith, h.within, from.some)) from.begins) in
-            let more = length_more [] (take start rulings) (drop start rulings) parted in
-            let same = ap (λ (l : List Ruling). length_behind [] l) (take-append-drop start rulings) in
-            omega (arith, more, same)
-        | inr none ↦ let z : start ≡ 0 = omega arith in rw z (omega arith)
+run_more : (l : SeccompCmpArgLen) (j : ℕ) → (1 + suc j) * part_length l 3 ≡ part_length l 3 + (1 + j) * part_length l 3
+run_more Dword j = omega arith
+run_more Qword j = omega arith
+
+run_room : (l : SeccompCmpArgLen) (n j : ℕ) → n ≤ 2 * (1 + j) + 1 → part_length l n ≤ (1 + j) * part_length l 3
+run_room Dword n j le = omega arith
+run_room Qword n j le = omega arith
+
+module _ (old code : List sock_filter) (default : ℕ) (c : Condition) (d : Ruling) (own : only d.conditions ≡ Some c)
+    (fits : d.value < 2 ^ 32) where
+  -- what is chosen where the ruling holds, and where it doesn't
+  laid_leads : (others laid : List Step) (r : List ℕ) (w n : ℕ) → IsRecord r → AreLaid c (Give d.value) others laid
+      → (RuleHolds d.conditions r → w ≡ d.value)
+      → ((RuleHolds d.conditions r → ⊥) → LeadsAlways code r (found_in others (part_of c.arg_len (argument_at r c.arg_index))) w (n + 1))
+      → LeadsAlways code r (found_in laid (part_of c.arg_len (argument_at r c.arg_index))) w (n + 1)
+  laid_leads others laid r w n rec h met unmet a small =
+      let x = part_of c.arg_len (argument_at r c.arg_index) in
+      let both = only_holds d.conditions c r own in
+      let plain = (only_is d.conditions c own).1 in
+      let own_choice = chosen_plain c r (Give d.value) (found_in others x) (found_in laid x) plain
+      (h.each x (part_fits c.arg_len r c.arg_index rec)) in
+      elim (holds_or_not c r) [
+        | inl is ↦
+            let value : Give w ≡ found_in laid x = ap Give (met (both.0 is)) ∙ sym (own_choice.met is) in
+            subst (λ u. Leads code r u a w (n + 1)) value (to_return w a (n + 1) (omega arith))
+        | inr not ↦ subst (λ u. Leads code r u a w (n + 1)) (sym (own_choice.unmet not)) (unmet (λ holds. not (both.1 holds)) a small)
       ]
 
-pub rules_all : (old new : List sock_filter) (rulings : List Ruling) (default end : ℕ) (t : Target) → end ≡ 0
-    → RulesOn old rulings default end t new
-    → AreRules old rulings default t new
-rules_all old new rulings default end t z h = let k = rw z at h.rules in k
+  pub pending_along : (like : Condition) (e : Ruling) (rest : List Ruling) (steps laid : List Step) → alike (Some c) (Some like) ≡ true
+      → ArePending old default like e rest steps code → AreLaid c (Give d.value) steps laid
+      → ArePending old default c d (e ∷ rest) laid code
+  pending_along like e rest steps laid same x h =
+      let is = alike_is c like same in
+      let joins_on : joins d.conditions e.conditions ≡ true = rw (own, x.own) same in
+      let count : joined d.conditions (e ∷ rest) ≡ suc (joined e.conditions rest) =
+      ap (λ b. if b then suc (joined e.conditions rest) else 0) joins_on in
+      let few = begun_few steps (numbers_of c.arg_len) in
+      record {
+        own = own;
+        before = x.before;
+        grows = x.grows;
+        room =
+            let more = run_more c.arg_len (joined e.conditions rest) in
+            let cost = only_length d.conditions c own in
+            let long = ap (λ l. (1 + joined e.conditions rest) * part_length l 3) is.1 in
+            rw count (omega (arith, more, cost, long, x.room));
+        few = omega (arith, h.few, few, x.few, count);
+        are = h.are;
+        inside = laid_in code c (Give d.value) steps laid h fits
+            (λ a. found_in_code code (numbers_of like.arg_len) steps (record { start = 0; target = Give 0 }) a
+            (omega (arith, numbers_many like.arg_len)) x.are x.inside);
+        leads = λ r rec w n first left.
+            laid_leads steps laid r w n rec h (λ holds. first_here d (e ∷ rest) holds first)
+            (λ not.
+            let place : part_of like.arg_len (argument_at r like.arg_index) ≡ part_of c.arg_len (argument_at r c.arg_index)
+            = ap (λ l. part_of l (argument_at r like.arg_index)) (sym is.1) ∙ ap (λ i. part_of c.arg_len (argument_at r i)) (sym is.0) in
+            subst (λ p. LeadsAlways code r (found_in steps p) w (n + 1)) place
+            (x.leads r rec w n (first_behind d (e ∷ rest) not first) (further r n joins_on not left)));
+      }
+    where
+      further : (r : List ℕ) (n : ℕ) → joins d.conditions e.conditions ≡ true → (RuleHolds d.conditions r → ⊥) → Left r d (e ∷ rest) n
+          → Left r e rest n
+      further r n on not (stops_here holds) = absurd (not holds)
+      further r n on not (goes_further m other takes) = takes_joined r d.conditions e rest m on takes
 
--- ---- where a run begins
+  pub pending_afresh : (t : Target) (rest : List Ruling) (laid : List Step) → joins d.conditions (head rest) ≡ false
+      → AreRules old rest default t code → AreLaid c (Give d.value) (single t) laid → ArePending old default c d rest laid code
+  pending_afresh t rest laid apart x h =
+      let count = alone_joined rest apart in
+      let few = begun_few (single t) (numbers_of c.arg_len) in
+      record {
+        own = own;
+        before = rules_length rest;
+        grows = x.grows;
+        room = let cost = only_length d.conditions c own in rw count (omega (arith, cost));
+        few = omega (arith, h.few, few);
+        are = h.are;
+        inside = laid_in code c (Give d.value) (single t) laid h fits (λ a. x.inside);
+        leads = λ r rec w n first left.
+            laid_leads (single t) laid r w n rec h (λ holds. first_here d rest holds first)
+            (λ not. x.leads r rec w n (first_behind d rest not first) (further r n not left));
+      }
+    where
+      alone_joined : (l : List Ruling) → joins d.conditions (head l) ≡ false → joined d.conditions l ≡ 0
+      alone_joined [] e = refl
+      alone_joined (x ∷ l) e = ap (λ b. if b then suc (joined x.conditions l) else 0) e
 
--- the loop of `run_start`
-pub record RunBack (rulings : List Ruling) (start end : ℕ) : Type 0 where
-  pub some : start < end
-  pub run : IsRun (take (end - start) (drop start rulings))
+      further : (r : List ℕ) (n : ℕ) → (RuleHolds d.conditions r → ⊥) → Left r d rest n → Takes r [] rest n
+      further r n not (stops_here holds) = absurd (not holds)
+      further r n not (goes_further m other takes) = takes_fresh r d.conditions rest m apart takes
 
-pub back_none : (rulings : List Ruling) (start end : ℕ) → end ≤ length rulings → start + 1 ≡ end → RunBack rulings start end
-back_none rulings start end within at =
-    let e : end - start ≡ 1 = omega arith in
-    record { some = omega arith; run = subst (λ n. IsRun (take n (drop start rulings))) (sym e) (one start rulings (omega arith)) }
-  where
-    one : (n : ℕ) (l : List Ruling) → n < length l → IsRun (take 1 (drop n l))
-    one zero [] lt = absurd (omega arith)
-    one (suc n) [] lt = absurd (omega arith)
-    one zero (d ∷ l) lt = tt
-    one (suc n) (d ∷ l) lt = one n l (omega arith)
+-- ---- a ruling by its conditions
 
-pub back_one : (rulings : List Ruling) (before_it start end : ℕ) (x y : Ruling) → end ≤ length rulings → before_it + 1 ≡ start
-    → x ≡ get_or rulings before_it x → y ≡ get_or rulings start y → joins x.conditions y.conditions ≡ true
-    → RunBack rulings start end → RunBack rulings before_it end
-back_one rulings before_it start end x y within at x_is y_is along h =
-    let some = h.some in
-    let e : end - before_it ≡ suc (end - start) = omega arith in
-    let n : before_it + 1 ≡ start = at in
-    let cons : drop before_it rulings ≡ x ∷ drop start rulings
-    = drop_more rulings before_it x (omega arith) ∙ ap (λ z. z ∷ drop (before_it + 1) rulings) (sym x_is) ∙ ap (λ k. x ∷ drop k rulings) n
-    in
-    let heads : head (drop start rulings) ≡ y.conditions = head_item rulings start y (omega arith) ∙ ap (λ (d : Ruling). d.conditions) (sym
-    y_is) in
-    record {
-      some = omega arith;
-      run = rw (e, cons) (longer (end - start) (drop start rulings) (omega arith)
-          (ap (λ (q : List Condition). joins x.conditions q) heads ∙ along) h.run);
-    }
-  where
-    longer : (n : ℕ) (l : List Ruling) → 1 ≤ n → joins x.conditions (head l) ≡ true → IsRun (take n l) → Joined x.conditions (take n l)
-    longer zero l some along run = absurd (omega arith)
-    longer (suc n) [] some along run = absurd run
-    longer (suc n) (d ∷ l) some along run = (along, run)
+alike_none : (o : Option Condition) → alike None o ≡ false
+alike_none o = refl
 
-pub back_all : (rulings : List Ruling) (before_it start end : ℕ) (x y : Ruling) → end ≤ length rulings → before_it + 1 ≡ start
-    → x ≡ get_or rulings before_it x → y ≡ get_or rulings start y → joins x.conditions y.conditions ≡ false
-    → RunBack rulings start end → IsRunFrom rulings start end
-back_all rulings before_it start end x y within at x_is y_is apart h = record {
-  some = h.some;
-  run = h.run;
-  begins = λ d some lt.
-      let n : start - 1 ≡ before_it = omega arith in
-      let one = ap (λ k. get_or rulings k d) n ∙ get_or_default rulings before_it d x (omega arith) ∙ sym x_is in
-      let two = get_or_default rulings start d y lt ∙ sym y_is in
-      ap (λ (z : Ruling). joins z.conditions (get_or rulings start d).conditions) one
-      ∙ ap (λ (z : Ruling). joins x.conditions z.conditions) two ∙ apart;
+rules_alone : (old mid new : List sock_filter) (default : ℕ) (d : Ruling) (rest : List Ruling) (t u : Target) → only d.conditions ≡ None
+    → AreRules old rest default t mid → IsRulingMet mid d.conditions d.value t u new → AreRules old (d ∷ rest) default u new
+rules_alone old mid new default d rest t u none x h = record {
+  grows = grows_on old mid new (rules_length rest) (conditions_length d.conditions) (rules_length (d ∷ rest)) x.grows h.grows (omega arith);
+  inside = h.inside;
+  leads = λ r rec w n first takes.
+      let b = takes_begun r [] d rest n refl takes in
+      leads r rec w n first b (by_itself b.run b.takes) b.further;
 }
+  where
+    by_itself : (m : ℕ) → RunTakes d.conditions (1 + joined d.conditions rest) m → m ≡ conditions_steps d.conditions
+    by_itself m (by_steps c k e le) = absurd (cc)
+    by_itself m (by_conditions e) = refl
 
-pub back_first : (rulings : List Ruling) (start end : ℕ) → start ≡ 0 → RunBack rulings start end → IsRunFrom rulings 0 end
-back_first rulings start end z h =
-    let k = subst (λ n. RunBack rulings n end) z h in
-    record { some = k.some; run = k.run; begins = λ d some lt. absurd (omega arith) }
+    apart : joins d.conditions (head rest) ≡ false
+    apart = ap (λ o. alike o (only (head rest))) none
+
+    leads : (r : List ℕ) → IsRecord r → (w n : ℕ) → First default r (d ∷ rest) w → (b : IsBegun r d rest n)
+        → b.run ≡ conditions_steps d.conditions → Left r d rest b.left → LeadsAlways new r u w (n + 1)
+    leads r rec w n first b run (stops_here holds) a small =
+        let value = first_here d rest holds first in
+        leads_more (n + 1) (omega (arith, b.sum, run))
+        (h.leads r rec (Give d.value) (chosen_yes (RuleHolds d.conditions r) (Give d.value) t holds) w 1
+        (subst (λ v. LeadsAlways mid r (Give v) w 1) value (λ b' fits. to_return w b' 1 (omega arith))) a small)
+    leads r rec w n first b run (goes_further m not takes) a small =
+        leads_more (n + 1) (omega (arith, b.sum, run))
+        (h.leads r rec t (chosen_no (RuleHolds d.conditions r) (Give d.value) t not) w (m + 1)
+        (x.leads r rec w m (first_behind d rest not first) (takes_fresh r d.conditions rest m apart takes)) a small)
+
+-- ---- what there is behind, as a target
+
+rules_settled : (old code new : List sock_filter) (default : ℕ) (c : Condition) (d : Ruling) (rest : List Ruling) (steps : List Step)
+    (t : Target) → ArePending old default c d rest steps code → IsPart code c.arg_len c.arg_index steps t new
+    → AreRules old (d ∷ rest) default t new
+rules_settled old code new default c d rest steps t x part = record {
+  grows = grows_on old code new x.before (part_length c.arg_len (length steps)) (rules_length (d ∷ rest)) x.grows part.grows
+      (omega (arith, x.room, run_room c.arg_len (length steps) (joined d.conditions rest) x.few));
+  inside = part.inside;
+  leads = λ r rec w n first takes. let b = takes_begun r [] d rest n refl takes in leads r rec w n first b b.run b.takes refl;
+}
+  where
+    leads : (r : List ℕ) → IsRecord r → (w n : ℕ) → First default r (d ∷ rest) w → (b : IsBegun r d rest n) → (m : ℕ)
+        → RunTakes d.conditions (1 + joined d.conditions rest) m → m ≡ b.run → LeadsAlways new r t w (n + 1)
+    leads r rec w n first b m (by_conditions e) is a small = absurd (cc)
+    leads r rec w n first b m (by_steps y k e le) is a small =
+        let same : y ≡ c = cc in
+        let cost : part_steps y.arg_len k ≡ part_steps c.arg_len k = ap (λ (z : Condition). part_steps z.arg_len k) same in
+        leads_more (n + 1) (omega (arith, b.sum, is, cost))
+        (leads_by (part.leads r rec w (b.left + 1) k (omega (arith, x.few, le)) (x.leads r rec w b.left first b.further) a small))
+
+pub settled : (old code new : List sock_filter) (default : ℕ) (rulings : List Ruling) (like : Option Condition) (steps : List Step)
+    (t : Target) → IsRest old default rulings like steps code → IsSettled code like steps t new → AreRules old rulings default t new
+settled old code new default rulings None steps t h s =
+    let same : h.0 ≡ t = ap (λ l. found_in l 0) (sym h.1 ∙ s.0) in
+    subst (λ u. AreRules old rulings default u new) same (subst (AreRules old rulings default h.0) (sym s.1) h.3)
+settled old code new default rulings (Some c) steps t h s =
+    subst (λ (l : List Ruling). AreRules old l default t new) (sym h.2) (rules_settled old code new default c h.0 h.1 steps t h.3 s)
+
+-- ---- a ruling in front
+
+rest_head : (old : List sock_filter) (default : ℕ) (rulings : List Ruling) (like : Option Condition) (steps : List Step) (code : List
+    sock_filter)
+    → IsRest old default rulings like steps code → only (head rulings) ≡ like
+rest_head old default rulings None steps code h = h.2
+rest_head old default rulings (Some c) steps code h = ap (λ (l : List Ruling). only (head l)) h.2 ∙ h.3.own
+
+pub in_front : (old code new : List sock_filter) (default : ℕ) (d : Ruling) (rulings : List Ruling) (like new_like : Option Condition)
+    (steps laid : List Step) → IsRest old default rulings like steps code
+    → IsInFront code d like steps new_like laid new → IsRest old default (d ∷ rulings) new_like laid new
+in_front old code new default d rulings None new_like steps laid h (along c own same fits over is old_is) = absurd (false≢true same)
+in_front old code new default d rulings (Some x) new_like steps laid h (along c own same fits over is old_is) =
+    rw (is, old_is, h.2) (d, h.0 ∷ h.1, refl, pending_along old code default c d own fits x h.0 h.1 steps laid same h.3 over)
+in_front old code new default d rulings like new_like steps laid h (afresh c t own apart fits s over is) =
+    let other : joins d.conditions (head rulings) ≡ false =
+    ap (λ o. alike o (only (head rulings))) own ∙ ap (λ o. alike (Some c) o) (rest_head old default rulings like steps code h) ∙ apart in
+    rw is (
+      d,
+      rulings,
+      refl,
+      pending_afresh old new default c d own fits t rulings laid other
+          (settled old code new default rulings like steps t h s) over,
+    )
+in_front old code new default d rulings like new_like steps laid h (alone t u mid none s met is_one is) =
+    rw is (
+      u,
+      is_one,
+      none,
+      rules_alone old mid new default d rulings t u none
+          (settled old code mid default rulings like steps t h s) met,
+    )
+
+-- how much room there is
+pub rest_room : (old code : List sock_filter) (default : ℕ) (rulings : List Ruling) (like : Option Condition) (steps : List Step)
+    → IsRest old default rulings like steps code → length code + rest_length like (length steps) ≤ length old + rules_length rulings
+rest_room old code default rulings None steps h = omega (arith, (grown_long old code _ h.3.grows).1)
+rest_room old code default rulings (Some c) steps h =
+    let all = ap rules_length h.2 in
+    let room = run_room c.arg_len (length steps) (joined h.0.conditions h.1) h.3.few in
+    omega (arith, (grown_long old code _ h.3.grows).1, h.3.room, room, all)
+
+pub rules_less : (n : ℕ) (rulings : List Ruling) → rules_length (drop n rulings) ≤ rules_length rulings
+rules_less zero rulings = omega arith
+rules_less (suc n) [] = omega arith
+rules_less (suc n) (d ∷ rulings) = let h = rules_less n rulings in omega arith

@@ -1,15 +1,14 @@
 -- The theorem: what is written answers every record as is decided.
 use Rattle.std.proofs.Common.{◌≡◌, ◌≢◌, ℕ, suc, zero, ◌+◌, ◌-◌, ◌*◌, ◌≤◌, ◌^◌, List, [], ◌∷◌, length, Bool, true, false, Option, Some}
-use Rattle.std.proofs.Common.{None, refl, sym, ap, ◌∙◌, subst, ◌⊎◌, inl, inr, arith}
+use Rattle.std.proofs.Common.{None, refl, sym, ap, ◌∙◌, subst, inl, inr, arith}
 use Rattle.std.proofs.Common.{nat_eq, if◌then◌else◌}
 use Rattle.std.proofs.Math.Nat.{pow-succ'}
 use Rattle.std.proofs.lemmas.Bool.Decides.{nat_tests}
 use Rattle.std.proofs.lemmas.Bool.{cases_eq}
-use Rattle.std.proofs.lemmas.List.Elements.{All-nil, All-cons, All-head, All-tail}
 use Rattle.seccompiler.specs.declared.bpf.sock_filter.{sock_filter}
 use Rattle.seccompiler.specs.Machine.{IsRecord, word_at, Does, loads}
 use Rattle.seccompiler.specs.Architecture.{audit_word}
-use Rattle.seccompiler.specs.Policy.{Condition, Holds, RuleHolds}
+use Rattle.seccompiler.specs.Policy.{Condition}
 use Rattle.seccompiler.specs.Code.{load, give}
 use Rattle.seccomp_tree.specs.declared.steps.Target.{Target}
 use Rattle.seccomp_tree.specs.declared.steps.Target.TheVariants.{Give, At}
@@ -28,7 +27,7 @@ use Rattle.seccomp_tree.proofs.Runs.{returns_more}
 use Rattle.seccomp_tree.proofs.Tails.{tail_whole}
 use Rattle.seccomp_tree.proofs.Reaching.{starts_at}
 use Rattle.seccomp_tree.proofs.Words.{word_small}
-use Rattle.seccomp_tree.proofs.Meeting.{holds_or_not}
+use Rattle.seccomp_tree.proofs.Meeting.{rule_or_not}
 use Rattle.seccomp_tree.proofs.ProgramEnds.{program_ends, sound_checked}
 
 -- ---- what there is for every record
@@ -40,16 +39,6 @@ power (suc n) = let h = power n in let two : 2 ^ suc n ≡ 2 * 2 ^ n = pow-succ'
     positive : (k : ℕ) → 1 ≤ 2 ^ k
     positive zero = omega arith
     positive (suc k) = let h = positive k in let two : 2 ^ suc k ≡ 2 * 2 ^ k = pow-succ' 2 k in omega (arith, h, two)
-
-rule_or_not : (q : List Condition) (r : List ℕ) → RuleHolds q r ⊎ (RuleHolds q r → ⊥)
-rule_or_not [] r = inl (All-nil (λ (c : Condition). Holds c r))
-rule_or_not (c ∷ q) r = elim (holds_or_not c r) [
-  | inl h ↦ elim (rule_or_not q r) [
-    | inl g ↦ inl (All-cons (λ (x : Condition). Holds x r) c q h g)
-    | inr not ↦ inr (λ all. not (All-tail (λ (x : Condition). Holds x r) c q all))
-  ]
-  | inr not ↦ inr (λ all. not (All-head (λ (x : Condition). Holds x r) c q all))
-]
 
 first_some : (default : ℕ) (r : List ℕ) (rulings : List Ruling) → (w : ℕ) × First default r rulings w
 first_some default r [] = (default, nothing)

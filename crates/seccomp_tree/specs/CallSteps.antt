@@ -6,7 +6,7 @@ use Rattle.seccomp_tree.specs.declared.steps.Target.{Target}
 use Rattle.seccomp_tree.specs.declared.steps.Target.TheVariants.{Give, At}
 use Rattle.seccomp_tree.specs.declared.steps.Step.{Step}
 use Rattle.seccomp_tree.specs.declared.decisions.DefaultValue.{DefaultValue}
-use Rattle.seccomp_tree.specs.Steps.{found_in, AreSteps, AreTight}
+use Rattle.seccomp_tree.specs.Steps.{found_in, AreSteps}
 use Rattle.seccomp_tree.specs.Code.{IsIn, IsTested, Grows, LeadsAlways, StartsAlways}
 use Rattle.seccomp_tree.specs.Decisions.{Ruling, First, Takes, rules_length}
 use Rattle.seccomp_tree.specs.Decided.{DecisionSet, default_for, rulings_for}
@@ -40,12 +40,10 @@ pub record IsRangePushed (old others : List Step) (start end : ℕ) (new : List 
   pub are : AreSteps end new
   pub inside : (n : ℕ) → start ≤ n → n < end → found_in new n ≡ found_in others n
   pub below : (n : ℕ) → n < start → found_in new n ≡ found_in old n
-  pub tight : AreTight old → AreTight new
 
 -- The steps over the numbers below one answer each of them.
 pub record AreAnswers (d : DecisionSet) (next : ℕ) (code : List sock_filter) (steps : List Step) : Type 0 where
   pub are : AreSteps next steps
-  pub tight : AreTight steps
   pub each : (n : ℕ) → n < next → IsAnswer code (default_for d.defaults n) (rulings_for d.calls n) (found_in steps n)
 
 -- The numbers from one up to another have no rulings.

@@ -1,16 +1,15 @@
 -- Conditions as targets: where one holds, the one target; else the other.
-use Rattle.std.specs.Prelude.{◌≡◌, ℕ, ◌+◌, ◌-◌, ◌*◌, ◌≤◌, ◌^◌, List, length, bit_and}
+use Rattle.std.specs.Prelude.{◌≡◌, ℕ, ◌+◌, ◌-◌, ◌*◌, ◌≤◌, ◌^◌, List, length, bit_and, if◌then◌else◌}
 use Rattle.seccompiler.specs.declared.bpf.sock_filter.{sock_filter}
 use Rattle.seccompiler.specs.declared.backend.SeccompCmpArgLen.{SeccompCmpArgLen}
 use Rattle.seccompiler.specs.declared.backend.SeccompCmpArgLen.TheVariants.{Dword, Qword}
 use Rattle.seccompiler.specs.declared.backend.SeccompCmpOp.{SeccompCmpOp}
-use Rattle.seccompiler.specs.declared.backend.SeccompCmpOp.TheVariants.{MaskedEq}
 use Rattle.seccompiler.specs.Machine.{IsRecord, word_at, argument_at}
 use Rattle.seccompiler.specs.Policy.{Condition, Holds, part_of}
 use Rattle.seccomp_tree.specs.declared.steps.Target.{Target}
 use Rattle.seccomp_tree.specs.declared.steps.Step.{Step}
 use Rattle.seccomp_tree.specs.Steps.{found_in}
-use Rattle.seccomp_tree.specs.Intervals.{IsChosen}
+use Rattle.seccomp_tree.specs.Intervals.{IsChosen, is_plain}
 use Rattle.seccomp_tree.specs.Code.{IsIn, Grows, LeadsAlways, StartsAlways}
 
 -- ---- what a promise counts
@@ -26,16 +25,20 @@ part_steps Dword k = 1 + 2 * k
 part_steps Qword k = 5 + 4 * k
 
 -- How many instructions a condition takes at most. It has three steps, or it has masks.
+abbrev pub mask_length : SeccompCmpArgLen → ℕ
+mask_length Dword = 5
+mask_length Qword = 10
+
 abbrev pub condition_length : SeccompCmpArgLen → SeccompCmpOp → ℕ
-condition_length Dword (MaskedEq m) = 5
-condition_length Qword (MaskedEq m) = 10
-condition_length l _ = part_length l 3
+condition_length l o = if is_plain o then part_length l 3 else mask_length l
 
 -- How many steps of the machine a condition takes at most.
+abbrev pub mask_steps : SeccompCmpArgLen → ℕ
+mask_steps Dword = 3
+mask_steps Qword = 7
+
 abbrev pub condition_steps : SeccompCmpArgLen → SeccompCmpOp → ℕ
-condition_steps Dword (MaskedEq m) = 3
-condition_steps Qword (MaskedEq m) = 7
-condition_steps l _ = part_steps l 2
+condition_steps l o = if is_plain o then part_steps l 2 else mask_steps l
 
 -- ---- between private functions
 

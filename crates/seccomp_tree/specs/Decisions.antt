@@ -5,7 +5,7 @@ use Rattle.seccompiler.specs.declared.backend.SeccompCmpArgLen.{SeccompCmpArgLen
 use Rattle.seccompiler.specs.declared.backend.SeccompCmpArgLen.TheVariants.{Dword, Qword}
 use Rattle.seccompiler.specs.Policy.{Condition, RuleHolds}
 use Rattle.seccomp_tree.specs.Intervals.{is_plain}
-use Rattle.seccomp_tree.specs.Conditions.{part_length, part_steps, condition_length, condition_steps}
+use Rattle.seccomp_tree.specs.Conditions.{part_steps, condition_length, condition_steps}
 
 -- Conditions, and the word that is returned where they all hold.
 pub record Ruling : Type 0 where
@@ -61,24 +61,10 @@ abbrev pub conditions_steps : List Condition → ℕ
 conditions_steps [] = 0
 conditions_steps (c ∷ conditions) = condition_steps c.arg_len c.operator + 1 + conditions_steps conditions
 
--- How many instructions a run takes at most that begins with these conditions, by how many rulings it has.
-abbrev pub run_length_by : Option Condition → List Condition → ℕ → ℕ
-run_length_by None conditions n = conditions_length conditions
-run_length_by (Some c) conditions n = part_length c.arg_len (2 * n + 1)
-
-abbrev pub run_length : List Condition → ℕ → ℕ
-run_length conditions n = run_length_by (only conditions) conditions n
-
--- How many instructions rulings take at most that stand behind one with these conditions: the length of each run, counted
--- where it begins.
-abbrev pub length_behind : List Condition → List Ruling → ℕ
-length_behind first [] = 0
-length_behind first (d ∷ rest) = (if joins first d.conditions then 0 else run_length d.conditions (1 + joined d.conditions rest))
-    + length_behind d.conditions rest
-
--- How many instructions rulings take at most.
+-- How many instructions rulings take at most: those of all their conditions.
 abbrev pub rules_length : List Ruling → ℕ
-rules_length rulings = length_behind [] rulings
+rules_length [] = 0
+rules_length (d ∷ rest) = conditions_length d.conditions + rules_length rest
 
 -- How many steps a run takes at most, a jump behind it: with n rulings it has at most 2 * n + 1 steps over numbers.
 pub data RunTakes (conditions : List Condition) (n : ℕ) : ℕ → Type 0 where

@@ -14,6 +14,10 @@ abbrev pub found_in : List Step → ℕ → Target
 found_in [] a = Give 0
 found_in (x ∷ steps) a = found_from x.target steps a
 
+-- One target for all numbers.
+abbrev pub single : Target → List Step
+single target = record { start = 0; target = target } ∷ []
+
 -- The steps start at a number or above it and below the size, each above the one before it.
 abbrev pub AscendFrom : ℕ → ℕ → List Step → Type 0
 AscendFrom size start [] = ⊤
@@ -24,19 +28,7 @@ abbrev pub StartsAtZero : List Step → Type 0
 StartsAtZero [] = ⊥
 StartsAtZero (x ∷ steps) = x.start ≡ 0
 
--- Steps over all numbers below the size; none where it is 0.
-pub record AreSteps (size : ℕ) (steps : List Step) : Type 0 where
-  pub first : 0 < size → StartsAtZero steps
-  pub ascend : AscendFrom size 0 steps
-
--- How many of the steps start below a number.
-abbrev pub begun : List Step → ℕ → ℕ
-begun [] number = 0
-begun (x ∷ steps) number = if nat_lt x.start number then 1 + begun steps number else 0
-
--- ---- between private functions
-
--- No two neighbours of steps have one target, the first of which stands behind this one.
+-- No two neighbours have one target, and the first has another than this.
 abbrev pub TightFrom : Target → List Step → Type 0
 TightFrom target [] = ⊤
 TightFrom target (x ∷ steps) = (target ≢ x.target) × TightFrom x.target steps
@@ -44,6 +36,19 @@ TightFrom target (x ∷ steps) = (target ≢ x.target) × TightFrom x.target ste
 abbrev pub AreTight : List Step → Type 0
 AreTight [] = ⊤
 AreTight (x ∷ steps) = TightFrom x.target steps
+
+-- Steps over all numbers below the size, none where it is 0; no two neighbours have one target.
+pub record AreSteps (size : ℕ) (steps : List Step) : Type 0 where
+  pub first : 0 < size → StartsAtZero steps
+  pub ascend : AscendFrom size 0 steps
+  pub tight : AreTight steps
+
+-- How many of the steps start below a number.
+abbrev pub begun : List Step → ℕ → ℕ
+begun [] number = 0
+begun (x ∷ steps) number = if nat_lt x.start number then 1 + begun steps number else 0
+
+-- ---- between private functions
 
 -- From start on the steps have this target, and below what they had.
 pub record IsPushed (old : List Step) (start : ℕ) (target : Target) (new : List Step) : Type 0 where
@@ -57,5 +62,4 @@ pub record IsPartPushed (old others : List Step) (first last base : ℕ) (new : 
   pub are : AreSteps (last + 1 - base) new
   pub inside : (a : ℕ) → first ≤ base + a → base + a ≤ last → found_in new a ≡ found_in others (base + a)
   pub below : (a : ℕ) → base + a < first → found_in new a ≡ found_in old a
-  pub tight : AreTight old → AreTight new
   pub few : length new + begun others (first + 1) ≤ length old + 1 + begun others (last + 1)

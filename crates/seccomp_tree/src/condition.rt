@@ -9,8 +9,8 @@ ghost use Rattle.seccomp_tree.specs.Conditions.{IsConditionMet, IsMasked, IsPart
 
 use crate::code::{Code, Test};
 use crate::error::TreeError;
-use crate::intervals::choices;
-use crate::steps::{Step, Target};
+use crate::intervals::laid;
+use crate::steps::{Step, Target, one};
 use seccompiler::bpf::{LOAD, MASK, bpf_stmt};
 use seccompiler::{SeccompCmpArgLen, SeccompCmpOp, SeccompCondition};
 use std::alloc::Global;
@@ -42,7 +42,8 @@ impl Code {
         if let SeccompCmpOp::MaskedEq(mask) = condition.operator() {
             return self.masked_condition(condition, mask, yes, no);
         }
-        let steps = choices(alloc, condition, yes, no)?;
+        let no = one(alloc, no)?;
+        let steps = laid(alloc, condition, yes, &no)?;
         self.part(alloc, condition.arg_len(), condition.arg_index(), &steps)
     }
 

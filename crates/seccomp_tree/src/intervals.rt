@@ -1,9 +1,9 @@
 // Comparisons as steps: for each number what is so where a condition holds on it, and what is so elsewhere.
 
-ghost use Rattle.std.specs.Prelude.{◌≡◌, ◌≤◌, ◌<◌, ◌+◌, ◌^◌, ◌↔◌, IsTrue, IfOk, IsOkUnless, length, true};
+ghost use Rattle.std.specs.Prelude.{◌≡◌, ◌≤◌, ◌<◌, ◌+◌, ◌^◌, ◌↔◌, IsTrue, IfOk, IsOkUnless, true};
 ghost use Rattle.seccompiler.specs.Policy.{Compares, part_of};
 ghost use Rattle.seccomp_tree.specs.Steps.{AreSteps};
-ghost use Rattle.seccomp_tree.specs.Intervals.{AreChoices, AreMerged, AreTwo, IsChosen, IsOverPushed, behind, is_plain, numbers_of, starts_or};
+ghost use Rattle.seccomp_tree.specs.Intervals.{AreLaid, AreLaidTo, IsOverPushed, IsSide, is_plain, numbers_of};
 ghost use Rattle.seccomp_tree.specs.declared.error.TreeError.TheVariants.{OutOfMemory};
 
 use crate::error::TreeError;
@@ -11,49 +11,73 @@ use crate::steps::{Step, Target, push_part, push_step};
 use seccompiler::{SeccompCmpArgLen, SeccompCmpOp, SeccompCondition};
 use std::alloc::Global;
 
-/// The target of steps for what further steps decide. It is no place of any code.
-pub(crate) const BEHIND: Target = Target::At(0xffff_ffff_ffff_ffff);
-
-/// Steps that have the one target where the condition's comparison holds, and else the other.
+/// Steps that have the target where the condition's comparison holds, and else what others have.
 ///
 /// # Errors
 ///
 /// `OutOfMemory` where memory runs out.
-pub(crate) fn choices(
+pub(crate) fn laid(
     alloc: Global,
     condition: &SeccompCondition,
-    yes: Target,
-    no: Target,
+    target: Target,
+    others: &[Step],
 ) -> Result<Vec<Step>, TreeError>
     requires plain { is_plain condition.now.operator ≡ true }
-    ensures ok { IfOk result (λ steps. AreChoices condition.now yes no steps.items) }
+    requires others { AreSteps (numbers_of condition.now.arg_len) others.now }
+    ensures ok { IfOk result (λ steps. AreLaid condition.now target others.now steps.items) }
     ensures memory { IsOkUnless result OutOfMemory }
 {
-    let (operator, value) = (condition.operator(), value_part(condition));
-    let first = side(operator, 0, value, yes, no);
-    if value == 0 {
-        return two(alloc, first, 1, side(operator, 1, value, yes, no));
-    }
-    let mut steps = two(alloc, first, value, side(operator, value, value, yes, no))?;
-    if value == greatest(condition.arg_len()) {
+    let (value, greatest) = (value_part(condition), greatest(condition.arg_len()));
+    let mut steps = laid_below(alloc, condition, target, others)?;
+    push_over(
+        &mut steps,
+        others,
+        value,
+        value,
+        side(condition, value, target),
+    )?;
+    if value == greatest {
         return Ok(steps);
     }
-    push_step(
+    push_over(
         &mut steps,
+        others,
         value + 1,
-        side(operator, value + 1, value, yes, no),
+        greatest,
+        side(condition, value + 1, target),
     )?;
     Ok(steps)
 }
 
-// The target for a number that is compared with the value.
-fn side(operator: SeccompCmpOp, number: u64, value: u64, yes: Target, no: Target) -> Target
-    ensures { IsChosen (Compares operator number value) yes no result }
+// The same for the numbers below the condition's value.
+fn laid_below(
+    alloc: Global,
+    condition: &SeccompCondition,
+    target: Target,
+    others: &[Step],
+) -> Result<Vec<Step>, TreeError>
+    requires plain { is_plain condition.now.operator ≡ true }
+    requires others { AreSteps (numbers_of condition.now.arg_len) others.now }
+    ensures ok { IfOk result (λ steps. AreLaidTo condition.now target others.now (part_of condition.now.arg_len condition.now.value) 0 steps.items) }
+    ensures memory { IsOkUnless result OutOfMemory }
 {
-    if compares(operator, number, value) {
-        yes
+    let mut steps = Vec::new(alloc);
+    let value = value_part(condition);
+    if value == 0 {
+        return Ok(steps);
+    }
+    push_over(&mut steps, others, 0, value - 1, side(condition, 0, target))?;
+    Ok(steps)
+}
+
+// The target, if the condition's comparison holds on the number.
+fn side(condition: &SeccompCondition, number: u64, target: Target) -> Option<Target>
+    ensures { IsSide (Compares condition.now.operator number (part_of condition.now.arg_len condition.now.value)) target result }
+{
+    if compares(condition.operator(), number, value_part(condition)) {
+        Some(target)
     } else {
-        no
+        None
     }
 }
 
@@ -72,72 +96,24 @@ fn compares(operator: SeccompCmpOp, number: u64, value: u64) -> bool
     }
 }
 
-// One target for the numbers below the start, and another from there on.
-fn two(alloc: Global, low: Target, start: u64, high: Target) -> Result<Vec<Step>, TreeError>
-    requires { 1 ≤ start }
-    ensures ok { IfOk result (λ steps. AreTwo low start high steps.items) }
-    ensures memory { IsOkUnless result OutOfMemory }
-{
-    let mut steps = Vec::new(alloc);
-    push_step(&mut steps, 0, low)?;
-    push_step(&mut steps, start, high)?;
-    Ok(steps)
-}
-
-/// What the front has for each number up to the greatest, and what the back has where that is `BEHIND`.
-///
-/// # Errors
-///
-/// `OutOfMemory` where memory runs out.
-pub(crate) fn merged(
-    alloc: Global,
-    front: &[Step],
-    back: &[Step],
-    greatest: u64,
-) -> Result<Vec<Step>, TreeError>
-    requires front { AreSteps (greatest + 1) front.now }
-    requires back { AreSteps (greatest + 1) back.now }
-    ensures ok { IfOk result (λ steps. AreMerged (greatest + 1) front.now back.now steps.items) }
-    ensures memory { IsOkUnless result OutOfMemory }
-{
-    let mut steps = Vec::new(alloc);
-    for i in 0..front.len() {
-        let last = last_of(front, i, greatest);
-        push_over(&mut steps, front[i].start, last, front[i].target, back)?;
-    }
-    Ok(steps)
-}
-
-// The last number that a step decides.
-fn last_of(steps: &[Step], i: usize, greatest: u64) -> u64
-    requires are { AreSteps (greatest + 1) steps.now }
-    requires inside { i < length steps.now }
-    ensures { result + 1 ≡ starts_or steps.now (i + 1) (greatest + 1) }
-{
-    if i + 1 == steps.len() {
-        return greatest;
-    }
-    steps[i + 1].start - 1
-}
-
-// Gives the numbers from `first` to `last` this target, or what there is at the back where it is `BEHIND`.
+// Gives the numbers from `first` to `last` this target, or what others have where there is none.
 fn push_over(
     steps: &mut Vec<Step>,
+    others: &[Step],
     first: u64,
     last: u64,
-    target: Target,
-    back: &[Step],
+    target: Option<Target>,
 ) -> Result<(), TreeError>
-    requires back { AreSteps (2 ^ 64) back.now }
+    requires others { AreSteps (2 ^ 64) others.now }
     requires order { first ≤ last }
     requires below { AreSteps first steps.old.items }
-    ensures pushed { IfOk result (λ _. IsOverPushed steps.old.items first last target back.now steps.new.items) }
+    ensures pushed { IfOk result (λ _. IsOverPushed steps.old.items others.now first last target steps.new.items) }
     ensures memory { IsOkUnless result OutOfMemory }
 {
-    if target.is(BEHIND) {
-        return push_part(steps, back, first, last, 0);
+    match target {
+        Some(target) => push_step(steps, first, target),
+        None => push_part(steps, others, first, last, 0),
     }
-    push_step(steps, first, target)
 }
 
 /// The greatest number of a length.

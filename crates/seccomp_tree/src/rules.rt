@@ -1,18 +1,30 @@
 // Rulings as a target: what the first that holds says.
 
-ghost use Rattle.std.specs.Prelude.{◌≡◌, ◌≤◌, ◌<◌, IfOk, IfErr, IsOkUnless, length};
+ghost use Rattle.std.specs.Prelude.{◌≡◌, ◌<◌, ◌+◌, IfOk, IfErr, Some, length, true};
+ghost use Rattle.seccompiler.specs.Machine.{greatest_length};
+ghost use Rattle.seccomp_tree.specs.Steps.{AreSteps};
 ghost use Rattle.seccomp_tree.specs.Code.{IsFullBy, IsIn};
-ghost use Rattle.seccomp_tree.specs.Decisions.{joins, only, rules_length, run_length, conditions_length, same_length};
-ghost use Rattle.seccomp_tree.specs.Rules.{AreLike, AreRules, AreRunSteps, IsRulingMet, IsRun, IsRunFrom, IsRunMet, head};
-ghost use Rattle.seccomp_tree.specs.declared.error.TreeError.TheVariants.{OutOfMemory};
+ghost use Rattle.seccomp_tree.specs.Intervals.{AreLaid, is_plain, numbers_of};
+ghost use Rattle.seccomp_tree.specs.Decisions.{alike, only, rules_length, conditions_length, same_length};
+ghost use Rattle.seccomp_tree.specs.Rules.{AreFit, AreRules, IsInFront, IsRulingMet, IsSettled, rest_length};
+ghost use Rattle.seccomp_tree.specs.declared.steps.Target.TheVariants.{Give};
+ghost use Rattle.seccomp_tree.specs.declared.error.TreeError.TheVariants.{TooLarge};
 
 use crate::code::Code;
 use crate::decisions::Decision;
 use crate::error::TreeError;
-use crate::intervals::{BEHIND, choices, greatest, merged};
-use crate::steps::{Step, Target};
+use crate::intervals::laid;
+use crate::steps::{Step, Target, one};
+use seccompiler::bpf::BPF_MAX_LEN;
 use seccompiler::{SeccompCmpArgLen, SeccompCmpOp, SeccompCondition};
 use std::alloc::Global;
+
+/// What there is behind some rulings: steps over what a condition compares, or one target for all records, where there is none.
+#[derive(Drop)]
+struct Rest {
+    like: Option<SeccompCondition>,
+    steps: Vec<Step>,
+}
 
 impl Code {
     /// Goes on as the first of the rulings that holds says, or returns the default; whatever the accumulator holds.
@@ -29,40 +41,61 @@ impl Code {
         ensures ok { IfOk result (λ t. AreRules self.old rulings.now default t self.new) }
         ensures err { IfErr result (IsFullBy self.old (rules_length rulings.now)) }
     {
-        let mut target = Target::Give(default);
-        let mut end = rulings.len();
-        while end > 0 {
-            let start = run_start(rulings, end);
-            target = self.run(alloc, &rulings[start..end], target)?;
-            end = start;
+        let steps = one(alloc, Target::Give(default))?;
+        let mut rest = Rest { like: None, steps };
+        let mut left = rulings.len();
+        while left > 0 {
+            left -= 1;
+            rest = self.ruling(alloc, &rulings[left], rest)?;
         }
-        Ok(target)
+        self.settle(alloc, &rest)
     }
 
-    // Goes on as the first of the run's rulings that holds says, or as there is behind them.
-    fn run(
-        &mut self,
-        alloc: Global,
-        rulings: &[Decision],
-        after: Target,
-    ) -> Result<Target, TreeError>
-        requires run { IsRun rulings.now }
-        requires after { IsIn self.old after }
-        ensures ok { IfOk result (λ t. IsRunMet self.old rulings.now after t self.new) }
-        ensures err { IfErr result (IsFullBy self.old (run_length (head rulings.now) (length rulings.now))) }
+    // Puts a ruling in front of the rest. One that compares what the rest does is laid over its steps.
+    fn ruling(&mut self, alloc: Global, ruling: &Decision, rest: Rest) -> Result<Rest, TreeError>
+        requires fit { AreFit self.old rest.like rest.steps.items }
+        ensures ok { IfOk result (λ new. IsInFront self.old ruling.now rest.like rest.steps.items new.like new.steps.items self.new) }
+        ensures err { IfErr result (IsFullBy self.old (rest_length rest.like (length rest.steps.items) + conditions_length ruling.now.conditions)) }
     {
-        let first = &rulings[0];
-        match only(&first.conditions) {
+        match only(&ruling.conditions) {
             Some(condition) => {
-                let steps = run_steps(alloc, &condition, rulings, after)?;
-                self.part(alloc, condition.arg_len(), condition.arg_index(), &steps)
+                if is_alike(&condition, rest.like) {
+                    return laid_rest(alloc, condition, ruling.value, &rest.steps);
+                }
+                let after = self.settle(alloc, &rest)?;
+                let others = one(alloc, after)?;
+                laid_rest(alloc, condition, ruling.value, &others)
             }
-            None => self.ruling(alloc, first, after),
+            None => {
+                let behind = self.settle(alloc, &rest)?;
+                let target = self.conditions(alloc, ruling, behind)?;
+                let steps = one(alloc, target)?;
+                Ok(Rest { like: None, steps })
+            }
+        }
+    }
+
+    // Goes on as the rest says.
+    fn settle(&mut self, alloc: Global, rest: &Rest) -> Result<Target, TreeError>
+        requires fit { AreFit self.old rest.now.like rest.now.steps.items }
+        ensures ok { IfOk result (λ t. IsSettled self.old rest.now.like rest.now.steps.items t self.new) }
+        ensures err { IfErr result (IsFullBy self.old (rest_length rest.now.like (length rest.now.steps.items))) }
+    {
+        match rest.like {
+            Some(condition) => {
+                self.part(
+                    alloc,
+                    condition.arg_len(),
+                    condition.arg_index(),
+                    &rest.steps,
+                )
+            }
+            None => Ok(rest.steps[0].target),
         }
     }
 
     // Goes on as the ruling says where all its conditions hold: the last of them first, since code is written from its end.
-    fn ruling(
+    fn conditions(
         &mut self,
         alloc: Global,
         ruling: &Decision,
@@ -82,60 +115,38 @@ impl Code {
     }
 }
 
-// Steps that have for a number the target of the first of the rulings that holds on it: those of each half, merged.
-fn run_steps(
+// The condition laid over steps, which return its value where it holds. (A program has fewer tests than so many steps need.)
+fn laid_rest(
     alloc: Global,
-    condition: &SeccompCondition,
-    rulings: &[Decision],
-    after: Target,
-) -> Result<Vec<Step>, TreeError>
-    requires some { 1 ≤ length rulings.now }
-    requires run { AreLike condition.now rulings.now }
-    ensures ok { IfOk result (λ steps. AreRunSteps condition.now rulings.now after steps.items) }
-    ensures memory { IsOkUnless result OutOfMemory }
+    condition: SeccompCondition,
+    value: u32,
+    others: &[Step],
+) -> Result<Rest, TreeError>
+    requires plain { is_plain condition.operator ≡ true }
+    requires others { AreSteps (numbers_of condition.arg_len) others.now }
+    ensures ok { IfOk result (λ rest. (rest.like ≡ Some condition) × AreLaid condition (Give value) others.now rest.steps.items) }
+    ensures err { IfErr result (λ e. e ≡ TooLarge → greatest_length < length others.now + 2) }
 {
-    if rulings.len() == 1 {
-        let ruling = &rulings[0];
-        return choices(
-            alloc,
-            &ruling.conditions[0],
-            Target::Give(ruling.value),
-            after,
-        );
+    let steps = laid(alloc, &condition, Target::Give(value), others)?;
+    if steps.len() > BPF_MAX_LEN {
+        return Err(TreeError::TooLarge);
     }
-    let (front, back) = rulings.split_at(rulings.len() / 2);
-    let front = run_steps(alloc, condition, front, BEHIND)?;
-    let back = run_steps(alloc, condition, back, after)?;
-    merged(alloc, &front, &back, greatest(condition.arg_len()))
+    Ok(Rest {
+        like: Some(condition),
+        steps,
+    })
 }
 
-// Where the run begins that ends here.
-fn run_start(rulings: &[Decision], end: usize) -> usize
-    requires some { 1 ≤ end }
-    requires within { end ≤ length rulings.now }
-    ensures { IsRunFrom rulings.now result end }
+// Whether the condition compares what the other does.
+fn is_alike(condition: &SeccompCondition, other: Option<SeccompCondition>) -> bool
+    ensures { result ≡ alike (Some condition.now) other }
 {
-    let mut start = end - 1;
-    while start > 0 {
-        let (first, second) = (&rulings[start - 1], &rulings[start]);
-        if !joins(&first.conditions, &second.conditions) {
-            return start;
+    match other {
+        Some(other) => {
+            condition.arg_index() == other.arg_index()
+                && is_same_length(condition.arg_len(), other.arg_len())
         }
-        start -= 1;
-    }
-    0
-}
-
-// Whether a ruling with the second conditions is of one run with a ruling in front of it that has the first.
-fn joins(first: &[SeccompCondition], second: &[SeccompCondition]) -> bool
-    ensures { result ≡ joins first.now second.now }
-{
-    match (only(first), only(second)) {
-        (Some(first), Some(second)) => {
-            first.arg_index() == second.arg_index()
-                && is_same_length(first.arg_len(), second.arg_len())
-        }
-        _ => false,
+        None => false,
     }
 }
 

@@ -1,10 +1,11 @@
 // What is looked up by a number: steps, each from its start up to the next one's.
 
 ghost use Rattle.std.specs.Prelude.{◌≡◌, ◌≤◌, ◌+◌, ◌-◌, ◌^◌, ◌↔◌, IsTrue, IfOk, IsOkUnless, length};
-ghost use Rattle.seccomp_tree.specs.Steps.{AreSteps, AreTight, IsPartPushed, IsPushed, begun, found_in};
+ghost use Rattle.seccomp_tree.specs.Steps.{AreSteps, IsPartPushed, IsPushed, begun, found_in, single};
 ghost use Rattle.seccomp_tree.specs.declared.error.TreeError.TheVariants.{OutOfMemory};
 
 use crate::error::TreeError;
+use std::alloc::Global;
 
 /// What a program does next.
 #[derive(Clone, Copy, Debug, PartialEq, Eq)]
@@ -35,6 +36,18 @@ pub(crate) struct Step {
     pub(crate) target: Target,
 }
 
+/// One target for all numbers.
+///
+/// # Errors
+///
+/// `OutOfMemory` where memory runs out.
+pub(crate) fn one(alloc: Global, target: Target) -> Result<Vec<Step>, TreeError>
+    ensures ok { IfOk result (λ steps. steps.items ≡ single target) }
+    ensures memory { IsOkUnless result OutOfMemory }
+{
+    Ok(vec![in alloc; Step { start: 0, target }]?)
+}
+
 /// Gives the numbers from `start` on this target. The steps are over the numbers below `start`.
 ///
 /// # Errors
@@ -43,7 +56,6 @@ pub(crate) struct Step {
 pub(crate) fn push_step(steps: &mut Vec<Step>, start: u64, target: Target) -> Result<(), TreeError>
     requires below { AreSteps start steps.old.items }
     ensures pushed { IfOk result (λ _. IsPushed steps.old.items start target steps.new.items) }
-    ensures tight { IfOk result (λ _. AreTight steps.old.items → AreTight steps.new.items) }
     ensures memory { IsOkUnless result OutOfMemory }
 {
     // Neighbours with one target are one step.

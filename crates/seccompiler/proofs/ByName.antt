@@ -19,7 +19,7 @@ use Rattle.std.proofs.lemmas.Map.Made.{update_all_none}
 use Rattle.std.proofs.lemmas.Map.Text.{is_eq-slice_cmp, text_cmp}
 use Rattle.std.proofs.lemmas.Map.Views.{lookup-from_Contains}
 use Rattle.std.proofs.lemmas.Slice.Eq.{bytes_eq-Decides}
-use Rattle.seccompiler.specs.JsonFilters.{IsBelow}
+use Rattle.seccompiler.specs.SyscallTable.{ComesBefore}
 
 -- Values, each with its name.
 abbrev pub ByName : Type 0 → Type 0
@@ -70,10 +70,10 @@ module _ {X : Type 0} where
 
   -- What is found under a name below another stands in front of that one.
   pub found_in_front : (front : ByName X) (e : String Global × X) (back : ByName X) → AreInOrder (front ++ e ∷ back)
-      → (q : List ℕ) (x : X) → under (front ++ e ∷ back) q ≡ Some x → IsBelow q (string_bytes e.0) → under front q ≡ Some x
+      → (q : List ℕ) (x : X) → under (front ++ e ∷ back) q ≡ Some x → ComesBefore q (string_bytes e.0) → under front q ≡ Some x
   found_in_front front e back h q x there less =
       let key = key_of q (front ++ e ∷ back) x there in
-      let below : string_cmp key.0 e.0 ≡ Less = subst (λ r. IsBelow r (string_bytes e.0)) (sym key.1) less in
+      let below : string_cmp key.0 e.0 ≡ Less = subst (λ r. ComesBefore r (string_bytes e.0)) (sym key.1) less in
       let none = sym (by_text (string_bytes key.0) (e ∷ back))
       ∙ lookup-none (is_at (string_cmp key.0)) (e ∷ back)
       (none_below_head string_cmp_total key.0 e back (behind front (e ∷ back) h) below) in

@@ -78,9 +78,6 @@ goes_far p r {place} {a} (then_step {n = n} {place' = place'} {a' = a'} {place''
     let step = does_later h.instruction r place' a' place'' a'' h.does in
     omega arith
 
-stands_first : (a b : List sock_filter) → Stands (a ++ b) 0 a
-stands_first a b = record { at = λ k i e. let z : 0 + k ≡ k = omega arith in rw z (get_before a b k i e) }
-
 pub stands_second : (a b : List sock_filter) → Stands (a ++ b) (length a) b
 stands_second a b = record { at = λ k i e. get_behind a b k i e }
 
@@ -90,18 +87,7 @@ leads_to p r x a y y' e h = subst (λ n. Leads p r x a n) e h
 pub leads_from : (p : List sock_filter) (r : List ℕ) (x x' a y : ℕ) → x ≡ x' → Leads p r x a y → Leads p r x' a y
 leads_from p r x x' a y e h = subst (λ n. Leads p r n a y) e h
 
--- what the first piece does
-leads_first : (a b : List sock_filter) (r : List ℕ) (x s y : ℕ) → Leads a r x s y → Leads (a ++ b) r x s y
-leads_first a b r x s y h =
-    let zx : 0 + x ≡ x = omega arith in
-    let zy : 0 + y ≡ y = omega arith in
-    leads_from (a ++ b) r _ _ s y zx (leads_to (a ++ b) r _ s _ _ zy record {
-      count = h.count;
-      accumulator = h.accumulator;
-      goes = goes_shift (a ++ b) a r 0 (stands_first a b) h.goes;
-    })
-
--- what the second does
+-- what the second piece does
 pub leads_second : (a b : List sock_filter) (r : List ℕ) (x s y : ℕ) → Leads b r x s y → Leads (a ++ b) r (length a + x) s (length a + y)
 leads_second a b r x s y h = record {
   count = h.count;
@@ -131,6 +117,9 @@ goes_front a b r (then_step {place' = place'} g h) = then_step (goes_front a b r
   does = h.does;
 }
 
+unfoldable pub leads_front : (a b : List sock_filter) (r : List ℕ) (x s y : ℕ) → Leads a r x s y → Leads (a ++ b) r x s y
+leads_front a b r x s y h = record { count = h.count; accumulator = h.accumulator; goes = goes_front a b r h.goes }
+
 -- the first piece to its end, and then the second
 pub leads_through : (cc code : List sock_filter) (r : List ℕ) (a y : ℕ) (g : Leads cc r 0 a (length cc))
     → Leads code r 0 g.accumulator y → Leads (cc ++ code) r 0 a (length cc + y)
@@ -144,7 +133,7 @@ module _ (cc code : List sock_filter) (r : List ℕ) where
   pub leads_both : (a x y : ℕ) → a < 2 ^ 32 → Leads cc r 0 a (length cc + x) → ((b : ℕ) → b < 2 ^ 32 → Leads code r x b y)
       → Leads (cc ++ code) r 0 a (length cc + y)
   leads_both a x y small g f =
-      leads_on (cc ++ code) r 0 a (length cc + x) (length cc + y) small (leads_first cc code r 0 a (length cc + x) g)
+      leads_on (cc ++ code) r 0 a (length cc + x) (length cc + y) small (leads_front cc code r 0 a (length cc + x) g)
       (λ b fits. leads_second cc code r x b y (f b fits))
 
 -- one step and then a run

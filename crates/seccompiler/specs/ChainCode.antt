@@ -6,13 +6,9 @@ use Rattle.seccompiler.specs.declared.bpf.sock_filter.{sock_filter}
 use Rattle.seccompiler.specs.Code.{jump}
 use Rattle.seccompiler.specs.Machine.{IsRecord, Goes, AreInRange}
 use Rattle.seccompiler.specs.Pieces.{IsInside, Leads}
-use Rattle.seccompiler.specs.Policy.{Rule, Chain, RuleHolds, ChainMatches, chain_under}
-use Rattle.seccompiler.specs.Layout.{greatest_offset, rule_length, rule_steps, chain_length, chain_steps, chains_length, chains_steps}
+use Rattle.seccompiler.specs.Policy.{Chain, RuleHolds, ChainMatches, chain_under}
+use Rattle.seccompiler.specs.Layout.{greatest_offset, rule_steps, chain_length, chain_steps, chains_length, chains_steps}
 use Rattle.seccompiler.specs.Layout.{rules_length}
-
--- The two jumps in front of a rule whose failure exit is o places behind them.
-abbrev pub entry_code : ℕ → List sock_filter
-entry_code o = jump 1 ∷ jump (o + 1) ∷ []
 
 -- The three jumps of a relay in front of code whose failure exit is o places behind them.
 abbrev pub relay_code : ℕ → List sock_filter
@@ -26,16 +22,19 @@ relay_front o = if nat_lt greatest_offset o then relay_code o else []
 abbrev pub offset_behind : ℕ → ℕ
 offset_behind o = if nat_lt greatest_offset o then 1 else o
 
--- A run from a place and an accumulator returns this word, after so many steps and the return.
-pub record Returns (p : List sock_filter) (r : List ℕ) (place a w : ℕ) : Type 0 where
+-- A run from a place and an accumulator returns this word, after exactly so many steps and the return.
+pub record ReturnsAfter (p : List sock_filter) (r : List ℕ) (place a count w : ℕ) : Type 0 where
   pub to : ℕ
-  pub count : ℕ
   pub accumulator : ℕ
   pub instruction : sock_filter
   pub goes : Goes p r place a count to accumulator
   pub here : slice_get p to ≡ Some instruction
   pub returns : instruction.code ≡ 0x06
   pub value : instruction.k ≡ w
+
+-- It does so after some number of steps.
+abbrev pub Returns : List sock_filter → List ℕ → ℕ → ℕ → ℕ → Type 0
+Returns p r place a w = (count : ℕ) × ReturnsAfter p r place a count w
 
 -- Each instruction returns, or may stand in a piece whose jumps lead at most to m.
 pub record IsBlock (p : List sock_filter) (m : ℕ) : Type 0 where
@@ -50,15 +49,6 @@ ReturnsBy code matched mismatch r a fact = (fact × Returns code r 0 a matched) 
 -- the two is so.
 abbrev pub ReturnsOrLeaves : List sock_filter → ℕ → List ℕ → ℕ → Type 0 → Type 0
 ReturnsOrLeaves code w r a fact = (fact × Returns code r 0 a w) ⊎ ((fact → ⊥) × Leads code r 0 a (length code))
-
--- The code of a rule with its return behind it: entered at its first place it returns where the rule holds, and leaves at
--- its end where it doesn't; entered at its second place it leaves one place behind its end, with the accumulator kept.
-pub record IsReturningRuleCode (q : Rule) (w : ℕ) (code : List sock_filter) : Type 0 where
-  pub long : length code ≡ rule_length q + 1
-  pub ranges : AreInRange code
-  pub block : IsBlock code (length code + 1)
-  pub enters : (r : List ℕ) → IsRecord r → (a : ℕ) → a < 2 ^ 32 → ReturnsOrLeaves code w r a (RuleHolds q r)
-  pub skips : (r : List ℕ) (a : ℕ) → a < 2 ^ 32 → Goes code r 1 a (rule_steps q) (length code + 1) a
 
 -- The code of rules, each with its return: entered at its first place it returns where some rule holds, and leaves at
 -- its end where none does; entered at its second place it leaves one place behind its end, with the accumulator kept.

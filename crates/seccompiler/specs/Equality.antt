@@ -1,9 +1,10 @@
 -- What `==` computes of values that own memory, when two values have the same parts, and that each test of equality
 -- tells whether they have.
-use Rattle.std.specs.Prelude.{◌≡◌, ℤ, ℕ, Bool, true, ◌&&◌, List, [], ◌∷◌, Option, Some, None, map, nat_eq, String, string_eq, string_bytes}
+use Rattle.std.specs.Prelude.{◌≡◌, ℤ, Bool, ◌&&◌, List, [], ◌∷◌, Option, Some, None, nat_eq, String, string_eq, string_bytes}
 use Rattle.std.specs.Prelude.{refl, Decides}
 use Rattle.std.specs.Cmp.{IsPartialEquivalence, partial_equiv_from_equiv, decided, and_per, on_per, unsigned_Decides, signed_Decides}
 use Rattle.std.specs.Cmp.Lexicographic.{pointwise, pointwise_decides, bytes_decides, lists_per, nat_list_eq_equiv}
+use Rattle.std.specs.List.{AllZip}
 use Rattle.std.specs.Option.{option_eq}
 use Rattle.std.specs.Ordering.{int_eq, on, eq_of_both}
 use Rattle.std.specs.declared.alloc.Global.{Global}
@@ -24,6 +25,7 @@ use Rattle.seccompiler.specs.contracts.json.types.JsonConditionPartialEq.TheImpl
 use Rattle.seccompiler.specs.contracts.json.types.JsonConditionEqualByParts.TheImpl.Laws as json_law
 use Rattle.seccompiler.specs.JsonTypes.{JsonRule, JsonFilter}
 use Rattle.seccompiler.specs.Policy.{Rule, Chain, Filter}
+use Rattle.seccompiler.specs.Texts.{IsInvalidArch}
 
 -- The rules have equal conditions, in their order.
 abbrev pub are_rules_equal : Rule → Rule → Bool
@@ -42,10 +44,9 @@ are_filters_equal f g =
     && arch.ghosts.eq f.target_arch g.target_arch
 
 -- Two refusals of the backend are the same: they are equal, or both refuse an architecture's name, with the same bytes.
-pub data IsSameRefusal (x y : BackendError) : Type 0 where
-  same : x ≡ y → IsSameRefusal x y
-  same_name : (s t : String Global) → x ≡ e.InvalidTargetArch s → y ≡ e.InvalidTargetArch t
-      → string_bytes s ≡ string_bytes t → IsSameRefusal x y
+abbrev pub IsSameRefusal : BackendError → BackendError → Type 0
+IsSameRefusal (e.InvalidTargetArch s) y = IsInvalidArch y (string_bytes s)
+IsSameRefusal x y = x ≡ y
 
 -- Whether two entries are equal: the bytes of their names, and their conditions, one by one.
 abbrev pub rule_eq : JsonRule → JsonRule → Bool
@@ -62,20 +63,12 @@ abbrev pub filter_map_eq : JsonFilterMap → JsonFilterMap → Bool
 filter_map_eq = on (λ (m : JsonFilterMap). m.0.entries)
     (pointwise (λ (p q : String Global × JsonFilter). string_eq p.0 q.0 && filter_eq p.1 q.1))
 
--- A filter with its name, which is given by its bytes.
-abbrev pub Named : Type 0
-Named = List ℕ × JsonFilter
-
--- An entry of the map, seen so.
-abbrev pub named : String Global × JsonFilter → Named
-named entry = (string_bytes entry.0, entry.1)
-
--- The map's filters with their names, in byte order of the names.
-abbrev pub named_filters : JsonFilterMap → List Named
-named_filters filters = map named filters.0.entries
+-- Two entries of maps are the same: their names have the same bytes, and their filters are equal.
+abbrev pub IsSameEntry : String Global × JsonFilter → String Global × JsonFilter → Type 0
+IsSameEntry p q = (string_bytes p.0 ≡ string_bytes q.0) × (p.1 ≡ q.1)
 
 -- A test that tells a fact tells each fact that is as good.
-pub through : {P Q : Type 0} (b : Bool) → (P → Q) → (Q → P) → Decides b P → Decides b Q
+through : {P Q : Type 0} (b : Bool) → (P → Q) → (Q → P) → Decides b P → Decides b Q
 through b there back h = (λ t. there (h.0 t), λ q. h.1 (back q))
 
 pub rules_decide : (x y : Rule) → Decides (are_rules_equal x y) (x ≡ y)
@@ -92,40 +85,25 @@ filters_decide f g = through (are_filters_equal f g)
     (Decides-and _ _ (Decides-and _ _ (Decides-and _ _ (pointwise_decides entries_decide f.chains g.chains) (action_law.decides-law _ _))
     (action_law.decides-law _ _)) (arch_law.decides-law _ _))
 
--- Refusals that pass the test are the same.
-same_refusal : (x y : BackendError) → refusal.ghosts.eq x y ≡ true → IsSameRefusal x y
-same_refusal e.EmptyRule e.EmptyRule h = same refl
-same_refusal (e.FilterTooLarge m) (e.FilterTooLarge n) h = same (ap e.FilterTooLarge ((unsigned_Decides m n).0 h))
-same_refusal e.IdenticalActions e.IdenticalActions h = same refl
-same_refusal e.InvalidArgumentNumber e.InvalidArgumentNumber h = same refl
-same_refusal (e.InvalidTargetArch s) (e.InvalidTargetArch t) h =
-    same_name s t refl refl ((bytes_decides (string_bytes s) (string_bytes t)).0 h)
-same_refusal (e.InvalidSyscallNumber m) (e.InvalidSyscallNumber n) h = same (ap e.InvalidSyscallNumber ((signed_Decides m n).0 h))
-same_refusal e.OutOfMemory e.OutOfMemory h = same refl
-same_refusal _ _ h = absurd (true≢false (sym h))
-
--- A refusal passes the test with itself.
-refusal_itself : (x : BackendError) → refusal.ghosts.eq x x ≡ true
-refusal_itself (e.FilterTooLarge n) = (unsigned_Decides n n).1 refl
-refusal_itself (e.InvalidTargetArch t) = (bytes_decides (string_bytes t) (string_bytes t)).1 refl
-refusal_itself (e.InvalidSyscallNumber n) = (signed_Decides n n).1 refl
-refusal_itself _ = refl
-
--- Refusals that are the same pass the test.
-refusal_passes : (x y : BackendError) → IsSameRefusal x y → refusal.ghosts.eq x y ≡ true
-refusal_passes x y (same e) = rw e (refusal_itself y)
-refusal_passes x y (same_name s t is is' bytes) = rw (is, is') ((bytes_decides (string_bytes s) (string_bytes t)).1 bytes)
-
 pub refusals_decide : (x y : BackendError) → Decides (refusal.ghosts.eq x y) (IsSameRefusal x y)
-refusals_decide x y = (same_refusal x y, refusal_passes x y)
+refusals_decide e.EmptyRule e.EmptyRule = (λ t. refl, λ i. refl)
+refusals_decide (e.FilterTooLarge m) (e.FilterTooLarge n) = through _ (λ i. ap e.FilterTooLarge i) (λ i. cc) (unsigned_Decides m n)
+refusals_decide e.IdenticalActions e.IdenticalActions = (λ t. refl, λ i. refl)
+refusals_decide e.InvalidArgumentNumber e.InvalidArgumentNumber = (λ t. refl, λ i. refl)
+refusals_decide (e.InvalidTargetArch s) (e.InvalidTargetArch t) =
+    through _ (λ i. sym i) (λ i. sym i) (bytes_decides (string_bytes s) (string_bytes t))
+refusals_decide (e.InvalidTargetArch s) _ = (λ t. absurd (true≢false (sym t)), λ never. absurd never)
+refusals_decide (e.InvalidSyscallNumber m) (e.InvalidSyscallNumber n) =
+    through _ (λ i. ap e.InvalidSyscallNumber i) (λ i. cc) (signed_Decides m n)
+refusals_decide e.OutOfMemory e.OutOfMemory = (λ t. refl, λ i. refl)
+refusals_decide _ _ = (λ t. absurd (true≢false (sym t)), λ i. cc)
 
 -- of two `Option`s
 option_decides : {K : Type 0} {E : K → K → Bool} → ((x y : K) → Decides (E x y) (x ≡ y))
     → (x y : Option K) → Decides (option_eq E x y) (x ≡ y)
 option_decides h None None = (λ _. refl, λ _. refl)
-option_decides h None (Some y) = (λ t. absurd (true≢false (sym t)), λ e. cc)
-option_decides h (Some x) None = (λ t. absurd (true≢false (sym t)), λ e. cc)
 option_decides h (Some x) (Some y) = (λ t. ap Some ((h x y).0 t), λ e. (h x y).1 cc)
+option_decides h _ _ = (λ t. absurd (true≢false (sym t)), λ e. cc)
 
 pub rule_decides : (x y : JsonRule) → Decides (rule_eq x y) (x ≡ y)
 rule_decides x y = through (rule_eq x y) (λ e. λ i. record { syscall = e.0 i; conditions = e.1 i })
@@ -133,34 +111,23 @@ rule_decides x y = through (rule_eq x y) (λ e. λ i. record { syscall = e.0 i; 
     (Decides-and _ _ (bytes_decides x.syscall y.syscall)
     (option_decides (pointwise_decides json_law.decides-law) x.conditions y.conditions))
 
-pub rule_eq_law : IsPartialEquivalence rule_eq
-rule_eq_law = partial_equiv_from_equiv (decided rule_eq rule_decides)
-
 pub filter_decides : (x y : JsonFilter) → Decides (filter_eq x y) (x ≡ y)
 filter_decides x y = through (filter_eq x y) (λ e. λ i. record { mismatch_action = e.0 i; match_action = e.1.0 i; rules = e.1.1 i })
     (λ e. (ap (λ r. r.mismatch_action) e, (ap (λ r. r.match_action) e, ap (λ r. r.rules) e)))
     (Decides-and _ _ (action_law.decides-law _ _) (Decides-and _ _ (action_law.decides-law _ _) (pointwise_decides rule_decides _ _)))
 
-pub filter_eq_law : IsPartialEquivalence filter_eq
-filter_eq_law = partial_equiv_from_equiv (decided filter_eq filter_decides)
-
-entry_decides : (p q : String Global × JsonFilter) → Decides (string_eq p.0 q.0 && filter_eq p.1 q.1) (named p ≡ named q)
-entry_decides p q = through _ (λ e. λ i. (e.0 i, e.1 i)) (λ e. (ap (λ n. n.0) e, ap (λ n. n.1) e))
-    (Decides-and _ _ (bytes_decides (string_bytes p.0) (string_bytes q.0)) (filter_decides _ _))
-
 named_decide : (ps qs : List (String Global × JsonFilter))
-    → Decides (pointwise (λ (p q : String Global × JsonFilter). string_eq p.0 q.0 && filter_eq p.1 q.1) ps qs) (map named ps ≡ map named qs)
-named_decide [] [] = (λ _. refl, λ _. refl)
-named_decide [] (q ∷ qs) = (λ t. absurd (true≢false (sym t)), λ e. cc)
-named_decide (p ∷ ps) [] = (λ t. absurd (true≢false (sym t)), λ e. cc)
-named_decide (p ∷ ps) (q ∷ qs) = through _ (λ e. λ i. e.0 i ∷ e.1 i) (λ e. (cc, cc))
-    (Decides-and _ _ (entry_decides p q) (named_decide ps qs))
+    → Decides (pointwise (λ (p q : String Global × JsonFilter). string_eq p.0 q.0 && filter_eq p.1 q.1) ps qs) (AllZip IsSameEntry ps qs)
+named_decide [] [] = (λ t. tt, λ e. refl)
+named_decide (p ∷ ps) (q ∷ qs) =
+    Decides-and _ _ (Decides-and _ _ (bytes_decides (string_bytes p.0) (string_bytes q.0)) (filter_decides _ _)) (named_decide ps qs)
+named_decide _ _ = (λ t. absurd (true≢false (sym t)), λ e. absurd e)
 
-pub filter_map_decides : (m n : JsonFilterMap) → Decides (filter_map_eq m n) (named_filters m ≡ named_filters n)
+pub filter_map_decides : (m n : JsonFilterMap) → Decides (filter_map_eq m n) (AllZip IsSameEntry m.0.entries n.0.entries)
 filter_map_decides m n = named_decide m.0.entries n.0.entries
 
 pub filter_map_eq_law : IsPartialEquivalence filter_map_eq
 filter_map_eq_law = on_per (λ (m : JsonFilterMap). m.0.entries)
     (lists_per (and_per (on_per (λ (p : String Global × JsonFilter). p.0)
     (on_per string_bytes (partial_equiv_from_equiv nat_list_eq_equiv)))
-    (on_per (λ (p : String Global × JsonFilter). p.1) filter_eq_law)))
+    (on_per (λ (p : String Global × JsonFilter). p.1) (partial_equiv_from_equiv (decided filter_eq filter_decides)))))

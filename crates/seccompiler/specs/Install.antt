@@ -26,11 +26,3 @@ pub data Applied {K : Type 0} (no_new_privs : K → ℤ → ℤ → K → Type 0
   filter_asked_for : program ≢ [] → (unused : ℤ) (between : K) → no_new_privs before (pos 0) unused between
       → (code number : ℤ) → mode_filter between flags program code number after → AnswersCode code number answer
       → Applied no_new_privs mode_filter before flags program after answer
-
--- An error that installing answers.
-abbrev pub IsInstallError : Error → Type 0
-IsInstallError EmptyFilter = ⊤
-IsInstallError (Prctl number) = ⊤
-IsInstallError (Seccomp number) = ⊤
-IsInstallError (ThreadSync thread) = ⊤
-IsInstallError error = ⊥

@@ -1,11 +1,9 @@
 -- The filters of a JSON text, under their names.
 use Rattle.std.specs.Prelude.{◌≡◌, ℕ, List, Option, Some, None}
-use Rattle.std.specs.Cmp.Lexicographic.{slice_cmp}
-use Rattle.std.specs.Ordering.{nat_cmp}
-use Rattle.std.specs.declared.cmp.Ordering.TheVariants.{Less}
 use Rattle.serde_json.specs.Data.{Data}
 use Rattle.seccompiler.specs.JsonShape.{IsObject, Has, Lacks, IsFilter}
 use Rattle.seccompiler.specs.JsonTypes.{JsonFilter}
+use Rattle.seccompiler.specs.SyscallTable.{ComesBefore}
 
 -- What is found under the name is, as P says, what the value is.
 pub record IsFound {X : Type 0} (P : Data → X → Type 0) (find : List ℕ → Option X) (name : List ℕ) (value : Data) : Type 0 where
@@ -25,16 +23,12 @@ pub record AreAll (P : Data → Type 0) (d : Data) : Type 0 where
   pub is_object : IsObject d
   pub each : (name : List ℕ) (value : Data) → Has d name value → P value
 
--- The name is below the other in byte order.
-abbrev pub IsBelow : List ℕ → List ℕ → Type 0
-IsBelow name other = slice_cmp nat_cmp name other ≡ Less
-
 -- The value of this name is as P says, and the value of each name below it as Q says.
 pub record IsLeast (P Q : Data → Type 0) (d : Data) (name : List ℕ) : Type 0 where
   pub value : Data
   pub there : Has d name value
   pub own : P value
-  pub below : (other : List ℕ) (v : Data) → Has d other v → IsBelow other name → Q v
+  pub below : (other : List ℕ) (v : Data) → Has d other v → ComesBefore other name → Q v
 
 -- The value is some filter.
 abbrev pub IsSomeFilter : Data → Type 0

@@ -1,10 +1,8 @@
 -- What is gathered of the entries of a JSON filter on the way to its policy: what the private steps promise each other.
 use Rattle.std.specs.Prelude.{◌≡◌, ℤ, Bool, true, false, ◌||◌, List, [], ◌∷◌, ◌++◌, Option, Some, None, Vec, unwrap_or}
 use Rattle.std.specs.BTreeMap.{BTreeMap, IsOrdered}
-use Rattle.std.specs.BTreeSet.{contains}
-use Rattle.std.specs.List.{filter, flat_map, list_any}
-use Rattle.std.specs.Option.{is_some}
-use Rattle.std.specs.Ordering.{int_cmp}
+use Rattle.std.specs.List.{flat_map, list_any}
+use Rattle.std.specs.Ordering.{int_cmp, int_eq}
 use Rattle.std.specs.declared.alloc.Global.{Global}
 use Rattle.seccompiler.specs.declared.backend.TargetArch.{TargetArch}
 use Rattle.seccompiler.specs.declared.json.policy.Gathered.{Gathered}
@@ -21,17 +19,21 @@ added (item ∷ items) found = Some (unwrap_or found [] ++ item ∷ items)
 abbrev pub rules_at : Gathered → ℤ → Option Chain
 rules_at gathered number = chain_at (chains_of gathered.rules.entries) number
 
+-- Whether the number is one that matches always.
+abbrev pub is_always_at : Gathered → ℤ → Bool
+is_always_at gathered number = list_any (int_eq number) gathered.always.items
+
 -- What was gathered has an entry more: its number has its rule at its end, or is one that matches always.
 pub record HasAdded (arch : TargetArch) (entry : JsonRule) (old new : Gathered) : Type 0 where
   pub rules : (number : ℤ) → rules_at new number ≡ added (rules_for arch number entry) (rules_at old number)
-  pub always : (number : ℤ) → contains int_cmp new.always number ≡ (contains int_cmp old.always number || is_always arch number entry)
+  pub always : (number : ℤ) → is_always_at new number ≡ (is_always_at old number || is_always arch number entry)
   pub ordered : IsOrdered int_cmp old.rules → IsOrdered int_cmp new.rules
 
 -- This was gathered of these entries: under each number the rules of its entries, in order; and the numbers of the
 -- entries without conditions.
 pub record AreGathered (arch : TargetArch) (entries : List JsonRule) (gathered : Gathered) : Type 0 where
   pub rules : (number : ℤ) → rules_at gathered number ≡ added (flat_map (rules_for arch number) entries) None
-  pub always : (number : ℤ) → contains int_cmp gathered.always number ≡ list_any (is_always arch number) entries
+  pub always : (number : ℤ) → is_always_at gathered number ≡ list_any (is_always arch number) entries
   pub ordered : IsOrdered int_cmp gathered.rules
 
 -- The chain of a number: the empty one where some entry with this number has no conditions; else the rules that were
@@ -43,9 +45,5 @@ chain_of false found = found
 -- The chains are those of what was gathered.
 pub record HasChains (gathered : Gathered) (chains : BTreeMap ℤ (Vec Rule Global)) : Type 0 where
   pub each : (number : ℤ) → chain_at (chains_of chains.entries) number
-      ≡ chain_of (contains int_cmp gathered.always number) (rules_at gathered number)
+      ≡ chain_of (is_always_at gathered number) (rules_at gathered number)
   pub ordered : IsOrdered int_cmp gathered.rules → IsOrdered int_cmp chains
-
--- The numbers that were gathered of both kinds of entries.
-abbrev pub numbers_of_both : Gathered → List ℤ
-numbers_of_both gathered = filter (λ number. is_some (rules_at gathered number)) gathered.always.keys

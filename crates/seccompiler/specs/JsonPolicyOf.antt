@@ -1,11 +1,11 @@
 -- Which filter is the policy of a JSON filter, and which fault is the first of one that has none.
-use Rattle.std.specs.Prelude.{◌≡◌, ◌≢◌, ◌≤◌, ◌<◌, ℤ, Bool, false, ◌&&◌, List, [], ◌∷◌, ◌++◌, Option, Some, None, All, Any, IfSome, map}
+use Rattle.std.specs.Prelude.{◌≡◌, ◌≢◌, ◌≤◌, ◌<◌, ℤ, Bool, ◌&&◌, List, [], ◌∷◌, ◌++◌, Option, Some, None, All, Any, IfSome, map}
 use Rattle.std.specs.Prelude.{if◌then◌else◌, ℕ}
 use Rattle.std.specs.BTreeMap.{is_at}
 use Rattle.std.specs.List.{flat_map, list_any}
 use Rattle.std.specs.List.Sorted.{IsStrictlySortedBy}
 use Rattle.std.specs.Map.{lookup}
-use Rattle.std.specs.Option.{is_none}
+use Rattle.std.specs.Option.{is_none, option_eq}
 use Rattle.std.specs.Ordering.{int_cmp, int_eq}
 use Rattle.seccompiler.specs.declared.backend.TargetArch.{TargetArch}
 use Rattle.seccompiler.specs.declared.backend.BackendError.TheVariants.{EmptyRule, IdenticalActions, InvalidArgumentNumber}
@@ -32,8 +32,7 @@ IsFor arch number entry = number_of (table_of arch) entry.syscall ≡ Some numbe
 
 -- Whether a call's number, if it has one, is this one.
 abbrev pub is_number : ℤ → Option ℤ → Bool
-is_number number None = false
-is_number number (Some other) = int_eq number other
+is_number number found = option_eq int_eq (Some number) found
 
 -- Whether the entry's call has this number.
 abbrev pub is_for : TargetArch → ℤ → JsonRule → Bool

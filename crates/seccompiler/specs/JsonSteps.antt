@@ -1,5 +1,5 @@
 -- What the calls answer that go one step of the way from a JSON text or value to filters.
-use Rattle.std.specs.Prelude.{string_bytes, ⊤, ◌≡◌, ◌≢◌, ◌≤◌, ◌<◌, ℕ, List, Option, All, IfSome, Result, Ok, Err}
+use Rattle.std.specs.Prelude.{string_bytes, ⊤, ◌≡◌, ◌≢◌, ◌≤◌, ◌<◌, Result, Ok, Err}
 use Rattle.std.specs.BTreeMap.{get_by_text}
 use Rattle.serde_json.specs.Data.{Data}
 use Rattle.seccompiler.specs.JsonShape.{IsObject, IsFilter}
@@ -13,8 +13,6 @@ use Rattle.seccompiler.specs.declared.json.types.JsonCondition.{JsonCondition}
 use Rattle.seccompiler.specs.JsonTypes.{JsonFilter}
 use Rattle.seccompiler.specs.Policy.{Condition, Filter}
 use Rattle.seccompiler.specs.JsonPolicyOf.{Fault, unknown_call, refused, condition_of, IsFirstFault, IsPolicyOf}
-use Rattle.seccompiler.specs.Compiled.{numbers_of}
-use Rattle.seccompiler.specs.SyscallTable.{IsTableNumber}
 use Rattle.seccompiler.specs.declared.backend.BackendError.TheVariants as of_backend
 
 -- The value is an object, and the map has exactly its names, each with the filter that its value is.
@@ -60,7 +58,3 @@ IsPolicyRefusal arch j = Tells (IsFirstFault arch j)
 -- The JSON filter has a policy on this architecture.
 abbrev pub IsFaultless : TargetArch → JsonFilter → Type 0
 IsFaultless arch j = (policy : Filter) × IsPolicyOf arch j policy
-
--- The call numbers of each policy that is found are those of a table.
-abbrev pub HaveTableNumbers : (List ℕ → Option Filter) → Type 0
-HaveTableNumbers find = (name : List ℕ) → IfSome (find name) (λ policy. All IsTableNumber (numbers_of policy.chains))

@@ -3,36 +3,10 @@ use Rattle.std.specs.Prelude.{ℕ, ◌≡◌, ◌-◌, ◌<◌, ◌≤◌, List,
 use Rattle.std.specs.List.{flat_map}
 use Rattle.seccompiler.specs.Policy.{Condition, size_of, Rule, Chain, Filter}
 
--- ---- sizes, in instructions, and the border that ends a group
-
 -- The greatest offset of its failure exit at which any condition's jumps fit 8 bits. A group of conditions closes as
 -- soon as they take so many instructions.
 abbrev pub greatest_offset : ℕ
 greatest_offset = 248
-
--- The guard of a program: it loads the architecture word, tests it, and kills the process.
-abbrev pub guard_length : ℕ
-guard_length = 3
-
--- The two jumps in front of a rule.
-abbrev pub entry_length : ℕ
-entry_length = 2
-
--- The three jumps between two groups of conditions.
-abbrev pub relay_length : ℕ
-relay_length = 3
-
--- A chain without rules: its test, two jumps of an entry, and two returns.
-abbrev pub empty_chain_length : ℕ
-empty_chain_length = 5
-
--- What a chain has beside its rules: its test and its last return.
-abbrev pub chain_ends : ℕ
-chain_ends = 2
-
--- What a program has beside its guard and its chains: the load of the call number and the last return.
-abbrev pub program_ends : ℕ
-program_ends = 2
 
 -- ---- how the conditions of a rule fall into groups, between which stand relay jumps
 
@@ -77,25 +51,28 @@ relays q = length (groups_of q) - 1
 
 -- The instructions of a rule: two jumps in front, its conditions, and three jumps for each relay.
 abbrev pub rule_length : Rule → ℕ
-rule_length q = entry_length + total_size q + relay_length * relays q
+rule_length q = 2 + total_size q + 3 * relays q
 
 -- How many instructions the rules of a chain take, each with its return.
 abbrev pub rules_length : Chain → ℕ
 rules_length chain = sum_by (λ rule. rule_length rule + 1) chain
 
--- The instructions of a chain: those of its rules, and its ends.
+-- The instructions of a chain: without rules its test, two jumps of an entry and two returns; else its test, its rules and
+-- its last return.
 abbrev pub chain_length : Chain → ℕ
-chain_length [] = empty_chain_length
-chain_length (q ∷ chain) = chain_ends + rules_length (q ∷ chain)
+chain_length [] = 5
+chain_length (q ∷ chain) = 2 + rules_length (q ∷ chain)
 
 -- The counted length of the chains.
 abbrev pub chains_length : List (ℤ × Chain) → ℕ
 chains_length chains = sum_by (λ (e : ℤ × Chain). chain_length e.1) chains
 
--- The counted length of a filter: how many instructions its program has. It has no limit.
+-- The counted length of a filter: how many instructions its program has, which are the three of the guard, which kill the
+-- process on another architecture, and the last return; and where it has chains, theirs and the load of the call number.
+-- It has no limit.
 abbrev pub counted_length_of : List (ℤ × Chain) → ℕ
-counted_length_of [] = guard_length + 1
-counted_length_of (e ∷ chains) = guard_length + program_ends + chains_length (e ∷ chains)
+counted_length_of [] = 4
+counted_length_of (e ∷ chains) = 5 + chains_length (e ∷ chains)
 
 abbrev pub counted_length : Filter → ℕ
 counted_length f = counted_length_of f.chains

@@ -4,18 +4,13 @@ use Rattle.std.specs.Prelude.{◌≡◌, ℕ, ℤ, ◌%◌, ◌^◌, ◌<◌, �
 use Rattle.std.specs.List.{AllZip}
 use Rattle.std.specs.List.Sorted.{IsPermutation}
 use Rattle.seccompiler.specs.declared.backend.SeccompCmpArgLen.TheVariants.{Dword}
-use Rattle.seccompiler.specs.Machine.{argument_at}
-use Rattle.seccompiler.specs.Policy.{Condition, Rule, Chain, Filter, operator_part}
+use Rattle.seccompiler.specs.Policy.{Condition, Chain, Filter, operator_part}
 
--- The second rule has the conditions of the first, in another order or the same.
-abbrev pub IsReorderedRule : Rule → Rule → Type 0
-IsReorderedRule q q' = IsPermutation q q'
-
--- The second chain has the rules of the first in another order or the same, and each rule is reordered as well.
+-- The second chain has the rules of the first in another order or the same, and so has each rule its conditions.
 pub record IsReorderedChain (chain chain' : Chain) : Type 0 where
   pub middle : Chain
   pub rules : IsPermutation chain middle
-  pub conditions : AllZip IsReorderedRule middle chain'
+  pub conditions : AllZip IsPermutation middle chain'
 
 -- Two entries have one call number, and the second's chain is the first's reordered.
 pub record IsReorderedEntry (e e' : ℤ × Chain) : Type 0 where
@@ -42,7 +37,3 @@ pub record IsSameLowHalf (c d : Condition) : Type 0 where
   pub index : c.arg_index ≡ d.arg_index
   pub operator : operator_part Dword c.operator ≡ operator_part Dword d.operator
   pub value : c.value % 2 ^ 32 ≡ d.value % 2 ^ 32
-
--- Two records agree in the low 32 bits of argument i.
-abbrev pub HasSameLowArgument : ℕ → List ℕ → List ℕ → Type 0
-HasSameLowArgument i r s = argument_at r i % 2 ^ 32 ≡ argument_at s i % 2 ^ 32

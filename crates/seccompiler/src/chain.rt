@@ -1,13 +1,13 @@
 // The rules of one call number, and their code.
 
-ghost use Rattle.std.specs.Prelude.{◌≡◌, ◌≤◌, ◌+◌, ◌↔◌, pos, min, length, take, IsTrue, IsNone, IfOk, IfSome, IsOkUnless};
+ghost use Rattle.std.specs.Prelude.{◌≡◌, ◌≤◌, ◌+◌, ◌↔◌, [], ◌∷◌, pos, min, length, take, IsTrue, IsNone, IfOk, IfSome, IsOkUnless};
 ghost use Rattle.std.specs.BTreeMap.{keys};
 ghost use Rattle.seccompiler.specs.declared.backend.BackendError.TheVariants.{OutOfMemory};
 ghost use Rattle.seccompiler.specs.Machine.{greatest_length};
 ghost use Rattle.seccompiler.specs.Policy.{IsCallNumber, ChainMatches};
 ghost use Rattle.seccompiler.specs.Layout.{rule_length, rules_length};
 ghost use Rattle.seccompiler.specs.Compiled.{AreCallNumbers, IsLeastUnfit};
-ghost use Rattle.seccompiler.specs.ChainCode.{IsReturningRuleCode, IsRulesCode};
+ghost use Rattle.seccompiler.specs.ChainCode.{IsRulesCode};
 
 use crate::backend::BackendError;
 use crate::bpf::{return_word, sock_filter};
@@ -97,7 +97,7 @@ fn write_rule(part: &mut [sock_filter], rule: &SeccompRule, matched: u32) -> usi
     requires room { rule_length rule.now + 1 ≤ length part.old }
     requires short { length part.old ≤ greatest_length }
     ensures length { result ≡ rule_length rule.now + 1 }
-    ensures code { IsReturningRuleCode rule.now matched (take result part.new) }
+    ensures code { IsRulesCode (rule.now ∷ []) matched (take result part.new) }
 {
     let end = rule.code_len();
     rule.write(&mut part[..end]);

@@ -53,8 +53,8 @@ impl SeccompCondition {
     ghost use Rattle.seccompiler.specs.Layout.{greatest_offset};
     ghost use Rattle.seccompiler.specs.Policy.{Condition, Holds, size_of};
     ghost use Rattle.seccompiler.specs.ConditionCode.{condition_code};
-    ghost use Rattle.seccompiler.specs.Reorder.{IsSameLowHalf, HasSameLowArgument};
-    ghost use Rattle.seccompiler.specs.Machine.{AreInRange};
+    ghost use Rattle.seccompiler.specs.Reorder.{IsSameLowHalf};
+    ghost use Rattle.seccompiler.specs.Machine.{argument_at, AreInRange};
     ghost use Rattle.seccompiler.specs.Pieces.{IsConditionCode};
 
     /// Makes a condition on argument `arg_index`, numbered from 0.
@@ -142,7 +142,7 @@ impl SeccompCondition {
     /// With `Dword` it depends on the low 32 bits of the argument, the value and a mask alone.
     pub fn holds(&self, call: &[u8; 64]) -> bool
         ensures holds { IsTrue result ↔ Holds self.now call.now }
-        ensures low_half { (c : Condition) (r : List ℕ) → IsSameLowHalf self.now c → HasSameLowArgument self.now.arg_index call.now r → (IsTrue result ↔ Holds c r) }
+        ensures low_half { (c : Condition) (r : List ℕ) → IsSameLowHalf self.now c → argument_at call.now self.now.arg_index % 2 ^ 32 ≡ argument_at r self.now.arg_index % 2 ^ 32 → (IsTrue result ↔ Holds c r) }
     {
         let argument = part_of(self.arg_len, argument_at(call, self.arg_index));
         compares(

@@ -1,7 +1,7 @@
 // Installing programs by the two system calls of a kernel.
 
-ghost use Rattle.std.specs.Prelude.{◌≤◌, IfErr, length};
-ghost use Rattle.seccompiler.specs.Install.{Applied, IsInstallError};
+ghost use Rattle.std.specs.Prelude.{◌≤◌, length};
+ghost use Rattle.seccompiler.specs.Install.{Applied};
 
 use crate::bpf::BpfProgramRef;
 use crate::error::{Error, Result};
@@ -98,7 +98,6 @@ pub trait Kernel {
 pub fn apply_filter<K: Kernel>(kernel: &mut K, prog: BpfProgramRef<'_>) -> Result<()>
     requires { length prog.now ≤ 65535 }
     ensures applied { Applied K.no_new_privs K.mode_filter kernel.old 0 prog.now kernel.new result }
-    ensures cause { IfErr result IsInstallError }
 {
     apply_filter_with_flags(kernel, NO_FLAGS, prog)
 }
@@ -116,7 +115,6 @@ pub fn apply_filter<K: Kernel>(kernel: &mut K, prog: BpfProgramRef<'_>) -> Resul
 pub fn apply_filter_all_threads<K: Kernel>(kernel: &mut K, prog: BpfProgramRef<'_>) -> Result<()>
     requires { length prog.now ≤ 65535 }
     ensures applied { Applied K.no_new_privs K.mode_filter kernel.old 1 prog.now kernel.new result }
-    ensures cause { IfErr result IsInstallError }
 {
     apply_filter_with_flags(kernel, SECCOMP_FILTER_FLAG_TSYNC, prog)
 }
@@ -129,7 +127,6 @@ fn apply_filter_with_flags<K: Kernel>(
 ) -> Result<()>
     requires { length prog.now ≤ 65535 }
     ensures applied { Applied K.no_new_privs K.mode_filter kernel.old flags prog.now kernel.new result }
-    ensures cause { IfErr result IsInstallError }
 {
     if prog.is_empty() {
         return Err(Error::EmptyFilter);

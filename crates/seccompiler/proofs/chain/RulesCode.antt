@@ -1,6 +1,6 @@
 -- For `write_rule` and `write_rules`: what the rules of a chain do, each with its return behind it, one after another.
-use Rattle.std.proofs.Common.{◌≡◌, ℕ, ◌+◌, ◌<◌, ◌≤◌, ◌^◌, List, [], ◌∷◌, ◌++◌, length, refl, sym, ap, ◌∙◌, subst, arith, length-append, ◌⊎◌}
-use Rattle.std.proofs.Common.{inl, inr, ⊎_elim, get_or, take, drop}
+use Rattle.std.proofs.Common.{◌≡◌, ℕ, zero, suc, ◌+◌, ◌<◌, ◌≤◌, ◌^◌, List, [], ◌∷◌, ◌++◌, length, refl, sym, ap, ◌∙◌}
+use Rattle.std.proofs.Common.{subst, arith, length-append, ◌⊎◌, inl, inr, ⊎_elim, get_or, take, drop}
 use Rattle.std.specs.Prelude.{Any, sum_by}
 use Rattle.std.proofs.lemmas.List.Quantifiers.{Any-push}
 use Rattle.std.proofs.lemmas.List.Sums.{sum_by_push, sum_by-append, sum_by-cons}
@@ -12,10 +12,10 @@ use Rattle.seccompiler.specs.Machine.{Goes, stays}
 use Rattle.seccompiler.specs.Policy.{Rule, Chain, RuleHolds}
 use Rattle.seccompiler.specs.Layout.{rule_length, rule_steps, rules_length}
 use Rattle.seccompiler.specs.Pieces.{IsRuleCode}
-use Rattle.seccompiler.specs.ChainCode.{IsReturningRuleCode, IsRulesCode}
-use Rattle.seccompiler.proofs.Blocks.{leads_join, leads_front, returns_front, returns_behind, returns_after, returns_here, block_join}
-use Rattle.seccompiler.proofs.Blocks.{block_from_closed, block_give, give_in_range}
-use Rattle.seccompiler.proofs.Runs.{goes_shift, goes_on, goes_front, stands_second, leads_to, leads_from, leads_second, stays_small}
+use Rattle.seccompiler.specs.ChainCode.{IsRulesCode}
+use Rattle.seccompiler.proofs.Blocks.{returns_front, returns_back, gives, block_join, block_from_closed}
+use Rattle.seccompiler.proofs.Blocks.{block_give, give_in_range}
+use Rattle.seccompiler.proofs.Runs.{goes_shift, goes_on, goes_front, leads_front, leads_through, stands_second, leads_to, stays_small}
 use Rattle.seccompiler.proofs.Parts.{around}
 use Rattle.seccompiler.proofs.Closed.{ranges_join, ranges_from}
 
@@ -31,6 +31,14 @@ rules_empty w = record {
   );
   skips = λ r a small. stays;
 }
+
+-- some rule of a chain of one rule
+any_here : (P : Rule → Type 0) (q : Rule) → P q → Any P (q ∷ [])
+any_here P q h = (0, q, omega arith, refl, h)
+
+any_only : (P : Rule → Type 0) (q : Rule) → Any P (q ∷ []) → P q
+any_only P q (zero, x, within, is, has) = subst P (sym is) has
+any_only P q (suc k, x, within, is, has) = absurd (omega arith)
 
 -- some rule of a chain with one rule more
 any_front : (P : Rule → Type 0) (chain : Chain) (q : Rule) → Any P chain → Any P (chain ++ q ∷ [])
@@ -51,7 +59,7 @@ any_split P chain q h =
 
 -- the code of a rule and its return
 pub with_return : (q : Rule) (w : ℕ) (own : List sock_filter) → w < 2 ^ 32 → IsRuleCode q own
-    → IsReturningRuleCode q w (own ++ give w ∷ [])
+    → IsRulesCode (q ∷ []) w (own ++ give w ∷ [])
 with_return q w own fits h =
     let p = own ++ give w ∷ [] in
     let len : length p ≡ length own + 1 = length-append own (give w ∷ []) in
@@ -63,25 +71,28 @@ with_return q w own fits h =
       enters = λ r rec a small.
           ⊎_elim
           (λ t. inl (
-            t.0,
-            returns_after p r 0 a (length own) w (leads_front own (give w ∷ []) r 0 a (length own) t.1)
-                (returns_here own w [] r _),
+            any_here (λ x. RuleHolds x r) q t.0,
+            returns_back own (give w ∷ []) r a w (leads_front own (give w ∷ []) r 0 a (length own) t.1) (0, gives w [] r _),
           ))
-          (λ t. inr (t.0, leads_to p r 0 a _ _ (sym len) (leads_front own (give w ∷ []) r 0 a (length own + 1) t.1)))
+          (λ t. inr (
+            λ any. t.0 (any_only (λ x. RuleHolds x r) q any),
+            leads_to p r 0 a _ _ (sym len) (leads_front own (give w ∷ []) r 0 a (length own + 1) t.1),
+          ))
           (h.enters r rec a small);
       skips = λ r a small.
           let to_far : length own + 2 ≡ length p + 1 = omega arith in
-          subst (λ n. Goes p r 1 a (rule_steps q) n a) to_far (goes_front own (give w ∷ []) r (h.skips r a small));
+          let steps : rule_steps q ≡ sum_by rule_steps (q ∷ []) = omega arith in
+          subst (λ n. Goes p r 1 a n (length p + 1) a) steps
+          (subst (λ n. Goes p r 1 a (rule_steps q) n a) to_far (goes_front own (give w ∷ []) r (h.skips r a small)));
     }
 
 -- one rule more
-rules_more : (chain : Chain) (w : ℕ) (code one : List sock_filter) (q : Rule) → IsReturningRuleCode q w one → IsRulesCode chain w code
+rules_more : (chain : Chain) (w : ℕ) (code one : List sock_filter) (q : Rule) → IsRulesCode (q ∷ []) w one → IsRulesCode chain w code
     → IsRulesCode (chain ++ q ∷ []) w (code ++ one)
 unfolding leads_front
 rules_more chain w code one q last h =
     let p = code ++ one in
     let len : length p ≡ length code + length one = length-append code one in
-    let z : length code + 0 ≡ length code = omega arith in
     record {
       long = omega (arith, h.long, last.long, sum_by_push (λ rule. rule_length rule + 1) chain q);
       ranges = ranges_join code one h.ranges last.ranges;
@@ -94,31 +105,26 @@ rules_more chain w code one q last h =
           let g = leads_front code one r 0 a (length code) t.1 in
           let fits = stays_small code r small t.1.goes in
           ⊎_elim
-          (λ u. inl (
-            Any-push (λ x. RuleHolds x r) chain q u.0,
-            returns_after p r 0 a (length code) w g
-                (returns_behind code one r g.accumulator w u.1),
-          ))
+          (λ u. inl (Any-push (λ x. RuleHolds x r) chain q (any_only (λ x. RuleHolds x r) q u.0), returns_back code one r a w g u.1))
           (λ u. inr (
-            λ any. ⊎_elim t.0 u.0 (any_split (λ x. RuleHolds x r) chain q any),
-            leads_to p r 0 a _ _ (sym len)
-                (leads_join p r 0 a (length code) _ g
-                (leads_from p r _ _ g.accumulator _ z (leads_second code one r 0 g.accumulator (length one) u.1))),
+            λ any. ⊎_elim t.0 (λ h. u.0 (any_here (λ x. RuleHolds x r) q h)) (any_split (λ x. RuleHolds x r) chain q any),
+            leads_to p r 0 a _ _ (sym len) (leads_through code one r a (length one) t.1 u.1),
           ))
           (last.enters r rec g.accumulator fits))
           (h.enters r rec a small);
       skips = λ r a small.
           let first = goes_front code one r (h.skips r a small) in
           let second = goes_shift p one r (length code) (stands_second code one) (last.skips r a small) in
-          let steps : sum_by rule_steps chain + rule_steps q ≡ sum_by rule_steps (chain ++ q ∷ []) = sym (sum_by_push rule_steps chain q) in
+          let steps : sum_by rule_steps chain + sum_by rule_steps (q ∷ []) ≡ sum_by rule_steps (chain ++ q ∷ []) =
+          omega (arith, sum_by_push rule_steps chain q) in
           let to_far : length code + (length one + 1) ≡ length p + 1 = omega arith in
           subst (λ n. Goes p r 1 a n (length p + 1) a) steps
-          (subst (λ n. Goes p r 1 a (sum_by rule_steps chain + rule_steps q) n a) to_far (goes_on p r first second));
+          (subst (λ n. Goes p r 1 a (sum_by rule_steps chain + sum_by rule_steps (q ∷ [])) n a) to_far (goes_on p r first second));
     }
 
 -- a step of the loop over the rules
 pub rules_step : (chain : Chain) (i w : ℕ) (q : Rule) (code one code' : List sock_filter) → i < length chain → q ≡ get_or chain i q
-    → IsReturningRuleCode q w one → code' ≡ code ++ one → IsRulesCode (take i chain) w code → IsRulesCode (take (i + 1) chain) w code'
+    → IsRulesCode (q ∷ []) w one → code' ≡ code ++ one → IsRulesCode (take i chain) w code → IsRulesCode (take (i + 1) chain) w code'
 rules_step chain i w q code one code' within is rule ec h =
     let e : take (i + 1) chain ≡ take i chain ++ q ∷ [] = take_more chain i q within ∙ ap (λ x. take i chain ++ x ∷ []) (sym is) in
     rw (e, ec) (rules_more (take i chain) w code one q rule h)

@@ -15,7 +15,7 @@ use Rattle.seccompiler.specs.Machine.{number_at, word_at, argument_at}
 use Rattle.seccompiler.specs.Architecture.{audit_word}
 use Rattle.seccompiler.specs.Policy.{word_of, Condition, part_of, operator_part, Compares, Holds, Rule, Chain, Filter, chain_under}
 use Rattle.seccompiler.specs.Policy.{RuleHolds, ChainMatches, Matches, IsDecision, other_architecture, policy_matches, policy_differs}
-use Rattle.seccompiler.specs.Reorder.{IsReorderedRule, IsReorderedChain, IsReorderedEntry, IsReordered, IsSameCall}
+use Rattle.seccompiler.specs.Reorder.{IsReorderedChain, IsReorderedEntry, IsReordered, IsSameCall}
 use Rattle.seccompiler.proofs.Zipped.{Any-all_zip, all_zip_back}
 use Rattle.seccompiler.proofs.Searches.{Any-permutation}
 
@@ -50,7 +50,7 @@ same_condition c r s same holds =
     holds
 
 -- A rule holds in any order of its conditions, on any record of the call.
-same_rule : (q q' : Rule) (r s : List ℕ) → IsReorderedRule q q' → IsSameCall r s → RuleHolds q r → RuleHolds q' s
+same_rule : (q q' : Rule) (r s : List ℕ) → IsPermutation q q' → IsSameCall r s → RuleHolds q r → RuleHolds q' s
 same_rule q q' r s order same holds =
     All-permutation (λ c. Holds c s) q q' order
     (All-weaker (λ c. Holds c r) (λ c. Holds c s) (λ c. same_condition c r s same) q holds)
@@ -62,12 +62,12 @@ matches_in_order chain middle r order (inl empty) =
 matches_in_order chain middle r order (inr any) = inr (Any-permutation (λ q. RuleHolds q r) chain middle order any)
 
 -- A chain matches in any order of the conditions in its rules, on any record of the call.
-matches_by_rules : (chain chain' : Chain) (r s : List ℕ) → AllZip IsReorderedRule chain chain'
+matches_by_rules : (chain chain' : Chain) (r s : List ℕ) → AllZip IsPermutation chain chain'
     → IsSameCall r s → ChainMatches chain r → ChainMatches chain' s
 matches_by_rules chain chain' r s pairs same (inl empty) =
-    inl (nil_from_length chain' (sym (length_all_zip IsReorderedRule chain chain' pairs) ∙ ap length empty))
+    inl (nil_from_length chain' (sym (length_all_zip IsPermutation chain chain' pairs) ∙ ap length empty))
 matches_by_rules chain chain' r s pairs same (inr any) =
-    inr (Any-all_zip IsReorderedRule (λ q. RuleHolds q r) (λ q. RuleHolds q s) chain chain'
+    inr (Any-all_zip IsPermutation (λ q. RuleHolds q r) (λ q. RuleHolds q s) chain chain'
     (λ q q' order. same_rule q q' r s order same) pairs any)
 
 -- A reordered chain matches where the first does.
@@ -80,7 +80,7 @@ chain_matches chain chain' r s order same matches =
 chain_matches_back : (chain chain' : Chain) (r s : List ℕ) → IsReorderedChain chain chain'
     → IsSameCall r s → ChainMatches chain' s → ChainMatches chain r
 chain_matches_back chain chain' r s order same matches =
-    let pairs = all_zip_back IsReorderedRule IsReorderedRule order.middle chain' IsPermutation-sym order.conditions in
+    let pairs = all_zip_back IsPermutation IsPermutation order.middle chain' IsPermutation-sym order.conditions in
     let rules = IsPermutation-sym chain order.middle order.rules in
     matches_in_order order.middle chain r rules (matches_by_rules chain' order.middle s r pairs (same_call_back r s same) matches)
 

@@ -12,7 +12,7 @@ use Rattle.seccompiler.specs.Layout.{chain_length, chains_length, chain_steps}
 use Rattle.seccompiler.specs.ChainCode.{Returns, IsChainCode, Dispatches, in_chain, no_chain, IsChainsCode}
 use Rattle.seccompiler.proofs.Runs.{goes_shift, goes_on, goes_front, stands_second}
 use Rattle.seccompiler.proofs.Closed.{ranges_join, ranges_from}
-use Rattle.seccompiler.proofs.Blocks.{returns_front, returns_behind, returns_after, block_join}
+use Rattle.seccompiler.proofs.Blocks.{returns_front, back_returns, block_join}
 use Rattle.seccompiler.proofs.FoundChains.{Entry, found_before, last_same, last_other, MapEntry}
 
 pub chains_empty : (mismatch matched : ℕ) → IsChainsCode [] mismatch matched []
@@ -26,9 +26,7 @@ chains_empty mismatch matched = record {
 -- past the code so far, and then a return
 after_chains : (code own : List sock_filter) (r : List ℕ) (a k w : ℕ) → Goes code r 0 a k (length code) a
     → Returns own r 0 a w → Returns (code ++ own) r 0 a w
-after_chains code own r a k w g x =
-    returns_after (code ++ own) r 0 a (length code) w record { count = k; accumulator = a; goes = goes_front code own r g }
-    (returns_behind code own r a w x)
+after_chains code own r a k w g x = (k + x.0, back_returns code own r a a k x.0 w (goes_front code own r g) x.1)
 
 -- past the code so far, and then past one more
 past_chains : (code own : List sock_filter) (r : List ℕ) (a k m : ℕ) → Goes code r 0 a k (length code) a

@@ -6,7 +6,7 @@ use Rattle.std.specs.Prelude.{slice_get}
 use Rattle.std.proofs.lemmas.Option.{slice_get_within}
 use Rattle.seccompiler.specs.declared.bpf.sock_filter.{sock_filter}
 use Rattle.seccompiler.specs.declared.backend.SeccompAction.{SeccompAction}
-use Rattle.seccompiler.specs.declared.backend.SeccompAction.TheVariants.{Allow, Errno, KillThread, KillProcess, Log, Trace, Trap}
+use Rattle.seccompiler.specs.declared.backend.SeccompAction.TheVariants.{Allow}
 use Rattle.seccompiler.specs.declared.backend.TargetArch.{TargetArch}
 use Rattle.seccompiler.specs.declared.backend.TargetArch.TheVariants.{x86_64}
 use Rattle.seccompiler.specs.Machine.{IsRecord, word_at, Goes, stays, then_step, Ends, greatest_length, IsFine, fine_load, fine_mask}
@@ -15,25 +15,20 @@ use Rattle.seccompiler.specs.Code.{load, give, jump_equal, guard_code}
 use Rattle.seccompiler.specs.Pieces.{IsInside, inside_load, inside_mask, inside_jump, inside_equal, inside_greater, inside_at_least}
 use Rattle.seccompiler.specs.Architecture.{audit_word}
 use Rattle.seccompiler.specs.Policy.{word_of, Rule, Filter, chains_of, IsDecision, other_architecture}
-use Rattle.seccompiler.specs.ChainCode.{IsBlock}
+use Rattle.seccompiler.specs.ChainCode.{ReturnsAfter, IsBlock}
 use Rattle.seccompiler.specs.Compiled.{EndsAtDecision}
 use Rattle.seccompiler.proofs.Runs.{goes_far, get_behind}
 use Rattle.seccompiler.proofs.Closed.{ranges_join, ranges_from}
 use Rattle.seccompiler.proofs.Words.{word_fits}
 use Rattle.seccompiler.proofs.Steps.{on_load, on_equal}
-use Rattle.seccompiler.proofs.Blocks.{ReturnsAfter, block_join, block_give, block_one, give_in_range, test_in_range, back_returns}
+use Rattle.seccompiler.proofs.Blocks.{block_join, block_give, block_one, give_in_range, test_in_range, back_returns}
 
--- the word of an action has 32 bits
+-- the word of an action has 32 bits; the second clause stands for every other one
 pub action_word_fits : (a : SeccompAction) → word_of a < 2 ^ 32
 action_word_fits Allow = omega arith
-action_word_fits (Errno x) = omega arith
-action_word_fits KillThread = omega arith
-action_word_fits KillProcess = omega arith
-action_word_fits Log = omega arith
-action_word_fits (Trace x) = omega arith
-action_word_fits Trap = omega arith
+action_word_fits _ = omega arith
 
--- so has the word of an architecture; the second clause stands for every other one
+-- so has the word of an architecture
 pub audit_word_fits : (arch : TargetArch) → audit_word arch < 2 ^ 32
 audit_word_fits x86_64 = omega arith
 audit_word_fits _ = omega arith

@@ -9,11 +9,11 @@ use Rattle.seccompiler.specs.Pieces.{inside_jump, inside_equal, Leads}
 use Rattle.seccompiler.specs.Policy.{Rule, Chain}
 use Rattle.seccompiler.specs.Layout.{rule_steps}
 use Rattle.seccompiler.specs.ChainCode.{IsRulesCode, IsChainCode}
-use Rattle.seccompiler.proofs.Runs.{goes_shift, goes_on, goes_front, stands_second}
+use Rattle.seccompiler.proofs.Runs.{goes_shift, goes_on, goes_front, leads_front, stands_second}
 use Rattle.seccompiler.proofs.Closed.{ranges_join, ranges_from, jump_in_range}
 use Rattle.seccompiler.proofs.Steps.{on_jump}
-use Rattle.seccompiler.proofs.Blocks.{returns_front, returns_second, returns_after, returns_here, leads_front, block_join, block_give}
-use Rattle.seccompiler.proofs.Blocks.{give_in_range, block_one, test_in_range}
+use Rattle.seccompiler.proofs.Blocks.{returns_front, returns_back, gives, block_join, block_give, give_in_range}
+use Rattle.seccompiler.proofs.Blocks.{block_one, test_in_range}
 
 -- the test of the call number goes on with this number, and skips one instruction with another
 on_number : (p : List sock_filter) (r : List ℕ) (n : ℕ) → slice_get p 0 ≡ Some (jump_equal n 0 1) → n < 2 ^ 32 → Step p r 0 n 1 n
@@ -40,10 +40,7 @@ module _ (n mismatch matched : ℕ) (fits : n < 2 ^ 32) (fits_mismatch : mismatc
           test_in_range n 0 1 fits (omega arith) (omega arith),
           (
             jump_in_range 1 (omega arith),
-            (
-              jump_in_range 2 (omega arith),
-              (give_in_range matched fits_matched, (give_in_range mismatch fits_mismatch, tt)),
-            ),
+            (jump_in_range 2 (omega arith), (give_in_range matched fits_matched, (give_in_range mismatch fits_mismatch, tt))),
           ),
         );
         block = block_join (jump_equal n 0 1 ∷ []) (jump 1 ∷ jump 2 ∷ give matched ∷ give mismatch ∷ []) 5 4 5
@@ -55,16 +52,13 @@ module _ (n mismatch matched : ℕ) (fits : n < 2 ^ 32) (fits_mismatch : mismatc
             (omega arith) (omega arith);
         enters = λ r rec. inl (
           inl refl,
-          record {
-            to = 3;
-            count = 2;
-            accumulator = n;
-            instruction = give matched;
-            goes = then_step (then_step stays (on_number p r n refl fits)) (on_jump p r 1 n 1 refl fits);
-            here = refl;
-            returns = refl;
-            value = refl;
-          },
+          returns_back (jump_equal n 0 1 ∷ jump 1 ∷ jump 2 ∷ []) (give matched ∷ give mismatch ∷ []) r n matched
+              record {
+                count = 2;
+                accumulator = n;
+                goes = then_step (then_step stays (on_number p r n refl fits)) (on_jump p r 1 n 1 refl fits);
+              }
+              (0, gives matched (give mismatch ∷ []) r n),
         );
         passes = λ r a small differs. then_step (then_step stays (on_others p r n a refl small differs)) (on_jump p r 2 a 2 refl small);
       }
@@ -91,17 +85,11 @@ module _ (n mismatch matched : ℕ) (fits : n < 2 ^ 32) (fits_mismatch : mismatc
         enters = λ r rec.
             let g : Leads p r 0 n 1 = record { count = 1; accumulator = n; goes = then_step stays (on_number p r n refl fits) } in
             ⊎_elim
-            (λ t. inl (
-              inr t.0,
-              returns_after p r 0 n 1 matched g
-                  (returns_second head both r 0 n matched (returns_front rules last r 0 n matched t.1)),
-            ))
+            (λ t. inl (inr t.0, returns_back head both r n matched g (returns_front rules last r 0 n matched t.1)))
             (λ t. inr (
               λ m. ⊎_elim (λ none. absurd (cc)) t.0 m,
-              returns_after p r 0 n 1 mismatch g
-                  (returns_second head both r 0 n mismatch
-                  (returns_after both r 0 n (length rules) mismatch (leads_front rules last r 0 n (length rules) t.1)
-                  (returns_here rules mismatch [] r _))),
+              returns_back head both r n mismatch g
+                  (returns_back rules last r n mismatch (leads_front rules last r 0 n (length rules) t.1) (0, gives mismatch [] r _)),
             ))
             (h.enters r rec n fits);
         passes = λ r a small differs.

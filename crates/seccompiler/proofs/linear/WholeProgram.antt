@@ -1,7 +1,6 @@
 -- For `SeccompFilter::write`: what the program of a filter is and does.
-use Rattle.std.proofs.Common.{◌≡◌, ℕ, suc, ◌+◌, ◌<◌, ◌≤◌, List, [], ◌∷◌, ◌++◌, length, Some, None, refl, sym, ap, ◌∙◌, subst, arith}
+use Rattle.std.proofs.Common.{◌≡◌, ℕ, suc, ◌+◌, ◌<◌, ◌≤◌, List, [], ◌∷◌, ◌++◌, length, None, refl, sym, ap, ◌∙◌, subst, arith}
 use Rattle.std.proofs.Common.{length-append, inl, inr, ⊎_elim, ℤ, Vec, Global}
-use Rattle.std.specs.Prelude.{slice_get}
 use Rattle.seccompiler.specs.declared.bpf.sock_filter.{sock_filter}
 use Rattle.seccompiler.specs.Machine.{IsRecord, word_at, Goes, Ends, greatest_length}
 use Rattle.seccompiler.specs.Code.{load, give, jump_equal}
@@ -9,12 +8,12 @@ use Rattle.seccompiler.specs.Architecture.{audit_word}
 use Rattle.seccompiler.specs.Policy.{word_of, Rule, Chain, Filter, chains_of, chain_under, IsDecision, ChainMatches}
 use Rattle.seccompiler.specs.Policy.{policy_matches, policy_differs}
 use Rattle.seccompiler.specs.Layout.{chains_length, counted_length_of, counted_length, chains_steps, passing_steps}
-use Rattle.seccompiler.specs.ChainCode.{Dispatches, in_chain, no_chain, IsChainsCode}
+use Rattle.seccompiler.specs.ChainCode.{ReturnsAfter, Dispatches, in_chain, no_chain, IsChainsCode}
 use Rattle.seccompiler.specs.Compiled.{IsCompiled}
-use Rattle.seccompiler.proofs.Runs.{goes_front, get_behind}
+use Rattle.seccompiler.proofs.Runs.{goes_front}
 use Rattle.seccompiler.proofs.Closed.{ranges_join, ranges_from}
 use Rattle.seccompiler.proofs.Words.{word_fits}
-use Rattle.seccompiler.proofs.Blocks.{ReturnsAfter, block_join, block_give, give_in_range, front_returns, counted}
+use Rattle.seccompiler.proofs.Blocks.{block_join, block_give, give_in_range, front_returns, back_returns, gives}
 use Rattle.seccompiler.proofs.linear.Guarded.{action_word_fits, ends_after, decided_at, checked_of, Answered, guard, head}
 use Rattle.seccompiler.proofs.linear.Guarded.{guard_ranges, guard_block, guarded, decides, returns_behind_head, head_decides, head_checked}
 use Rattle.seccompiler.proofs.linear.Guarded.{Written}
@@ -51,15 +50,7 @@ module _ (f : Filter) where
             (block_join (guard f) last 3 0 3 (guard_block f) (block_give mismatch_word 0) (omega arith) (omega arith)) (omega arith);
         decides = λ r rec. decides f last r rec
             (λ same g. decided_at f p r 2 mismatch_word
-            record {
-              to = 3;
-              accumulator = word_at r 4;
-              instruction = give mismatch_word;
-              goes = g;
-              here = refl;
-              returns = refl;
-              value = refl;
-            }
+            (back_returns (guard f) last r 0 (word_at r 4) 2 0 mismatch_word g (gives mismatch_word [] r (word_at r 4)))
             (unnamed r (ap (λ chains. chain_under chains (word_at r 0)) none) same));
         passes = record { passes = λ some r rec same there. absurd (some none) };
       }
@@ -67,34 +58,27 @@ module _ (f : Filter) where
   -- a number that leaves the chains comes to the return behind them
   passed : (chains : List sock_filter) (r : List ℕ) (a n : ℕ) → Goes chains r 0 a n (length chains) a
       → ReturnsAfter (chains ++ last) r 0 a n mismatch_word
-  passed chains r a n g = record {
-    to = length chains;
-    accumulator = a;
-    instruction = give mismatch_word;
-    goes = goes_front chains last r g;
-    here =
-        let z : length chains + 0 ≡ length chains = omega arith in
-        subst (λ k. slice_get (chains ++ last) k ≡ Some (give mismatch_word)) z (get_behind chains last 0 (give mismatch_word) refl);
-    returns = refl;
-    value = refl;
-  }
+  passed chains r a n g =
+      let z : n + 0 ≡ n = omega arith in
+      subst (λ k. ReturnsAfter (chains ++ last) r 0 a k mismatch_word) z
+      (back_returns chains last r a a n 0 mismatch_word (goes_front chains last r g) (gives mismatch_word [] r a))
 
   -- what the chains and the return behind them answer
   dispatched : (chains : List sock_filter) (r : List ℕ) → Dispatches f.chains mismatch_word match_word chains r (word_at r 0)
       → Answered f (chains ++ last) r
   dispatched chains r (in_chain chain there (inl (matches, h))) = record {
     word = match_word;
-    count = h.count;
+    count = h.0;
     decision = λ same. policy_matches same record { chain = chain; there = there; matches = matches } refl;
-    returns = front_returns chains last r 0 (word_at r 0) h.count match_word (counted chains r 0 (word_at r 0) match_word h);
+    returns = front_returns chains last r 0 (word_at r 0) h.0 match_word h.1;
   }
   dispatched chains r (in_chain chain there (inr (differs, h))) = record {
     word = mismatch_word;
-    count = h.count;
+    count = h.0;
     decision = λ same. policy_differs same
         (λ m. let found = sym m.there ∙ there in let one : m.chain ≡ chain = cc in differs (subst (λ x. ChainMatches x r) one m.matches))
         refl;
-    returns = front_returns chains last r 0 (word_at r 0) h.count mismatch_word (counted chains r 0 (word_at r 0) mismatch_word h);
+    returns = front_returns chains last r 0 (word_at r 0) h.0 mismatch_word h.1;
   }
   dispatched chains r (no_chain none g) = record {
     word = mismatch_word;

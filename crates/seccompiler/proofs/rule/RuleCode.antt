@@ -7,34 +7,25 @@ use Rattle.std.proofs.lemmas.List.Sums.{sum_by_push}
 use Rattle.std.specs.Prelude.{Some}
 use Rattle.seccompiler.specs.declared.bpf.sock_filter.{sock_filter}
 use Rattle.seccompiler.specs.declared.backend.SeccompCmpOp.{SeccompCmpOp}
-use Rattle.seccompiler.specs.declared.backend.SeccompCmpOp.TheVariants.{Eq, Ge, Gt, Le, Lt, MaskedEq, Ne}
+use Rattle.seccompiler.specs.declared.backend.SeccompCmpOp.TheVariants.{Eq}
 use Rattle.seccompiler.specs.declared.backend.SeccompCmpArgLen.{SeccompCmpArgLen}
 use Rattle.seccompiler.specs.declared.backend.SeccompCmpArgLen.TheVariants.{Dword, Qword}
-use Rattle.seccompiler.specs.Machine.{IsRecord, Goes, stays, then_step, AreInRange}
+use Rattle.seccompiler.specs.Code.{jump}
+use Rattle.seccompiler.specs.Machine.{IsRecord, Step, Goes, stays, then_step, AreInRange}
 use Rattle.seccompiler.specs.Pieces.{inside_jump, IsClosed, Leads, Exits, IsConditionCode, IsRuleCode}
 use Rattle.seccompiler.specs.Policy.{Condition, Holds, size_by, size_of, RuleHolds}
 use Rattle.seccompiler.specs.Layout.{greatest_offset, total_size, relays}
-use Rattle.seccompiler.specs.ChainCode.{relay_code, entry_code}
+use Rattle.seccompiler.specs.ChainCode.{relay_code}
 use Rattle.seccompiler.proofs.Runs.{goes_shift, goes_on, stands_second, leads_to, leads_from, leads_second, stays_small, leads_through}
 use Rattle.seccompiler.proofs.Runs.{leads_both, via}
 use Rattle.seccompiler.proofs.Closed.{closed_join, closed_from, ranges_join, ranges_from, jump_in_range}
 use Rattle.seccompiler.proofs.Steps.{on_jump}
 
+-- The last clause stands for all other comparisons.
 size_by_small : (len : SeccompCmpArgLen) (op : SeccompCmpOp) → size_by len op ≤ 6
 size_by_small Dword Eq = omega arith
-size_by_small Dword Ne = omega arith
-size_by_small Dword Ge = omega arith
-size_by_small Dword Gt = omega arith
-size_by_small Dword Le = omega arith
-size_by_small Dword Lt = omega arith
-size_by_small Dword (MaskedEq m) = omega arith
 size_by_small Qword Eq = omega arith
-size_by_small Qword Ne = omega arith
-size_by_small Qword Ge = omega arith
-size_by_small Qword Gt = omega arith
-size_by_small Qword Le = omega arith
-size_by_small Qword Lt = omega arith
-size_by_small Qword (MaskedEq m) = omega arith
+size_by_small _ _ = omega arith
 
 -- a condition takes at most 6 instructions
 pub size_small : (c : Condition) → size_of c ≤ 6
@@ -124,12 +115,26 @@ body_more q code own o k c room one body =
           (goes_shift (own ++ code) code r (length own) (stands_second own code) (body.skips r a small)));
     }
 
+-- code to which jumps in front of it lead has the exits that it had
+exits_behind : (front code : List sock_filter) (r : List ℕ) (a : ℕ) (fact : Type 0) → Step (front ++ code) r 0 a (length front) a
+    → Exits code 1 r a fact → Exits (front ++ code) 1 r a fact
+exits_behind front code r a fact step exits =
+    let z : length front + 0 ≡ length front = omega arith in
+    let len = length-append front code in
+    let at : (y y' : ℕ) → length front + y ≡ y' → Leads code r 0 a y → Leads (front ++ code) r 0 a y' =
+    λ y y' e h. leads_to (front ++ code) r 0 a _ _ e (via (front ++ code) r 0 a (length front) _ step
+    (leads_from (front ++ code) r _ _ a _ z (leads_second front code r 0 a y h))) in
+    ⊎_elim
+    (λ t. inl (t.0, at (length code) _ (sym len) t.1))
+    (λ t. inr (t.0, at (length code + 1) _ (omega arith) t.1))
+    exits
+
 -- a relay in front
 pub body_relay : (q : List Condition) (code : List sock_filter) (o k : ℕ) → Body q code o k → Body q (relay_code o ++ code) 1 (suc k)
 body_relay q code o k body =
     let p = relay_code o ++ code in
+    let far = jump_in_range (o + 1) (omega (arith, body.high)) in
     let len : length p ≡ 3 + length code = length-append (relay_code o) code in
-    let to_end : 3 + length code ≡ length p = sym len in
     let to_next : 3 + (length code + 1) ≡ length p + 1 = omega arith in
     let to_far : 3 + (length code + 2) ≡ length p + 2 = omega arith in
     record {
@@ -138,29 +143,15 @@ body_relay q code o k body =
       near = omega arith;
       long = omega (arith, body.long);
       ranges = ranges_join (relay_code o) code
-          (ranges_from (relay_code o) (
-            jump_in_range 2 (omega arith),
-            (jump_in_range (o + 1) (omega (arith, body.high)), (jump_in_range (o + 1) (omega (arith, body.high)), tt)),
-          )) body.ranges;
+          (ranges_from (relay_code o) (jump_in_range 2 (omega arith), (far, (far, tt)))) body.ranges;
       closed = closed_join (relay_code o) code (length p + 2) (length code + 2) (length p + 2)
           (closed_from (relay_code o) (length p + 2) (
             inside_jump refl (omega arith),
             (inside_jump refl (omega (arith, body.near)), (inside_jump refl (omega (arith, body.near)), tt)),
-          )) body.closed
-          (omega arith) (omega arith);
+          ))
+          body.closed (omega arith) (omega arith);
       enters = λ r rec a small.
-          ⊎_elim
-          (λ t. inl (
-            t.0,
-            leads_to p r 0 a _ _ to_end
-                (via p r 0 a 3 _ (on_jump p r 0 a 2 refl small) (leads_second (relay_code o) code r 0 a (length code) t.1)),
-          ))
-          (λ t. inr (
-            t.0,
-            leads_to p r 0 a _ _ to_next
-                (via p r 0 a 3 _ (on_jump p r 0 a 2 refl small) (leads_second (relay_code o) code r 0 a (length code + 1) t.1)),
-          ))
-          (body.enters r rec a small);
+          exits_behind (relay_code o) code r a (RuleHolds q r) (on_jump p r 0 a 2 refl small) (body.enters r rec a small);
       fails = λ r a small.
           let e : 3 + o ≡ 1 + 1 + (o + 1) = omega arith in
           leads_to p r 1 a _ _ to_next (via p r 1 a _ _ (on_jump p r 1 a (o + 1) refl small)
@@ -172,14 +163,16 @@ body_relay q code o k body =
           (goes_shift p code r 3 (stands_second (relay_code o) code) (body.skips r a small))));
     }
 
+-- The two jumps in front of a rule whose failure exit is o places behind them.
+abbrev pub entry_code : ℕ → List sock_filter
+entry_code o = jump 1 ∷ jump (o + 1) ∷ []
+
 -- the entry in front: the code of the rule
 pub rule_of : (q : List Condition) (code : List sock_filter) (o k : ℕ) → k ≡ relays q
     → Body q code o k → IsRuleCode q (entry_code o ++ code)
 rule_of q code o k is_k body =
     let p = entry_code o ++ code in
     let len : length p ≡ 2 + length code = length-append (entry_code o) code in
-    let to_end : 2 + length code ≡ length p = sym len in
-    let to_next : 2 + (length code + 1) ≡ length p + 1 = omega arith in
     let to_far : 2 + (length code + 2) ≡ length p + 2 = omega arith in
     record {
       long = omega (arith, body.long);
@@ -189,18 +182,7 @@ rule_of q code o k is_k body =
           (closed_from (entry_code o) (length p + 2) (inside_jump refl (omega arith), (inside_jump refl (omega (arith, body.near)), tt)))
           body.closed (omega arith) (omega arith);
       enters = λ r rec a small.
-          ⊎_elim
-          (λ t. inl (
-            t.0,
-            leads_to p r 0 a _ _ to_end
-                (via p r 0 a 2 _ (on_jump p r 0 a 1 refl small) (leads_second (entry_code o) code r 0 a (length code) t.1)),
-          ))
-          (λ t. inr (
-            t.0,
-            leads_to p r 0 a _ _ to_next
-                (via p r 0 a 2 _ (on_jump p r 0 a 1 refl small) (leads_second (entry_code o) code r 0 a (length code + 1) t.1)),
-          ))
-          (body.enters r rec a small);
+          exits_behind (entry_code o) code r a (RuleHolds q r) (on_jump p r 0 a 1 refl small) (body.enters r rec a small);
       skips = λ r a small. subst (λ n. Goes p r 1 a (1 + n) (length p + 2) a) is_k
           (goes_on p r (then_step stays (on_jump p r 1 a (o + 1) refl small))
           (subst (λ n. Goes p r (2 + (o + 1)) a k n a) to_far

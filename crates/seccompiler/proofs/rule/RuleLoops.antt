@@ -10,9 +10,9 @@ use Rattle.std.proofs.lemmas.List.Sums.{sum_by-append, sum_by-cons}
 use Rattle.seccompiler.specs.declared.bpf.sock_filter.{sock_filter}
 use Rattle.seccompiler.specs.Policy.{Condition, size_of}
 use Rattle.seccompiler.specs.Layout.{greatest_offset, total_size, rule_length}
-use Rattle.seccompiler.specs.ChainCode.{relay_code, entry_code, relay_front, offset_behind}
+use Rattle.seccompiler.specs.ChainCode.{relay_code, relay_front, offset_behind}
 use Rattle.seccompiler.specs.Pieces.{IsConditionCode, IsRuleCode}
-use Rattle.seccompiler.proofs.rule.RuleCode.{size_small, total_more, Body, body_empty, body_more, body_relay, rule_of}
+use Rattle.seccompiler.proofs.rule.RuleCode.{size_small, total_more, Body, body_empty, body_more, body_relay, entry_code, rule_of}
 use Rattle.seccompiler.proofs.Parts.{around}
 use Rattle.seccompiler.proofs.rule.RelayCount.{Cutting, none, cutting_more, cutting_relay, relays_are, relays_so_far, relays_so_far_full}
 

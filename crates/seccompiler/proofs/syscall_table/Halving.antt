@@ -14,8 +14,8 @@ use Rattle.std.proofs.lemmas.List.{length-map}
 use Rattle.std.proofs.lemmas.Map.Text.{is_eq-slice_cmp}
 use Rattle.std.proofs.lemmas.Nat.{pow_pos}
 use Rattle.std.proofs.lemmas.Slice.Eq.{bytes_eq-Decides}
-use Rattle.seccompiler.specs.SyscallTable.{Pair, IsCallTable, StandsBefore, number_of, pairs_of, IsMiddle, HalvingCompares, none_left}
-use Rattle.seccompiler.specs.SyscallTable.{at_middle, before_middle, behind_middle}
+use Rattle.seccompiler.specs.SyscallTable.{Pair, IsCallTable, StandsBefore, number_of, pairs_of, ComesBefore, IsMiddle, HalvingCompares}
+use Rattle.seccompiler.specs.SyscallTable.{none_left, at_middle, before_middle, behind_middle}
 
 -- These places of a table have other names.
 abbrev HasNot : List Pair → List ℕ → (ℕ → Type 0) → Type 0
@@ -64,19 +64,15 @@ number_of-at table name i d within none here =
     let found : number_of (get_or table i d ∷ drop (suc i) table) name ≡ Some (get_or table i d).1 = rw same refl in
     sym (number_of-drop table name i none) ∙ ap (λ pairs. number_of pairs name) cut ∙ found
 
--- one name comes before another
-abbrev Before : List ℕ → List ℕ → Type 0
-Before first second = slice_cmp nat_cmp first second ≡ Less
-
 -- a name that comes before another isn't that
-differs : (first second : List ℕ) → Before first second → first ≢ second
+differs : (first second : List ℕ) → ComesBefore first second → first ≢ second
 differs first second before same =
     let itself : slice_cmp nat_cmp first first ≡ Less = ap (slice_cmp nat_cmp first) same ∙ before in
     let tied = tied_itself nat_list_cmp_total first in
     cc
 
 -- what compares as greater comes after
-turned : (first second : List ℕ) → slice_cmp nat_cmp first second ≡ Greater → Before second first
+turned : (first second : List ℕ) → slice_cmp nat_cmp first second ≡ Greater → ComesBefore second first
 turned first second greater =
     let mirrored = nat_list_cmp_total.antisymm second first in
     rw greater at mirrored
@@ -89,21 +85,21 @@ tied first second equal =
 
 -- behind a name that the asked one comes before, and at it, no name is the asked one
 none_from : (table : List Pair) (name : List ℕ) (i : ℕ) → AllPairs StandsBefore table
-    → ((d : Pair) → Before name (get_or table i d).0) → i < length table → HasNot table name (λ k. i ≤ k)
+    → ((d : Pair) → ComesBefore name (get_or table i d).0) → i < length table → HasNot table name (λ k. i ≤ k)
 none_from table name i ascends before inside k d at within same =
-    let later : Before name (get_or table k d).0 = elim (cases_lt i k) [
+    let later : ComesBefore name (get_or table k d).0 = elim (cases_lt i k) [
       | inl behind ↦ nat_list_cmp_total.trans name (get_or table i d).0 (get_or table k d).0 (before d) (ascends i k d behind within)
-      | inr until ↦ let here : i ≡ k = omega arith in subst (λ j. Before name (get_or table j d).0) here (before d)
+      | inr until ↦ let here : i ≡ k = omega arith in subst (λ j. ComesBefore name (get_or table j d).0) here (before d)
     ] in
     differs name (get_or table k d).0 later (sym same)
 
 -- up to a name that comes before the asked one, and at it, no name is the asked one
-none_to : (table : List Pair) (name : List ℕ) (i : ℕ) → AllPairs StandsBefore table → ((d : Pair) → Before (get_or table i d).0 name)
+none_to : (table : List Pair) (name : List ℕ) (i : ℕ) → AllPairs StandsBefore table → ((d : Pair) → ComesBefore (get_or table i d).0 name)
     → i < length table → HasNot table name (λ k. k < suc i)
 none_to table name i ascends before inside k d at within same =
-    let earlier : Before (get_or table k d).0 name = elim (cases_lt k i) [
+    let earlier : ComesBefore (get_or table k d).0 name = elim (cases_lt k i) [
       | inl ahead ↦ nat_list_cmp_total.trans (get_or table k d).0 (get_or table i d).0 name (ascends k i d ahead inside) (before d)
-      | inr from ↦ let here : i ≡ k = omega arith in subst (λ j. Before (get_or table j d).0 name) here (before d)
+      | inr from ↦ let here : i ≡ k = omega arith in subst (λ j. ComesBefore (get_or table j d).0 name) here (before d)
     ] in
     differs (get_or table k d).0 name earlier same
 

@@ -9,7 +9,7 @@ ghost use Rattle.serde_json.specs.Data.{Data};
 ghost use Rattle.seccompiler.specs.Errors.{IsNoMemoryInFrontend};
 ghost use Rattle.seccompiler.specs.JsonAnswers.{IsLeastRefused, OfValue, ArePoliciesOf, TellsFrontendFault};
 ghost use Rattle.seccompiler.specs.JsonEntries.{PoliciesMatchEntries};
-ghost use Rattle.seccompiler.specs.JsonSteps.{AreFilters, HaveTableNumbers, IsNoFailedRead, IsPolicyRefusal, Tells};
+ghost use Rattle.seccompiler.specs.JsonSteps.{AreFilters, IsNoFailedRead, IsPolicyRefusal, Tells};
 ghost use Rattle.seccompiler.specs.Reads.{Reads};
 ghost use Rattle.seccompiler.specs.Policy.{Filter};
 ghost use Rattle.seccompiler.specs.Compiled.{numbers_of};
@@ -150,7 +150,7 @@ impl JsonCompiler {
         text: &[u8],
     ) -> Result<BTreeMap<String, SeccompFilter>, JsonFrontendError>
         ensures policies { IfOk result (λ m. OfValue text.now (ArePoliciesOf self.now (tree.get_by_text m))) }
-        ensures numbers { IfOk result (λ m. HaveTableNumbers (tree.get_by_text m)) }
+        ensures numbers { IfOk result (λ m. (name : List ℕ) → IfSome (tree.get_by_text m name) (λ f. All IsTableNumber (numbers_of f.chains))) }
         ensures fault { IfErr result (TellsFrontendFault self.now text.now) }
         ensures no_reader { IfErr result IsNoFailedRead }
         ensures memory { IfErr result IsNoMemoryInFrontend }

@@ -1,12 +1,14 @@
 // From JSON filters to filters.
 
-ghost use Rattle.std.specs.Prelude.{◌≡◌, ◌≢◌, ◌↔◌, ℤ, [], ◌∷◌, Some, None, All, Contains, IfOk, IfErr, OnOk, map, if◌then◌else◌};
+ghost use Rattle.std.specs.Prelude.{◌≡◌, ◌≢◌, ◌↔◌, ◌&&◌, ℤ, [], ◌∷◌, Some, None, All, Contains, IfOk, IfErr, OnOk, map, if◌then◌else◌};
 ghost use Rattle.std.specs.BTreeMap.{IsOrdered};
+ghost use Rattle.std.specs.List.{list_any};
 ghost use Rattle.std.specs.List.Sorted.{IsStrictlySortedBy};
+ghost use Rattle.std.specs.Option.{is_some};
 ghost use Rattle.std.specs.Ordering.{int_cmp, int_eq};
 ghost use Rattle.seccompiler.specs.Policy.{chains_of};
 ghost use Rattle.seccompiler.specs.JsonPolicyOf.{chain_at, condition_of, AreFineArgs, IsFaultIn, IsFaultOf, IsFineEntry, IsFirstOf, IsPolicyOf};
-ghost use Rattle.seccompiler.specs.JsonGathered.{added, AreGathered, HasAdded, HasChains, numbers_of_both};
+ghost use Rattle.seccompiler.specs.JsonGathered.{added, AreGathered, HasAdded, HasChains, is_always_at, rules_at};
 ghost use Rattle.seccompiler.specs.JsonWidened.{IsWidened};
 ghost use Rattle.seccompiler.specs.JsonSteps.{IsConditionOf, IsPolicyRefusal, Tells};
 
@@ -42,8 +44,8 @@ impl TryFrom<JsonCondition> for SeccompCondition {
 struct Gathered {
     // Under the number of its call, the rule of each entry that has conditions, in order.
     rules: BTreeMap<i64, Vec<SeccompRule>>,
-    // The numbers of the calls of the entries without conditions.
-    always: BTreeSet<i64>,
+    // The numbers of the calls of the entries without conditions, in order.
+    always: Vec<i64>,
 }
 
 // The condition of a JSON condition.
@@ -110,7 +112,7 @@ fn add_entry(
             Ok(())
         }
         None => {
-            gathered.always.insert(number)?;
+            gathered.always.push(number)?;
             Ok(())
         }
     }
@@ -129,7 +131,7 @@ fn gather(
 {
     let mut gathered = Gathered {
         rules: BTreeMap::new(alloc),
-        always: BTreeSet::new(alloc),
+        always: Vec::new(alloc),
     };
     for entry in entries {
         add_entry(alloc, arch, &mut gathered, entry)?;
@@ -153,13 +155,15 @@ fn chains_of_numbers(
 }
 
 // The numbers under which rules were gathered, of those that match always.
-fn both_kinds(alloc: Global, gathered: &Gathered) -> Result<Vec<i64>, AllocError>
-    ensures numbers { IfOk result (λ numbers. numbers.items ≡ numbers_of_both gathered.now) }
+fn both_kinds(alloc: Global, gathered: Gathered) -> Result<Vec<i64>, AllocError>
+    ensures numbers { IfOk result (λ numbers. (number : ℤ) → list_any (int_eq number) numbers.items ≡ (is_always_at gathered number && is_some (rules_at gathered number))) }
     ensures ascending { IfOk result (λ numbers. IsStrictlySortedBy int_cmp numbers.items) }
 {
+    let Gathered { rules, always } = gathered;
+    let always: BTreeSet<i64> = always.into_iter().collect(alloc)?;
     let mut numbers = Vec::new(alloc);
-    for number in &gathered.always {
-        if gathered.rules.contains_key(number) {
+    for number in &always {
+        if rules.contains_key(number) {
             numbers.push(*number)?;
         }
     }
@@ -195,5 +199,5 @@ pub fn widened_numbers(
     if filter.mismatch_action == filter.match_action {
         return Err(JsonFrontendError::Backend(BackendError::IdenticalActions));
     }
-    Ok(both_kinds(alloc, &gathered)?)
+    Ok(both_kinds(alloc, gathered)?)
 }

@@ -54,11 +54,12 @@ impl Model for JsonRule {
 }
 
 impl PartialEq for JsonRule {
-    ghost use Rattle.seccompiler.specs.Equality.{rule_eq, rule_eq_law};
+    ghost use Rattle.std.specs.Cmp.{decided, partial_equiv_from_equiv};
+    ghost use Rattle.seccompiler.specs.Equality.{rule_eq, rule_decides};
 
     ghost eq = { rule_eq };
 
-    ghost laws = { rule_eq_law };
+    ghost laws = { partial_equiv_from_equiv (decided rule_eq rule_decides) };
 
     fn eq(&self, other: &JsonRule) -> bool {
         self.syscall == other.syscall && self.conditions == other.conditions
@@ -97,11 +98,12 @@ impl Model for JsonFilter {
 }
 
 impl PartialEq for JsonFilter {
-    ghost use Rattle.seccompiler.specs.Equality.{filter_eq, filter_eq_law};
+    ghost use Rattle.std.specs.Cmp.{decided, partial_equiv_from_equiv};
+    ghost use Rattle.seccompiler.specs.Equality.{filter_eq, filter_decides};
 
     ghost eq = { filter_eq };
 
-    ghost laws = { filter_eq_law };
+    ghost laws = { partial_equiv_from_equiv (decided filter_eq filter_decides) };
 
     fn eq(&self, other: &JsonFilter) -> bool {
         self.mismatch_action == other.mismatch_action
@@ -138,10 +140,10 @@ impl PartialEq for JsonFilterMap {
 }
 
 impl EqualByParts for JsonFilterMap {
-    ghost use Rattle.std.specs.Prelude.{◌≡◌};
-    ghost use Rattle.seccompiler.specs.Equality.{filter_map_decides, named_filters};
+    ghost use Rattle.std.specs.List.{AllZip};
+    ghost use Rattle.seccompiler.specs.Equality.{filter_map_decides, IsSameEntry};
 
-    ghost has_same_parts = { λ m n. named_filters m ≡ named_filters n };
+    ghost has_same_parts = { λ m n. AllZip IsSameEntry m.0.entries n.0.entries };
 
     ghost decides = { filter_map_decides };
 }

@@ -8,7 +8,7 @@ loop-i-init c =
     let first = c.found.ensures in
     let begin = c.until-begin.ensures.count in
     rw begin (part_begins a.steps.now.items a.others.now a.first a.last a.base c.requires.others c.requires.base c.requires.order
-    c.push_step.new.steps.items c.in_ok-push_step.ensures.tight (rw first at c.in_ok-push_step.ensures.pushed))
+    c.push_step.new.steps.items (rw first at c.in_ok-push_step.ensures.pushed))
 
 pub overflow_sub-step : goal.overflow_sub-step
 overflow_sub-step c =
@@ -30,7 +30,7 @@ loop-i-preserved c =
     let a = c.args in
     part_turn a.steps.now.items a.others.now a.first a.last a.base c.requires.others c.requires.base c.requires.order c.loop-i.i _
     c.loop-i.steps.items c.push_step-in-loop-i.new.steps.items (omega (arith, c.until-end.ensures.count)) c.loop-i.invariant
-    c.in_ok-push_step-2.ensures.tight c.in_ok-push_step-2.ensures.pushed
+    c.in_ok-push_step-2.ensures.pushed
 
 pub returns-clause-part : goal.returns-clause-part
 returns-clause-part c =

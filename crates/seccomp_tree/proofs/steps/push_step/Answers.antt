@@ -1,7 +1,7 @@
 use Rattle.std.proofs.Common.{sym, ◌∙◌}
 use Rattle.std.proofs.lemmas.Bool.{false≢true}
 use Rattle.seccomp_tree.specs.declared.steps.Step.{Step}
-use Rattle.seccomp_tree.proofs.Begun.{pushed_same, pushed_more, tight_pushed}
+use Rattle.seccomp_tree.proofs.Begun.{pushed_same, pushed_more}
 use Rattle.seccomp_tree.proofs.steps.push_step.Goals as goal
 
 pub returns-then-have-clause-pushed : goal.returns-then-have-clause-pushed
@@ -12,11 +12,6 @@ returns-then-have-clause-pushed c =
 pub returns-clause-pushed : goal.returns-clause-pushed
 returns-clause-pushed c =
     let x : Step = record { start = c.args.start; target = c.args.target } in
-    rw c.in_ok-push.ensures.items (pushed_more c.args.steps.now.items x c.requires.below)
-
-pub returns-clause-tight : goal.returns-clause-tight
-returns-clause-tight c =
-    let x : Step = record { start = c.args.start; target = c.args.target } in
     let e = c.deref.ensures.value in
-    rw c.in_ok-push.ensures.items (tight_pushed c.args.steps.now.items x c.requires.below
+    rw c.in_ok-push.ensures.items (pushed_more c.args.steps.now.items x c.requires.below
     (λ some same. false≢true (sym c.if-have.false ∙ c.have.ensures.1 (rw e (some, same)))))

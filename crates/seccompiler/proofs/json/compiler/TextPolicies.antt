@@ -6,7 +6,7 @@ use Rattle.seccompiler.proofs.ByName.{ByName, AreInOrder, under}
 use Rattle.seccompiler.specs.Errors.{IsNoMemoryInFrontend}
 use Rattle.seccompiler.specs.JsonAnswers.{IsValueOf, HasPolicy, HasSomePolicy, ArePoliciesOf, IsLeastRefused, TellsFrontendFault}
 use Rattle.seccompiler.specs.JsonPolicyOf.{Fault, IsPolicyOf, IsFirstFault}
-use Rattle.seccompiler.specs.JsonSteps.{AreFilters, HaveTableNumbers, IsNoFailedRead, Tells}
+use Rattle.seccompiler.specs.JsonSteps.{AreFilters, IsNoFailedRead, Tells}
 use Rattle.seccompiler.specs.JsonShape.{IsFilter}
 use Rattle.seccompiler.specs.Policy.{Filter}
 use Rattle.seccompiler.specs.Compiled.{numbers_of}
@@ -40,7 +40,8 @@ module _ (arch : TargetArch) (d : Data) where
     )
 
   -- The numbers of all policies are those of a table.
-  pub have_table_numbers : (find : List ℕ → Option Filter) → ArePoliciesOf arch find d → HaveTableNumbers find
+  pub have_table_numbers : (find : List ℕ → Option Filter) → ArePoliciesOf arch find d → (name : List ℕ)
+      → IfSome (find name) (λ policy. All IsTableNumber (numbers_of policy.chains))
   have_table_numbers find are name = by (find name) refl
     where
       by : (o : Option Filter) → find name ≡ o → IfSome o (λ policy. All IsTableNumber (numbers_of policy.chains))

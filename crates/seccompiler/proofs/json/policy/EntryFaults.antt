@@ -2,7 +2,6 @@
 -- `widened_numbers`: the entries of a JSON filter: nothing is wrong with any, or one fault is the first.
 use Rattle.std.proofs.Common.{◌≡◌, ℕ, ◌+◌, ◌<◌, ℤ, length, get_or, take, drop, List, [], ◌∷◌, ◌++◌, Option, Some, None, All, refl, sym, ap}
 use Rattle.std.proofs.Common.{◌∙◌, subst, ◌⊎◌, inl, inr, arith}
-use Rattle.std.proofs.lemmas.List.{take-append-drop, drop_more}
 use Rattle.std.proofs.lemmas.List.Elements.{All-nil, All-cons, All-head, All-tail, All-contains, Contains-append_right}
 use Rattle.seccompiler.specs.declared.backend.TargetArch.{TargetArch}
 use Rattle.seccompiler.specs.declared.json.error.JsonFrontendError.{JsonFrontendError}
@@ -14,6 +13,7 @@ use Rattle.seccompiler.specs.SyscallTable.{number_of}
 use Rattle.seccompiler.specs.JsonPolicyOf.{Fault, unknown_call, IsFaultIn, IsFor, IsFineEntry, IsFaultOf, unknown_name, wrong_args}
 use Rattle.seccompiler.specs.JsonPolicyOf.{IsFirstOf}
 use Rattle.seccompiler.specs.JsonSteps.{Tells}
+use Rattle.seccompiler.proofs.Parts.{around}
 use Rattle.seccompiler.proofs.json.policy.EntryRules.{fine_or_fault_in, not_both_in, one_fault_in}
 
 -- An error that tells a fault tells one of which more is known.
@@ -100,15 +100,12 @@ module _ (arch : TargetArch) where
       → place < length entries → entry ≡ get_or entries place entry → All (IsFineEntry arch) (take place entries)
       → Tells (IsFaultOf arch entry) error → Tells (IsFirstOf arch entries) error
   first_wrong entries place entry error within is fine told =
-      let whole : entries ≡ take place entries ++ entry ∷ drop (place + 1) entries =
-      sym (take-append-drop place entries) ∙ ap (λ rest. take place entries ++ rest)
-      (drop_more entries place entry within ∙ ap (λ first. first ∷ drop (place + 1) entries) (sym is)) in
       tells_more (IsFaultOf arch entry) (IsFirstOf arch entries)
       (λ fault wrong. record {
         front = take place entries;
         entry = entry;
         back = drop (place + 1) entries;
-        whole = whole;
+        whole = around entries place entry within is;
         fine = fine;
         wrong = wrong;
       }) error told

@@ -5,7 +5,7 @@ use Rattle.std.proofs.Common.{refl, sym, ap, ◌∙◌, subst, ◌⊎◌, inl, i
 use Rattle.std.specs.BTreeMap.{BTreeMap}
 use Rattle.std.specs.List.{flat_map, list_any}
 use Rattle.std.specs.List.Sorted.{IsStrictlySortedBy}
-use Rattle.std.specs.Option.{is_none, option_to_list}
+use Rattle.std.specs.Option.{is_none, option_eq, option_to_list}
 use Rattle.std.specs.Ordering.{int_cmp, int_eq}
 use Rattle.std.specs.Prelude.{Vec}
 use Rattle.std.specs.declared.alloc.Global.{Global}
@@ -22,7 +22,7 @@ use Rattle.seccompiler.specs.declared.backend.TargetArch.{TargetArch}
 use Rattle.seccompiler.specs.declared.backend.BackendError.TheVariants.{IdenticalActions}
 use Rattle.seccompiler.specs.declared.json.policy.Gathered.{Gathered}
 use Rattle.seccompiler.specs.declared.json.types.JsonCondition.{JsonCondition}
-use Rattle.seccompiler.specs.JsonPolicyOf.{Fault, refused, all_rules, chain_for, rules_of, chain_at, is_for, is_always, is_number, IsFor}
+use Rattle.seccompiler.specs.JsonPolicyOf.{Fault, refused, all_rules, chain_for, rules_of, chain_at, is_for, is_always, IsFor}
 use Rattle.seccompiler.specs.JsonPolicyOf.{IsFineEntry, IsMadeOf, IsPolicyOf, IsFirstFault, in_entries, in_actions}
 use Rattle.seccompiler.specs.JsonGathered.{added, chain_of, rules_at, AreGathered, HasChains}
 use Rattle.seccompiler.specs.JsonWidened.{IsPolicyBefore}
@@ -46,7 +46,7 @@ any_decides test P each xs = (
 
 module _ (arch : TargetArch) where
   -- Whether an entry is for a number.
-  is_decides : (number : ℤ) (o : Option ℤ) → Decides (is_number number o) (o ≡ Some number)
+  is_decides : (number : ℤ) (o : Option ℤ) → Decides (option_eq int_eq (Some number) o) (o ≡ Some number)
   is_decides number None = (λ h. absurd (true≢false (sym h)), λ e. cc)
   is_decides number (Some other) = (
     λ h. ap Some (sym ((Decides-int_eq number other).0 h)),
@@ -69,7 +69,7 @@ module _ (arch : TargetArch) where
   any_number number (entry ∷ entries) =
       elim (number_of (table_of arch) entry.syscall) as
       (λ o. list_any (int_eq number) (option_to_list o ++ numbers_of_entries entries)
-      ≡ (is_number number o || list_any (is_for arch number) entries)) [
+      ≡ (option_eq int_eq (Some number) o || list_any (is_for arch number) entries)) [
         | None ↦ any_number number entries
         | Some other ↦ ap (λ b. int_eq number other || b) (any_number number entries)
       ]

@@ -4,14 +4,14 @@ use Rattle.std.proofs.Common.{◌≡◌, ◌≢◌, ◌↔◌, ℕ, ℤ, pos, Li
 use Rattle.std.proofs.Common.{refl, sym, ap, ◌∙◌, subst, inl, inr, Decides}
 use Rattle.std.specs.List.{list_any, Contains}
 use Rattle.std.specs.Option.{is_none, is_some}
+use Rattle.std.specs.Ordering.{int_eq}
 use Rattle.std.proofs.lemmas.Bool.{true≢false, cases_Bool}
 use Rattle.std.proofs.lemmas.Bool.Decides.{Decides-int_eq, Decides-and, Decides-at}
-use Rattle.std.proofs.lemmas.Cmp.{int_eq_equiv}
-use Rattle.std.proofs.lemmas.Map.Made.{is_member-filter, is_member-Decides}
+use Rattle.std.proofs.lemmas.Map.Made.{is_member-Decides}
 use Rattle.seccompiler.specs.declared.backend.TargetArch.{TargetArch}
 use Rattle.seccompiler.specs.declared.json.policy.Gathered.{Gathered}
 use Rattle.seccompiler.specs.declared.json.types.JsonCondition.{JsonCondition}
-use Rattle.seccompiler.specs.JsonGathered.{added, rules_at, AreGathered, numbers_of_both}
+use Rattle.seccompiler.specs.JsonGathered.{added, is_always_at, rules_at, AreGathered}
 use Rattle.seccompiler.specs.JsonPolicyOf.{all_rules, chain_for, rules_of, chain_at, is_for, is_always, IsFor, IsPolicyOf}
 use Rattle.seccompiler.specs.JsonWidened.{IsPolicyBefore, IsWidened, DecideAlikeOff, MatchesOn}
 use Rattle.seccompiler.specs.JsonTypes.{JsonRule, JsonFilter}
@@ -71,19 +71,18 @@ module _ (arch : TargetArch) where
         (λ h. record { without = (parts.0 h).0; with_conditions = (parts.0 h).1 }, λ is. parts.1 (is.without, is.with_conditions))
 
     -- The numbers that were gathered of both kinds are those.
-    pub both_gathered : (entries : List JsonRule) (gathered : Gathered)
-        → entries ≡ j.rules → AreGathered arch entries gathered → (number : ℤ)
-        → Contains (numbers_of_both gathered) number ↔ IsWidened arch j number
-    both_gathered entries gathered these is number =
+    pub both_gathered : (entries : List JsonRule) (gathered : Gathered) (numbers : List ℤ) → entries ≡ j.rules
+        → AreGathered arch entries gathered
+        → ((number : ℤ) → list_any (int_eq number) numbers ≡ (is_always_at gathered number && is_some (rules_at gathered number)))
+        → (number : ℤ) → Contains numbers number ↔ IsWidened arch j number
+    both_gathered entries gathered numbers these is listed number =
         let all = subst (λ (es : List JsonRule). AreGathered arch es gathered) these is in
-        let listed = is_member-Decides Decides-int_eq (numbers_of_both gathered) number in
-        let kept = is_member-filter int_eq_equiv (λ n. is_some (rules_at gathered n)) number
-        (λ n same. ap (λ m. is_some (rules_at gathered m)) ((Decides-int_eq number n).0 same)) gathered.always.keys in
-        let same = kept ∙ ap (λ b. b && is_some (rules_at gathered number)) (all.always number)
+        let there = is_member-Decides Decides-int_eq numbers number in
+        let same = listed number ∙ ap (λ b. b && is_some (rules_at gathered number)) (all.always number)
         ∙ ap (λ b. list_any (is_always arch number) j.rules && b) (ap is_some (all.rules number)
         ∙ some_added (all_rules arch j.rules number)) in
         let widened = widened_decides number in
-        (λ there. widened.0 (sym same ∙ listed.1 there), λ both. listed.0 (same ∙ widened.1 both))
+        (λ among. widened.0 (sym same ∙ there.1 among), λ both. there.0 (same ∙ widened.1 both))
       where
         some_added : (rules : List Rule) → is_some (added rules None) ≡ some_rules arch rules
         some_added [] = refl

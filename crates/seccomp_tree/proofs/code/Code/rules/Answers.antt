@@ -1,25 +1,74 @@
-use Rattle.std.proofs.Common.{[], refl, arith}
-use Rattle.std.proofs.lemmas.Result.{err_from_is_err_and}
-use Rattle.seccomp_tree.specs.Decisions.{Ruling}
-use Rattle.seccomp_tree.proofs.Ruled.{rules_none, rules_one, run_room}
+use Rattle.std.proofs.Common.{◌≡◌, ◌-◌, ◌+◌, ◌∷◌, List, drop, length, sym, ap, ◌∙◌, subst, arith}
+use Rattle.std.proofs.lemmas.List.{drop_all}
+use Rattle.std.proofs.lemmas.Result.{err_from_is_err_and, IfOk-weaker}
+use Rattle.seccomp_tree.specs.Decisions.{Ruling, rules_length}
+use Rattle.seccomp_tree.proofs.Common.{IfErr-weaker}
+use Rattle.seccomp_tree.proofs.Deciding.{drop_at}
+use Rattle.seccomp_tree.proofs.Ruled.{IsRest, rest_none, rest_fit, rest_room, rules_less, in_front, settled}
 use Rattle.seccomp_tree.proofs.code.Code.rules.Goals as goal
+use Rattle.seccomp_tree.proofs.code.Code.rules.Goals.{After-index-rulings-left}
 
-blank : Ruling
-blank = record { conditions = []; value = 0 }
+-- the rulings from this one on
+from_here : (c : After-index-rulings-left) → drop (c.loop-left.left - 1) c.args.rulings.now
+    ≡ c.index-rulings-left.result ∷ drop c.loop-left.left c.args.rulings.now
+from_here c =
+    let more : c.loop-left.left - 1 + 1 ≡ c.loop-left.left = omega arith in
+    drop_at c.args.rulings.now (c.loop-left.left - 1) c.index-rulings-left.result (omega (arith, c.loop-left.invariant.0))
+    c.index-rulings-left.is ∙ ap (λ n. c.index-rulings-left.result ∷ drop n c.args.rulings.now) more
 
-pub loop-end-init : goal.loop-end-init
-loop-end-init c = rules_none c.args.self.now c.args.rulings.now c.args.default _ refl c.ranges.default.fits
+pub loop-left-init : goal.loop-left-init
+loop-left-init c = (
+  omega arith,
+  rw (drop_all (length c.args.rulings.now) c.args.rulings.now (omega arith), c.in_ok-steps.ensures.ok)
+      (rest_none c.args.self.now c.args.default c.ranges.default.fits),
+)
 
-pub returns-in_err-target-clause-err : goal.returns-in_err-target-clause-err
-returns-in_err-target-clause-err c =
-    let p = err_from_is_err_and c.from_residual.result c.from_residual.ensures.1 in
-    let l = c.loop-end in
-    let room = run_room c.args.self.now l.self c.args.rulings.now c.args.default c.run_start-start.result l.end l.target blank l.invariant
-    c.run_start-start.ensures in
-    rw (p.1, p.2) (λ is. let full = c.in_err-target.ensures.err is in omega (arith, full, room))
+pub ruling-requires : goal.ruling-requires
+ruling-requires c = record {
+  fit = let l = c.loop-left in
+      rest_fit c.args.self.now c.args.default (drop l.left c.args.rulings.now) l.rest.like l.rest.steps.items l.self l.invariant.1;
+}
 
-pub loop-end-preserved : goal.loop-end-preserved
-loop-end-preserved c =
-    let l = c.loop-end in
-    rules_one c.args.self.now l.self c.args.rulings.now c.args.default c.run_start-start.result l.end l.target blank c.run.new.self
-    c.in_ok-target.target l.invariant c.run_start-start.ensures c.in_ok-target.ensures.ok
+pub returns-in_err-rest-clause-err : goal.returns-in_err-rest-clause-err
+returns-in_err-rest-clause-err c =
+    let p = err_from_is_err_and c.from_residual-in_err-rest.result c.from_residual-in_err-rest.ensures.1 in
+    let l = c.loop-left in
+    let room = rest_room c.args.self.now l.self c.args.default (drop l.left c.args.rulings.now) l.rest.like l.rest.steps.items l.invariant.1
+    in
+    let all = ap rules_length (from_here ((goal.at.returns-in_err-rest-clause-err c).After-index-rulings-left)) in
+    let less = rules_less (l.left - 1) c.args.rulings.now in
+    rw (p.1, p.2) (λ is. let full = c.in_err-rest.ensures.err is in omega (arith, full, room, all, less))
+
+pub loop-left-preserved : goal.loop-left-preserved
+loop-left-preserved c =
+    let l = c.loop-left in
+    let new = c.in_ok-rest.rest in (
+      omega (arith, l.invariant.0),
+      subst (λ (q : List Ruling). IsRest c.args.self.now c.args.default q new.like new.steps.items c.ruling.new.self)
+          (sym (from_here ((goal.at.loop-left-preserved c).After-index-rulings-left)))
+          (in_front c.args.self.now l.self c.ruling.new.self c.args.default c.index-rulings-left.result (drop l.left c.args.rulings.now)
+          l.rest.like new.like l.rest.steps.items new.steps.items l.invariant.1 c.in_ok-rest.ensures.ok),
+    )
+
+pub settle-requires : goal.settle-requires
+settle-requires c = record {
+  fit = let l = c.loop-left in
+      rest_fit c.args.self.now c.args.default (drop l.left c.args.rulings.now) l.rest.like l.rest.steps.items l.self l.invariant.1;
+}
+
+pub returns-clause-ok : goal.returns-clause-ok
+returns-clause-ok c =
+    let l = c.loop-left in
+    let none : l.left ≡ 0 = omega arith in
+    let h = rw none at l.invariant.1 in
+    IfOk-weaker c.settle.result _ _
+    (λ t s. settled c.args.self.now l.self c.settle.new.self c.args.default c.args.rulings.now l.rest.like l.rest.steps.items t h s)
+    c.settle.ensures.ok
+
+pub returns-clause-err : goal.returns-clause-err
+returns-clause-err c =
+    let l = c.loop-left in
+    let none : l.left ≡ 0 = omega arith in
+    let h = rw none at l.invariant.1 in
+    let room = rest_room c.args.self.now l.self c.args.default c.args.rulings.now l.rest.like l.rest.steps.items h in
+    IfErr-weaker c.settle.result _ _ (λ e full is. omega (arith, full is, room)) c.settle.ensures.err

@@ -1,70 +1,44 @@
-use Rattle.std.proofs.Common.{◌≡◌, ◌∷◌, ◌-◌, ◌+◌, ◌<◌, ◌^◌, List, drop, length, get_or, ap, sym, ◌∙◌, subst, arith}
-use Rattle.std.proofs.lemmas.List.{drop_more, drop_all}
-use Rattle.std.proofs.lemmas.Result.{err_from_is_err_and}
-use Rattle.seccompiler.specs.Policy.{Condition}
-use Rattle.seccomp_tree.specs.declared.steps.Target.TheVariants.{Give}
-use Rattle.seccomp_tree.specs.Decisions.{Ruling}
-use Rattle.seccomp_tree.proofs.Choosing.{ruling_none, ruling_one, ruling_room}
-use Rattle.seccomp_tree.specs.Rules.{IsRulingMet}
+use Rattle.std.proofs.Common.{◌≡◌, ◌<◌, ◌^◌, refl, sym, ap, ◌∙◌, subst}
+use Rattle.std.proofs.lemmas.Result.{IfOk-weaker}
+use Rattle.seccomp_tree.specs.Decisions.{Ruling, only}
+use Rattle.seccomp_tree.specs.Rules.{along, afresh, alone}
 use Rattle.seccomp_tree.proofs.code.Code.ruling.Goals as goal
+use Rattle.seccomp_tree.proofs.code.Code.ruling.Goals.{After-only}
 
-pub loop-left-init : goal.loop-left-init
-loop-left-init c =
-    let d : Ruling = c.args.ruling.now in
-    let e : c.ruling.inside.conditions.items ≡ d.conditions = ap (λ (x : Ruling). x.conditions) c.ruling.view_is in
-    let value : c.ruling.inside.value ≡ d.value = ap (λ (x : Ruling). x.value) c.ruling.view_is in
-    let n : c.len-left.result ≡ length d.conditions = omega (arith, ap length e, c.ruling.inside.conditions.ok.0) in
-    let fits : d.value < 2 ^ 32 = subst (λ v. v < 2 ^ 32) value c.ruling.invariant in (
-      omega arith,
-      subst (λ v. IsRulingMet c.args.self.now (drop c.len-left.result d.conditions) d.value c.args.after (Give v) c.args.self.now)
-          (sym value)
-          (ruling_none c.args.self.now d.value c.args.after (drop c.len-left.result d.conditions)
-          (drop_all c.len-left.result d.conditions (omega
-          arith)) fits),
-    )
+-- what there is of the conditions alone, and the value
+only_of : (c : After-only) → only c.args.ruling.now.conditions ≡ c.only.result
+only_of c =
+    ap only (sym (ap (λ (d : Ruling). d.conditions) c.ruling.view_is) ∙ sym c.deref.ensures.value) ∙ sym c.only.ensures
 
-pub returns-in_err-target-clause-err : goal.returns-in_err-target-clause-err
-returns-in_err-target-clause-err c =
-    let p = err_from_is_err_and c.from_residual.result c.from_residual.ensures.1 in
-    let l = c.loop-left in
-    let d : Ruling = c.args.ruling.now in
-    let k = l.left - 1 in
-    let x : Condition = c.index.result.now in
-    let e : c.ruling.inside.conditions.items ≡ d.conditions = ap (λ (y : Ruling). y.conditions) c.ruling.view_is in
-    let item : x ≡ get_or d.conditions k x = c.index.ensures ∙ ap (λ (q : List Condition). get_or q k x) e in
-    let lt : k < length d.conditions = omega (arith, l.invariant.0) in
-    let more : k + 1 ≡ l.left = omega arith in
-    let cons : drop k d.conditions ≡ x ∷ drop l.left d.conditions =
-    drop_more d.conditions k x lt ∙ ap (λ (y : Condition). y ∷ drop (k + 1) d.conditions) (sym item)
-    ∙ ap (λ n. x ∷ drop n d.conditions) more in
-    let room = ruling_room c.args.self.now l.self d.value c.args.after l.target d.conditions k x (drop l.left d.conditions) cons
-    l.invariant.1 in
-    rw (p.1, p.2) (λ is. let full = c.in_err-target.ensures.err is in omega (arith, full, room))
+value_of : (c : After-only) → c.ruling.inside.value ≡ c.args.ruling.now.value
+value_of c = ap (λ (d : Ruling). d.value) c.ruling.view_is
 
-pub loop-left-preserved : goal.loop-left-preserved
-loop-left-preserved c =
-    let l = c.loop-left in
-    let d : Ruling = c.args.ruling.now in
-    let k = l.left - 1 in
-    let x : Condition = c.index.result.now in
-    let e : c.ruling.inside.conditions.items ≡ d.conditions = ap (λ (y : Ruling). y.conditions) c.ruling.view_is in
-    let item : x ≡ get_or d.conditions k x = c.index.ensures ∙ ap (λ (q : List Condition). get_or q k x) e in
-    let lt : k < length d.conditions = omega (arith, l.invariant.0) in
-    let more : k + 1 ≡ l.left = omega arith in
-    let cons : drop k d.conditions ≡ x ∷ drop l.left d.conditions =
-    drop_more d.conditions k x lt ∙ ap (λ (y : Condition). y ∷ drop (k + 1) d.conditions) (sym item)
-    ∙ ap (λ n. x ∷ drop n d.conditions) more in (
-      omega (arith, l.invariant.0),
-      subst (λ (q : List Condition). IsRulingMet c.args.self.now q d.value c.args.after c.in_ok-target.target c.condition.new.self)
-          (sym cons)
-          (ruling_one c.args.self.now l.self c.condition.new.self d.value c.args.after l.target c.in_ok-target.target x
-          (drop l.left d.conditions)
-          l.invariant.1 c.in_ok-target.ensures.ok),
-    )
+fits : (c : After-only) → c.args.ruling.now.value < 2 ^ 32
+fits c = subst (λ v. v < 2 ^ 32) (value_of c) c.ruling.invariant
+
+pub returns-then-is_alike-clause-ok : goal.returns-then-is_alike-clause-ok
+returns-then-is_alike-clause-ok c =
+    let b = (goal.at.returns-then-is_alike-clause-ok c).After-only in
+    let same = value_of b in
+    let e = c.deref-then-is_alike.ensures.value in
+    let alike = sym c.is_alike.ensures ∙ c.if-is_alike.true in
+    IfOk-weaker c.laid_rest.result _ _
+    (λ rest h. along c.in-Some.condition (only_of b ∙ c.in-Some.is) alike (fits b) (rw (same, e) at h.1) h.0 refl) c.laid_rest.ensures.ok
+
+pub returns-in-Some-clause-ok : goal.returns-in-Some-clause-ok
+returns-in-Some-clause-ok c =
+    let b = (goal.at.returns-in-Some-clause-ok c).After-only in
+    let same = value_of b in
+    let e = c.deref-in-Some.ensures.value ∙ c.in_ok-others-in-Some.ensures.ok in
+    let apart = sym c.is_alike.ensures ∙ c.if-is_alike.false in
+    IfOk-weaker c.laid_rest-in-Some.result _ _
+    (λ rest h. afresh c.in-Some.condition c.in_ok-after-in-Some.after (only_of b ∙ c.in-Some.is) apart (fits b)
+    c.in_ok-after-in-Some.ensures.ok
+    (rw (same, e) at h.1) h.0) c.laid_rest-in-Some.ensures.ok
 
 pub returns-clause-ok : goal.returns-clause-ok
 returns-clause-ok c =
-    let l = c.loop-left in
-    let d : Ruling = c.args.ruling.now in
-    let none : l.left ≡ 0 = omega arith in
-    rw none at l.invariant.1
+    let b = (goal.at.returns-clause-ok c).After-only in
+    alone c.in_ok-behind-in-None.behind c.in_ok-target-in-None.target c.settle-in-None.new.self (only_of b ∙ c.in-None.is)
+    c.in_ok-behind-in-None.ensures.ok
+    c.in_ok-target-in-None.ensures.ok c.in_ok-steps-in-None.ensures.ok refl

@@ -1,14 +1,10 @@
-use Rattle.std.proofs.Common.{◌≡◌, ap, ◌∙◌, subst, Ok, Err, Result}
-use Rattle.std.specs.Prelude.{IfOk}
-use Rattle.seccomp_tree.specs.Steps.{IsPushed, AreTight}
+use Rattle.std.proofs.Common.{◌≡◌, ap, ◌∙◌, subst}
+use Rattle.std.proofs.lemmas.Result.{IfOk-weaker}
+use Rattle.seccomp_tree.specs.Steps.{IsPushed}
 use Rattle.seccomp_tree.specs.Decided.{DecisionSet, default_for}
 use Rattle.seccomp_tree.specs.CallSteps.{IsCallPushed, IsRangePushed}
 use Rattle.seccomp_tree.proofs.CallsPushed.{answers_range, answers_call}
 use Rattle.seccomp_tree.proofs.decisions.Decisions.push_call.Goals as goal
-
-both : {T E : Type 0} (r : Result T E) (P Q R : T → Type 0) → ((x : T) → P x → Q x → R x) → IfOk r P → IfOk r Q → IfOk r R
-both (Ok x) P Q R f p q = f x p q
-both (Err e) P Q R f p q = tt
 
 pub returns-clause-ok : goal.returns-clause-ok
 returns-clause-ok c =
@@ -24,9 +20,7 @@ returns-clause-ok c =
     c.in_ok-push_range.ensures.pushed in
     let answers = answers_range d c.args.code.now c.args.steps.now.items c.args.defaults.now mid c.args.next number c.requires.order
     c.requires.answers c.requires.defaults c.requires.none range in
-    both c.push_step.result (λ _. IsPushed mid c.from-start.result t new) (λ _. AreTight mid → AreTight new)
-    (λ _. IsCallPushed c.args.code.now d number c.args.rulings.now new c.answer.new.self)
-    (λ _ p q. answers_call d c.args.code.now c.answer.new.self c.args.steps.now.items mid new number c.default_for-default.result
-    c.args.rulings.now t answers value c.requires.here c.in_ok-target.ensures.ok (subst (λ n. IsPushed mid n t new) c.from-start.ensures p)
-    q)
-    c.push_step.ensures.pushed c.push_step.ensures.tight
+    IfOk-weaker c.push_step.result _ (λ _. IsCallPushed c.args.code.now d number c.args.rulings.now new c.answer.new.self)
+    (λ _ p. answers_call d c.args.code.now c.answer.new.self c.args.steps.now.items mid new number c.default_for-default.result
+    c.args.rulings.now t answers value c.requires.here c.in_ok-target.ensures.ok (subst (λ n. IsPushed mid n t new) c.from-start.ensures p))
+    c.push_step.ensures.pushed

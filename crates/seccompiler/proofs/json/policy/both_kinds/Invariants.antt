@@ -6,5 +6,5 @@ use Rattle.seccompiler.proofs.json.policy.both_kinds.Given as goal
 
 abbrev pub invariant-loop-number : goal.invariant-loop-number
 invariant-loop-number l =
-    (done : List ℤ) × (l.gathered.always.keys ≡ done ++ l.number-iterator)
-    × (l.numbers.items ≡ filter (λ number. is_some (rules_at l.gathered number)) done)
+    (done : List ℤ) × (l.initial.number-iterator ≡ done ++ l.number-iterator)
+    × (l.numbers.items ≡ filter (λ number. is_some (rules_at l.fn.gathered number)) done)

@@ -4,8 +4,9 @@ use lib.Seq.{length-take-le}
 use borrow.Rule.Slice.PartMut.{put_mid}
 use Rattle.seccompiler.specs.Layout.{rule_length}
 use Rattle.seccompiler.specs.Policy.{Rule}
-use Rattle.seccompiler.specs.ChainCode.{entry_code, relay_front}
+use Rattle.seccompiler.specs.ChainCode.{relay_front}
 use Rattle.seccompiler.specs.Pieces.{IsConditionCode, IsRuleCode}
+use Rattle.seccompiler.proofs.rule.RuleCode.{entry_code}
 use Rattle.seccompiler.proofs.rule.RuleLoops.{Built, built_empty, built_step, built_all, built_rule, entry_room, room_at, end_within}
 use Rattle.seccompiler.proofs.Parts.{drop-written, length-part}
 use Rattle.seccompiler.proofs.rule.SeccompRule.write.Goals as goal

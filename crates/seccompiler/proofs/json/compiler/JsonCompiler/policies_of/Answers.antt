@@ -1,10 +1,13 @@
-use Rattle.std.proofs.Common.{rules, ◌≡◌}
+use Rattle.std.proofs.Common.{rules, ◌≡◌, ℕ, List, IfSome}
+use Rattle.std.specs.Prelude.{All}
 use Rattle.std.proofs.lemmas.Result.{IfOk-weaker, IfErr-weaker, err_from_is_err_and}
 use Rattle.std.specs.BTreeMap.{get_by_text}
 use Rattle.serde_json.specs.Data.{Data}
 use Rattle.seccompiler.specs.Errors.{IsNoMemoryInFrontend}
 use Rattle.seccompiler.specs.JsonAnswers.{OfValue, ArePoliciesOf, IsLeastRefused, TellsFrontendFault}
-use Rattle.seccompiler.specs.JsonSteps.{AreFilters, HaveTableNumbers, IsNoFailedRead, Tells}
+use Rattle.seccompiler.specs.Compiled.{numbers_of}
+use Rattle.seccompiler.specs.SyscallTable.{IsTableNumber}
+use Rattle.seccompiler.specs.JsonSteps.{AreFilters, IsNoFailedRead, Tells}
 use Rattle.seccompiler.proofs.json.compiler.TextPolicies.{have_table_numbers, refused_told, told_no_read, told_no_memory}
 use Rattle.seccompiler.proofs.json.compiler.JsonCompiler.policies_of.Goals as goal
 
@@ -28,7 +31,8 @@ returns-clause-numbers c =
     let arch = c.self.inside.arch in
     let read = c.in_ok-filters.ensures.filters in
     IfOk-weaker c.policies_under.result (λ m. (d : Data) → AreFilters d c.in_ok-filters.filters → ArePoliciesOf arch (get_by_text m) d)
-    (λ m. HaveTableNumbers (get_by_text m)) (λ m h. have_table_numbers arch read.0 (get_by_text m) (h read.0 read.2))
+    (λ m. (name : List ℕ) → IfSome (get_by_text m name) (λ f. All IsTableNumber (numbers_of f.chains)))
+    (λ m h. have_table_numbers arch read.0 (get_by_text m) (h read.0 read.2))
     c.policies_under.ensures.policies
 
 pub returns-clause-fault : goal.returns-clause-fault

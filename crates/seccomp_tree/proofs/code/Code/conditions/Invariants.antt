@@ -1,6 +1,6 @@
 use Rattle.std.proofs.Common.{◌≤◌, length, drop}
 use Rattle.seccomp_tree.specs.Rules.{IsRulingMet}
-use Rattle.seccomp_tree.proofs.code.Code.ruling.Given as goal
+use Rattle.seccomp_tree.proofs.code.Code.conditions.Given as goal
 
 abbrev pub invariant-loop-left : goal.invariant-loop-left
 invariant-loop-left l =

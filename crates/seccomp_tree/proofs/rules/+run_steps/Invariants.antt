@@ -1,5 +1,0 @@
-use Rattle.std.proofs.Common.{length}
-use Rattle.seccomp_tree.proofs.rules.+run_steps.Given as goal
-
-abbrev pub decreases-run_steps : goal.decreases-run_steps
-decreases-run_steps l = length l.rulings.now

@@ -1,0 +1,46 @@
+"""The one form of report of tools/check-documents, tools/check-program and tools/refuse-each: what is compared is counted, and what
+differs is printed."""
+
+import difflib
+
+
+class Results:
+    """Counts what is compared, and prints what differs."""
+
+    def __init__(self):
+        self.passed = self.failed = 0
+
+    def take(self, what, *differences):
+        """Counts a case, and prints the lines of what differs in it, if anything does."""
+        self.failed += bool(differences)
+        self.passed += not differences
+        if differences:
+            print(f"{what}: DIFFERS", *differences, sep="\n  ", flush=True)
+        return not differences
+
+    def compare(self, what, stated, given):
+        """Compares what is stated with what was given, part by part, as one case. Where the text of a part ends with `..` only its
+        beginning is stated."""
+        parts = zip(("status", "output", "errors"), stated, given)
+        return self.take(what, *(f"{part}: {difference(wanted, found)}" for part, wanted, found in parts
+                                 if wanted != found and not begins(wanted, found)))
+
+    def tell(self, what, well, given):
+        """Counts a case that is well or not, and prints what was given where it isn't."""
+        return self.take(what, *(() if well else (repr(it[-200:] if isinstance(it, (bytes, str)) else it) for it in given or ("",))))
+
+    def close(self):
+        """Prints the last line; returns the status."""
+        print(f"{self.passed} passed, {self.failed} failed")
+        return 1 if self.failed else 0
+
+
+def begins(wanted, found):
+    """Returns whether only a beginning is stated, and found."""
+    return str(wanted).endswith("..") and str(found).startswith(wanted[:-2])
+
+
+def difference(wanted, found):
+    """Returns the lines that differ, or both values where no line does."""
+    lines = difflib.unified_diff(str(wanted).splitlines(), str(found).splitlines(), "stated", "found", lineterm="", n=1)
+    return "\n".join(["", *lines]) if str(wanted).count("\n") > 1 else f"{wanted!r}, found {found!r}"

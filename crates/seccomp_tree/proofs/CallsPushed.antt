@@ -1,6 +1,5 @@
 -- Steps over call numbers: one call number more.
-use Rattle.std.proofs.Common.{◌≡◌, ℕ, ◌+◌, ◌-◌, ◌<◌, ◌≤◌, ◌^◌, List, [], ◌∷◌, length, true, false, Vec, refl, sym, ap, ◌∙◌}
-use Rattle.std.proofs.Common.{subst, ⊎_elim, arith}
+use Rattle.std.proofs.Common.{◌≡◌, ℕ, ◌+◌, ◌<◌, ◌≤◌, ◌^◌, List, [], ◌∷◌, length, true, false, Vec, refl, sym, ap, ◌∙◌, subst, ⊎_elim, arith}
 use Rattle.std.proofs.Common.{nat_eq, if◌then◌else◌}
 use Rattle.std.proofs.lemmas.Bool.Decides.{nat_tests}
 use Rattle.std.proofs.lemmas.Bool.{cases_lt}
@@ -13,14 +12,13 @@ use Rattle.seccompiler.specs.declared.bpf.sock_filter.{sock_filter}
 use Rattle.seccomp_tree.specs.declared.steps.Target.{Target}
 use Rattle.seccomp_tree.specs.declared.steps.Target.TheVariants.{Give}
 use Rattle.seccomp_tree.specs.declared.steps.Step.{Step}
-use Rattle.seccomp_tree.specs.Steps.{found_in, AreSteps, IsPushed, IsPartPushed}
+use Rattle.seccomp_tree.specs.Steps.{found_in, IsPushed}
 use Rattle.seccomp_tree.specs.Code.{Grows}
 use Rattle.seccomp_tree.specs.Decisions.{Ruling, rules_length}
 use Rattle.seccomp_tree.specs.Decided.{DecisionSet, default_for, rulings_for, calls_of}
 use Rattle.seccomp_tree.specs.TreeProgram.{calls_length}
-use Rattle.seccomp_tree.specs.CallSteps.{IsAnswer, IsAnswered, AreDefaults, IsRangePushed, AreAnswers, AreCallSteps, HaveNone, IsCallPushed}
-use Rattle.seccomp_tree.proofs.Growing.{grows_not, grows_on, is_in_grown, grown_long}
-use Rattle.seccomp_tree.proofs.Runs.{leads_grown}
+use Rattle.seccomp_tree.specs.CallSteps.{IsAnswer, IsAnswered, AreDefaultsPushed, AreAnswers, AreCallSteps, HaveNone, IsCallPushed}
+use Rattle.seccomp_tree.proofs.Runs.{grows_not, grows_on, is_in_grown, grown_long, leads_grown}
 
 answer_grown : (old new : List sock_filter) (most default : ℕ) (rulings : List Ruling) (t : Target) → Grows old most new
     → IsAnswer old default rulings t → IsAnswer new default rulings t
@@ -38,35 +36,18 @@ answer_none code default fits = record {
   own = λ none. absurd (cc);
 }
 
-pub range_none : (old others : List Step) (start end : ℕ) → start ≡ end → AreSteps start old → IsRangePushed old others start end old
-range_none old others start end same below = record {
-  are = subst (λ n. AreSteps n old) same below;
-  inside = λ n le lt. absurd (omega arith);
-  below = λ n lt. refl;
-}
-
-pub range_part : (old others : List Step) (start end : ℕ) (new : List Step) → 1 ≤ end → IsPartPushed old others start (end - 1) 0 new
-    → IsRangePushed old others start end new
-range_part old others start end new some h = record {
-  are = let size : end - 1 + 1 - 0 ≡ end = omega arith in subst (λ n. AreSteps n new) size h.are;
-  inside = λ n le lt.
-      let at : 0 + n ≡ n = omega arith in h.inside n (omega arith) (omega arith) ∙ ap (λ k. found_in others k) at;
-  below = λ n lt. h.below n (omega arith);
-}
-
--- with a range of defaults behind them the steps answer all numbers below its end
-pub answers_range : (d : DecisionSet) (code : List sock_filter) (old defaults new : List Step) (start end : ℕ) → start ≤ end
-    → AreAnswers d start code old → AreDefaults d.defaults defaults → HaveNone d start end → IsRangePushed old defaults start end new
-    → AreAnswers d end code new
-answers_range d code old defaults new start end order h values none pushed = record {
+-- with default values behind them the steps answer all numbers below their end
+pub answers_range : (d : DecisionSet) (code : List sock_filter) (old new : List Step) (start end : ℕ)
+    → AreAnswers d start code old → HaveNone d start end → AreDefaultsPushed old d.defaults start end new → AreAnswers d end code new
+answers_range d code old new start end h none pushed = record {
   are = pushed.are;
   each = λ n lt. ⊎_elim
       (λ (less : n < start). subst (IsAnswer code (default_for d.defaults n) (rulings_for d.calls n)) (sym (pushed.below n less)) (h.each n
       less))
       (λ (le : start ≤ n).
-      let found : found_in new n ≡ Give (default_for d.defaults n) = pushed.inside n le lt ∙ values.found n in
+      let found = pushed.inside n le lt in
       subst (λ q. IsAnswer code (default_for d.defaults n) q (found_in new n)) (sym (none n le lt))
-      (subst (IsAnswer code (default_for d.defaults n) []) (sym found) (answer_none code (default_for d.defaults n) (values.words n))))
+      (subst (IsAnswer code (default_for d.defaults n) []) (sym found.0) (answer_none code (default_for d.defaults n) found.1)))
       (cases_lt n start);
 }
 
@@ -196,15 +177,14 @@ calls_step d old next number rulings left back steps new code grown small is h p
       answers = pushed.answers;
     }
 
-pub calls_all : (d : DecisionSet) (old : List sock_filter) (next : ℕ) (left : List MapEntry) (steps defaults new : List Step) (code : List
+pub calls_all : (d : DecisionSet) (old : List sock_filter) (next : ℕ) (left : List MapEntry) (steps new : List Step) (code : List
     sock_filter)
-    → left ≡ [] → CallsOn d old next left steps code → AreDefaults d.defaults defaults → IsRangePushed steps defaults next (2 ^ 32) new
-    → AreCallSteps old d new code
-calls_all d old next left steps defaults new code none h values pushed =
+    → left ≡ [] → CallsOn d old next left steps code → AreDefaultsPushed steps d.defaults next (2 ^ 32) new → AreCallSteps old d new code
+calls_all d old next left steps new code none h pushed =
     let sum : calls_length (calls_of left) ≡ 0 = ap (λ (l : List MapEntry). calls_length (calls_of l)) none in
     record {
       grows = subst (λ n. Grows old n code) (omega (arith, sum, h.total)) h.grows;
-      answers = answers_range d code steps defaults new next (2 ^ 32) h.within h.answers values
+      answers = answers_range d code steps new next (2 ^ 32) h.answers
           (λ n le lt. h.behind n le ∙ ap (λ (l : List MapEntry). rulings_for (calls_of l) n) none) pushed;
     }
 

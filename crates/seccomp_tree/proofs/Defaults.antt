@@ -1,92 +1,96 @@
--- Default values as steps.
-use Rattle.std.proofs.lemmas.List.{take_all}
-use Rattle.std.proofs.Common.{◌≡◌, ℕ, suc, take, get_or, ◌-◌, ◌+◌, ◌<◌, ◌≤◌, ◌^◌, List, [], ◌∷◌, length, drop, true, false, nat_le}
-use Rattle.std.proofs.Common.{if◌then◌else◌, sym, ap, ◌∙◌, subst, ⊎_elim, arith}
+-- Default values: where the next one begins, and steps that have them.
+use Rattle.std.proofs.Common.{◌≡◌, ℕ, zero, suc, get_or, ◌+◌, ◌<◌, ◌≤◌, ◌^◌, List, [], ◌∷◌, length, true, false, nat_le, ◌⊎◌, inl, inr}
+use Rattle.std.proofs.Common.{refl, sym, ap, ◌∙◌, subst, arith}
 use Rattle.std.proofs.lemmas.Bool.Decides.{nat_tests}
 use Rattle.std.proofs.lemmas.Bool.{cases_lt}
+use Rattle.std.proofs.lemmas.List.{get_or_default}
 use Rattle.seccomp_tree.specs.declared.decisions.DefaultValue.{DefaultValue}
 use Rattle.seccomp_tree.specs.declared.steps.Target.TheVariants.{Give}
 use Rattle.seccomp_tree.specs.declared.steps.Step.{Step}
-use Rattle.seccomp_tree.specs.Steps.{found_in, AreSteps, IsPushed}
+use Rattle.seccomp_tree.specs.Steps.{AreSteps, IsPushed}
 use Rattle.seccomp_tree.specs.Decided.{StartAbove, AscendFromZero, default_from, default_for}
-use Rattle.seccomp_tree.specs.CallSteps.{AreDefaults}
+use Rattle.seccomp_tree.specs.CallSteps.{AreDefaultsPushed, IsNextDefault}
 use Rattle.seccomp_tree.proofs.Begun.{steps_more}
-use Rattle.seccomp_tree.proofs.Deciding.{drop_end}
 
--- What stands for a default that there is not.
-abbrev pub zero : DefaultValue
-zero = record { start = 0; value = 0 }
+-- numbers that no start parts have one default
+same_from : (value : ℕ) (defaults : List DefaultValue) (m n : ℕ)
+    → ((k : ℕ) (d : DefaultValue) → k < length defaults
+    → ((get_or defaults k d).start ≤ m × ((get_or defaults k d).start ≤ n))
+    ⊎ (m < (get_or defaults k d).start × (n < (get_or defaults k d).start)))
+    → default_from value defaults m ≡ default_from value defaults n
+same_from value [] m n parts = refl
+same_from value (x ∷ defaults) m n parts = elim (parts 0 x (omega arith)) [
+  | inl low ↦
+      let yes : nat_le x.start m ≡ true = grind (arith, nat_tests, low.0) in
+      let too : nat_le x.start n ≡ true = grind (arith, nat_tests, low.1) in
+      rw (yes, too) (same_from x.value defaults m n (λ k d lt. parts (suc k) d (omega arith)))
+  | inr high ↦
+      let no : nat_le x.start m ≡ false = grind (arith, nat_tests, high.0) in
+      let nor : nat_le x.start n ≡ false = grind (arith, nat_tests, high.1) in
+      rw (no, nor) (same_from value defaults m n (λ k d lt. parts (suc k) d (omega arith)))
+]
 
--- the loop of `default_steps`: the steps have the values so far, from which those that are left go on
-pub record DefaultsOn (defaults items : List DefaultValue) (i : ℕ) (steps : List Step) : Type 0 where
-  pub last : ℕ
-  pub are : AreSteps (last + 1) steps
-  pub below : last < 2 ^ 32
-  pub rest : StartAbove last (drop i items)
-  pub value : ℕ → ℕ
-  pub words : (n : ℕ) → value n < 2 ^ 32
-  pub found : (n : ℕ) → found_in steps n ≡ Give (value n)
-  pub left : (n : ℕ) → default_from (value n) (drop i items) n ≡ default_for defaults n
+above_rise : (start : ℕ) (defaults : List DefaultValue) (k : ℕ) (d : DefaultValue) → StartAbove start defaults → k < length defaults
+    → start < (get_or defaults k d).start
+above_rise start [] k d h lt = absurd (omega arith)
+above_rise start (x ∷ defaults) zero d h lt = h.0
+above_rise start (x ∷ defaults) (suc k) d h lt = omega (arith, h.0, above_rise x.start defaults k d h.1 (omega arith))
 
-pub defaults_first : (defaults items : List DefaultValue) (x : DefaultValue) (steps : List Step) → defaults ≡ x ∷ items
-    → AscendFromZero defaults → x.value < 2 ^ 32 → IsPushed [] 0 (Give x.value) steps → DefaultsOn defaults items 0 steps
-defaults_first defaults items x steps whole ascend fits pushed =
-    let from : AscendFromZero (x ∷ items) = subst AscendFromZero whole ascend in
-    record {
-      last = 0;
-      are = pushed.are;
-      below = omega arith;
-      rest = subst (λ s. StartAbove s items) from.0 from.1;
-      value = λ n. x.value;
-      words = λ n. fits;
-      found = λ n. pushed.from n (omega arith);
-      left = λ n.
-          let yes : nat_le x.start n ≡ true = grind (arith, nat_tests, from.0) in
-          sym (ap (λ (l : List DefaultValue). default_for l n) whole ∙ ap (λ b. default_from (if b then x.value else 0) items n) yes);
-    }
+starts_rise : (start : ℕ) (defaults : List DefaultValue) (i k : ℕ) (d : DefaultValue) → StartAbove start defaults → i ≤ k
+    → k < length defaults → (get_or defaults i d).start ≤ (get_or defaults k d).start
+starts_rise start [] i k d h le lt = absurd (omega arith)
+starts_rise start (x ∷ defaults) zero zero d h le lt = omega arith
+starts_rise start (x ∷ defaults) zero (suc k) d h le lt = omega (arith, above_rise x.start defaults k d h.1 (omega arith))
+starts_rise start (x ∷ defaults) (suc i) zero d h le lt = absurd (omega arith)
+starts_rise start (x ∷ defaults) (suc i) (suc k) d h le lt = starts_rise x.start defaults i k d h.1 (omega arith) (omega arith)
 
-pub defaults_next : (defaults items : List DefaultValue) (i : ℕ) (x : DefaultValue) (steps new : List Step)
-    → drop i items ≡ x ∷ drop (i + 1) items → DefaultsOn defaults items i steps → x.start < 2 ^ 32 → x.value < 2 ^ 32
-    → IsPushed steps x.start (Give x.value) new → DefaultsOn defaults items (i + 1) new
-defaults_next defaults items i x steps new cons h small fits pushed =
-    let rest : StartAbove h.last (x ∷ drop (i + 1) items) = subst (StartAbove h.last) cons h.rest in
-    record {
-      last = x.start;
-      are = pushed.are;
-      below = small;
-      rest = rest.1;
-      value = λ n. if nat_le x.start n then x.value else h.value n;
-      words = λ n. ⊎_elim
-          (λ (lt : n < x.start). let no : nat_le x.start n ≡ false = grind (arith, nat_tests) in rw no (h.words n))
-          (λ (le : x.start ≤ n). let yes : nat_le x.start n ≡ true = grind (arith, nat_tests) in rw yes fits)
-          (cases_lt n x.start);
-      found = λ n. ⊎_elim
-          (λ (lt : n < x.start). let no : nat_le x.start n ≡ false = grind (arith, nat_tests) in rw no (pushed.below n lt ∙ h.found n))
-          (λ (le : x.start ≤ n). let yes : nat_le x.start n ≡ true = grind (arith, nat_tests) in rw yes (pushed.from n le))
-          (cases_lt n x.start);
-      left = λ n. sym (ap (λ (l : List DefaultValue). default_from (h.value n) l n) cons) ∙ h.left n;
-    }
+all_rise : (defaults : List DefaultValue) (i k : ℕ) (d : DefaultValue) → AscendFromZero defaults → i ≤ k → k < length defaults
+    → (get_or defaults i d).start ≤ (get_or defaults k d).start
+all_rise [] i k d h le lt = absurd h
+all_rise (x ∷ defaults) zero zero d h le lt = omega arith
+all_rise (x ∷ defaults) zero (suc k) d h le lt = omega (arith, h.0)
+all_rise (x ∷ defaults) (suc i) zero d h le lt = absurd (omega arith)
+all_rise (x ∷ defaults) (suc i) (suc k) d h le lt = starts_rise x.start defaults i k d h.1 (omega arith) (omega arith)
 
-pub defaults_room : (defaults items : List DefaultValue) (i : ℕ) (x : DefaultValue) (steps : List Step)
-    → drop i items ≡ x ∷ drop (i + 1) items → DefaultsOn defaults items i steps → AreSteps x.start steps
-defaults_room defaults items i x steps cons h =
-    let rest : StartAbove h.last (x ∷ drop (i + 1) items) = subst (StartAbove h.last) cons h.rest in
-    steps_more (h.last + 1) x.start steps (omega arith) (omega (arith, rest.0)) h.are
+-- The first defaults start at the number or below it.
+abbrev pub StartBy : List DefaultValue → ℕ → ℕ → Type 0
+StartBy defaults number i = (k : ℕ) (d : DefaultValue) → k < i → k < length defaults → (get_or defaults k d).start ≤ number
 
-pub defaults_all : (defaults items : List DefaultValue) (i : ℕ) (steps : List Step) → length items ≤ i → DefaultsOn defaults items i steps
-    → AreDefaults defaults steps
-defaults_all defaults items i steps all h =
-    let end = drop_end items i all in
-    let whole : (n : ℕ) → h.value n ≡ default_for defaults n
-    = λ n. sym (ap (λ (l : List DefaultValue). default_from (h.value n) l n) end) ∙ h.left n in
-    record {
-      are = steps_more (h.last + 1) (2 ^ 32) steps (omega arith) (omega (arith, h.below)) h.are;
-      found = λ n. h.found n ∙ ap Give (whole n);
-      words = λ n. subst (λ v. v < 2 ^ 32) (whole n) (h.words n);
-    }
+pub next_found : (defaults : List DefaultValue) (number i next : ℕ) (x : DefaultValue) → AscendFromZero defaults → StartBy defaults number i
+    → i < length defaults → next ≡ (get_or defaults i x).start → number < next → IsNextDefault defaults number next
+next_found defaults number i next x ascend by lt is above = record {
+  above = above;
+  same = λ n le less. same_from 0 defaults n number (λ k d inside. elim (cases_lt k i) [
+    | inl front ↦ let low = by k d front inside in inl (omega arith, low)
+    | inr back ↦
+        let rise = all_rise defaults i k x ascend back inside in
+        let same = ap (λ (y : DefaultValue). y.start) (get_or_default defaults k d x inside) in
+        inr (omega arith, omega arith)
+  ]);
+}
 
--- there is a first default, and others
-pub opened : (defaults : List DefaultValue) (d : DefaultValue) → AscendFromZero defaults
-    → defaults ≡ get_or defaults 0 d ∷ take (length defaults - 1) (drop 1 defaults)
-opened [] d h = absurd h
-opened (x ∷ defaults) d h = ap (λ (l : List DefaultValue). x ∷ l) (sym (take_all (suc (length defaults) - 1) defaults (omega arith)))
+pub next_none : (defaults : List DefaultValue) (number i : ℕ) → number < 2 ^ 32 → length defaults ≤ i → StartBy defaults number i
+    → IsNextDefault defaults number (2 ^ 32)
+next_none defaults number i small all by = record {
+  above = small;
+  same = λ n le less. same_from 0 defaults n number (λ k d inside. let low = by k d (omega arith) inside in inl (omega arith, low));
+}
+
+pub defaults_none : (old : List Step) (defaults : List DefaultValue) (start : ℕ) → AreSteps start old
+    → AreDefaultsPushed old defaults start start old
+defaults_none old defaults start h = record { are = h; inside = λ n le lt. absurd (omega arith); below = λ n lt. refl }
+
+pub defaults_more : (old mid new : List Step) (defaults : List DefaultValue) (start number next end value : ℕ) → start ≤ number
+    → AreDefaultsPushed old defaults start number mid → value ≡ default_for defaults number → value < 2 ^ 32
+    → IsPushed mid number (Give value) new → IsNextDefault defaults number next → number < end → end ≤ next
+    → AreDefaultsPushed old defaults start end new
+defaults_more old mid new defaults start number next end value order h is fits pushed on some within = record {
+  are = steps_more (number + 1) end new (omega arith) (omega arith) pushed.are;
+  inside = λ n le lt. elim (cases_lt n number) [
+    | inl low ↦ let was = h.inside n le low in (pushed.below n low ∙ was.0, was.1)
+    | inr from ↦
+        let same = is ∙ sym (on.same n from (omega arith)) in
+        (pushed.from n from ∙ ap Give same, subst (λ v. v < 2 ^ 32) same fits)
+  ];
+  below = λ n lt. pushed.below n (omega arith) ∙ h.below n lt;
+}

@@ -1,8 +1,7 @@
 -- Arguments of 64 bits: steps by their high and their low halves.
-use Rattle.std.proofs.Common.{◌≡◌, ℕ, suc, ◌+◌, ◌-◌, ◌*◌, ◌/◌, ◌^◌, ◌<◌, ◌≤◌, List, [], length, get_or, sym, ap, subst, arith}
+use Rattle.std.proofs.Common.{◌≡◌, ℕ, suc, ◌+◌, ◌-◌, ◌*◌, ◌/◌, ◌^◌, ◌<◌, ◌≤◌, List, [], length, get_or, sym, ap, subst, arith, inl, inr}
 use Rattle.std.proofs.lemmas.Bool.{cases_lt}
 use Rattle.std.proofs.Math.Nat.{pow-succ'}
-use Rattle.std.proofs.Common.{inl, inr}
 use Rattle.seccompiler.specs.declared.bpf.sock_filter.{sock_filter}
 use Rattle.seccompiler.specs.Machine.{IsRecord, word_at, argument_at, greatest_length}
 use Rattle.seccompiler.proofs.Words.{word_fits, number_halves}
@@ -12,10 +11,9 @@ use Rattle.seccomp_tree.specs.declared.steps.Step.{Step}
 use Rattle.seccomp_tree.specs.Steps.{found_in, AreSteps, begun, IsPushed, IsPartPushed}
 use Rattle.seccomp_tree.specs.Code.{AreIn, IsIn, StartsAlways, LeadsAlways, IsWord, IsArgument}
 use Rattle.seccomp_tree.specs.Arguments.{started, IsHalf, IsNext, AreHighs}
-use Rattle.seccomp_tree.proofs.Growing.{grows_not, grows_on, grown_long, is_in_grown}
-use Rattle.seccomp_tree.proofs.Runs.{leads_by, leads_grown, leads_more}
-use Rattle.seccomp_tree.proofs.Begun.{begun_few, begun_more, begun_below, begun_counts, starts_rise, found_same, are_in_below}
-use Rattle.seccomp_tree.proofs.Begun.{not_none, steps_more, begun_some, found_in_code}
+use Rattle.seccomp_tree.proofs.Runs.{grows_not, grows_on, grown_long, is_in_grown, leads_by, leads_grown, leads_more}
+use Rattle.seccomp_tree.proofs.Begun.{begun_few, begun_more, begun_below, begun_counts, starts_rise, found_same, are_in_below, not_none}
+use Rattle.seccomp_tree.proofs.Begun.{steps_more, begun_some, found_in_code}
 
 -- ---- one high half
 

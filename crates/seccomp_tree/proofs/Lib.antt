@@ -1,14 +1,8 @@
 -- Laws of the definitions, which the proofs of several functions cite.
-pub mod Tails
-pub mod Growing
 pub mod Runs
-pub mod Soundness
 pub mod Meeting
 pub mod Ruled
 pub mod Reaching
-pub mod Testing
-pub mod Cuts
-pub mod RowTests
 pub mod Trees
 pub mod Words
 pub mod ProgramEnds
@@ -16,9 +10,7 @@ pub mod Deciding
 pub mod Defaults
 pub mod CallsPushed
 pub mod FewestSteps
-pub mod WholeProgram
 pub mod Theorem
-pub mod FilterCalls
 pub mod FilterDecided
 pub mod Begun
 pub mod Halves

@@ -1,6 +1,6 @@
 -- Conditions as targets: what choices and masks make of them.
-use Rattle.std.proofs.Common.{◌≡◌, ℕ, suc, ◌+◌, ◌-◌, ◌*◌, ◌/◌, ◌%◌, ◌<◌, ◌≤◌, ◌^◌, List, [], ◌∷◌, length, true, refl}
-use Rattle.std.proofs.Common.{sym, ap, ◌∙◌, subst, inl, inr, arith}
+use Rattle.std.proofs.Common.{◌≡◌, ℕ, suc, ◌+◌, ◌-◌, ◌*◌, ◌/◌, ◌%◌, ◌<◌, ◌≤◌, ◌^◌, List, [], ◌∷◌, length, true, refl, sym, ap, ◌∙◌, subst}
+use Rattle.std.proofs.Common.{inl, inr, arith}
 use Rattle.std.specs.Prelude.{bit_and, ◌⊎◌, if◌then◌else◌}
 use Rattle.std.specs.Int.Bits.{and_lt, and_zero_r}
 use Rattle.std.proofs.lemmas.Bool.{cases_eq, eq-eqb, ne_eqb}
@@ -20,12 +20,9 @@ use Rattle.seccomp_tree.specs.declared.steps.Target.TheVariants.{At}
 use Rattle.seccomp_tree.specs.declared.steps.Step.{Step}
 use Rattle.seccomp_tree.specs.Steps.{found_in, single}
 use Rattle.seccomp_tree.specs.Intervals.{numbers_of, is_plain, IsChosen, AreLaid}
-use Rattle.seccomp_tree.specs.Code.{Starts, Leads, LeadsAlways, StartsAlways, IsIn}
-use Rattle.seccomp_tree.specs.Code.{chosen, IsTested, IsWord, IsArgument}
-use Rattle.seccomp_tree.specs.Conditions.{part_length, part_steps, condition_length, condition_steps, IsPart, IsMasked}
-use Rattle.seccomp_tree.specs.Conditions.{IsConditionMet}
-use Rattle.seccomp_tree.proofs.Growing.{grows_not, grows_one, grows_on}
-use Rattle.seccomp_tree.proofs.Runs.{starts_more, starts_by, leads_by, leads_grown}
+use Rattle.seccomp_tree.specs.Code.{Starts, Leads, LeadsAlways, StartsAlways, IsIn, chosen, IsTested, IsWord, IsArgument}
+use Rattle.seccomp_tree.specs.Conditions.{part_length, part_steps, condition_length, condition_steps, IsPart, IsMasked, IsConditionMet}
+use Rattle.seccomp_tree.proofs.Runs.{grows_not, grows_one, grows_on, starts_more, starts_by, leads_by, leads_grown}
 use Rattle.seccomp_tree.proofs.Begun.{begun_few}
 use Rattle.seccomp_tree.proofs.Choices.{compares_or_not, chosen_alike, chosen_yes, chosen_no}
 use Rattle.seccomp_tree.proofs.Reaching.{stepped, starts_at}

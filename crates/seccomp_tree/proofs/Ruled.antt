@@ -1,6 +1,6 @@
 -- Rulings as a target, from the last to the first: each is put in front of what there is behind it.
-use Rattle.std.proofs.Common.{◌≡◌, ℕ, zero, suc, ◌+◌, ◌*◌, ◌<◌, ◌≤◌, ◌^◌, List, [], ◌∷◌, length, drop, true, false, refl}
-use Rattle.std.proofs.Common.{sym, ap, ◌∙◌, subst, inl, inr, Option, Some, None, arith}
+use Rattle.std.proofs.Common.{◌≡◌, ℕ, zero, suc, ◌+◌, ◌*◌, ◌<◌, ◌≤◌, ◌^◌, List, [], ◌∷◌, length, drop, true, false, refl, sym, ap, ◌∙◌}
+use Rattle.std.proofs.Common.{subst, inl, inr, Option, Some, None, arith}
 use Rattle.std.specs.Prelude.{Bool, nat_eq, if◌then◌else◌}
 use Rattle.std.proofs.lemmas.Bool.{eqb-true, and_parts, false≢true, true≢false}
 use Rattle.std.proofs.lemmas.List.Elements.{All-nil, All-cons, All-head, All-tail}
@@ -20,8 +20,7 @@ use Rattle.seccomp_tree.specs.Decisions.{Ruling, First, nothing, only, alike, sa
 use Rattle.seccomp_tree.specs.Decisions.{conditions_steps, rules_length, RunTakes, by_steps, by_conditions, Enters, goes_on, begins, Takes}
 use Rattle.seccomp_tree.specs.Decisions.{stops, passes, ends}
 use Rattle.seccomp_tree.specs.Rules.{IsRulingMet, AreRules, AreFit, rest_length, IsSettled, IsInFront, along, afresh, alone}
-use Rattle.seccomp_tree.proofs.Growing.{grows_not, grows_on, grown_long}
-use Rattle.seccomp_tree.proofs.Runs.{leads_by, leads_grown, leads_more}
+use Rattle.seccomp_tree.proofs.Runs.{grows_not, grows_on, grown_long, leads_by, leads_grown, leads_more}
 use Rattle.seccomp_tree.proofs.Begun.{begun_few, found_in_code}
 use Rattle.seccomp_tree.proofs.Choices.{numbers_many, chosen_alike, chosen_yes, chosen_no, laid_in}
 use Rattle.seccomp_tree.proofs.Deciding.{first_here, first_behind}

@@ -1,12 +1,86 @@
--- Runs that begin at a target: of more steps, and where the code has grown.
-use Rattle.std.proofs.Common.{◌≡◌, ℕ, zero, suc, ◌<◌, ◌≤◌, List, length, sym, ap}
-use Rattle.std.proofs.Common.{◌∙◌, subst, arith}
+-- Code that grows: what starts at a place stays what it was, how long code is, and that it stays sound; and runs that begin at a target.
+use Rattle.std.proofs.Common.{◌≡◌, ℕ, suc, ◌+◌, ◌-◌, ◌<◌, List, [], ◌∷◌, ◌++◌, length, drop, get_or, length-append, zero-add, sym, ap, ◌∙◌}
+use Rattle.std.proofs.Common.{arith, ◌≤◌, append_assoc, refl, subst, zero}
+use Rattle.std.specs.Prelude.{reverse}
+use Rattle.std.proofs.lemmas.List.{drop_more, drop-drop, get_or-reverse, length-reverse}
 use Rattle.seccompiler.specs.declared.bpf.sock_filter.{sock_filter}
+use Rattle.seccomp_tree.specs.Code.{tail_at, IsIn, AreIn, Grows, Returns, gives, goes_on, Starts, by_return, at_place, Leads, to_return}
+use Rattle.seccomp_tree.specs.Code.{to_place, DoesAs, IsSound}
 use Rattle.seccomp_tree.specs.declared.steps.Target.{Target}
-use Rattle.seccomp_tree.specs.Code.{tail_at, Returns, gives, goes_on, Starts, by_return, at_place, Leads, to_return, to_place, Grows}
-use Rattle.seccomp_tree.specs.Code.{DoesAs}
-use Rattle.seccomp_tree.proofs.Tails.{tail_grown}
-use Rattle.seccomp_tree.proofs.Growing.{grown_long}
+use Rattle.seccomp_tree.specs.declared.steps.Target.TheVariants.{Give, At}
+use Rattle.seccomp_tree.specs.declared.steps.Step.{Step}
+use Rattle.seccompiler.specs.Machine.{IsFine, IsInRange, fine_return, greatest_length}
+use Rattle.seccompiler.specs.Code.{give}
+
+drop_behind : (front old : List sock_filter) (n : ℕ) → drop (length front + n) (front ++ old) ≡ drop n old
+drop_behind [] old n = ap (λ k. drop k old) (zero-add n)
+drop_behind (i ∷ front) old n =
+    let z : length (i ∷ front) + n ≡ suc (length front + n) = omega arith in
+    rw z (drop_behind front old n)
+
+-- what starts at a place stays what it was
+pub tail_grown : (front old : List sock_filter) (m : ℕ) → m < length old → tail_at (front ++ old) m ≡ tail_at old m
+tail_grown front old m inside =
+    let at : length (front ++ old) - (m + 1) ≡ length front + (length old - (m + 1)) = omega (arith, length-append front old) in
+    ap (λ k. drop k (front ++ old)) at ∙ drop_behind front old (length old - (m + 1))
+
+-- from the first place on there is all of it
+pub tail_whole : (code : List sock_filter) (m : ℕ) → m + 1 ≡ length code → tail_at code m ≡ code
+tail_whole code m last = let none : length code - (m + 1) ≡ 0 = omega arith in ap (λ k. drop k code) none
+
+-- where a jump leads that stands in front of the code
+pub jump_to : (code : List sock_filter) (d to : ℕ) → d + to + 1 ≡ length code → drop d code ≡ tail_at code to
+jump_to code d to over = let at : d ≡ length code - (to + 1) = omega arith in ap (λ k. drop k code) at
+
+-- where a jump leads that stands at a place of it
+pub jump_from : (code : List sock_filter) (place d to : ℕ) (i : sock_filter) (rest : List sock_filter) → place < length code
+    → tail_at code place ≡ i ∷ rest → to + 1 + d ≡ place → drop d rest ≡ tail_at code to
+jump_from code place d to i rest inside here over =
+    let at : length code - (place + 1) + suc d ≡ length code - (to + 1) = omega arith in
+    ap (λ l. drop (suc d) l) (sym here) ∙ drop-drop (suc d) (length code - (place + 1)) code ∙ ap (λ k. drop k code) at
+
+-- code that is written from its end has at a place what was written then
+pub tail_written : (back : List sock_filter) (place : ℕ) (i : sock_filter) → place < length back → i ≡ get_or back place i
+    → (rest : List sock_filter) × (tail_at (reverse back) place ≡ i ∷ rest)
+tail_written back place i inside here =
+    let long = length-reverse back in
+    let k = length (reverse back) - (place + 1) in
+    let at : length back - 1 - k ≡ place = omega (arith, long) in
+    let small : k < length back = omega (arith, long) in
+    let more = drop_more (reverse back) k i (omega (arith, long)) in
+    let item = get_or-reverse back k i small ∙ ap (λ n. get_or back n i) at ∙ sym here in
+    (drop (k + 1) (reverse back), more ∙ ap (λ x. x ∷ drop (k + 1) (reverse back)) item)
+
+pub grows_not : (code : List sock_filter) (most : ℕ) → Grows code most code
+grows_not code most = record { front = []; whole = refl; few = omega arith }
+
+pub grows_one : (code : List sock_filter) (i : sock_filter) → Grows code 1 (i ∷ code)
+grows_one code i = record { front = i ∷ []; whole = refl; few = omega arith }
+
+-- once, and then again
+pub grows_on : (a b c : List sock_filter) (m n most : ℕ) → Grows a m b → Grows b n c → m + n ≤ most → Grows a most c
+grows_on a b c m n most g h few = record {
+  front = h.front ++ g.front;
+  whole = h.whole ∙ ap (λ l. h.front ++ l) g.whole ∙ sym (append_assoc h.front g.front a);
+  few = omega (arith, length-append h.front g.front, g.few, h.few);
+}
+
+-- how long the code is then
+pub grown_long : (old new : List sock_filter) (most : ℕ) → Grows old most new → (length old ≤ length new) × (length new ≤ length old + most)
+grown_long old new most g =
+    let long : length new ≡ length g.front + length old = ap length g.whole ∙ length-append g.front old in
+    (omega (arith, long), omega (arith, long, g.few))
+
+pub is_in_grown : (old new : List sock_filter) (most : ℕ) (t : Target) → Grows old most new → IsIn old t → IsIn new t
+is_in_grown old new most (Give w) g h = h
+is_in_grown old new most (At m) g h = let long = grown_long old new most g in omega (arith, long.0)
+
+pub are_in_grown : (old new : List sock_filter) (most : ℕ) (steps : List Step) → Grows old most new → AreIn old steps → AreIn new steps
+are_in_grown old new most steps g h = λ k d lt. is_in_grown old new most _ g (h k d lt)
+
+-- the place that was written last is inside
+pub last_in : (code : List sock_filter) (t : Target) → t ≡ At (length code - 1) → 1 ≤ length code → IsIn code t
+last_in code t is some = subst (IsIn code) (sym is) (omega arith)
 
 -- a run of at most n steps is one of at most m, where that is more
 pub returns_more : {r : List ℕ} {code : List sock_filter} {a w n : ℕ} (m : ℕ) → n ≤ m → Returns r code a w n → Returns r code a w m
@@ -63,3 +137,20 @@ pub leads_more : {code : List sock_filter} {r : List ℕ} {t : Target} {a w n : 
 leads_more m le (to_return w a n some) = to_return w a m (omega arith)
 leads_more zero le (to_place p w a n inside h) = absurd (omega arith)
 leads_more (suc m) le (to_place p w a n inside h) = to_place p w a m inside (returns_more m (omega arith) h)
+
+pub sound_kill : IsSound (give 0x80000000 ∷ [])
+sound_kill = record {
+  fine = (fine_return refl, (record { code = omega arith; jt = omega arith; jf = omega arith; k = omega arith }, tt));
+  few = omega arith;
+  front = [];
+  ends = refl;
+}
+
+pub sound_push : (code : List sock_filter) (i : sock_filter) → IsSound code → IsFine i 0 (length code + 1) → IsInRange i
+    → length code < greatest_length → IsSound (i ∷ code)
+sound_push code i h fine range room = record {
+  fine = (fine, (range, h.fine));
+  few = omega arith;
+  front = i ∷ h.front;
+  ends = ap (λ l. i ∷ l) h.ends;
+}

@@ -1,6 +1,5 @@
 -- For `word`: the code of steps behind the load of a word.
-use Rattle.std.proofs.Common.{◌≡◌, ℕ, ◌+◌, ◌-◌, ◌*◌, ◌^◌, ◌<◌, ◌≤◌, List, [], ◌∷◌, length, refl, sym, ap, ◌∙◌}
-use Rattle.std.proofs.Common.{subst, arith}
+use Rattle.std.proofs.Common.{◌≡◌, ℕ, ◌+◌, ◌-◌, ◌*◌, ◌^◌, ◌<◌, ◌≤◌, List, [], ◌∷◌, length, refl, sym, ap, ◌∙◌, subst, arith}
 use Rattle.seccompiler.specs.declared.bpf.sock_filter.{sock_filter}
 use Rattle.seccompiler.specs.Machine.{IsRecord, word_at, Does, loads}
 use Rattle.seccompiler.specs.Code.{load}
@@ -9,8 +8,7 @@ use Rattle.seccomp_tree.specs.declared.steps.Target.TheVariants.{At}
 use Rattle.seccomp_tree.specs.declared.steps.Step.{Step}
 use Rattle.seccomp_tree.specs.Steps.{found_in}
 use Rattle.seccomp_tree.specs.Code.{Starts, Leads, LeadsAlways, Grows, IsTree, IsWord}
-use Rattle.seccomp_tree.proofs.Growing.{grows_not, grows_one, grows_on, last_in}
-use Rattle.seccomp_tree.proofs.Runs.{starts_more}
+use Rattle.seccomp_tree.proofs.Runs.{grows_not, grows_one, grows_on, last_in, starts_more}
 use Rattle.seccomp_tree.proofs.Reaching.{stepped, starts_at}
 
 -- a word has 32 bits

@@ -29,16 +29,15 @@ pub record IsAnswered (old : List sock_filter) (default : ℕ) (rulings : List R
   pub grows : Grows old (rules_length rulings) new
   pub answer : IsAnswer new default rulings t
 
--- Steps have for each number what the default values are, which are words.
-pub record AreDefaults (defaults : List DefaultValue) (steps : List Step) : Type 0 where
-  pub are : AreSteps (2 ^ 32) steps
-  pub found : (n : ℕ) → found_in steps n ≡ Give (default_for defaults n)
-  pub words : (n : ℕ) → default_for defaults n < 2 ^ 32
+-- A number behind this one, up to which the default is the same.
+pub record IsNextDefault (defaults : List DefaultValue) (number next : ℕ) : Type 0 where
+  pub above : number < next
+  pub same : (n : ℕ) → number ≤ n → n < next → default_for defaults n ≡ default_for defaults number
 
--- From the start up to the end the steps have what the others have, and below what they had.
-pub record IsRangePushed (old others : List Step) (start end : ℕ) (new : List Step) : Type 0 where
+-- From the start up to the end the steps have the default values, which are words, and below what they had.
+pub record AreDefaultsPushed (old : List Step) (defaults : List DefaultValue) (start end : ℕ) (new : List Step) : Type 0 where
   pub are : AreSteps end new
-  pub inside : (n : ℕ) → start ≤ n → n < end → found_in new n ≡ found_in others n
+  pub inside : (n : ℕ) → start ≤ n → n < end → (found_in new n ≡ Give (default_for defaults n)) × (default_for defaults n < 2 ^ 32)
   pub below : (n : ℕ) → n < start → found_in new n ≡ found_in old n
 
 -- The steps over the numbers below one answer each of them.

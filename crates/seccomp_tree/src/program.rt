@@ -6,13 +6,13 @@ ghost use Rattle.seccomp_tree.specs.Code.{IsFullBy};
 ghost use Rattle.seccomp_tree.specs.Decisions.{rules_length};
 ghost use Rattle.seccomp_tree.specs.Decided.{AscendFromZero};
 ghost use Rattle.seccomp_tree.specs.TreeProgram.{one_value};
-ghost use Rattle.seccomp_tree.specs.CallSteps.{AreDefaults, IsAnswered, IsRangePushed};
+ghost use Rattle.seccomp_tree.specs.CallSteps.{IsAnswered, IsNextDefault};
 ghost use Rattle.seccomp_tree.specs.declared.error.TreeError.TheVariants.{OutOfMemory};
 
 use crate::code::{Code, Test};
 use crate::decisions::{Decision, Decisions, DefaultValue, KILL_PROCESS, default_for};
 use crate::error::TreeError;
-use crate::steps::{Step, Target, push_part, push_step};
+use crate::steps::{Step, Target, push_step};
 use seccompiler::BpfProgram;
 use seccompiler::bpf::{LOAD, SECCOMP_DATA_ARCH_OFFSET, SECCOMP_DATA_NR_OFFSET, bpf_stmt};
 use std::alloc::Global;
@@ -24,7 +24,7 @@ impl Decisions {
     ghost use Rattle.std.specs.Prelude.{[], List};
     ghost use Rattle.seccomp_tree.specs.Decided.{default_for, rulings_for};
     ghost use Rattle.seccomp_tree.specs.TreeProgram.{IsTreeProgram, IsTooLargeFor, calls_length};
-    ghost use Rattle.seccomp_tree.specs.CallSteps.{AreAnswers, AreCallSteps, HaveNone, IsCallPushed, IsCallsTarget, IsTooFull, IsWritten};
+    ghost use Rattle.seccomp_tree.specs.CallSteps.{AreAnswers, AreCallSteps, AreDefaultsPushed, HaveNone, IsCallPushed, IsCallsTarget, IsTooFull, IsWritten};
 
     /// The program of these decisions: one tree of tests over call numbers, and behind it the tests of their arguments.
     ///
@@ -65,15 +65,14 @@ impl Decisions {
         ensures ok { IfOk result (λ steps. AreCallSteps code.old self.now steps.items code.new) }
         ensures err { IfErr result (IsFullBy code.old (calls_length self.now.calls)) }
     {
-        let defaults = default_steps(alloc, &self.defaults)?;
         let mut steps = Vec::new(alloc);
         let mut next: u64 = 0;
         for (number, rulings) in &self.calls {
             let number = *number;
-            self.push_call(alloc, code, &defaults, &mut steps, next, number, rulings)?;
+            self.push_call(alloc, code, &mut steps, next, number, rulings)?;
             next = u64::from(number) + 1;
         }
-        push_range(&mut steps, &defaults, next, NUMBERS)?;
+        self.push_defaults(&mut steps, next, NUMBERS)?;
         Ok(steps)
     }
 
@@ -82,14 +81,12 @@ impl Decisions {
         &self,
         alloc: Global,
         code: &mut Code,
-        defaults: &[Step],
         steps: &mut Vec<Step>,
         next: u64,
         number: u32,
         rulings: &[Decision],
     ) -> Result<(), TreeError>
         requires answers { AreAnswers self.now next code.old steps.old.items }
-        requires defaults { AreDefaults self.now.defaults defaults.now }
         requires order { next ≤ number }
         requires none { HaveNone self.now next number }
         requires here { rulings_for self.now.calls number ≡ rulings.now }
@@ -97,10 +94,28 @@ impl Decisions {
         ensures err { IfErr result (IsFullBy code.old (rules_length rulings.now)) }
     {
         let start = u64::from(number);
-        push_range(steps, defaults, next, start)?;
+        self.push_defaults(steps, next, start)?;
         let default = default_for(&self.defaults, number);
         let target = code.answer(alloc, rulings, default)?;
         push_step(steps, start, target)
+    }
+
+    // Gives the numbers from `start` up to `end` their default values.
+    fn push_defaults(&self, steps: &mut Vec<Step>, start: u64, end: u64) -> Result<(), TreeError>
+        requires below { AreSteps start steps.old.items }
+        requires order { start ≤ end }
+        requires within { end ≤ 2 ^ 32 }
+        ensures pushed { IfOk result (λ _. AreDefaultsPushed steps.old.items self.now.defaults start end steps.new.items) }
+        ensures memory { IsOkUnless result OutOfMemory }
+    {
+        let mut next = start;
+        while next < end {
+            let number = next as u32;
+            let value = default_for(&self.defaults, number);
+            push_step(steps, next, Target::Give(value))?;
+            next = end.min(next_default(&self.defaults, number));
+        }
+        Ok(())
     }
 }
 
@@ -136,46 +151,15 @@ fn one_value(rulings: &[Decision], default: u32) -> Option<u32>
     None
 }
 
-// The default values as steps.
-fn default_steps(alloc: Global, defaults: &[DefaultValue]) -> Result<Vec<Step>, TreeError>
+// The number of the next default behind this number, or 2^32.
+fn next_default(defaults: &[DefaultValue], number: u32) -> u64
     requires { AscendFromZero defaults.now }
-    ensures ok { IfOk result (λ steps. AreDefaults defaults.now steps.items) }
-    ensures memory { IsOkUnless result OutOfMemory }
+    ensures { IsNextDefault defaults.now number result }
 {
-    let mut steps = Vec::new(alloc);
-    push_step(&mut steps, 0, Target::Give(value_of(&defaults[0])))?;
-    for default in &defaults[1..] {
-        let (start, value) = (start_of(default), value_of(default));
-        push_step(&mut steps, u64::from(start), Target::Give(value))?;
+    for default in defaults {
+        if default.start > number {
+            return u64::from(default.start);
+        }
     }
-    Ok(steps)
-}
-
-// The first number of a default. (What a function returns lies within its type, as a proof sees it.)
-fn start_of(default: &DefaultValue) -> u32
-    ensures { result ≡ default.now.start }
-{
-    default.start
-}
-
-// The value of a default.
-fn value_of(default: &DefaultValue) -> u32
-    ensures { result ≡ default.now.value }
-{
-    default.value
-}
-
-// Gives the numbers from `start` up to `end` the targets that the others have.
-fn push_range(steps: &mut Vec<Step>, others: &[Step], start: u64, end: u64) -> Result<(), TreeError>
-    requires below { AreSteps start steps.old.items }
-    requires others { AreSteps (2 ^ 32) others.now }
-    requires order { start ≤ end }
-    requires within { end ≤ 2 ^ 32 }
-    ensures pushed { IfOk result (λ _. IsRangePushed steps.old.items others.now start end steps.new.items) }
-    ensures memory { IsOkUnless result OutOfMemory }
-{
-    if start == end {
-        return Ok(());
-    }
-    push_part(steps, others, start, end - 1, 0)
+    NUMBERS
 }

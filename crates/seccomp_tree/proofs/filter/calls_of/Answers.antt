@@ -3,7 +3,7 @@ use Rattle.std.proofs.lemmas.List.Elements.{All-head, All-tail}
 use Rattle.seccompiler.specs.Policy.{IsCallNumber, chains_of}
 use Rattle.seccompiler.specs.Compiled.{AreCallNumbers, numbers_of}
 use Rattle.seccomp_tree.specs.FilterDecisions.{call_of, rulings_of}
-use Rattle.seccomp_tree.proofs.FilterCalls.{calls_next}
+use Rattle.seccomp_tree.proofs.FilterDecided.{calls_next}
 use Rattle.seccomp_tree.proofs.filter.calls_of.Goals as goal
 
 pub loop-number-preserved : goal.loop-number-preserved

@@ -1,14 +1,12 @@
-use Rattle.std.proofs.Common.{◌-◌, ◌/◌, ◌^◌, ◌<◌, length, take, drop, refl, sym, ◌∙◌, arith}
+use Rattle.std.proofs.Common.{◌-◌, ◌/◌, ◌^◌, ◌<◌, length, take, drop, refl, sym, ◌∙◌, arith, inl, inr}
 use Rattle.std.proofs.lemmas.Bool.{cases_lt, false≢true}
-use Rattle.std.proofs.Common.{inl, inr}
 use Rattle.seccomp_tree.specs.Rows.{row}
 use Rattle.std.proofs.lemmas.Result.{err_from_is_err_and, IfOk-weaker}
-use Rattle.seccomp_tree.proofs.Growing.{are_in_grown}
+use Rattle.seccomp_tree.proofs.Runs.{are_in_grown}
 use Rattle.seccomp_tree.proofs.Begun.{starts_rise}
-use Rattle.seccomp_tree.proofs.Cuts.{ascend_take, in_take, length_take, all_behind, rest_of, rest_long}
-use Rattle.seccomp_tree.proofs.RowTests.{out_long}
+use Rattle.seccomp_tree.proofs.Trees.{ascend_take, in_take, length_take, all_behind, rest_of, rest_long, out_long, tree_single, tree_out}
+use Rattle.seccomp_tree.proofs.Trees.{tree_first, tree_halves}
 use Rattle.seccomp_tree.specs.declared.steps.Target.TheVariants.{Give}
-use Rattle.seccomp_tree.proofs.Trees.{tree_single, tree_out, tree_first, tree_halves}
 use Rattle.seccomp_tree.proofs.code.Code.+tree.Goals as goal
 
 pub returns-then-steps-eq1-clause-ok : goal.returns-then-steps-eq1-clause-ok

@@ -2,7 +2,7 @@ use Rattle.std.proofs.Common.{length, ◌+◌, ◌<◌, sym, subst, arith}
 use Rattle.std.specs.Prelude.{reverse}
 use Rattle.std.proofs.lemmas.List.{length-reverse, reverse-append}
 use Rattle.seccompiler.specs.Machine.{IsFine}
-use Rattle.seccomp_tree.proofs.Soundness.{sound_push}
+use Rattle.seccomp_tree.proofs.Runs.{sound_push}
 use Rattle.seccomp_tree.proofs.code.Code.push.Goals as goal
 
 pub invariant_of-self-2 : goal.invariant_of-self-2

@@ -24,7 +24,7 @@ push_call-requires-clause-none c =
 
 pub returns-in_err-push_call-clause-err : goal.returns-in_err-push_call-clause-err
 returns-in_err-push_call-clause-err c =
-    let p = err_from_is_err_and c.from_residual-in_err-push_call.result c.from_residual-in_err-push_call.ensures.1 in
+    let p = err_from_is_err_and c.from_residual.result c.from_residual.ensures.1 in
     let l = c.loop-number in
     let room = calls_room c.args.self.now c.args.code.now l.next c.in-Some.number.now c.in-Some.rulings.now l.number-iterator
     c.next.new.self
@@ -34,7 +34,7 @@ returns-in_err-push_call-clause-err c =
       full,
       room,
       ap rules_length
-          c.deref-in-loop-number-2.ensures.value,
+          c.deref.ensures.value,
     ))
 
 pub loop-number-preserved : goal.loop-number-preserved
@@ -47,5 +47,5 @@ loop-number-preserved c =
     (calls_step c.args.self.now c.args.code.now l.next number c.in-Some.rulings.now l.number-iterator c.next.new.self l.steps.items
     c.push_call.new.steps.items l.code c.push_call.new.code small c.in-Some.ensures.steps l.invariant
     (subst (λ q. IsCallPushed l.code c.args.self.now number q c.push_call.new.steps.items c.push_call.new.code)
-    c.deref-in-loop-number-2.ensures.value
+    c.deref.ensures.value
     c.in_ok-push_call.ensures.ok))

@@ -5,7 +5,7 @@ use Rattle.seccomp_tree.specs.Code.{AreIn, IsFullBy, IsWord}
 use Rattle.seccomp_tree.specs.CallSteps.{AreCallSteps, IsCallsTarget, IsTooFull}
 use Rattle.std.proofs.lemmas.Result.{IfOk-weaker}
 use Rattle.seccomp_tree.proofs.Common.{IfErr-weaker}
-use Rattle.seccomp_tree.proofs.WholeProgram.{calls_target, calls_room, calls_full}
+use Rattle.seccomp_tree.proofs.Theorem.{calls_target, calls_room, calls_full}
 use Rattle.seccomp_tree.proofs.decisions.Decisions.write_calls.Goals as goal
 
 pub word-requires : goal.word-requires

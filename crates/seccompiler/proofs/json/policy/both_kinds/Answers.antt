@@ -1,4 +1,5 @@
-use Rattle.std.proofs.Common.{rules, ◌≡◌, ◌++◌, ◌∷◌, [], List, ℤ, Bool, true, false, ◌&&◌, w64, refl, sym, ap, ◌∙◌, subst, append_assoc, append-nil}
+use Rattle.std.proofs.Common.{rules, ◌≡◌, ◌++◌, ◌∷◌, [], List, ℤ, Bool, true, false, ◌&&◌, w64, refl, sym, ap, ◌∙◌}
+use Rattle.std.proofs.Common.{subst, append_assoc, append-nil}
 use mir.Val.{SFits}
 use Rattle.std.specs.BTreeSet.{IsFromIterResult}
 use Rattle.std.specs.List.{filter, list_any}

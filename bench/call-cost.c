@@ -1,8 +1,8 @@
 /*
- * Times a system call under filters: call-cost ROUNDS CALL FILE..
+ * Times a system call under filters: call-cost ROUNDS CALL THIRD FILE..
  *
  * Each FILE has a filter's program as bytes, as `seccomptool compile` writes it; an empty file stands for no filter.
- * CALL is the number of the call that is made, with the arguments 1, 0 and 0. In each round each FILE has its turn,
+ * CALL is the number of the call that is made, with the arguments 1, 0 and THIRD. In each round each FILE has its turn,
  * in a process of its own, which installs the program and makes the call in batches. Writes for each FILE the least
  * time of a call over all batches and rounds, in picoseconds, a line each.
  */
@@ -44,14 +44,14 @@ static int install(struct sock_fprog *program)
     return syscall(SYS_seccomp, SECCOMP_SET_MODE_FILTER, 0, program) ? errno : 0;
 }
 
-static void time_calls(struct sock_fprog *program, long call, struct told *told)
+static void time_calls(struct sock_fprog *program, long call, long third, struct told *told)
 {
     told->least = UINT64_MAX;
     told->error = install(program);
     for (int batch = 0; told->error == 0 && batch < BATCHES; batch++) {
         uint64_t start = now();
         for (int k = 0; k < CALLS; k++)
-            syscall(call, 1, 0, 0);
+            syscall(call, 1, 0, third);
         uint64_t took = now() - start;
         if (took < told->least)
             told->least = took;
@@ -73,24 +73,24 @@ static void read_program(const char *path, struct sock_fprog *program)
 
 int main(int count, char **words)
 {
-    if (count < 4)
+    if (count < 5)
         return 2;
-    int files = count - 3;
+    int files = count - 4;
     struct sock_fprog *programs = calloc((size_t)files, sizeof *programs);
     uint64_t *least = calloc((size_t)files, sizeof *least);
     struct told *told = mmap(NULL, sizeof *told, PROT_READ | PROT_WRITE, MAP_SHARED | MAP_ANONYMOUS, -1, 0);
     if (programs == NULL || least == NULL || told == MAP_FAILED)
         return 1;
     for (int k = 0; k < files; k++)
-        read_program(words[3 + k], &programs[k]);
+        read_program(words[4 + k], &programs[k]);
     for (long round = atol(words[1]); round > 0; round--) {
         for (int k = 0; k < files; k++) {
             int status = 0;
             pid_t child = fork();
             if (child == 0)
-                time_calls(&programs[k], atol(words[2]), told);
+                time_calls(&programs[k], atol(words[2]), atol(words[3]), told);
             if (child < 0 || waitpid(child, &status, 0) != child || status != 0 || told->error != 0) {
-                fprintf(stderr, "%s: %s\n", words[3 + k], status ? "killed" : strerror(told->error ? told->error : errno));
+                fprintf(stderr, "%s: %s\n", words[4 + k], status ? "killed" : strerror(told->error ? told->error : errno));
                 return 1;
             }
             if (least[k] == 0 || told->least < least[k])

@@ -209,9 +209,21 @@ CASES = [
     rejects("compile --oci --strict --arch aarch64", json.dumps(profile(entry("read open"))),
             "names of no system call of aarch64 (1): open\n"),
     *compiles("--oci --strict", profile(entry("read"), entry("waitpid", includes={"arches": ["x86"]})), READ, OTHER),
-    # Podman's names of errnos, which have to say the same as the numbers beside them.
+    # Podman's errnos as texts: they win, and may be numbers. The empty text is none.
     *compiles("", profile(entry("read", "SCMP_ACT_ERRNO", errnoRet=22, errno="EINVAL"), entry("write", errno=""),
                           defaultErrnoRet=38, defaultErrno="ENOSYS"), ("read", "errno 22"), ("write", "allow"), ("open", "errno 38")),
+    *[case for text, number in (("EPERM", 1), ("EDOM", 33), ("EWOULDBLOCK", 11), ("EDEADLOCK", 35), ("ENOTSUP", 95), ("EHWPOISON", 133),
+                                ("0", 0), ("038", 38), ("65535", 65535))
+      for beside in ({}, {"errnoRet": None}, {"errnoRet": 5})
+      for case in compiles("", profile(entry("read", "SCMP_ACT_ERRNO", errno=text, **beside), default="SCMP_ACT_ALLOW"),
+                           ("read", f"errno {number}"))],
+    *compiles("", profile(entry("read", "SCMP_ACT_TRACE", errno="ENOSYS"), defaultErrno="EDOM"), ("read", "trace 38"), ("write", "errno 33")),
+    # What engines pass over: keys at the top, criteria that are null, an empty name, and a kernel that is the empty text.
+    *compiles("", {**profile(entry("read")), "$schema": 5, "comment": [], "listenerPath": "x", "Flags": 5}, READ, OTHER),
+    *compiles("", profile(entry("read", includes=None, excludes=None, name="")), READ, OTHER),
+    *compiles("", profile(entry("read", name=None), {"names": [], "name": "open", "action": "SCMP_ACT_LOG"},
+                          {"names": None, "name": "stat", "action": "SCMP_ACT_LOG"}), READ, ("open", "log"), ("stat", "log")),
+    *compiles("", profile(entry("read", includes={"minKernel": ""}, excludes={"minKernel": ""})), READ, OTHER),
     # What is no JSON.
     *[rejects("compile --oci", it, PARSING) for it in (
         "", "{", '{"defaultAction": "SCMP_ACT_ALLOW"', '{"defaultAction": "SCMP_ACT_ALLOW"} {}', "{'defaultAction': 0}", "nothing",

@@ -1,58 +1,68 @@
--- For the functions of `decisions` and `decide`: what is the first of the least, as the list of what gives it grows.
-use Rattle.std.proofs.Common.{◌≡◌, ◌<◌, ◌≤◌, ℕ, List, [], ◌∷◌, ◌++◌, All, arith}
-use Rattle.std.specs.Prelude.{Any}
-use Rattle.std.proofs.lemmas.List.Elements.{All-nil, All-cons, All-head, All-tail, All-push}
-use Rattle.seccomp_oci.specs.Decision.{IsFirstLeast, first, later}
-use Rattle.seccomp_oci.proofs.Quantified.{any_head, any_tail, at_any}
+-- For the functions of `decisions` and `decide`: what is asked first, as more of a list is looked at.
+use Rattle.std.proofs.Common.{◌≡◌, ◌<◌, ◌≤◌, ◌+◌, ℕ, zero, suc, List, [], ◌∷◌, length, get_or, sym, subst, ◌∙◌, arith, inl, inr}
+use Rattle.std.proofs.lemmas.Bool.{cases_lt}
+use Rattle.seccomp_oci.specs.Decision.{IsFirstLeast, NoneOf}
 
-module _ {X V : Type 0} (rank_of : V → ℕ) (Gives : X → V → Type 0) where
-  -- What x gives has a greater rank than v, or not a lesser one.
-  abbrev pub Above : V → X → Type 0
-  Above v x = (w : V) → Gives x w → rank_of v < rank_of w
+-- What is read at a place within the list is one thing.
+pub same_at : {X : Type 0} (xs : List X) (k : ℕ) (x y : X) → k < length xs → x ≡ get_or xs k x → y ≡ get_or xs k y → x ≡ y
+same_at [] k x y within is is_too = absurd (omega arith)
+same_at (z ∷ xs) zero x y within is is_too = is ∙ sym is_too
+same_at (z ∷ xs) (suc k) x y within is is_too = same_at xs k x y (omega arith) is is_too
 
-  abbrev pub NotBelow : V → X → Type 0
-  NotBelow v x = (w : V) → Gives x w → rank_of v ≤ rank_of w
+-- A place below the next one is below this one, or is this one.
+pub up_to : (k n : ℕ) (P : Type 0) → k < n + 1 → (k < n → P) → (k ≡ n → P) → P
+up_to k n P below less same = elim (cases_lt k n) [ inl small ↦ less small | inr most ↦ same (omega arith) ]
 
-  pub none_least : (v : V) → IsFirstLeast rank_of Gives [] v → ⊥
-  none_least v least = elim least [ ]
+module _ {X : Type 0} (rank_of : X → ℕ) (P : X → Type 0) (xs : List X) where
+  -- There is one that is asked first.
+  pub least_only : (n j k : ℕ) (x y : X) → n ≤ length xs → IsFirstLeast rank_of P xs n j x → IsFirstLeast rank_of P xs n k y → x ≡ y
+  least_only n j k x y within one two = elim (cases_lt j k) [
+    | inl less ↦
+        let more = two.before j x less one.there one.holds in
+        let most = one.others k y two.within two.there two.holds in
+        absurd (omega arith)
+    | inr most ↦ elim (cases_lt k j) [
+      | inl less ↦
+          let more = one.before k y less two.there two.holds in
+          let least = two.others j x one.within one.there one.holds in
+          absurd (omega arith)
+      | inr least ↦
+          let same : k ≡ j = omega arith in
+          let inside = one.within in
+          same_at xs j x y (omega arith) one.there (subst (λ k. y ≡ get_or xs k y) same two.there)
+    ]
+  ]
 
-  -- The last one gives the least, where all before it give more.
-  pub least_last : (xs : List X) (y : X) (v : V) → All (Above v) xs → Gives y v → IsFirstLeast rank_of Gives (xs ++ y ∷ []) v
-  least_last [] y v above gives = first gives (All-nil (NotBelow v))
-  least_last (x ∷ xs) y v above gives =
-      later (All-head (Above v) x xs above) (least_last xs y v (All-tail (Above v) x xs above) gives)
+  -- None of the next has the property either.
+  pub none_more : (n : ℕ) (x : X) → n < length xs → x ≡ get_or xs n x → (P x → ⊥) → NoneOf P xs n → NoneOf P xs (n + 1)
+  none_more n x inside read not none = λ k y below is has. up_to k n ⊥ below (λ less. none k y less is has)
+      (λ same. not (subst P (same_at xs n y x inside (subst (λ k. y ≡ get_or xs k y) same is) read) has))
 
-  -- What is the first of the least stays so, where one more doesn't give less.
-  pub least_kept : (xs : List X) (y : X) (v : V) → IsFirstLeast rank_of Gives xs v → NotBelow v y
-      → IsFirstLeast rank_of Gives (xs ++ y ∷ []) v
-  least_kept [] y v least more = absurd (none_least v least)
-  least_kept (x ∷ xs) y v (first gives rest) more = first gives (All-push (NotBelow v) xs y rest more)
-  least_kept (x ∷ xs) y v (later before least) more = later before (least_kept xs y v least more)
+  -- What was found stays so, where the next one isn't asked sooner.
+  pub least_kept : (n place : ℕ) (x y : X) → n < length xs → y ≡ get_or xs n y → (P y → rank_of x ≤ rank_of y)
+      → IsFirstLeast rank_of P xs n place x → IsFirstLeast rank_of P xs (n + 1) place x
+  least_kept n place x y inside read most least = let within = least.within in record {
+    within = omega arith;
+    there = least.there;
+    holds = least.holds;
+    before = least.before;
+    others = λ k z below is has. up_to k n (rank_of x ≤ rank_of z) below (λ less. least.others k z less is has)
+        (λ same.
+        let own = same_at xs n z y inside (subst (λ k. z ≡ get_or xs k z) same is) read in
+        subst (λ z. rank_of x ≤ rank_of z) (sym own) (most (subst P own has)));
+  }
 
-  -- None gives less than the least.
-  pub least_all : (xs : List X) (v : V) → IsFirstLeast rank_of Gives xs v → ((x : X) → Gives x v → NotBelow v x) → All (NotBelow v) xs
-  least_all [] v least own = absurd (none_least v least)
-  least_all (x ∷ xs) v (first gives rest) own = All-cons (NotBelow v) x xs (own x gives) rest
-  least_all (x ∷ xs) v (later before least) own =
-      All-cons (NotBelow v) x xs (λ w gives. let less = before w gives in omega arith) (least_all xs v least own)
-
-  -- Some one gives the least.
-  pub least_any : (xs : List X) (v : V) → IsFirstLeast rank_of Gives xs v → Any (λ x. Gives x v) xs
-  least_any [] v least = absurd (none_least v least)
-  least_any (x ∷ xs) v (first gives rest) = any_head (λ x. Gives x v) x xs gives
-  least_any (x ∷ xs) v (later before least) = any_tail (λ x. Gives x v) x xs (least_any xs v least)
-
-  crossed : (xs : List X) (v w : V) → All (NotBelow v) xs → rank_of w < rank_of v → IsFirstLeast rank_of Gives xs w → ⊥
-  crossed xs v w rest less least =
-      let found = at_any (NotBelow v) (λ x. Gives x w) xs rest (least_any xs w least) in
-      let more = found.1 w found.2 in
-      omega arith
-
-  -- There is one first of the least, where each gives one value.
-  pub least_only : ((x : X) (v w : V) → Gives x v → Gives x w → v ≡ w) → (xs : List X) (v w : V) → IsFirstLeast rank_of Gives xs v
-      → IsFirstLeast rank_of Gives xs w → v ≡ w
-  least_only one [] v w least other = absurd (none_least v least)
-  least_only one (x ∷ xs) v w (first gives rest) (first gives_too others) = one x v w gives gives_too
-  least_only one (x ∷ xs) v w (first gives rest) (later before least) = absurd (crossed xs v w rest (before v gives) least)
-  least_only one (x ∷ xs) v w (later before least) (first gives rest) = absurd (crossed xs w v rest (before w gives) least)
-  least_only one (x ∷ xs) v w (later before least) (later other_before other) = least_only one xs v w least other
+  -- The next one is asked first, where it is asked sooner than all in front of it.
+  pub least_next : (n : ℕ) (y : X) → n < length xs → y ≡ get_or xs n y → P y
+      → ((k : ℕ) (z : X) → k < n → z ≡ get_or xs k z → P z → rank_of y < rank_of z) → IsFirstLeast rank_of P xs (n + 1) n y
+  least_next n y inside read has sooner = record {
+    within = omega arith;
+    there = read;
+    holds = has;
+    before = sooner;
+    others = λ k z below is holds. up_to k n (rank_of y ≤ rank_of z) below
+        (λ less. let more = sooner k z less is holds in omega arith)
+        (λ same.
+        let own = same_at xs n z y inside (subst (λ k. z ≡ get_or xs k z) same is) read in
+        subst (λ z. rank_of y ≤ rank_of z) (sym own) (omega arith));
+  }

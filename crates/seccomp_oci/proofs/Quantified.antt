@@ -1,7 +1,7 @@
 -- For the functions of `concerns`, `decisions` and `decide`: what holds of each, or of some, of a list's elements, as the list grows.
 use Rattle.std.proofs.Common.{◌≡◌, ◌↔◌, ℕ, zero, suc, ◌+◌, ◌<◌, List, [], ◌∷◌, ◌++◌, length, get_or, take, refl, subst, sym}
 use Rattle.std.proofs.Common.{◌∙◌, ap, ◌⊎◌, inl, inr, arith}
-use Rattle.std.specs.Prelude.{All, Any}
+use Rattle.std.specs.Prelude.{All, Any, Contains, map}
 use Rattle.std.proofs.lemmas.List.{take_more}
 use Rattle.std.proofs.lemmas.List.Elements.{All-nil, All-cons, All-head, All-tail, All-append}
 
@@ -91,3 +91,19 @@ module _ {X Y : Type 0} (P : X → Type 0) (Q : Y → Type 0) where
 -- What each has and what some has, some one has both.
 pub at_any : {X : Type 0} (P Q : X → Type 0) (xs : List X) → All P xs → Any Q xs → (x : X) × P x × Q x
 at_any P Q xs all (k, x, within, is, has) = (x, subst P is (all k x within), has)
+
+-- What holds of what f makes of one element holds of some of what it makes of all.
+pub any_at : {X Y : Type 0} (f : X → Y) (Q : Y → Type 0) (xs : List X) (i : ℕ) (d : X) → i < length xs → Q (f (get_or xs i d))
+    → Any Q (map f xs)
+any_at f Q [] i d within has = absurd (omega arith)
+any_at f Q (x ∷ xs) zero d within has = any_head Q (f x) (map f xs) has
+any_at f Q (x ∷ xs) (suc i) d within has = any_tail Q (f x) (map f xs) (any_at f Q xs i d (omega arith) has)
+
+-- What f makes of one element is among what it makes of all.
+pub contains_at : {X Y : Type 0} (f : X → Y) (xs : List X) (i : ℕ) (d : X) → i < length xs → Contains (map f xs) (f (get_or xs i d))
+contains_at f [] i d within = absurd (omega arith)
+contains_at f (x ∷ xs) zero d within = (zero, omega arith, refl)
+contains_at f (x ∷ xs) (suc i) d within =
+    let rest = contains_at f xs i d (omega arith) in
+    let less = rest.1 in
+    (suc rest.0, omega arith, rest.2)

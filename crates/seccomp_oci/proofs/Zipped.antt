@@ -1,9 +1,6 @@
 -- For the functions of `concerns` and `decisions`: two lists whose elements belong together one by one.
-use Rattle.std.proofs.Common.{◌≡◌, ◌↔◌, ◌<◌, ℕ, ◌+◌, List, [], ◌∷◌, ◌++◌, All, length, get_or, take, sym, subst}
+use Rattle.std.proofs.Common.{◌≡◌, ◌<◌, ℕ, zero, suc, ◌+◌, List, [], ◌∷◌, ◌++◌, length, get_or, take, refl, sym, subst, ap, arith}
 use Rattle.std.specs.List.{AllZip}
-use Rattle.std.proofs.lemmas.List.Elements.{All-nil, All-cons, All-head, All-tail}
-use Rattle.seccomp_oci.specs.Decision.{IsFirstLeast, first, later}
-use Rattle.seccomp_oci.proofs.Least.{none_least, NotBelow}
 use Rattle.seccomp_oci.proofs.Quantified.{more_read}
 
 module _ {X Y : Type 0} (R : X → Y → Type 0) where
@@ -21,24 +18,25 @@ module _ {X Y : Type 0} (R : X → Y → Type 0) where
       subst (λ zs. AllZip R zs new) (sym (more_read xs i x within is))
       (subst (λ zs. AllZip R (take i xs ++ x ∷ []) zs) (sym longer) (zip_push (take i xs) ys x y zip here))
 
-module _ {X Y : Type 0} (R : X → Y → Type 0) where
-  -- What holds of the elements of the other list gives what holds of those of the one.
-  pub zipped_back : (P : X → Type 0) (Q : Y → Type 0) → ((x : X) (y : Y) → R x y → Q y → P x) → (xs : List X) (ys : List Y)
-      → AllZip R xs ys → All Q ys → All P xs
-  zipped_back P Q step [] ys zip all = All-nil P
-  zipped_back P Q step (x ∷ xs) [] zip all = absurd zip
-  zipped_back P Q step (x ∷ xs) (y ∷ ys) zip all =
-      All-cons P x xs (step x y zip.0 (All-head Q y ys all)) (zipped_back P Q step xs ys zip.1 (All-tail Q y ys all))
+  -- They are as many.
+  pub zip_length : (xs : List X) (ys : List Y) → AllZip R xs ys → length xs ≡ length ys
+  zip_length [] [] zip = refl
+  zip_length [] (y ∷ ys) zip = absurd zip
+  zip_length (x ∷ xs) [] zip = absurd zip
+  zip_length (x ∷ xs) (y ∷ ys) zip = ap suc (zip_length xs ys zip.1)
 
-  -- Where the elements give the same, the first of the least is the same.
-  pub least_zipped : {V : Type 0} (rank_of : V → ℕ) (Gives : X → V → Type 0) (Others : Y → V → Type 0)
-      → ((x : X) (y : Y) → R x y → (v : V) → Gives x v ↔ Others y v) → (xs : List X) (ys : List Y) (v : V) → AllZip R xs ys
-      → IsFirstLeast rank_of Others ys v → IsFirstLeast rank_of Gives xs v
-  least_zipped rank_of Gives Others same [] [] v zip least = absurd (none_least rank_of Others v least)
-  least_zipped rank_of Gives Others same [] (y ∷ ys) v zip least = absurd zip
-  least_zipped rank_of Gives Others same (x ∷ xs) [] v zip least = absurd zip
-  least_zipped rank_of Gives Others same (x ∷ xs) (y ∷ ys) v zip (first gives rest) = first ((same x y zip.0 v).1 gives)
-      (zipped_back (NotBelow rank_of Gives v) (NotBelow rank_of Others v) (λ a b here more w does. more w ((same a b here w).0 does))
-      xs ys zip.1 rest)
-  least_zipped rank_of Gives Others same (x ∷ xs) (y ∷ ys) v zip (later before least) = later
-      (λ w does. before w ((same x y zip.0 w).0 does)) (least_zipped rank_of Gives Others same xs ys v zip.1 least)
+  -- The elements at a place.
+  pub record AreAt (xs : List X) (ys : List Y) (k : ℕ) : Type 0 where
+    pub one : X
+    pub other : Y
+    pub one_is : one ≡ get_or xs k one
+    pub other_is : other ≡ get_or ys k other
+    pub both : R one other
+
+  pub zip_at : (xs : List X) (ys : List Y) (k : ℕ) → k < length xs → AllZip R xs ys → AreAt xs ys k
+  zip_at [] ys k within zip = absurd (omega arith)
+  zip_at (x ∷ xs) [] k within zip = absurd zip
+  zip_at (x ∷ xs) (y ∷ ys) zero within zip = record { one = x; other = y; one_is = refl; other_is = refl; both = zip.0 }
+  zip_at (x ∷ xs) (y ∷ ys) (suc k) within zip =
+      let rest = zip_at xs ys k (omega arith) zip.1 in
+      record { one = rest.one; other = rest.other; one_is = rest.one_is; other_is = rest.other_is; both = rest.both }

@@ -1,5 +1,5 @@
 -- Lemmas for the functions of `decisions`.
 pub mod Held
-pub mod Strictest
+pub mod Ranks
 pub mod Calls
 pub mod Profile

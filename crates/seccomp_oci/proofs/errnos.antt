@@ -1,2 +1,2 @@
 -- Lemmas for the functions of `errnos`.
-pub mod Names
+pub mod Numbers

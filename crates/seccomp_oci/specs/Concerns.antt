@@ -1,18 +1,18 @@
 -- The entries of a profile with calls by number and conditions as the library has them.
-use Rattle.std.specs.Prelude.{◌≡◌, ◌↔◌, ◌<◌, ℕ, List, [], All, Any, Bool, Contains, IsTrue}
+use Rattle.std.specs.Prelude.{◌≡◌, ◌↔◌, ◌<◌, ℕ, List, All, Any, Contains}
 use Rattle.seccompiler.specs.declared.backend.SeccompAction.{SeccompAction}
 use Rattle.seccompiler.specs.declared.backend.TargetArch.{TargetArch}
 use Rattle.seccompiler.specs.Policy.{Condition, RuleHolds}
 use Rattle.seccomp_oci.specs.declared.types.Argument.{Argument}
-use Rattle.seccomp_oci.specs.Decision.{AreMet, Concerns}
+use Rattle.seccomp_oci.specs.Decision.{AreMet, Concerns, rank}
 use Rattle.seccomp_oci.specs.Types.{Container, Entry}
 
--- What an entry says: of which calls, its action, whether it has no conditions, and lists of conditions, one of which holds
--- if the entry's are met.
+-- What an entry says: of which calls, its action, how soon it is asked, and lists of conditions, one of which holds if the
+-- entry's are met.
 pub record Concern : Type 0 where
   pub numbers : List ℕ
   pub action : SeccompAction
-  pub settles : Bool
+  pub rank : ℕ
   pub alternatives : List (List Condition)
 
 -- These are the numbers of which something holds. No call has a number of 463 or more.
@@ -28,5 +28,5 @@ AreAlternatives args alternatives = (r : List ℕ) → Any (λ cs. RuleHolds cs 
 pub record IsConcernOf (arch : TargetArch) (container : Container) (default : SeccompAction) (e : Entry) (c : Concern) : Type 0 where
   pub numbers : AreCallsOf (λ n. Concerns arch container default n e) c.numbers
   pub action : c.action ≡ e.action
-  pub settles : IsTrue c.settles ↔ (e.args ≡ [])
+  pub rank : c.rank ≡ rank e
   pub alternatives : AreAlternatives e.args c.alternatives

@@ -1,6 +1,6 @@
 -- When an entry of a profile applies, and what a profile decides.
 use Rattle.std.specs.Prelude.{◌≡◌, ◌≢◌, ◌<◌, ◌≤◌, ℕ, pos, ◌⊎◌, List, [], ◌∷◌, Option, Some, None, All, Any, Contains, IfSome}
-use Rattle.std.specs.Prelude.{bit_and, codes, ⊤, ◌&&◌, not, nat_le, if◌then◌else◌}
+use Rattle.std.specs.Prelude.{bit_and, codes, ⊤, ◌↔◌, Bool, true, false, IsTrue, length, nat_le, slice_index_or, suc, if◌then◌else◌}
 use Rattle.seccompiler.specs.declared.backend.SeccompAction.{SeccompAction}
 use Rattle.seccompiler.specs.declared.backend.SeccompAction.TheVariants.{Allow, Errno, KillThread, KillProcess, Log, Trace, Trap}
 use Rattle.seccompiler.specs.declared.backend.TargetArch.{TargetArch}
@@ -12,6 +12,7 @@ use Rattle.seccomp_oci.specs.declared.types.Argument.{Argument}
 use Rattle.seccomp_oci.specs.declared.types.Kernel.{Kernel}
 use Rattle.seccomp_oci.specs.declared.types.Operator.{Operator}
 use Rattle.seccomp_oci.specs.declared.types.Operator.TheVariants.{Ne, Lt, Le, Eq, Ge, Gt, MaskedEq}
+use Rattle.seccomp_oci.specs.declared.types.Runtime.TheVariants.{Runc}
 use Rattle.seccomp_oci.specs.Types.{Container, Entry, Profile}
 
 -- ---- when an entry applies
@@ -90,34 +91,76 @@ strictness (Trace n) = 4
 strictness Log = 5
 strictness Allow = 6
 
--- Of what some things give, the value is the one of the least rank; of several with that rank it is the first one's.
-pub data IsFirstLeast {X V : Type 0} (rank_of : V → ℕ) (Gives : X → V → Type 0) : List X → V → Type 0 where
-  first : {x : X} {xs : List X} {v : V} → Gives x v → All (λ y. (w : V) → Gives y w → rank_of v ≤ rank_of w) xs
-      → IsFirstLeast rank_of Gives (x ∷ xs) v
-  later : {x : X} {xs : List X} {v : V} → ((w : V) → Gives x w → rank_of v < rank_of w) → IsFirstLeast rank_of Gives xs v
-      → IsFirstLeast rank_of Gives (x ∷ xs) v
+-- How soon an entry is asked: one without conditions before all others, and of the others the strictest first.
+abbrev pub rank_by : List Argument → SeccompAction → ℕ
+rank_by [] action = 0
+rank_by (a ∷ args) action = suc (strictness action)
 
--- The entry concerns the call and has no conditions, and this is its action.
-abbrev pub Settles : TargetArch → Container → SeccompAction → ℕ → Entry → SeccompAction → Type 0
-Settles arch container default n e action = Concerns arch container default n e × (e.args ≡ []) × (action ≡ e.action)
+abbrev pub rank : Entry → ℕ
+rank e = rank_by e.args e.action
 
--- The entry concerns the record's call, the record meets its conditions, and this is its action.
-abbrev pub Matches : TargetArch → Container → SeccompAction → List ℕ → Entry → SeccompAction → Type 0
-Matches arch container default r e action = Concerns arch container default (word_at r 0) e × AreMet r e.args × (action ≡ e.action)
+-- The entry concerns the record's call, and the record meets its conditions.
+abbrev pub Matches : TargetArch → Container → SeccompAction → List ℕ → Entry → Type 0
+Matches arch container default r e = Concerns arch container default (word_at r 0) e × AreMet r e.args
+
+-- Of the first n that have a property, the one at this place has the least rank, and is the first that has this rank.
+pub record IsFirstLeast {X : Type 0} (rank_of : X → ℕ) (P : X → Type 0) (xs : List X) (n place : ℕ) (x : X) : Type 0 where
+  pub within : place < n
+  pub there : x ≡ slice_index_or xs place x
+  pub holds : P x
+  pub before : (k : ℕ) (y : X) → k < place → y ≡ slice_index_or xs k y → P y → rank_of x < rank_of y
+  pub others : (k : ℕ) (y : X) → k < n → y ≡ slice_index_or xs k y → P y → rank_of x ≤ rank_of y
+
+-- None of the first n has the property.
+abbrev pub NoneOf : {X : Type 0} → (X → Type 0) → List X → ℕ → Type 0
+NoneOf {X = X} P xs n = (k : ℕ) (y : X) → k < n → y ≡ slice_index_or xs k y → P y → ⊥
+
+-- ---- what holds where no entry matches
 
 -- The default action of a number. On x86_64 the thread is killed that makes a call by a number of x32, which has bit 30
--- (asm/unistd.h); libseccomp takes the greatest number for none of these.
-abbrev pub default_of : TargetArch → SeccompAction → ℕ → SeccompAction
-default_of x86_64 default n = if nat_le 0x40000000 n && not (nat_le 0xffffffff n) then KillThread else default
-default_of arch default n = default
+-- (asm/unistd.h); libseccomp takes the greatest number for none of these. Errno 38 (ENOSYS) answers numbers above all that are named.
+abbrev pub default_of : TargetArch → SeccompAction → Bool → ℕ → SeccompAction
+default_of x86_64 default above n = if nat_le 0x40000000 n then (if nat_le 0xffffffff n then default else KillThread)
+    else (if above then Errno 38 else default)
+default_of arch default above n = if above then Errno 38 else default
 
--- What a profile decides of a call record of the architecture, in a container. The first entry without conditions that
--- concerns the call settles it, whatever stands beside it. Else it is the action of the entries whose conditions are met: the
--- strictest, if they name several, which the profile leaves open. If there are none, it is the default action.
+-- An entry that applies names the call of this number.
+abbrev pub IsNamed : TargetArch → Container → List Entry → ℕ → Type 0
+IsNamed arch container entries n = Any (λ (e : Entry). Applies arch container e × Any (IsNameOf arch n) e.names) entries
+
+-- The action lets a call be made, if only for a tracer.
+abbrev pub lets : SeccompAction → Bool
+lets Allow = true
+lets Log = true
+lets (Trace n) = true
+lets action = false
+
+-- runc answers the calls of this number with ENOSYS: the number is above all that are named, of which one isn't 0, and the default
+-- action lets no call be made (libcontainer/seccomp/patchbpf).
+pub record IsAbove (arch : TargetArch) (container : Container) (p : Profile) (n : ℕ) : Type 0 where
+  pub runc : container.runtime ≡ Runc
+  pub denies : lets p.default ≡ false
+  pub some : (m : ℕ) × (0 < m) × IsNamed arch container p.entries m
+  pub above : (m : ℕ) → IsNamed arch container p.entries m → m < n
+
+pub record IsDefault (arch : TargetArch) (container : Container) (p : Profile) (n : ℕ) (action : SeccompAction) : Type 0 where
+  pub above : Bool
+  pub is_above : IsTrue above ↔ IsAbove arch container p n
+  pub is : action ≡ default_of arch p.default above n
+
+-- ---- what a profile decides
+
+-- The entry at this place decides the record, as this action: of those that match it is asked first.
+pub record IsByEntry (arch : TargetArch) (container : Container) (p : Profile) (r : List ℕ) (action : SeccompAction) (place : ℕ)
+    : Type 0 where
+  pub entry : Entry
+  pub first : IsFirstLeast rank (Matches arch container p.default r) p.entries (length p.entries) place entry
+  pub is : action ≡ entry.action
+
+-- What a profile decides of a call record of the architecture, in a container. Of the entries that match the first without
+-- conditions decides, whatever stands beside it. Else it is the first of the strictest; where they name several actions, the
+-- profile leaves the answer open. If none matches, it is the default action.
 pub data IsProfileDecision (arch : TargetArch) (container : Container) (p : Profile) (r : List ℕ) (action : SeccompAction) : Type 0 where
-  settled : IsFirstLeast (λ _. 0) (Settles arch container p.default (word_at r 0)) p.entries action
-      → IsProfileDecision arch container p r action
-  strictest : All (λ e. Concerns arch container p.default (word_at r 0) e → e.args ≢ []) p.entries
-      → IsFirstLeast strictness (Matches arch container p.default r) p.entries action → IsProfileDecision arch container p r action
-  by_default : All (λ e. Concerns arch container p.default (word_at r 0) e → AreMet r e.args → ⊥) p.entries
-      → action ≡ default_of arch p.default (word_at r 0) → IsProfileDecision arch container p r action
+  by_entry : (place : ℕ) → IsByEntry arch container p r action place → IsProfileDecision arch container p r action
+  by_default : NoneOf (Matches arch container p.default r) p.entries (length p.entries)
+      → IsDefault arch container p (word_at r 0) action → IsProfileDecision arch container p r action

@@ -1,9 +1,8 @@
 -- Which profile a text is, and what an error says of a text that is none.
-use Rattle.std.specs.Prelude.{◌≡◌, ◌⊎◌, ℕ, List, ◌++◌, Option, Some, None, codes, string_bytes, ⊤}
+use Rattle.std.specs.Prelude.{◌≡◌, ℕ, List, ◌++◌, Option, Some, None, codes, string_bytes, ⊤}
 use Rattle.serde_json.specs.Data.{Data}
 use Rattle.serde_json.specs.Errors.{IsMemory}
 use Rattle.seccompiler.specs.JsonAnswers.{IsReadAs}
-use Rattle.seccomp_oci.specs.Faults.{IsFaultText}
 use Rattle.seccomp_oci.specs.ProfileShape.{IsProfile}
 use Rattle.seccomp_oci.specs.Types.{Profile}
 use Rattle.seccomp_oci.specs.declared.error.ProfileError.{ProfileError}
@@ -13,17 +12,11 @@ use Rattle.seccomp_oci.specs.declared.error.ProfileError.TheVariants.{Json, NotA
 abbrev pub IsProfileText : List ℕ → Profile → Type 0
 IsProfileText text p = (d : Data) × IsReadAs text d × IsProfile d p
 
--- The words say what is wrong with a value that is no profile: where, and what is wrong there; or only that it is none.
-abbrev pub TellsWhy : Data → List ℕ → Type 0
-TellsWhy d told = IsFaultText d told
-    ⊎ (told ≡ codes "The JSON value is no seccomp profile, or it has a part that is not supported.")
-
 -- The error says why the text is no profile: the bytes are no JSON text in UTF-8, or its value is no profile. Out of memory
 -- may come in place of both, and stands in no other error.
 abbrev pub IsProfileFault : List ℕ → ProfileError → Type 0
 IsProfileFault text (Json cause) = (IsMemory cause → ⊥) × ((d : Data) → IsReadAs text d → ⊥)
 IsProfileFault text (NotAProfile told) = (d : Data) × IsReadAs text d × ((p : Profile) → IsProfile d p → ⊥)
-    × TellsWhy d (string_bytes told)
 IsProfileFault text OutOfMemory = ⊤
 
 -- The text of the error, where all of it is known: that of `Json` ends in serde_json's own words.

@@ -1,34 +1,20 @@
 -- What the private functions of `decisions` promise each other: the rulings of a call's number, of what entries say.
-use Rattle.std.specs.Prelude.{◌≡◌, ◌≤◌, ◌<◌, ℕ, List, ◌∷◌, ◌++◌, All, Any, Contains, map, true, false}
+use Rattle.std.specs.Prelude.{◌≡◌, ◌↔◌, ◌⊎◌, ◌<◌, ℕ, List, ◌∷◌, ◌++◌, All, Any, Contains, length, map, slice_index_or}
+use Rattle.std.specs.List.{AllZip}
 use Rattle.seccompiler.specs.declared.backend.SeccompAction.{SeccompAction}
+use Rattle.seccompiler.specs.declared.backend.TargetArch.{TargetArch}
+use Rattle.seccompiler.specs.Machine.{word_at}
 use Rattle.seccompiler.specs.Policy.{Condition, RuleHolds, word_of}
-use Rattle.seccomp_tree.specs.Decisions.{First, Ruling}
-use Rattle.seccomp_oci.specs.Concerns.{Concern}
-use Rattle.seccomp_oci.specs.Decision.{IsFirstLeast, strictness}
+use Rattle.seccomp_tree.specs.Decisions.{Ruling}
+use Rattle.seccomp_oci.specs.Concerns.{Concern, IsConcernOf}
+use Rattle.seccomp_oci.specs.Decision.{IsFirstLeast, Matches, rank}
+use Rattle.seccomp_oci.specs.Types.{Container, Entry}
 
--- It is said of the calls of this number, without conditions, and with this action.
-abbrev pub SettlesAs : ℕ → Concern → SeccompAction → Type 0
-SettlesAs n c action = Contains c.numbers n × (c.settles ≡ true) × (action ≡ c.action)
-
--- It is said of the calls of this number, under conditions of which some hold for the record.
-abbrev pub IsMetBy : ℕ → List ℕ → Concern → Type 0
-IsMetBy n r c = Contains c.numbers n × Any (λ cs. RuleHolds cs r) c.alternatives
-
-abbrev pub MatchesAs : ℕ → List ℕ → Concern → SeccompAction → Type 0
-MatchesAs n r c action = IsMetBy n r c × (action ≡ c.action)
-
--- The word is that of the first that settles the calls of this number; else that of the strictest of those whose conditions
--- hold for the record; else the default.
-pub data IsRuled (concerns : List Concern) (n default : ℕ) (r : List ℕ) (w : ℕ) : Type 0 where
-  by_first : (action : SeccompAction) → IsFirstLeast (λ _. 0) (SettlesAs n) concerns action → w ≡ word_of action
-      → IsRuled concerns n default r w
-  by_strictest : (action : SeccompAction) → All (λ c. Contains c.numbers n → c.settles ≡ false) concerns
-      → IsFirstLeast strictness (MatchesAs n r) concerns action → w ≡ word_of action → IsRuled concerns n default r w
-  by_none : All (λ c. IsMetBy n r c → ⊥) concerns → w ≡ default → IsRuled concerns n default r w
-
--- The rulings decide the calls of this number so, whatever the default.
-abbrev pub AreRulingsFor : List Concern → ℕ → List Ruling → Type 0
-AreRulingsFor concerns n rulings = (default : ℕ) (r : List ℕ) (w : ℕ) → First default r rulings w → IsRuled concerns n default r w
+-- Of the calls of number n this is what the entry says: it has the property where one of the lists of conditions holds.
+pub record IsSaid (P : Entry → Type 0) (n : ℕ) (r : List ℕ) (e : Entry) (c : Concern) : Type 0 where
+  pub rank : c.rank ≡ rank e
+  pub action : c.action ≡ e.action
+  pub met : P e ↔ (Contains c.numbers n × Any (λ cs. RuleHolds cs r) c.alternatives)
 
 -- The first of the rulings that hold for the record names this word.
 pub data IsHeld (r : List ℕ) : List Ruling → ℕ → Type 0 where
@@ -39,20 +25,32 @@ pub data IsHeld (r : List ℕ) : List Ruling → ℕ → Type 0 where
 abbrev pub NoneHolds : List ℕ → List Ruling → Type 0
 NoneHolds r rulings = All (λ (d : Ruling). RuleHolds d.conditions r → ⊥) rulings
 
--- The rulings are those of all that is said with an action less than this, the strictest first, and of the first ones of those
--- that are said with just this one.
-pub record AreRulingsUpTo (concerns done : List Concern) (n strict : ℕ) (r : List ℕ) (rulings : List Ruling) : Type 0 where
+-- The entry at place k is of a lesser rank; or it is of this one, and among the first i.
+abbrev pub IsDone : ℕ → ℕ → ℕ → Entry → Type 0
+IsDone s i k e = (rank e < s) ⊎ ((rank e ≡ s) × (k < i))
+
+-- The rulings are those of the entries that are done: the first that holds is that of the entry that is asked first, and where none
+-- holds, no entry that is done has the property.
+pub record AreRulings (P : Entry → Type 0) (entries : List Entry) (s i : ℕ) (r : List ℕ) (rulings : List Ruling) : Type 0 where
   pub held : (w : ℕ) → IsHeld r rulings w
-      → (action : SeccompAction) × IsFirstLeast strictness (MatchesAs n r) concerns action × (w ≡ word_of action)
-  pub all : NoneHolds r rulings → All (λ c. IsMetBy n r c → strict ≤ strictness c.action) concerns
-  pub above : NoneHolds r rulings → All (λ c. IsMetBy n r c → strict < strictness c.action) done
+      → (k : ℕ) × (x : Entry) × IsFirstLeast rank P entries (length entries) k x × (w ≡ word_of x.action)
+  pub none : NoneHolds r rulings → (k : ℕ) (y : Entry) → k < length entries → y ≡ slice_index_or entries k y → IsDone s i k y → P y → ⊥
+
+-- The rulings of the calls of number n are those of all entries below a rank that say this.
+abbrev pub AreRulingsTo : ℕ → List Concern → ℕ → List Ruling → Type 0
+AreRulingsTo s concerns n rulings = (arch : TargetArch) (container : Container) (default : SeccompAction) (entries : List Entry)
+    (r : List ℕ) → word_at r 0 ≡ n → AllZip (IsConcernOf arch container default) entries concerns
+    → AreRulings (Matches arch container default r) entries s 0 r rulings
+
+-- The same of all ranks.
+abbrev pub AreRulingsFor : List Concern → ℕ → List Ruling → Type 0
+AreRulingsFor concerns n rulings = AreRulingsTo 8 concerns n rulings
 
 -- The rulings of lists of conditions, with one word.
 abbrev pub each_with : ℕ → List (List Condition) → List Ruling
 each_with v alternatives = map (λ cs. record { conditions = cs; value = v }) alternatives
 
--- One thing that is said more has given its rulings, if it is of this strictness and about the calls of this number.
-pub data IsPushed (n strict : ℕ) (c : Concern) (old new : List Ruling) : Type 0 where
-  passed_over : (strictness c.action ≡ strict → Contains c.numbers n → ⊥) → new ≡ old → IsPushed n strict c old new
-  pushed : strictness c.action ≡ strict → Contains c.numbers n → new ≡ old ++ each_with (word_of c.action) c.alternatives
-      → IsPushed n strict c old new
+-- One thing that is said more has given its rulings, if it is of this rank and about the calls of this number.
+pub data IsPushed (n s : ℕ) (c : Concern) (old new : List Ruling) : Type 0 where
+  passed_over : (c.rank ≡ s → Contains c.numbers n → ⊥) → new ≡ old → IsPushed n s c old new
+  pushed : c.rank ≡ s → Contains c.numbers n → new ≡ old ++ each_with (word_of c.action) c.alternatives → IsPushed n s c old new

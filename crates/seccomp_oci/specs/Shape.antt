@@ -1,6 +1,6 @@
 -- Which JSON values are which parts of a profile (OCI runtime specification, `linux.seccomp`). Nothing but the forms
 -- given here is one.
-use Rattle.std.specs.Prelude.{◌≡◌, ℕ, ◌-◌, ◌^◌, ◌⊎◌, List, [], ◌∷◌, Option, Some, None, codes, ⊤}
+use Rattle.std.specs.Prelude.{◌≡◌, ℕ, ◌-◌, ◌^◌, ◌⊎◌, List, [], ◌∷◌, Option, Some, None, codes, unwrap_or, ⊤}
 use Rattle.serde_json.specs.Data.{Data, null, string, array, Items, no_items}
 use Rattle.serde_json.specs.Find.{get}
 use Rattle.seccompiler.specs.JsonShape.{HasOnly, IsWhole, Under, OneByOne}
@@ -45,19 +45,16 @@ IsText d text = d ≡ string text
 
 -- ---- actions
 
--- The number of an action stands under its key: 1 (EPERM) where nothing is there, else a whole number of 16 bits.
-abbrev pub IsActionNumber : Option Data → ℕ → Type 0
-IsActionNumber = IsWholeOr 1 (2 ^ 16 - 1)
-
--- The text and what stands beside it as a number are this action. An action that has no number may have none beside it.
-abbrev pub IsAction : Data → Option Data → SeccompAction → Type 0
-IsAction d o Allow = (d ≡ string (codes "SCMP_ACT_ALLOW")) × IsAbsent o
-IsAction d o (Errno n) = (d ≡ string (codes "SCMP_ACT_ERRNO")) × IsActionNumber o n
-IsAction d o KillThread = ((d ≡ string (codes "SCMP_ACT_KILL")) ⊎ (d ≡ string (codes "SCMP_ACT_KILL_THREAD"))) × IsAbsent o
-IsAction d o KillProcess = (d ≡ string (codes "SCMP_ACT_KILL_PROCESS")) × IsAbsent o
-IsAction d o Log = (d ≡ string (codes "SCMP_ACT_LOG")) × IsAbsent o
-IsAction d o (Trace n) = (d ≡ string (codes "SCMP_ACT_TRACE")) × IsActionNumber o n
-IsAction d o Trap = (d ≡ string (codes "SCMP_ACT_TRAP")) × IsAbsent o
+-- The text, with this number beside it, is this action. The number of an action that has one is 1 (EPERM) if none is given, and an
+-- action that has none may have none beside it.
+abbrev pub IsAction : Data → Option ℕ → SeccompAction → Type 0
+IsAction d o Allow = (d ≡ string (codes "SCMP_ACT_ALLOW")) × (o ≡ None)
+IsAction d o (Errno n) = (d ≡ string (codes "SCMP_ACT_ERRNO")) × (n ≡ unwrap_or o 1)
+IsAction d o KillThread = ((d ≡ string (codes "SCMP_ACT_KILL")) ⊎ (d ≡ string (codes "SCMP_ACT_KILL_THREAD"))) × (o ≡ None)
+IsAction d o KillProcess = (d ≡ string (codes "SCMP_ACT_KILL_PROCESS")) × (o ≡ None)
+IsAction d o Log = (d ≡ string (codes "SCMP_ACT_LOG")) × (o ≡ None)
+IsAction d o (Trace n) = (d ≡ string (codes "SCMP_ACT_TRACE")) × (n ≡ unwrap_or o 1)
+IsAction d o Trap = (d ≡ string (codes "SCMP_ACT_TRAP")) × (o ≡ None)
 
 -- ---- conditions on arguments
 

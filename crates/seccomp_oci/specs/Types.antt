@@ -4,11 +4,13 @@ use Rattle.seccompiler.specs.declared.backend.SeccompAction.{SeccompAction}
 use Rattle.seccomp_oci.specs.declared.types.Argument.{Argument}
 use Rattle.seccomp_oci.specs.declared.types.Flag.{Flag}
 use Rattle.seccomp_oci.specs.declared.types.Kernel.{Kernel}
+use Rattle.seccomp_oci.specs.declared.types.Runtime.{Runtime}
 
--- A container: the names of its capabilities, and the kernel that it runs on, if one is given.
+-- A container: the names of its capabilities, the kernel that it runs on, if one is given, and its runtime.
 pub record Container : Type 0 where
   pub caps : List (List ℕ)
   pub kernel : Option Kernel
+  pub runtime : Runtime
 
 -- What has to be there, or must not be: names of capabilities, names of architectures as Go has them, and a kernel.
 pub record Criteria : Type 0 where

@@ -1,5 +1,5 @@
 -- Versions of the kernel as texts.
-use Rattle.std.specs.Prelude.{◌≡◌, ◌==◌, ℕ, ◌<◌, ◌^◌, List, Option, Some, None}
+use Rattle.std.specs.Prelude.{◌≡◌, ◌==◌, ℕ, ◌<◌, ◌^◌, List, [], Option, Some, None, ⊤}
 use Rattle.std.specs.List.{before_first, after_first}
 use Rattle.std.specs.Str.Parse.{IsNumeral, digits_value}
 use Rattle.serde_json.specs.Data.{Data, string}
@@ -22,8 +22,9 @@ abbrev pub IsKernel : Data → Kernel → Type 0
 IsKernel (string text) k = IsVersion text k
 IsKernel _ k = ⊥
 
--- What stands there is this version; where nothing stands there, or null, there is none.
+-- What stands there is this version; nothing, null and the empty text are none.
 abbrev pub IsKernelOr : Option Data → Option Kernel → Type 0
+IsKernelOr (Some (string [])) None = ⊤
 IsKernelOr o None = IsAbsent o
 IsKernelOr None (Some k) = ⊥
 IsKernelOr (Some d) (Some k) = IsKernel d k

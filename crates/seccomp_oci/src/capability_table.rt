@@ -1,5 +1,8 @@
 // Names of capabilities.
 
+ghost use Rattle.std.specs.Prelude.{◌≡◌, ◌↔◌, All, Contains, IfSome, IfNone, IsTrue, map};
+ghost use Rattle.seccomp_oci.specs.Capabilities.{IsCalled, IsShort, capability_names};
+
 // Linux's capabilities, by their numbers from 0 on (capabilities(7)).
 const CAPABILITIES: [&str; 41] = [
     "CAP_CHOWN",
@@ -46,28 +49,47 @@ const CAPABILITIES: [&str; 41] = [
 ];
 
 /// The names of Linux's capabilities, by their numbers from 0 on.
-pub fn capabilities() -> &'static [&'static str] {
+pub fn capabilities() -> &'static [&'static str]
+    ensures { map (λ own. own.now) result.now ≡ capability_names }
+{
     &CAPABILITIES
 }
 
 /// The capability of this name, as profiles write it: `CAP_SYS_ADMIN`, for that name and for `SYS_ADMIN`, in any case.
-/// None where Linux has no such capability.
-pub fn capability(name: &str) -> Option<&'static str> {
-    for one in &CAPABILITIES {
-        if is_name_of(one, name) {
-            return Some(one);
+/// None where Linux has no such capability. It takes no memory.
+pub fn capability(name: &str) -> Option<&'static str>
+    ensures some { IfSome result (λ own. Contains capability_names own.now × IsCalled own.now name.now) }
+    ensures none { IfNone result (All (λ own. IsCalled own name.now → ⊥) capability_names) }
+{
+    called_in(capabilities(), name)
+}
+
+// The first of these that is called so.
+fn called_in(names: &[&'static str], name: &str) -> Option<&'static str>
+    ensures some { IfSome result (λ own. Contains (map (λ own. own.now) names.now) own.now × IsCalled own.now name.now) }
+    ensures none { IfNone result (All (λ own. IsCalled own name.now → ⊥) (map (λ own. own.now) names.now)) }
+{
+    for own in names {
+        if is_called(own, name) {
+            return Some(own);
         }
     }
     None
 }
 
-// Whether it is the name of this capability, with or without what each begins with.
-fn is_name_of(capability: &str, name: &str) -> bool {
-    if capability.eq_ignore_ascii_case(name) {
-        return true;
-    }
-    match capability.strip_prefix("CAP_") {
-        Some(short) => short.eq_ignore_ascii_case(name),
+// Whether the capability is called so, with or without what each name begins with, in any case.
+fn is_called(own: &str, name: &str) -> bool
+    ensures { IsTrue result ↔ IsCalled own.now name.now }
+{
+    own.eq_ignore_ascii_case(name) || is_short(own, name)
+}
+
+// Whether the name is what stands behind the first four bytes, in any case.
+fn is_short(own: &str, name: &str) -> bool
+    ensures { IsTrue result ↔ IsShort own.now name.now }
+{
+    match own.as_bytes().get(4..) {
+        Some(short) => short.eq_ignore_ascii_case(name.as_bytes()),
         None => false,
     }
 }

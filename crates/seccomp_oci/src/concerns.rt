@@ -6,7 +6,7 @@ ghost use Rattle.seccompiler.specs.Architecture.{table_of};
 ghost use Rattle.seccompiler.specs.SyscallTable.{number_of};
 ghost use Rattle.seccompiler.specs.Policy.{Compares, Holds, RuleHolds};
 ghost use Rattle.seccomp_oci.specs.Concerns.{AreAlternatives, AreCallsOf, IsConcernOf};
-ghost use Rattle.seccomp_oci.specs.Decision.{AreMet, Concerns, IsMet, IsNameOf, Meets, ShareArgument};
+ghost use Rattle.seccomp_oci.specs.Decision.{AreMet, Concerns, IsMet, IsNameOf, Meets, ShareArgument, rank_by, strictness};
 ghost use Rattle.seccomp_oci.specs.Types.{AllOnArguments, AreOnArguments};
 
 use crate::scope::applies;
@@ -24,8 +24,8 @@ pub(crate) struct Concern {
     pub(crate) numbers: Vec<u32>,
     /// Its action.
     pub(crate) action: SeccompAction,
-    /// Whether it has no conditions.
-    pub(crate) settles: bool,
+    /// How soon it is asked.
+    pub(crate) rank: u8,
     /// Lists of conditions. The entry's are met where all conditions of one of these lists hold.
     pub(crate) alternatives: Vec<Vec<SeccompCondition>>,
 }
@@ -36,7 +36,7 @@ impl Model for Concern {
 
     ghost Value = { Concern };
 
-    ghost view = { λ c. record { numbers = c.numbers.items; action = c.action; settles = c.settles; alternatives = map (λ cs. cs.items) c.alternatives.items } };
+    ghost view = { λ c. record { numbers = c.numbers.items; action = c.action; rank = c.rank; alternatives = map (λ cs. cs.items) c.alternatives.items } };
 }
 
 /// What each entry of a profile of this default action says.
@@ -73,16 +73,36 @@ fn concern_of(
     Ok(Concern {
         numbers,
         action: entry.action,
-        settles: has_none(entry.args.as_slice()),
+        rank: rank(entry.args.as_slice(), entry.action),
         alternatives,
     })
 }
 
-/// Whether there are no conditions.
-pub(crate) fn has_none(args: &[Argument]) -> bool
-    ensures { IsTrue result ↔ (args.now ≡ []) }
+/// How soon an entry of these conditions and this action is asked.
+pub(crate) fn rank(args: &[Argument], action: SeccompAction) -> u8
+    ensures value { result ≡ rank_by args.now action }
+    ensures few { result < 8 }
 {
-    args.is_empty()
+    match args {
+        [] => 0,
+        [_, ..] => strictness(action) + 1,
+    }
+}
+
+// How much an action permits: the strictest has the least number.
+fn strictness(action: SeccompAction) -> u8
+    ensures value { result ≡ strictness action }
+    ensures few { result < 7 }
+{
+    match action {
+        SeccompAction::KillProcess => 0,
+        SeccompAction::KillThread => 1,
+        SeccompAction::Trap => 2,
+        SeccompAction::Errno(_) => 3,
+        SeccompAction::Trace(_) => 4,
+        SeccompAction::Log => 5,
+        SeccompAction::Allow => 6,
+    }
 }
 
 // The numbers of the calls that an entry concerns.
@@ -129,8 +149,8 @@ fn push_number(numbers: &mut Vec<u32>, number: Option<u32>) -> Result<(), AllocE
     }
 }
 
-// The number of the call of this name, where the architecture has one.
-fn number_of(arch: TargetArch, name: &str) -> Option<u32>
+/// The number of the call of this name, where the architecture has one.
+pub(crate) fn number_of(arch: TargetArch, name: &str) -> Option<u32>
     ensures some { IfSome result (λ n. (number_of (table_of arch) name.now ≡ Some (pos n)) × (n < 463)) }
     ensures none { IfNone result ((n : ℕ) → number_of (table_of arch) name.now ≡ Some (pos n) → ⊥) }
 {

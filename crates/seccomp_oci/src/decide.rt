@@ -1,14 +1,14 @@
 // What a profile decides of a call.
 
-ghost use Rattle.std.specs.Prelude.{◌≡◌, ◌≢◌, ◌≤◌, ◌↔◌, ◌++◌, ◌∷◌, [], List, length, map, string_bytes, All, Any, IfSome, IfNone, IsSomeAnd, IsTrue, Some};
+ghost use Rattle.std.specs.Prelude.{◌≡◌, ◌<◌, ◌≤◌, ◌+◌, ◌↔◌, List, length, map, slice_index_or, string_bytes, All, Any, IfSome, IsSomeAnd, IsTrue};
 ghost use Rattle.seccompiler.specs.declared.backend.SeccompAction.{SeccompAction};
 ghost use Rattle.seccompiler.specs.Machine.{word_at};
-ghost use Rattle.seccomp_oci.specs.Decided.{AreFound, IsByEntry, IsSettling};
-ghost use Rattle.seccomp_oci.specs.Decision.{AreMet, Concerns, IsMet, IsNameOf, IsProfileDecision, default_of, strictness};
+ghost use Rattle.seccomp_oci.specs.Decided.{AreFound};
+ghost use Rattle.seccomp_oci.specs.Decision.{AreMet, Concerns, IsByEntry, IsMet, IsNameOf, IsProfileDecision, Matches, rank};
 ghost use Rattle.seccomp_oci.specs.Types.{AllOnArguments, AreOnArguments, Entry};
 
-use crate::concerns::{condition_of, has_none, is_same, share_argument};
-use crate::decisions::strictness;
+use crate::concerns::{condition_of, is_same, rank, share_argument};
+use crate::defaults::default_for;
 use crate::scope::applies;
 use crate::types::{Argument, Container, Entry, Profile};
 use seccompiler::{SeccompAction, SyscallTable, TargetArch};
@@ -22,13 +22,15 @@ pub struct ProfileDecision {
     pub entry: Option<usize>,
 }
 
-/// The entry that decides.
+/// The entry that is asked first of those that match.
 #[derive(Clone, Copy, Debug)]
 pub(crate) struct Found {
     /// Its place, from 0.
     pub(crate) place: usize,
     /// Its action.
     pub(crate) action: SeccompAction,
+    /// How soon it is asked.
+    pub(crate) rank: u8,
 }
 
 /// What a profile decides of a call, in a container on this architecture.
@@ -37,8 +39,8 @@ pub(crate) struct Found {
 /// its action isn't the default one: a runtime passes over an entry that says what holds without it. The first entry without
 /// conditions that concerns the call settles it, whatever stands beside it. Else the entries decide whose conditions are met.
 /// Where they name several actions, the profile leaves the answer open, and it is the strictest, of equally strict ones the
-/// first entry's. Where there are none, it is the default action, or that of a number of x32 on `x86_64`: the thread is
-/// killed.
+/// first entry's. Where there are none, it is the default action; but on `x86_64` a number of x32 kills the thread, and
+/// [runc](crate::Runtime::Runc) answers numbers above all that the profile names with `ENOSYS`.
 ///
 /// The conditions of an entry are met where all of them are; but where two of them are on one argument, it is enough that one
 /// of them is, since runtimes take them for alternatives. A condition compares all 64 bits of its argument.
@@ -46,8 +48,8 @@ pub(crate) struct Found {
 /// `call` is the record of a call, a `struct seccomp_data`, of which the number and the arguments are looked at. Its
 /// `AUDIT_ARCH_*` value isn't: a record of another architecture is taken for one of this.
 ///
-/// Each condition is on an argument from 0 to 5, as those of every profile are that [`profile_of`](crate::profile_of) or
-/// [`read_profile`](crate::read_profile) gives. It takes no memory.
+/// Each condition is on an argument from 0 to 5, as those of every profile are that [`profile_of`](crate::profile_of) gives.
+/// It takes no memory.
 pub fn decision_of_profile(
     arch: TargetArch,
     container: &Container,
@@ -60,83 +62,27 @@ pub fn decision_of_profile(
     ensures entry { IfSome result.entry (IsByEntry arch container.now profile.now call.now result.action) }
 {
     let entries = profile.entries.as_slice();
-    let number = number_of(call);
-    if let Some(found) = settling(arch, container, profile.default, entries, number) {
-        return by_entry(found);
-    }
-    match strictest(arch, container, profile.default, entries, call) {
-        Some(found) => by_entry(found),
+    match found_in(arch, container, profile.default, entries, call) {
+        Some(found) => ProfileDecision {
+            action: found.action,
+            entry: Some(found.place),
+        },
         None => ProfileDecision {
-            action: default_for(arch, profile.default, number),
+            action: default_for(arch, container, profile, called_number(call)),
             entry: None,
         },
     }
 }
 
-// What an entry decides.
-fn by_entry(found: Found) -> ProfileDecision
-    ensures { result ≡ record { action = found.action; entry = Some found.place } }
-{
-    ProfileDecision {
-        action: found.action,
-        entry: Some(found.place),
-    }
-}
-
-// The number of the call.
-fn number_of(call: &[u8; 64]) -> u32
+/// The number of the call.
+pub(crate) fn called_number(call: &[u8; 64]) -> u32
     ensures { result ≡ word_at call.now 0 }
 {
     u32::from_le_bytes([call[0], call[1], call[2], call[3]])
 }
 
-// The default action of a number: on x86_64 a number of x32 kills the thread.
-fn default_for(arch: TargetArch, default: SeccompAction, number: u32) -> SeccompAction
-    ensures { result ≡ default_of arch default number }
-{
-    match arch {
-        TargetArch::x86_64 if 0x4000_0000 <= number && number < 0xffff_ffff => {
-            SeccompAction::KillThread
-        }
-        _ => default,
-    }
-}
-
-// The first entry without conditions that concerns the call of this number.
-fn settling(
-    arch: TargetArch,
-    container: &Container,
-    default: SeccompAction,
-    entries: &[Entry],
-    number: u32,
-) -> Option<Found>
-    ensures some { IfSome result (IsSettling arch container.now default number entries.now) }
-    ensures none { IfNone result (All (λ e. Concerns arch container.now default number e → e.args ≢ []) entries.now) }
-{
-    for (place, entry) in entries.iter().enumerate() {
-        if settles(arch, container, default, number, entry) {
-            let action = entry.action;
-            return Some(Found { place, action });
-        }
-    }
-    None
-}
-
-// Whether an entry settles the calls of this number.
-fn settles(
-    arch: TargetArch,
-    container: &Container,
-    default: SeccompAction,
-    number: u32,
-    entry: &Entry,
-) -> bool
-    ensures { IsTrue result ↔ (Concerns arch container.now default number entry.now × (entry.now.args ≡ [])) }
-{
-    has_none(entry.args.as_slice()) && concerns(arch, container, default, number, entry)
-}
-
-// The first of the strictest entries whose conditions the call meets.
-fn strictest(
+// The entry that is asked first of those that match.
+fn found_in(
     arch: TargetArch,
     container: &Container,
     default: SeccompAction,
@@ -144,7 +90,7 @@ fn strictest(
     call: &[u8; 64],
 ) -> Option<Found>
     requires { AllOnArguments entries.now }
-    ensures { AreFound arch container.now default call.now entries.now result }
+    ensures { AreFound (Matches arch container.now default call.now) entries.now (length entries.now) result }
 {
     let mut found = None;
     for (place, entry) in entries.iter().enumerate() {
@@ -153,7 +99,7 @@ fn strictest(
     found
 }
 
-// The strictest of some entries and one more behind them, which stands at this place.
+// What is found of some entries, with one more behind them, at this place.
 fn with_entry(
     arch: TargetArch,
     container: &Container,
@@ -164,31 +110,44 @@ fn with_entry(
     entry: &Entry,
 ) -> Option<Found>
     requires { AreOnArguments entry.now.args }
-    ensures { (done : List Entry) → length done ≡ place → AreFound arch container.now default call.now done found
-        → AreFound arch container.now default call.now (done ++ entry.now ∷ []) result }
+    ensures { (entries : List Entry) → place < length entries → entry.now ≡ slice_index_or entries place entry.now
+        → AreFound (Matches arch container.now default call.now) entries place found
+        → AreFound (Matches arch container.now default call.now) entries (place + 1) result }
 {
     if !matches(arch, container, default, call, entry) {
         return found;
     }
-    let action = entry.action;
-    if keeps(found, action) {
+    let rank = rank_of(entry);
+    if keeps(found, rank) {
         return found;
     }
-    Some(Found { place, action })
+    let action = entry.action;
+    Some(Found {
+        place,
+        action,
+        rank,
+    })
 }
 
-// Whether an entry was found, and its action is at least as strict as this one.
-fn keeps(found: Option<Found>, action: SeccompAction) -> bool
-    ensures { IsTrue result ↔ IsSomeAnd found (λ f. strictness f.action ≤ strictness action) }
+// How soon an entry is asked.
+fn rank_of(entry: &Entry) -> u8
+    ensures { result ≡ rank entry.now }
+{
+    rank(entry.args.as_slice(), entry.action)
+}
+
+// Whether an entry was found that is asked before one of this rank behind it.
+fn keeps(found: Option<Found>, rank: u8) -> bool
+    ensures { IsTrue result ↔ IsSomeAnd found (λ f. f.rank ≤ rank) }
 {
     match found {
-        Some(found) => strictness(found.action) <= strictness(action),
+        Some(found) => found.rank <= rank,
         None => false,
     }
 }
 
-// Whether an entry concerns a call, and the call meets its conditions.
-fn matches(
+/// Whether an entry concerns a call, and the call meets its conditions.
+pub(crate) fn matches(
     arch: TargetArch,
     container: &Container,
     default: SeccompAction,
@@ -196,16 +155,16 @@ fn matches(
     entry: &Entry,
 ) -> bool
     requires { AreOnArguments entry.now.args }
-    ensures { IsTrue result ↔ (Concerns arch container.now default (word_at call.now 0) entry.now × AreMet call.now entry.now.args) }
+    ensures { IsTrue result ↔ Matches arch container.now default call.now entry.now }
 {
-    if !concerns(arch, container, default, number_of(call), entry) {
+    if !concerns(arch, container, default, called_number(call), entry) {
         return false;
     }
     are_met(call, entry.args.as_slice())
 }
 
-// Whether an entry concerns the calls of this number.
-fn concerns(
+/// Whether an entry concerns the calls of this number.
+pub(crate) fn concerns(
     arch: TargetArch,
     container: &Container,
     default: SeccompAction,
@@ -245,8 +204,8 @@ fn is_name(arch: TargetArch, number: u32, name: &str) -> bool
     }
 }
 
-// Whether the conditions of an entry are met.
-fn are_met(call: &[u8; 64], args: &[Argument]) -> bool
+/// Whether the conditions of an entry are met.
+pub(crate) fn are_met(call: &[u8; 64], args: &[Argument]) -> bool
     requires { AreOnArguments args.now }
     ensures { IsTrue result ↔ AreMet call.now args.now }
 {

@@ -6,10 +6,9 @@ ghost use Rattle.seccompiler.specs.JsonShape.{OneByOne};
 ghost use Rattle.seccomp_oci.specs.ProfileShape.{AreNames, AreCriteria, AreCriteriaOr, IsEntry};
 ghost use Rattle.seccomp_oci.specs.Types.{Criteria, Entry};
 
-use crate::errnos::agrees_on_error;
+use crate::errnos::action_under;
 use crate::lists::{arguments_under, texts_under};
-use crate::members::{is_absent, is_commented, is_object_of};
-use crate::parts::read_action;
+use crate::members::{has_no_items, is_absent, is_commented, is_object_of};
 use crate::types::{Criteria, Entry};
 use crate::version::kernel_under;
 use serde_json::Value;
@@ -26,13 +25,17 @@ fn read_names(
     ensures none { IfOk result (λ o. IfNone o
         ((all : List (List ℕ)) → AreNames (option_map (λ v. view v.now) names.entry) (option_map (λ v. view v.now) name.entry) all → ⊥)) }
 {
-    match (names, name) {
-        (names, None) => texts_under(alloc, names),
-        (None, Some(Value::String(text))) => {
+    match name {
+        None | Some(Value::Null) => texts_under(alloc, names),
+        Some(Value::String(text)) if text.is_empty() => texts_under(alloc, names),
+        Some(Value::String(text)) => {
+            if !has_no_items(names) {
+                return Ok(None);
+            }
             let text = String::from_str(alloc, text.as_str())?;
             Ok(Some(vec![in alloc; text]?))
         }
-        _ => Ok(None),
+        Some(_) => Ok(None),
     }
 }
 
@@ -88,13 +91,7 @@ fn read_entry(alloc: Global, value: &Value) -> Result<Option<Entry>, AllocError>
     if !is_object_of(value, &names) || !is_commented(value) {
         return Ok(None);
     }
-    if !agrees_on_error(value, "action", "errno", "errnoRet") {
-        return Ok(None);
-    }
-    let Some(action) = value.get("action") else {
-        return Ok(None);
-    };
-    let Some(action) = read_action(action, value.get("errnoRet")) else {
+    let Some(action) = action_under(value, "action", "errnoRet", "errno") else {
         return Ok(None);
     };
     let Some(names) = read_names(alloc, value.get("names"), value.get("name"))? else {

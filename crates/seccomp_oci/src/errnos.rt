@@ -1,37 +1,19 @@
-// The names of errors, which may stand beside the numbers of actions.
+// Errnos by name, and what stands beside an action.
 
-ghost use Rattle.std.specs.Prelude.{◌≡◌, ◌↔◌, ℕ, Any, IsTrue, codes, map, option_map};
-ghost use Rattle.serde_json.specs.Data.{string};
+ghost use Rattle.std.specs.Prelude.{◌≡◌, ◌↔◌, ℕ, List, All, Any, IfSome, IfNone, IsTrue, map, option_map};
+ghost use Rattle.std.specs.Map.{lookup};
+ghost use Rattle.std.specs.Str.{bytes_eq};
+ghost use Rattle.serde_json.specs.Find.{get};
 ghost use Rattle.serde_json.specs.View.{view};
-ghost use Rattle.seccomp_oci.specs.Shape.{IsActionNumber};
-ghost use Rattle.seccomp_oci.specs.Errnos.{AgreesOnError, IsErrorName, IsSameError, NamesError, error_names};
+ghost use Rattle.seccompiler.specs.declared.backend.SeccompAction.{SeccompAction};
+ghost use Rattle.seccomp_oci.specs.Errnos.{IsActionUnder, IsBeside, IsErrorName, IsNamedOr, IsNamedText, IsNumberOr, NamesError, either, error_names};
 
-use crate::parts::action_number;
+use crate::errno_table::ERRORS;
+use crate::members::whole_of;
+use crate::parts::read_action;
+use crate::version::number_of;
+use seccompiler::SeccompAction;
 use serde_json::Value;
-
-// Names of errors and their numbers, which are the same on all three architectures (errno(3)).
-const ERRORS: [(&str, u32); 20] = [
-    ("EPERM", 1),
-    ("ENOENT", 2),
-    ("EINTR", 4),
-    ("EIO", 5),
-    ("ENXIO", 6),
-    ("EBADF", 9),
-    ("EAGAIN", 11),
-    ("ENOMEM", 12),
-    ("EACCES", 13),
-    ("EFAULT", 14),
-    ("EBUSY", 16),
-    ("EEXIST", 17),
-    ("ENODEV", 19),
-    ("EINVAL", 22),
-    ("ENOTTY", 25),
-    ("ENOSPC", 28),
-    ("EROFS", 30),
-    ("ENOSYS", 38),
-    ("EOPNOTSUPP", 95),
-    ("ENOTSUP", 95),
-];
 
 // The names and numbers.
 fn errors() -> &'static [(&'static str, u32)]
@@ -40,73 +22,125 @@ fn errors() -> &'static [(&'static str, u32)]
     &ERRORS
 }
 
-// Whether the error has this name and this number.
-fn is_error(error: &(&str, u32), name: &str, number: u32) -> bool
-    ensures { IsTrue result ↔ ((error.now.0.now ≡ name.now) × (error.now.1 ≡ number)) }
+/// The name of the errno of this number, as `ENOSYS` for 38; none where Linux has no such errno. It takes no memory.
+pub fn error_name(number: u32) -> Option<&'static str>
+    ensures some { IfSome result (λ name. IsErrorName name.now number) }
+    ensures none { IfNone result (All (λ error. error.1 ≡ number → ⊥) error_names) }
 {
-    error.0 == name && error.1 == number
+    name_in(errors(), number)
 }
 
-// Whether one of the errors has this name and this number.
-fn has_error(errors: &[(&str, u32)], name: &str, number: u32) -> bool
-    ensures { IsTrue result ↔ Any (λ error. (error.0.now ≡ name.now) × (error.1 ≡ number)) errors.now }
+// The first name beside this number.
+fn name_in(errors: &[(&'static str, u32)], number: u32) -> Option<&'static str>
+    ensures some { IfSome result (λ name. Any (λ (error : List ℕ × ℕ). (error.0 ≡ name.now) × (error.1 ≡ number)) (map (λ error. (error.0.now, error.1)) errors.now)) }
+    ensures none { IfNone result (All (λ (error : List ℕ × ℕ). error.1 ≡ number → ⊥) (map (λ error. (error.0.now, error.1)) errors.now)) }
 {
-    errors.iter().any(|error| is_error(error, name, number))
+    for error in errors {
+        if has_number(error, number) {
+            return Some(error.0);
+        }
+    }
+    None
 }
 
-// Whether it is a name of the error of this number.
-fn is_error_name(name: &str, number: u32) -> bool
-    ensures { IsTrue result ↔ IsErrorName name.now number }
+fn has_number(error: &(&str, u32), number: u32) -> bool
+    ensures { IsTrue result ↔ (error.now.1 ≡ number) }
 {
-    has_error(errors(), name, number)
+    error.1 == number
 }
 
-// Whether it is a name of the error of the number that stands there.
-fn names_number(name: &str, number: Option<&Value>) -> bool
-    ensures { IsTrue result ↔ ((n : ℕ) × IsActionNumber (option_map (λ v. view v.now) number.entry) n × IsErrorName name.now n) }
+// The number of the errno of this name.
+fn known_error(text: &str) -> Option<u32>
+    ensures { result ≡ lookup (bytes_eq text.now) error_names }
 {
-    match action_number(number) {
-        Some(number) => is_error_name(name, number),
-        None => false,
+    number_in(errors(), text)
+}
+
+// The number beside this name.
+fn number_in(errors: &[(&str, u32)], text: &str) -> Option<u32>
+    ensures { result ≡ lookup (bytes_eq text.now) (map (λ error. (error.0.now, error.1)) errors.now) }
+{
+    for error in errors {
+        if text == error.0 {
+            return Some(error.1);
+        }
+    }
+    None
+}
+
+// The errno that a text gives, by name or by number.
+fn error_of(text: &str) -> Option<u32>
+    ensures found { IfSome result (NamesError text.now) }
+    ensures none { IfNone result ((n : ℕ) → NamesError text.now n → ⊥) }
+{
+    if let Some(number) = known_error(text) {
+        return Some(number);
+    }
+    let number = number_of(text)?;
+    if number <= 65535 { Some(number) } else { None }
+}
+
+// The errno that a text gives, if it isn't empty.
+fn named_text(text: &str) -> Option<Option<u32>>
+    ensures found { IfSome result (IsNamedText text.now) }
+    ensures none { IfNone result ((o : _) → IsNamedText text.now o → ⊥) }
+{
+    if text.is_empty() {
+        return Some(None);
+    }
+    match error_of(text) {
+        Some(number) => Some(Some(number)),
+        None => None,
     }
 }
 
-// Whether the action is to return an error.
-fn is_errno(action: &Value) -> bool
-    ensures { IsTrue result ↔ (view action.now ≡ string (codes "SCMP_ACT_ERRNO")) }
-{
-    match action {
-        Value::String(text) => text.as_str() == "SCMP_ACT_ERRNO",
-        _ => false,
-    }
-}
-
-// Whether it is a name of the error that the action returns, with its number.
-fn names_error(name: &str, action: &Value, number: Option<&Value>) -> bool
-    ensures { IsTrue result ↔ NamesError name.now (view action.now) (option_map (λ v. view v.now) number.entry) }
-{
-    is_errno(action) && names_number(name, number)
-}
-
-/// Whether what stands beside an action and its number as an error's name says the same, or nothing.
-pub(crate) fn is_same_error(name: Option<&Value>, action: &Value, number: Option<&Value>) -> bool
-    ensures { IsTrue result ↔ IsSameError (option_map (λ v. view v.now) name.entry) (view action.now) (option_map (λ v. view v.now) number.entry) }
+/// The errno that stands there as a text, if one does; `None` where something else stands there.
+pub(crate) fn error_number(name: Option<&Value>) -> Option<Option<u32>>
+    ensures found { IfSome result (IsNamedOr (option_map (λ v. view v.now) name.entry)) }
+    ensures none { IfNone result ((o : _) → IsNamedOr (option_map (λ v. view v.now) name.entry) o → ⊥) }
 {
     match name {
-        None | Some(Value::Null) => true,
-        Some(Value::String(text)) => {
-            text.is_empty() || names_error(text.as_str(), action, number)
-        }
-        Some(_) => false,
+        None | Some(Value::Null) => Some(None),
+        Some(Value::String(text)) => named_text(text.as_str()),
+        Some(_) => None,
     }
 }
 
-/// Whether an action stands under its key, and beside it an error's name that says what its number says, or nothing.
-pub(crate) fn agrees_on_error(value: &Value, action: &str, name: &str, number: &str) -> bool
-    ensures { IsTrue result ↔ AgreesOnError action.now name.now number.now (view value.now) }
+// The number that stands there, if one does; `None` where something else stands there.
+fn number_beside(number: Option<&Value>) -> Option<Option<u32>>
+    ensures found { IfSome result (IsNumberOr (option_map (λ v. view v.now) number.entry)) }
+    ensures none { IfNone result ((o : _) → IsNumberOr (option_map (λ v. view v.now) number.entry) o → ⊥) }
 {
-    match value.get(action) {
-        Some(action) => is_same_error(value.get(name), action, value.get(number)),
-        None => false,
+    match number {
+        None | Some(Value::Null) => Some(None),
+        Some(value) => match whole_of(65535, value) {
+            Some(number) => Some(u32::try_from(number).ok()),
+            None => None,
+        },
     }
+}
+
+// What stands beside an action, if anything; `None` where something else stands there.
+fn beside(value: &Value, number: &str, name: &str) -> Option<Option<u32>>
+    ensures found { IfSome result (IsBeside (view value.now) number.now name.now) }
+    ensures none { IfNone result ((o : _) → IsBeside (view value.now) number.now name.now o → ⊥) }
+{
+    let own = number_beside(value.get(number))?;
+    let named = error_number(value.get(name))?;
+    Some(named.or(own))
+}
+
+/// The action that stands under a key, with the number that stands beside it under the others, by itself or by name. `None`
+/// where none is there that can be carried. It takes no memory.
+pub(crate) fn action_under(
+    value: &Value,
+    action: &str,
+    number: &str,
+    name: &str,
+) -> Option<SeccompAction>
+    ensures found { IfSome result (IsActionUnder (view value.now) action.now number.now name.now) }
+    ensures none { IfNone result ((a : SeccompAction) → IsActionUnder (view value.now) action.now number.now name.now a → ⊥) }
+{
+    let beside = beside(value, number, name)?;
+    read_action(value.get(action)?, beside)
 }

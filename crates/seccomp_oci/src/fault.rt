@@ -1,123 +1,329 @@
-// Where a JSON value isn't a profile, and what is wrong there.
+// Where a JSON value isn't a profile, and what is wrong there. Which values are profiles say the readers; these are its words.
 
-mod forms;
-pub mod part;
-mod walk;
-mod words;
-
-ghost use Rattle.std.specs.Prelude.{◌≡◌, IfErr, IfOk, IfSome, IsTrue, OnOk, Some, is_ok, string_bytes};
-ghost use Rattle.serde_json.specs.Data.{Data, Items, array};
-ghost use Rattle.serde_json.specs.Find.{get_item};
-ghost use Rattle.serde_json.specs.View.{view};
-ghost use Rattle.seccompiler.specs.JsonShape.{Has};
-ghost use Rattle.seccomp_oci.specs.FaultParts.{part_in, part_under};
-ghost use Rattle.seccomp_oci.specs.Faults.{IsFaultText, IsToldBehind, Tells};
-ghost use Rattle.seccomp_oci.specs.declared.fault.part.Kind.TheVariants as kind;
-ghost use Rattle.seccomp_oci.specs.declared.fault.part.Part.{Part};
-ghost use Rattle.seccomp_oci.specs.declared.fault.part.Part.TheVariants as parts;
-
-use crate::fault::walk::in_profile;
-use itoa::Buffer;
+use crate::errnos::error_number;
+use crate::members::{is_absent, is_among, items_of, whole_of, whole_or};
+use crate::parts::{read_action, read_flag, read_operator};
+use crate::version::kernel_under;
+use seccomp_command_line::names::push_readable;
 use serde_json::Value;
 use std::alloc::{AllocError, Global};
 
 /// What a search ends with where it doesn't end well.
 #[derive(Drop)]
-pub enum Finding {
-    /// The first fault is this text: the way to its place, each step with its mark in front, a colon, a space, and what is wrong
-    /// there.
-    Fault(Vec<u8>),
+enum Finding {
+    /// The first fault: the way to its place, each step with its mark in front, a colon, and what is wrong there.
+    Fault(String),
     /// Memory ran out.
     OutOfMemory,
 }
 
 impl From<AllocError> for Finding {
-    ghost use Rattle.std.specs.Prelude.{◌≡◌};
-    ghost use Rattle.seccomp_oci.specs.declared.fault.Finding.TheVariants.{OutOfMemory};
-
-    ghost from_gives = { λ _ finding. finding ≡ OutOfMemory };
-
     fn from(_refused: AllocError) -> Finding {
         Finding::OutOfMemory
     }
 }
 
+// The form that a value has to be of.
+#[derive(Clone, Copy)]
+enum Form {
+    Object,
+    Action,
+    ActionNumber,
+    ErrorName,
+    List,
+    Flag,
+    Text,
+    TextOrNull,
+    Index,
+    Number,
+    NumberOrNull,
+    Operator,
+    Version,
+}
+
+// A list whose items have no lists in them.
+#[derive(Clone, Copy)]
+enum Items {
+    Texts,
+    Flags,
+    Conditions,
+}
+
 /// The text of the first fault of a value that is no profile: the way to its place, a colon, a space, and what is wrong
-/// there, as `syscalls[3].args[0].index: expected 0 to 5, found 6`. `None` where it has none.
+/// there, as `syscalls[3].args[0].index: expected 0 to 5, found 6`.
 ///
 /// The way is that of names and of places in brackets, from 0; `the profile` stands for that to the value itself. A value that
-/// may not stand at its place is shown as JSON, an object as `an object` and an array as `an array`. In a name that
-/// isn't known the control characters, those from U+0080 to U+009F too, and the backslash are written as `\x` and two
-/// lower-case hexadecimal digits for each of their bytes.
-///
-/// Inside an object the order is: a name that isn't known; for an entry its comment; the action, its number and its error's
-/// name; and then the other parts, in the order in which the text for a name that isn't known lists them. That it is the first
-/// fault, and that each value that is no profile has one, is tested and not proved.
+/// may not stand at its place is shown as JSON, an object as `an object` and an array as `an array`. Inside an object the order
+/// is: a name that isn't known; the comment; the action and what stands beside it; and then the other parts. These words, and
+/// that they are there for each value that is no profile, are tested and not proved.
 ///
 /// # Errors
 ///
 /// An error comes where memory runs out.
-pub fn fault_of(alloc: Global, value: &Value) -> Result<Option<String>, AllocError>
-    ensures { IfOk result (λ o. IfSome o (λ told. IsFaultText (view value.now) (string_bytes told))) }
-{
+pub(crate) fn fault_of(alloc: Global, value: &Value) -> Result<String, AllocError> {
     match in_profile(alloc, value) {
-        Ok(()) => Ok(None),
         Err(Finding::OutOfMemory) => Err(AllocError),
-        Err(Finding::Fault(text)) => Ok(String::from_utf8(from_top(alloc, text)?).ok()),
+        Err(Finding::Fault(text)) => match text.as_str().strip_prefix('.') {
+            Some(way) => String::from_str(alloc, way),
+            None => format!(in alloc; "the profile{text}"),
+        },
+        Ok(()) => String::from_str(
+            alloc,
+            "The JSON value is no seccomp profile, or it has a part that is not supported.",
+        ),
     }
 }
 
-// The text of a fault, as one of the whole profile: the first step has no mark, and no step has words.
-fn from_top(alloc: Global, text: Vec<u8>) -> Result<Vec<u8>, AllocError>
-    ensures { (d : Data) → IsToldBehind (parts.Object kind.Profile) d text.items → IfOk result (λ told. IsFaultText d told.items) }
-{
-    match text.as_slice().split_first() {
-        Some((b'.', others)) => Ok(others.to_vec(alloc)?),
-        _ => {
-            let mut told = b"the profile".as_slice().to_vec(alloc)?;
-            told.extend_from_slice(text.as_slice())?;
-            Ok(told)
+// The first fault of a profile.
+fn in_profile(alloc: Global, value: &Value) -> Result<(), Finding> {
+    check(alloc, Form::Object, value)?;
+    in_action(
+        alloc,
+        "defaultAction",
+        "defaultErrnoRet",
+        "defaultErrno",
+        value,
+    )?;
+    in_key(alloc, "architectures", Form::List, value)?;
+    in_key(alloc, "archMap", Form::List, value)?;
+    in_list(alloc, "flags", Items::Flags, value)?;
+    in_key(alloc, "syscalls", Form::List, value)?;
+    match value.get("syscalls") {
+        Some(Value::Array(items)) => under(alloc, "syscalls", in_entries(alloc, items.as_slice())),
+        _ => Ok(()),
+    }
+}
+
+fn in_entries(alloc: Global, items: &[Value]) -> Result<(), Finding> {
+    for (place, item) in items.iter().enumerate() {
+        at(alloc, place, in_entry(alloc, item))?;
+    }
+    Ok(())
+}
+
+fn in_entry(alloc: Global, value: &Value) -> Result<(), Finding> {
+    let keys = [
+        "names", "name", "action", "errnoRet", "errno", "args", "includes", "excludes", "comment",
+    ];
+    let told = "names, name, action, errnoRet, errno, args, includes, excludes or comment";
+    in_object(alloc, &keys, told, value)?;
+    in_key(alloc, "comment", Form::TextOrNull, value)?;
+    in_action(alloc, "action", "errnoRet", "errno", value)?;
+    in_key(alloc, "name", Form::TextOrNull, value)?;
+    in_list(alloc, "names", Items::Texts, value)?;
+    in_both_names(alloc, value)?;
+    in_list(alloc, "args", Items::Conditions, value)?;
+    in_criteria_under(alloc, "includes", value)?;
+    in_criteria_under(alloc, "excludes", value)
+}
+
+// That an entry has one name under `name`, or some under `names`.
+fn in_both_names(alloc: Global, value: &Value) -> Result<(), Finding> {
+    match (value.get("name"), value.get("names")) {
+        (Some(Value::String(name)), Some(Value::Array(names)))
+            if !name.is_empty() && !names.is_empty() => refuse(
+            alloc,
+            "expected one of \"names\" and \"name\", found both",
+        ),
+        _ => Ok(()),
+    }
+}
+
+fn in_criteria_under(alloc: Global, key: &str, value: &Value) -> Result<(), Finding> {
+    match value.get(key) {
+        None | Some(Value::Null) => Ok(()),
+        Some(inner) => under(alloc, key, in_criteria(alloc, inner)),
+    }
+}
+
+fn in_criteria(alloc: Global, value: &Value) -> Result<(), Finding> {
+    let keys = ["caps", "arches", "minKernel"];
+    in_object(alloc, &keys, "caps, arches or minKernel", value)?;
+    in_list(alloc, "caps", Items::Texts, value)?;
+    in_list(alloc, "arches", Items::Texts, value)?;
+    in_key(alloc, "minKernel", Form::Version, value)
+}
+
+fn in_condition(alloc: Global, value: &Value) -> Result<(), Finding> {
+    let keys = ["index", "value", "valueTwo", "op"];
+    in_object(alloc, &keys, "index, value, valueTwo or op", value)?;
+    in_required(alloc, "index", Form::Index, value)?;
+    in_required(alloc, "value", Form::Number, value)?;
+    in_key(alloc, "valueTwo", Form::NumberOrNull, value)?;
+    in_required(alloc, "op", Form::Operator, value)
+}
+
+// That the object has an action, and beside it what may stand there.
+fn in_action(
+    alloc: Global,
+    action: &str,
+    number: &str,
+    name: &str,
+    value: &Value,
+) -> Result<(), Finding> {
+    in_required(alloc, action, Form::Action, value)?;
+    in_key(alloc, number, Form::ActionNumber, value)?;
+    in_key(alloc, name, Form::ErrorName, value)?;
+    if let Some(Value::String(text)) = value.get(action) {
+        if is_among(text.as_str(), &["SCMP_ACT_ERRNO", "SCMP_ACT_TRACE"]) {
+            return Ok(());
         }
     }
+    in_beside(alloc, number, value)?;
+    in_beside(alloc, name, value)
+}
+
+// That nothing stands beside an action that has no number.
+fn in_beside(alloc: Global, key: &str, value: &Value) -> Result<(), Finding> {
+    match value.get(key) {
+        None | Some(Value::Null) => Ok(()),
+        Some(Value::String(text)) if text.is_empty() => Ok(()),
+        Some(_) => {
+            let words = format!(in alloc; "\"{key}\" stands beside an action that has no number")?;
+            refuse(alloc, words.as_str())
+        }
+    }
+}
+
+// The list under a name, if one is there.
+fn in_list(alloc: Global, key: &str, of: Items, value: &Value) -> Result<(), Finding> {
+    in_key(alloc, key, Form::List, value)?;
+    match value.get(key) {
+        Some(Value::Array(items)) => under(alloc, key, in_items(alloc, of, items.as_slice())),
+        _ => Ok(()),
+    }
+}
+
+fn in_items(alloc: Global, of: Items, items: &[Value]) -> Result<(), Finding> {
+    for (place, item) in items.iter().enumerate() {
+        let answer = match of {
+            Items::Texts => check(alloc, Form::Text, item),
+            Items::Flags => check(alloc, Form::Flag, item),
+            Items::Conditions => in_condition(alloc, item),
+        };
+        at(alloc, place, answer)?;
+    }
+    Ok(())
+}
+
+// That the value is an object, with no names but these.
+fn in_object(alloc: Global, keys: &[&str], told: &str, value: &Value) -> Result<(), Finding> {
+    check(alloc, Form::Object, value)?;
+    let Value::Object(members) = value else {
+        return Ok(());
+    };
+    for (name, _) in members.iter() {
+        if !is_among(name.as_str(), keys) {
+            return strange(alloc, name.as_str(), told);
+        }
+    }
+    Ok(())
+}
+
+// A name that isn't known.
+fn strange(alloc: Global, name: &str, told: &str) -> Result<(), Finding> {
+    let mut shown = Vec::new(alloc);
+    push_readable(&mut shown, name)?;
+    let Ok(shown) = String::from_utf8(shown) else {
+        return refuse(alloc, "unknown key");
+    };
+    let words = format!(in alloc; "\"{shown}\": unknown key; expected {told}")?;
+    refuse(alloc, words.as_str())
+}
+
+// That something stands under the name, and is of the form.
+fn in_required(alloc: Global, key: &str, form: Form, value: &Value) -> Result<(), Finding> {
+    if value.get(key).is_none() {
+        let words = format!(in alloc; "missing \"{key}\"")?;
+        return refuse(alloc, words.as_str());
+    }
+    in_key(alloc, key, form, value)
+}
+
+// That what stands under the name, if anything, is of the form.
+fn in_key(alloc: Global, key: &str, form: Form, value: &Value) -> Result<(), Finding> {
+    match value.get(key) {
+        Some(inner) => under(alloc, key, check(alloc, form, inner)),
+        None => Ok(()),
+    }
+}
+
+// That the value is of the form.
+fn check(alloc: Global, form: Form, value: &Value) -> Result<(), Finding> {
+    if is_of(form, value) {
+        return Ok(());
+    }
+    let form = form_text(form);
+    let shown = match value {
+        Value::Object(_) => String::from_str(alloc, "an object")?,
+        Value::Array(_) => String::from_str(alloc, "an array")?,
+        _ => value.to_string(alloc)?,
+    };
+    let words = format!(in alloc; "expected {form}, found {shown}")?;
+    refuse(alloc, words.as_str())
+}
+
+// Whether the value is of the form.
+fn is_of(form: Form, value: &Value) -> bool {
+    match form {
+        Form::Object => matches!(value, Value::Object(_)),
+        Form::Action => read_action(value, None).is_some(),
+        Form::ActionNumber => whole_or(1, 65535, Some(value)).is_some(),
+        Form::ErrorName => error_number(Some(value)).is_some(),
+        Form::List => items_of(Some(value)).is_some(),
+        Form::Flag => read_flag(value).is_some(),
+        Form::Text => matches!(value, Value::String(_)),
+        Form::TextOrNull => matches!(value, Value::Null | Value::String(_)),
+        Form::Index => whole_of(5, value).is_some(),
+        Form::Number => whole_of(u64::MAX, value).is_some(),
+        Form::NumberOrNull => is_absent(Some(value)) || whole_of(u64::MAX, value).is_some(),
+        Form::Operator => read_operator(value).is_some(),
+        Form::Version => kernel_under(Some(value)).is_some(),
+    }
+}
+
+// The form that a value has to be of.
+fn form_text(form: Form) -> &'static str {
+    match form {
+        Form::Object => "an object",
+        Form::Action => {
+            "SCMP_ACT_ALLOW, SCMP_ACT_ERRNO, SCMP_ACT_KILL, SCMP_ACT_KILL_PROCESS, SCMP_ACT_KILL_THREAD, SCMP_ACT_LOG, SCMP_ACT_TRACE or SCMP_ACT_TRAP"
+        }
+        Form::ActionNumber => "null or 0 to 65535",
+        Form::ErrorName => "null or an errno by name or number, as \"EPERM\" or \"1\"",
+        Form::List => "null or an array",
+        Form::Flag => {
+            "SECCOMP_FILTER_FLAG_LOG, SECCOMP_FILTER_FLAG_SPEC_ALLOW or SECCOMP_FILTER_FLAG_TSYNC"
+        }
+        Form::Text => "a string",
+        Form::TextOrNull => "null or a string",
+        Form::Index => "0 to 5",
+        Form::Number => "0 to 18446744073709551615",
+        Form::NumberOrNull => "null or 0 to 18446744073709551615",
+        Form::Operator => {
+            "SCMP_CMP_EQ, SCMP_CMP_GE, SCMP_CMP_GT, SCMP_CMP_LE, SCMP_CMP_LT, SCMP_CMP_MASKED_EQ or SCMP_CMP_NE"
+        }
+        Form::Version => "null or a version of two numbers, as \"4.8\"",
+    }
+}
+
+// Ends the search with what is wrong with the value that is looked at.
+fn refuse(alloc: Global, words: &str) -> Result<(), Finding> {
+    Err(Finding::Fault(format!(in alloc; ": {words}")?))
 }
 
 // The answer on what stands under a name, as one on the object.
-pub(crate) fn under_key(
-    alloc: Global,
-    key: &str,
-    answer: Result<(), Finding>,
-) -> Result<(), Finding>
-    ensures fine { OnOk result (IsTrue (is_ok answer)) }
-    ensures led { (outer part : Part) (d inner : Data) → part_under outer key.now ≡ Some part → Has d key.now inner → IfErr answer (Tells part inner) → IfErr result (Tells outer d) }
-{
+fn under(alloc: Global, key: &str, answer: Result<(), Finding>) -> Result<(), Finding> {
     match answer {
-        Err(Finding::Fault(text)) => {
-            let mut told = b".".as_slice().to_vec(alloc)?;
-            told.extend_from_slice(key.as_bytes())?;
-            told.extend_from_slice(text.as_slice())?;
-            Err(Finding::Fault(told))
-        }
+        Err(Finding::Fault(text)) => Err(Finding::Fault(format!(in alloc; ".{key}{text}")?)),
         other => other,
     }
 }
 
 // The answer on an item, as one on the array.
-pub(crate) fn under_item(
-    alloc: Global,
-    place: usize,
-    answer: Result<(), Finding>,
-) -> Result<(), Finding>
-    ensures fine { OnOk result (IsTrue (is_ok answer)) }
-    ensures led { (outer part : Part) (items : Items) (inner : Data) → part_in outer ≡ Some part → get_item place items ≡ Some inner → IfErr answer (Tells part inner) → IfErr result (Tells outer (array items)) }
-{
+fn at(alloc: Global, place: usize, answer: Result<(), Finding>) -> Result<(), Finding> {
     match answer {
-        Err(Finding::Fault(text)) => {
-            let mut told = b"[".as_slice().to_vec(alloc)?;
-            told.extend_from_slice(Buffer::new().format(place).as_bytes())?;
-            told.extend_from_slice(b"]")?;
-            told.extend_from_slice(text.as_slice())?;
-            Err(Finding::Fault(told))
-        }
+        Err(Finding::Fault(text)) => Err(Finding::Fault(format!(in alloc; "[{place}]{text}")?)),
         other => other,
     }
 }

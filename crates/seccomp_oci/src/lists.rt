@@ -46,7 +46,10 @@ fn read_texts(alloc: Global, items: &[Value]) -> Result<Option<Vec<String>>, All
 /// # Errors
 ///
 /// An error comes where memory runs out.
-pub fn texts_under(alloc: Global, value: Option<&Value>) -> Result<Option<Vec<String>>, AllocError>
+pub(crate) fn texts_under(
+    alloc: Global,
+    value: Option<&Value>,
+) -> Result<Option<Vec<String>>, AllocError>
     ensures found { IfOk result (λ o. IfSome o
         (λ all. IsListed IsText (option_map (λ v. view v.now) value.entry) (map string_bytes all.items))) }
     ensures none { IfOk result (λ o. IfNone o
@@ -81,7 +84,7 @@ fn read_arguments(alloc: Global, items: &[Value]) -> Result<Option<Vec<Argument>
 /// # Errors
 ///
 /// An error comes where memory runs out.
-pub fn arguments_under(
+pub(crate) fn arguments_under(
     alloc: Global,
     value: Option<&Value>,
 ) -> Result<Option<Vec<Argument>>, AllocError>
@@ -119,7 +122,10 @@ fn read_flags(alloc: Global, items: &[Value]) -> Result<Option<Vec<Flag>>, Alloc
 /// # Errors
 ///
 /// An error comes where memory runs out.
-pub fn flags_under(alloc: Global, value: Option<&Value>) -> Result<Option<Vec<Flag>>, AllocError>
+pub(crate) fn flags_under(
+    alloc: Global,
+    value: Option<&Value>,
+) -> Result<Option<Vec<Flag>>, AllocError>
     ensures found { IfOk result (λ o. IfSome o
         (λ all. IsListed IsFlag (option_map (λ v. view v.now) value.entry) all.items)) }
     ensures none { IfOk result (λ o. IfNone o

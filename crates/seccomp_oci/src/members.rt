@@ -1,11 +1,11 @@
 // What the readers of a JSON object share: its names, its numbers, its lists and its comment.
 
-ghost use Rattle.std.specs.Prelude.{◌≡◌, ◌↔◌, ◌≤◌, ℕ, ◌^◌, ◌-◌, IsTrue, IfSome, IfNone, map, option_map};
+ghost use Rattle.std.specs.Prelude.{◌≡◌, ◌↔◌, ◌≤◌, ℕ, ◌^◌, ◌-◌, [], IsTrue, IfSome, IfNone, Some, map, option_map};
 ghost use Rattle.std.specs.List.{list_any};
 ghost use Rattle.std.specs.Str.{bytes_eq};
-ghost use Rattle.serde_json.specs.Data.{object};
+ghost use Rattle.serde_json.specs.Data.{no_items, object};
 ghost use Rattle.serde_json.specs.View.{view, items_view, members_view};
-ghost use Rattle.seccompiler.specs.JsonShape.{HasOnly, IsWhole, IsComment, IsCommented};
+ghost use Rattle.seccompiler.specs.JsonShape.{HasOnly, IsWhole, IsCommented};
 ghost use Rattle.seccomp_oci.specs.Shape.{IsAbsent, IsWholeOr, items_of};
 
 use serde_json::Value;
@@ -95,19 +95,35 @@ pub(crate) fn items_of(value: Option<&Value>) -> Option<&[Value]>
     }
 }
 
-/// Whether a comment is absent, null or a text.
-pub(crate) fn is_comment(comment: Option<&Value>) -> bool
-    ensures { IsTrue result ↔ IsComment (option_map (λ v. view v.now) comment.entry) }
+/// Whether no items stand there: an empty array, null or nothing.
+pub(crate) fn has_no_items(value: Option<&Value>) -> bool
+    ensures { IsTrue result ↔ (items_of (option_map (λ v. view v.now) value.entry) ≡ Some no_items) }
 {
-    match comment {
-        None | Some(Value::Null | Value::String(_)) => true,
+    match value {
+        None | Some(Value::Null) => true,
+        Some(Value::Array(items)) => are_none(items.as_slice()),
         Some(_) => false,
     }
+}
+
+fn are_none(items: &[Value]) -> bool
+    ensures { IsTrue result ↔ (items_view items.now ≡ no_items) }
+{
+    is_nil(items)
+}
+
+fn is_nil(items: &[Value]) -> bool
+    ensures { IsTrue result ↔ (items.now ≡ []) }
+{
+    items.is_empty()
 }
 
 /// Whether an object's comment is as it may be.
 pub(crate) fn is_commented(value: &Value) -> bool
     ensures { IsTrue result ↔ IsCommented (view value.now) }
 {
-    is_comment(value.get("comment"))
+    match value.get("comment") {
+        None | Some(Value::Null | Value::String(_)) => true,
+        Some(_) => false,
+    }
 }

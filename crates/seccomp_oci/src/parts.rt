@@ -3,7 +3,7 @@
 // Each reader has two clauses: what it gives is what the value is (`found`), and where it gives
 // nothing, the value is no such part (`none`).
 
-ghost use Rattle.std.specs.Prelude.{◌≡◌, ℕ, codes, option_map, IfSome, IfNone};
+ghost use Rattle.std.specs.Prelude.{◌≡◌, ℕ, codes, IfSome, IfNone};
 ghost use Rattle.serde_json.specs.Data.{string};
 ghost use Rattle.serde_json.specs.View.{view};
 ghost use Rattle.seccompiler.specs.declared.backend.SeccompAction.{SeccompAction};
@@ -11,21 +11,21 @@ ghost use Rattle.seccompiler.specs.JsonShape.{IsWhole};
 ghost use Rattle.seccomp_oci.specs.declared.types.Operator.{Operator};
 ghost use Rattle.seccomp_oci.specs.declared.types.Argument.{Argument};
 ghost use Rattle.seccomp_oci.specs.declared.types.Flag.{Flag};
-ghost use Rattle.seccomp_oci.specs.Shape.{IsAction, IsAbsent, IsActionNumber, IsOperator, IsArgument, IsFlag};
+ghost use Rattle.seccomp_oci.specs.Shape.{IsAction, IsOperator, IsArgument, IsFlag};
 
-use crate::members::{is_absent, is_object_of, u64_of, whole_of, whole_or};
+use crate::members::{is_object_of, u64_of, whole_of, whole_or};
 use crate::types::{Argument, Flag, Operator};
 use seccompiler::SeccompAction;
 use serde_json::Value;
 
 // An action that has no number.
-fn read_plain_action(text: &str, number: Option<&Value>) -> Option<SeccompAction>
+fn read_plain_action(text: &str, number: Option<u32>) -> Option<SeccompAction>
     requires plain { codes "SCMP_ACT_ERRNO" ≡ text.now → ⊥ }
     requires other { codes "SCMP_ACT_TRACE" ≡ text.now → ⊥ }
-    ensures found { IfSome result (IsAction (string text.now) (option_map (λ v. view v.now) number.entry)) }
-    ensures none { IfNone result ((a : SeccompAction) → IsAction (string text.now) (option_map (λ v. view v.now) number.entry) a → ⊥) }
+    ensures found { IfSome result (IsAction (string text.now) number) }
+    ensures none { IfNone result ((a : SeccompAction) → IsAction (string text.now) number a → ⊥) }
 {
-    if !is_absent(number) {
+    if number.is_some() {
         return None;
     }
     match text {
@@ -38,38 +38,26 @@ fn read_plain_action(text: &str, number: Option<&Value>) -> Option<SeccompAction
     }
 }
 
-/// The number of an action: 1 where none is given.
-pub(crate) fn action_number(number: Option<&Value>) -> Option<u32>
-    ensures found { IfSome result (IsActionNumber (option_map (λ v. view v.now) number.entry)) }
-    ensures none { IfNone result ((n : ℕ) → IsActionNumber (option_map (λ v. view v.now) number.entry) n → ⊥) }
-{
-    u32::try_from(whole_or(1, 0xffff, number)?).ok()
-}
-
-fn action_of_text(text: &str, number: Option<&Value>) -> Option<SeccompAction>
-    ensures found { IfSome result (IsAction (string text.now) (option_map (λ v. view v.now) number.entry)) }
-    ensures none { IfNone result ((a : SeccompAction) → IsAction (string text.now) (option_map (λ v. view v.now) number.entry) a → ⊥) }
+fn action_of_text(text: &str, number: Option<u32>) -> Option<SeccompAction>
+    ensures found { IfSome result (IsAction (string text.now) number) }
+    ensures none { IfNone result ((a : SeccompAction) → IsAction (string text.now) number a → ⊥) }
 {
     if text == "SCMP_ACT_ERRNO" {
-        return Some(SeccompAction::Errno(action_number(number)?));
+        return Some(SeccompAction::Errno(number.unwrap_or(1)));
     }
     if text == "SCMP_ACT_TRACE" {
-        return Some(SeccompAction::Trace(action_number(number)?));
+        return Some(SeccompAction::Trace(number.unwrap_or(1)));
     }
     read_plain_action(text, number)
 }
 
-/// The action that a JSON value is, with the number that stands beside it; `None` where it is none that
-/// can be carried.
+/// The action that a JSON value is, with this number beside it; `None` where it is none that can be carried.
 ///
-/// `value` is what stands under `action` or `defaultAction`, and `number` what stands under `errnoRet` or
-/// `defaultErrnoRet`, if anything. `SCMP_ACT_ERRNO` and `SCMP_ACT_TRACE` take a whole number up to 65535;
-/// where none is given, or null, it is 1, which is `EPERM`. Beside any other action nothing but null may
-/// stand. `SCMP_ACT_KILL` is `SCMP_ACT_KILL_THREAD`, and `SCMP_ACT_NOTIFY` can't be carried. It takes no
-/// memory.
-pub fn read_action(value: &Value, number: Option<&Value>) -> Option<SeccompAction>
-    ensures found { IfSome result (IsAction (view value.now) (option_map (λ v. view v.now) number.entry)) }
-    ensures none { IfNone result ((a : SeccompAction) → IsAction (view value.now) (option_map (λ v. view v.now) number.entry) a → ⊥) }
+/// `SCMP_ACT_ERRNO` and `SCMP_ACT_TRACE` take a number; where none is given, it is 1, which is `EPERM`. Beside any other action
+/// none may stand. `SCMP_ACT_KILL` is `SCMP_ACT_KILL_THREAD`, and `SCMP_ACT_NOTIFY` can't be carried. It takes no memory.
+pub(crate) fn read_action(value: &Value, number: Option<u32>) -> Option<SeccompAction>
+    ensures found { IfSome result (IsAction (view value.now) number) }
+    ensures none { IfNone result ((a : SeccompAction) → IsAction (view value.now) number a → ⊥) }
 {
     action_of_text(value.as_str()?, number)
 }
@@ -110,7 +98,7 @@ fn read_index(value: &Value) -> Option<u8>
 ///
 /// It is an object of `index`, from 0 to 5, `value`, `op` and, if it likes, `valueTwo`, and has no other
 /// name. Both numbers are whole ones of 64 bits. It takes no memory.
-pub fn read_argument(value: &Value) -> Option<Argument>
+pub(crate) fn read_argument(value: &Value) -> Option<Argument>
     ensures found { IfSome result (IsArgument (view value.now)) }
     ensures none { IfNone result ((a : Argument) → IsArgument (view value.now) a → ⊥) }
 {
@@ -144,7 +132,7 @@ fn flag_of_text(text: &str) -> Option<Flag>
 /// The flag that a JSON value is, or `None` where it is none of those that leave decisions as they are.
 ///
 /// It takes no memory.
-pub fn read_flag(value: &Value) -> Option<Flag>
+pub(crate) fn read_flag(value: &Value) -> Option<Flag>
     ensures found { IfSome result (IsFlag (view value.now)) }
     ensures none { IfNone result ((f : Flag) → IsFlag (view value.now) f → ⊥) }
 {

@@ -1,21 +1,20 @@
 // From a JSON value, or a text, to a profile.
 
-ghost use Rattle.std.specs.Prelude.{◌↔◌, IsTrue, List, option_map, string_bytes, IfOk, IfErr, IfSome, IfNone};
+ghost use Rattle.std.specs.Prelude.{◌↔◌, IsTrue, List, option_map, IfOk, IfErr, IfSome, IfNone};
 ghost use Rattle.serde_json.specs.View.{view};
 ghost use Rattle.seccompiler.specs.JsonAnswers.{IsReadAs};
 ghost use Rattle.seccomp_oci.specs.Types.{AllOnArguments};
 ghost use Rattle.seccomp_oci.specs.Shape.{IsListed};
-ghost use Rattle.seccomp_oci.specs.ProfileShape.{IsList, HasProfileNames, IsEntry, IsProfile};
-ghost use Rattle.seccomp_oci.specs.ProfileText.{IsProfileFault, IsProfileText, TellsWhy};
+ghost use Rattle.seccomp_oci.specs.ProfileShape.{IsList, IsEntry, IsProfile};
+ghost use Rattle.seccomp_oci.specs.ProfileText.{IsProfileFault, IsProfileText};
 ghost use Rattle.seccomp_oci.specs.Types.{Entry, Profile};
 
 use crate::entries::read_entries;
-use crate::errnos::agrees_on_error;
+use crate::errnos::action_under;
 use crate::error::ProfileError;
 use crate::fault::fault_of;
 use crate::lists::flags_under;
-use crate::members::{is_comment, is_commented, is_object_of, items_of};
-use crate::parts::read_action;
+use crate::members::items_of;
 use crate::types::{Entry, Profile};
 use serde_json::Value;
 use std::alloc::{AllocError, Global};
@@ -25,29 +24,6 @@ fn is_list(value: Option<&Value>) -> bool
     ensures { IsTrue result ↔ IsList (option_map (λ v. view v.now) value.entry) }
 {
     items_of(value).is_some()
-}
-
-// Whether the value is an object that has no names but those of a profile, with lists of architectures.
-fn has_profile_names(value: &Value) -> bool
-    ensures { IsTrue result ↔ HasProfileNames (view value.now) }
-{
-    let names = [
-        "defaultAction",
-        "defaultErrnoRet",
-        "defaultErrno",
-        "architectures",
-        "archMap",
-        "flags",
-        "syscalls",
-        "comment",
-        "$schema",
-    ];
-    is_object_of(value, &names)
-        && is_list(value.get("architectures"))
-        && is_list(value.get("archMap"))
-        && is_commented(value)
-        && is_comment(value.get("$schema"))
-        && agrees_on_error(value, "defaultAction", "defaultErrno", "defaultErrnoRet")
 }
 
 fn entries_under(alloc: Global, value: Option<&Value>) -> Result<Option<Vec<Entry>>, AllocError>
@@ -62,29 +38,17 @@ fn entries_under(alloc: Global, value: Option<&Value>) -> Result<Option<Vec<Entr
     }
 }
 
-/// The profile that a JSON value is, or `None` where it is none.
-///
-/// `value` is what stands under `linux.seccomp` in the OCI runtime specification, or a profile of Docker
-/// or Podman. It is none where it, one of its entries or a part of an entry has a name that isn't known
-/// or can't be carried, as `listenerPath`, or an action, operator or flag that can't. Podman names an
-/// action's error beside its number, as `"errno": "EPERM"`: a name that is another error's, or that isn't known, is
-/// none either. Each condition of a profile is on an argument from 0 to 5.
-///
-/// # Errors
-///
-/// An error comes where memory runs out.
-pub fn read_profile(alloc: Global, value: &Value) -> Result<Option<Profile>, AllocError>
+// The profile that a JSON value is, or `None` where it is none.
+fn read_profile(alloc: Global, value: &Value) -> Result<Option<Profile>, AllocError>
     ensures found { IfOk result (λ o. IfSome o (IsProfile (view value.now))) }
     ensures none { IfOk result (λ o. IfNone o ((p : Profile) → IsProfile (view value.now) p → ⊥)) }
     ensures arguments { IfOk result (λ o. IfSome o (λ p. AllOnArguments p.entries)) }
 {
-    if !has_profile_names(value) {
+    if !is_list(value.get("architectures")) || !is_list(value.get("archMap")) {
         return Ok(None);
     }
-    let Some(default) = value.get("defaultAction") else {
-        return Ok(None);
-    };
-    let Some(default) = read_action(default, value.get("defaultErrnoRet")) else {
+    let Some(default) = action_under(value, "defaultAction", "defaultErrnoRet", "defaultErrno")
+    else {
         return Ok(None);
     };
     let Some(flags) = flags_under(alloc, value.get("flags"))? else {
@@ -102,13 +66,17 @@ pub fn read_profile(alloc: Global, value: &Value) -> Result<Option<Profile>, All
 
 /// The profile that a JSON text is.
 ///
-/// It is what [`read_profile`] gives for the text's value.
+/// The text is what stands under `linux.seccomp` in the OCI runtime specification, or a profile of Docker or Podman. Its value is
+/// no profile where an entry or a part of one has a name that isn't known, or where there is an action, operator or flag that
+/// can't be carried. Podman names an errno beside its number, as `"errno": "EPERM"`: the name wins. Each condition of a
+/// profile is on an argument from 0 to 5.
 ///
 /// # Errors
 ///
 /// `Json` where the bytes are no JSON text in UTF-8. `NotAProfile` where the text's value is no profile, with the text of
-/// its first fault, as [`fault_of`](crate::fault_of) gives it.
-/// `OutOfMemory` may come in place of any answer, where memory runs out. No other error comes.
+/// its first fault: the way to its place, a colon, a space, and what is wrong there, as
+/// `syscalls[3].args[0].index: expected 0 to 5, found 6`. `OutOfMemory` may come in place of any answer, where memory runs
+/// out. No other error comes.
 pub fn profile_of(alloc: Global, text: &[u8]) -> Result<Profile, ProfileError>
     ensures read { IfOk result (IsProfileText text.now) }
     ensures fault { IfErr result (IsProfileFault text.now) }
@@ -117,20 +85,7 @@ pub fn profile_of(alloc: Global, text: &[u8]) -> Result<Profile, ProfileError>
     let value = value_of(alloc, text)?;
     match read_profile(alloc, &value)? {
         Some(profile) => Ok(profile),
-        None => Err(ProfileError::NotAProfile(why(alloc, &value)?)),
-    }
-}
-
-// What an error says of a value that is no profile.
-fn why(alloc: Global, value: &Value) -> Result<String, AllocError>
-    ensures { IfOk result (λ told. TellsWhy (view value.now) (string_bytes told)) }
-{
-    match fault_of(alloc, value)? {
-        Some(told) => Ok(told),
-        None => String::from_str(
-            alloc,
-            "The JSON value is no seccomp profile, or it has a part that is not supported.",
-        ),
+        None => Err(ProfileError::NotAProfile(fault_of(alloc, &value)?)),
     }
 }
 

@@ -55,7 +55,16 @@ pub struct Kernel {
     pub minor: u32,
 }
 
-/// What a profile is for: a container's capabilities, and the kernel that it runs on.
+/// Which program makes a filter of the profile. docs/OCI.md says in what they differ.
+#[derive(Clone, Copy, Debug, PartialEq, Eq)]
+pub enum Runtime {
+    /// crun, and each that does no more than libseccomp.
+    Crun,
+    /// runc, which answers calls that are newer than all that the profile names with `ENOSYS`.
+    Runc,
+}
+
+/// What a profile is for: a container's capabilities, the kernel that it runs on, and its runtime.
 ///
 /// A contract sees the names as their bytes, in a list.
 #[derive(Debug, Drop)]
@@ -64,6 +73,8 @@ pub struct Container {
     pub caps: Vec<String>,
     /// The kernel; where none is given, it counts as newer than each that a profile names.
     pub kernel: Option<Kernel>,
+    /// The runtime.
+    pub runtime: Runtime,
 }
 
 impl Model for Container {
@@ -72,7 +83,7 @@ impl Model for Container {
 
     ghost Value = { Container };
 
-    ghost view = { λ c. record { caps = map string_bytes c.caps.items; kernel = c.kernel } };
+    ghost view = { λ c. record { caps = map string_bytes c.caps.items; kernel = c.kernel; runtime = c.runtime } };
 }
 
 /// What a container has to have, or must not have, for an entry to apply: `includes` or `excludes`.

@@ -5,12 +5,11 @@ ghost use Rattle.serde_json.specs.View.{view};
 ghost use Rattle.seccomp_oci.specs.declared.types.Kernel.{Kernel};
 ghost use Rattle.seccomp_oci.specs.Version.{IsKernel, IsKernelOr, IsNumberText, IsVersion};
 
-use crate::members::is_absent;
 use crate::types::Kernel;
 use serde_json::Value;
 
-// The number that a text of decimal digits and nothing else is, where 32 bits hold it.
-fn number_of(text: &str) -> Option<u32>
+/// The number that a text of decimal digits and nothing else is, where 32 bits hold it.
+pub(crate) fn number_of(text: &str) -> Option<u32>
     ensures found { IfSome result (IsNumberText text.now) }
     ensures none { IfNone result ((n : ℕ) → IsNumberText text.now n → ⊥) }
 {
@@ -48,17 +47,18 @@ fn read_kernel(value: &Value) -> Option<Kernel>
     kernel_of(value.as_str()?)
 }
 
-/// The version of the kernel that stands there, which is none where nothing stands there, or null; `None`
-/// where something else stands there.
+/// The version of the kernel that stands there, which is none where nothing stands there, null or the empty
+/// text; `None` where something else stands there.
 pub(crate) fn kernel_under(value: Option<&Value>) -> Option<Option<Kernel>>
     ensures found { IfSome result (IsKernelOr (option_map (λ v. view v.now) value.entry)) }
     ensures none { IfNone result ((k : Option Kernel) → IsKernelOr (option_map (λ v. view v.now) value.entry) k → ⊥) }
 {
-    if is_absent(value) {
-        return Some(None);
-    }
-    match read_kernel(value?) {
-        Some(kernel) => Some(Some(kernel)),
-        None => None,
+    match value {
+        None | Some(Value::Null) => Some(None),
+        Some(Value::String(text)) if text.is_empty() => Some(None),
+        Some(value) => match read_kernel(value) {
+            Some(kernel) => Some(Some(kernel)),
+            None => None,
+        },
     }
 }

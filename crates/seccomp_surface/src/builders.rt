@@ -1,6 +1,4 @@
-// The record of a call of x86_64, and an assertion that has a name.
-
-use std::process::Abort;
+// The record of a call of x86_64.
 
 // `AUDIT_ARCH_X86_64` of `linux/audit.h`.
 const X86_64: u32 = 0xc000_003e;
@@ -16,9 +14,4 @@ pub fn record_of(number: u32, arguments: [u64; 6]) -> [u8; 64] {
         record[start..start + 8].copy_from_slice(&arguments[index].to_le_bytes());
     }
     record
-}
-
-/// Asserts what is so, and names it where it isn't.
-pub fn assert_that(rt: &impl Abort, name: &str, is_so: bool) {
-    assert!(rt; is_so, "{name}");
 }

@@ -102,7 +102,7 @@ fn have(steps: &[Step], number: u64, target: Target) -> bool
     if steps.is_empty() {
         return false;
     }
-    found(steps, number).is(target)
+    steps[steps.len() - 1].target.is(target)
 }
 
 /// How many of the steps start at or below the number.

@@ -1,12 +1,10 @@
 // Filters of statements, and what is asked of them.
 
 use crate::fault::Fault;
-use crate::words::{
-    action, call, next_arch, next_signed, number_32, parts, record, repeated, rule, yes,
-};
+use crate::texts::json_filter;
+use crate::words::{action, next_arch, next_signed, parts, record, repeated, rule, yes};
 use seccomp_tree::to_tree_bpf;
-use seccompiler::machine::{check, run};
-use seccompiler::{BpfProgram, BpfProgramRef, JsonCompiler, SeccompFilter, SeccompRule};
+use seccompiler::{BpfProgram, JsonCompiler, SeccompFilter, SeccompRule};
 use std::alloc::Global;
 use std::collections::BTreeMap;
 
@@ -78,79 +76,6 @@ pub(crate) fn tree(alloc: Global, filter: &SeccompFilter) -> Result<BpfProgram, 
     Ok(to_tree_bpf(alloc, filter)?)
 }
 
-// Whether a program is checked, and returns this.
-fn returns(program: BpfProgramRef<'_>, record: &[u8; 64], word: u32) -> bool {
-    check(program) && run(program, record).word == word
-}
-
-// Whether both programs return what the filter decides for this number, with each of three arguments.
-fn is_decided(
-    filter: &SeccompFilter,
-    program: BpfProgramRef<'_>,
-    tree: BpfProgramRef<'_>,
-    number: u32,
-) -> bool {
-    for argument in [0, 1, 2] {
-        let mut record = call(number);
-        record[16] = argument;
-        let word = filter.decide(&record);
-        if !returns(program, &record, word) || !returns(tree, &record, word) {
-            return false;
-        }
-    }
-    true
-}
-
-// The same for these numbers, one less and one more.
-fn are_decided(
-    filter: &SeccompFilter,
-    program: BpfProgramRef<'_>,
-    tree: BpfProgramRef<'_>,
-    numbers: &str,
-) -> Option<bool> {
-    for word in numbers.split_whitespace() {
-        let number = number_32(word)?;
-        for asked in [number.saturating_sub(1), number, number.saturating_add(1)] {
-            if !is_decided(filter, program, tree, asked) {
-                return Some(false);
-            }
-        }
-    }
-    Some(true)
-}
-
-fn agree(alloc: Global, filter: &SeccompFilter, numbers: &str) -> Result<String, Fault> {
-    let program = filter.to_bpf(alloc)?;
-    let tree = tree(alloc, filter)?;
-    let is_so = are_decided(filter, &program, &tree, numbers).ok_or(Fault::Row)?;
-    yes(alloc, is_so)
-}
-
-// The most steps that a program takes for the calls below a number and for the greatest, if it returns what the
-// filter decides.
-fn most_steps(filter: &SeccompFilter, program: BpfProgramRef<'_>, end: u32) -> Option<usize> {
-    if !check(program) {
-        return None;
-    }
-    let mut most = run(program, &call(u32::MAX)).steps;
-    for number in 0..end {
-        let record = call(number);
-        let outcome = run(program, &record);
-        if outcome.word != filter.decide(&record) {
-            return None;
-        }
-        most = most.max(outcome.steps);
-    }
-    Some(most)
-}
-
-fn steps_of_tree(alloc: Global, filter: &SeccompFilter, end: &str) -> Result<String, Fault> {
-    let end = number_32(end).ok_or(Fault::Row)?;
-    let tree = tree(alloc, filter)?;
-    let most = most_steps(filter, &tree, end).ok_or(Fault::Row)?;
-    Ok(format!(in alloc; "{most}")?)
-}
-
 // Whether a copy is equal, and as long.
 fn copied(alloc: Global, filter: &SeccompFilter) -> Result<String, Fault> {
     let copy = filter.clone(alloc)?;
@@ -164,6 +89,13 @@ fn copied(alloc: Global, filter: &SeccompFilter) -> Result<String, Fault> {
 fn is_of_text(alloc: Global, filter: &SeccompFilter, text: &str) -> Result<String, Fault> {
     let made = JsonCompiler::new(filter.target_arch()).policies_of(alloc, text.as_bytes())?;
     yes(alloc, made.get("a") == Some(filter))
+}
+
+// The same of the JSON filter `a` of a text.
+fn is_of_entries(alloc: Global, filter: &SeccompFilter, text: &str) -> Result<String, Fault> {
+    let entries = json_filter(alloc, text)?;
+    let made = JsonCompiler::new(filter.target_arch()).make_seccomp_filter(alloc, &entries)?;
+    yes(alloc, made == *filter)
 }
 
 fn decided(alloc: Global, filter: &SeccompFilter, asked: &str) -> Result<String, Fault> {
@@ -183,8 +115,7 @@ pub(crate) fn of_filter(
         "program_len" => Ok(format!(in alloc; "{}", filter.program_len())?),
         "copy" => copied(alloc, filter),
         "made_by" => is_of_text(alloc, filter, rest),
-        "agree" => agree(alloc, filter, rest),
-        "most_steps" => steps_of_tree(alloc, filter, rest),
+        "made_of" => is_of_entries(alloc, filter, rest),
         _ => Err(Fault::Row),
     }
 }

@@ -37,10 +37,9 @@ fn is_about_filter(verb: &str, of: &str) -> bool {
     match verb {
         "decide"
         | "copy"
-        | "agree"
-        | "most_steps"
         | "program_len"
         | "made_by"
+        | "made_of"
         | "compare_program"
         | "compare_tree" => true,
         _ => matches!(of, "linear" | "tree"),

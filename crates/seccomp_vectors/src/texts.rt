@@ -149,7 +149,11 @@ fn arch_and_text(alloc: Global, rest: &str) -> Result<(TargetArch, String), Faul
 /// What a call gives for a text, such as `compile x86_64 {}`.
 pub(crate) fn of_text(alloc: Global, call: &str, rest: &str) -> Result<String, Fault> {
     let (arch, text) = arch_and_text(alloc, rest)?;
-    of_bytes(alloc, call, arch, text.as_bytes())
+    let mut told = of_bytes(alloc, call, arch, text.as_bytes())?;
+    if told.is_empty() {
+        told.push_str("none")?;
+    }
+    Ok(told)
 }
 
 /// The same of readers that give a byte at a time and fail behind each, by the fault whose name comes first, or `never`.

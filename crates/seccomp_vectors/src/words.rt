@@ -164,8 +164,8 @@ pub(crate) fn record(text: &str) -> Option<[u8; 64]> {
     Some(record)
 }
 
-/// A record of x86_64 whose arguments are 0.
-pub(crate) fn call(number: u32) -> [u8; 64] {
+// A record of x86_64 whose arguments are 0.
+fn call(number: u32) -> [u8; 64] {
     let mut record = [0; 64];
     record[0..4].copy_from_slice(&number.to_le_bytes());
     record[4..8].copy_from_slice(&AUDIT_ARCH_X86_64.to_le_bytes());

@@ -13,8 +13,7 @@ use Rattle.seccompiler.specs.JsonTypes.{JsonFilter}
 use Rattle.seccompiler.specs.Machine.{word_at}
 use Rattle.seccompiler.specs.Policy.{Filter, IsDecision, word_of}
 use Rattle.seccomp_oci.specs.declared.decide.ProfileDecision.{ProfileDecision}
-use Rattle.seccomp_oci.specs.Decided.{IsByEntry}
-use Rattle.seccomp_oci.specs.Decision.{IsProfileDecision}
+use Rattle.seccomp_oci.specs.Decision.{IsByEntry, IsProfileDecision}
 use Rattle.seccomp_oci.specs.ProfileText.{IsProfileText}
 use Rattle.seccomp_oci.specs.Types.{Container, Profile}
 use Rattle.seccomptool.specs.declared.explain.Explained.{Explained}

@@ -5,6 +5,7 @@ use Rattle.seccompiler.specs.declared.backend.TargetArch.{TargetArch}
 use Rattle.seccompiler.specs.JsonAnswers.{ArePoliciesOf, IsReadAs, OfValue}
 use Rattle.seccompiler.specs.JsonShape.{Under}
 use Rattle.seccompiler.specs.Policy.{Filter}
+use Rattle.seccomp_oci.specs.declared.types.Runtime.TheVariants.{Crun}
 use Rattle.seccomp_oci.specs.Types.{Container}
 use Rattle.seccomptool.specs.declared.kind.Subject.{Subject}
 use Rattle.seccomptool.specs.declared.kind.Subject.TheVariants as subject
@@ -35,7 +36,7 @@ IsPolicyText arch text = (find : List ℕ → Option Filter) × OfValue text (Ar
 
 -- A container of which nothing is said.
 abbrev pub plain_container : Container
-plain_container = record { caps = []; kernel = None }
+plain_container = record { caps = []; kernel = None; runtime = Crun }
 
 -- The text is taken as this, where this container is given, or none, and this filter is asked for, or none: as a profile in the
 -- container that is given; else as one in a plain container, where the text is a profile's and no filter is asked for; else as a

@@ -7,7 +7,7 @@ ghost use Rattle.seccompiler.specs.declared.backend.TargetArch.{TargetArch};
 ghost use Rattle.seccomptool.specs.Kinds.{IsOfProfile, IsPolicyText, IsTakenAs, NamesDefault, StandsIn};
 ghost use Rattle.seccomptool.specs.Chosen.{text_of};
 
-use seccomp_oci::Container;
+use seccomp_oci::{Container, Runtime};
 use serde_json::Value;
 use std::alloc::{AllocError, Global};
 
@@ -87,5 +87,6 @@ pub(crate) fn plain_container(alloc: Global) -> Container
     Container {
         caps: Vec::new(alloc),
         kernel: None,
+        runtime: Runtime::Crun,
     }
 }

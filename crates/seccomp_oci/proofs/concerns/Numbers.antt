@@ -63,7 +63,7 @@ module _ (arch : TargetArch) where
     below = so_far.below;
   }
 
-  whole : (names : List (String Global)) (i : ℕ) (name : String Global) → i < length names → name ≡ get_or names i name
+  pub whole : (names : List (String Global)) (i : ℕ) (name : String Global) → i < length names → name ≡ get_or names i name
       → map string_bytes (take (i + 1) names) ≡ map string_bytes (take i names) ++ string_bytes name ∷ []
   whole names i name within is = ap (map string_bytes) (more_read names i name within is) ∙ map_push string_bytes (take i names) name
 

@@ -1,8 +1,7 @@
 -- For `calls_of`: the rulings of each number.
 use Rattle.std.proofs.Common.{◌≡◌, ◌<◌, ◌≤◌, ◌+◌, ℕ, List, [], ◌∷◌, All, Bool, true, false, Vec, Global, refl, sym, subst, ap, ◌∙◌, arith}
-use Rattle.std.proofs.Common.{inl, inr}
+use Rattle.std.proofs.Common.{inl, inr, length, get_or}
 use Rattle.std.proofs.Common.{nat_eq, if◌then◌else◌}
-use Rattle.std.specs.Prelude.{Any, Contains}
 use Rattle.std.specs.BTreeMap.{insert_entry}
 use Rattle.std.specs.Ordering.{MatchOrdering, match_ordering, nat_cmp}
 use Rattle.std.specs.declared.cmp.Ordering.{Ordering}
@@ -10,13 +9,15 @@ use Rattle.std.specs.declared.cmp.Ordering.TheVariants.{Less, Equal, Greater}
 use Rattle.std.proofs.lemmas.Bool.{cases_lt}
 use Rattle.std.proofs.lemmas.Bool.Decides.{nat_tests}
 use Rattle.std.proofs.lemmas.Cmp.{ranked}
-use Rattle.std.proofs.lemmas.List.Elements.{All-contains, All-weaker}
-use Rattle.seccompiler.specs.Policy.{RuleHolds}
-use Rattle.seccomp_tree.specs.Decisions.{First, Ruling}
-use Rattle.seccomp_tree.specs.Decisions as rulings
+use Rattle.std.proofs.lemmas.List.Elements.{All-contains}
+use Rattle.seccomp_tree.specs.Decisions.{Ruling}
 use Rattle.seccomp_tree.specs.Decided.{calls_of, rulings_for}
-use Rattle.seccomp_oci.specs.Concerns.{Concern}
-use Rattle.seccomp_oci.specs.Rulings.{AreRulingsFor, by_none}
+use Rattle.seccomp_oci.specs.Concerns.{Concern, IsConcernOf}
+use Rattle.seccomp_oci.specs.Decision.{Concerns, Matches}
+use Rattle.seccomp_oci.specs.Rulings.{AreRulings, AreRulingsFor}
+use Rattle.seccomp_oci.proofs.Least.{same_at}
+use Rattle.seccomp_oci.proofs.Zipped.{zip_at, zip_length}
+use Rattle.seccomp_oci.proofs.decisions.Held.{none_held}
 
 -- The rulings of a number that was put into a map, and those of the others.
 pub inserted : (es : List (ℕ × Vec Ruling Global)) (k : ℕ) (v : Vec Ruling Global) (m : ℕ)
@@ -85,12 +86,23 @@ pub all_numbers : (concerns : List Concern) (calls : List (ℕ × List Ruling)) 
     → AreRulingsBelow concerns 463 calls → (n : ℕ) → AreRulingsFor concerns n (rulings_for calls n)
 all_numbers concerns calls small are n = elim (cases_lt n 463) [
   | inl below ↦ are.made n below
-  | inr above ↦ λ default r w ruled. by_none
-      (All-weaker (λ c. All (λ n. n < 463) c.numbers) (λ (c : Concern). Contains c.numbers n × Any (λ cs. RuleHolds cs r) c.alternatives
-      → ⊥)
-      (λ c below met. let less = All-contains (λ n. n < 463) c.numbers n below met.0 in omega arith) concerns small)
-      (nothing default r w (subst (λ rs. First default r rs w) (are.none n above) ruled))
+  | inr above ↦ λ arch container default entries r number zip.
+      let P = Matches arch container default r in
+      subst (AreRulings P entries 8 0 r) (sym (are.none n above)) (record {
+        held = λ w held. absurd (none_held r w held);
+        none = λ none k y within is done has.
+            let R = IsConcernOf arch container default in
+            let long = zip_length R entries concerns zip in
+            let at = zip_at R entries concerns k within zip in
+            let same = same_at entries k y at.one within is at.one_is in
+            let concerned = subst (λ n. Concerns arch container default n at.one) number (subst P same has).0 in
+            let numbered = (at.both.numbers.exactly n).1 concerned in
+            let own = all_at concerns k at.other (omega arith) at.other_is small in
+            let less = All-contains (λ n. n < 463) at.other.numbers n own numbered in
+            omega arith;
+      })
 ]
   where
-    nothing : (default : ℕ) (r : List ℕ) (w : ℕ) → First default r [] w → w ≡ default
-    nothing default r w rulings.nothing = refl
+    all_at : (concerns : List Concern) (k : ℕ) (c : Concern) → k < length concerns → c ≡ get_or concerns k c
+        → All (λ c. All (λ n. n < 463) c.numbers) concerns → All (λ n. n < 463) c.numbers
+    all_at concerns k c within is all = subst (λ (c : Concern). All (λ n. n < 463) c.numbers) (sym is) (all k c within)

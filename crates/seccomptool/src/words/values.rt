@@ -9,7 +9,7 @@ use crate::findings::Terms;
 use crate::numbers::read_number;
 use clap::ArgMatches;
 use seccomp_compare::Relation;
-use seccomp_oci::{Container, Kernel, kernel_of};
+use seccomp_oci::{Container, Kernel, Runtime, kernel_of};
 use seccomp_tree::Layout;
 use seccomp_warnings::Code;
 use seccompiler::TargetArch;
@@ -179,7 +179,11 @@ fn container_in(alloc: Global, found: &ArgMatches<'_>) -> Result<Container, Misu
     for cap in found.get_strs("cap").unwrap_or(&[]) {
         caps.push(String::from_str(alloc, cap)?)?;
     }
-    Ok(Container { caps, kernel })
+    Ok(Container {
+        caps,
+        kernel,
+        runtime: Runtime::Crun,
+    })
 }
 
 // The version that `--kernel` names, if it is given.

@@ -9,14 +9,14 @@ returns-then-not-concerns c = (
   λ no. absurd (true≢false (sym no)),
   λ does. absurd (true≢false
       (sym (c.concerns.ensures.1 (subst (λ n. Concerns c.args.arch c.args.container.now c.args.default n c.args.entry.now)
-      (sym c.number_of.ensures) does.0)) ∙ c.if-not-concerns.true)),
+      (sym c.called_number.ensures) does.0)) ∙ c.if-not-concerns.true)),
 )
 
 pub returns : goal.returns
 returns c =
     let same = c.as_slice.ensures.value ∙ ap (λ (e : Entry). e.args) c.entry.view_is in (
       λ yes. (
-        subst (λ n. Concerns c.args.arch c.args.container.now c.args.default n c.args.entry.now) c.number_of.ensures
+        subst (λ n. Concerns c.args.arch c.args.container.now c.args.default n c.args.entry.now) c.called_number.ensures
             (c.concerns.ensures.0 c.if-not-concerns.false),
         subst (AreMet c.args.call.now) same (c.are_met.ensures.0 yes),
       ),

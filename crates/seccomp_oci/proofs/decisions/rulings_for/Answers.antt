@@ -1,12 +1,18 @@
-use Rattle.std.proofs.Common.{◌≡◌, [], ◌∷◌}
-use Rattle.std.proofs.lemmas.Result.{IfOk-weaker}
-use Rattle.seccompiler.specs.Policy.{word_of}
-use Rattle.seccomp_oci.specs.Rulings.{AreRulingsFor}
-use Rattle.seccomp_oci.proofs.decisions.Strictest.{by_settled}
+use Rattle.std.proofs.Common.{◌≡◌, arith, subst, sym}
+use Rattle.seccomp_oci.specs.Decision.{Matches}
+use Rattle.seccomp_oci.specs.Rulings.{AreRulings, AreRulingsTo}
+use Rattle.seccomp_oci.proofs.decisions.Ranks.{rulings_none}
 use Rattle.seccomp_oci.proofs.decisions.rulings_for.Goals as goal
 
-pub returns-in-Some : goal.returns-in-Some
-returns-in-Some c = IfOk-weaker c.only.result
-    (λ rulings. rulings.items ≡ record { conditions = []; value = word_of c.in-Some.action } ∷ [])
-    (λ rulings. AreRulingsFor c.args.concerns.now c.args.number rulings.items)
-    (λ rulings one. by_settled c.args.number c.args.concerns.now c.in-Some.action rulings.items c.in-Some.ensures.some one) c.only.ensures
+pub loop-rank-init : goal.loop-rank-init
+loop-rank-init c = λ arch container default entries r number zip.
+    subst (AreRulings (Matches arch container default r) entries 0 0 r) (sym c.new-rulings.ensures.items)
+    (rulings_none (Matches arch container default r) entries r)
+
+pub loop-rank-preserved : goal.loop-rank-preserved
+loop-rank-preserved c = c.in_ok-push_all.ensures c.loop-rank.invariant
+
+pub returns : goal.returns
+returns c =
+    let end : c.loop-rank.rank ≡ 8 = omega arith in
+    subst (λ s. AreRulingsTo s c.args.concerns.now c.args.number c.loop-rank.rulings.items) end c.loop-rank.invariant

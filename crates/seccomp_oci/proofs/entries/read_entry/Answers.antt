@@ -3,15 +3,17 @@ use Rattle.seccomp_oci.specs.Shape.{IsListed, IsArgument}
 use Rattle.seccomp_oci.proofs.lists.ReadLists.{unless_some}
 use Rattle.seccomp_oci.proofs.entries.read_entry.Goals as goal
 
+pub returns-in_default-clause-none : goal.returns-in_default-clause-none
+returns-in_default-clause-none c = λ e h. unless_some _ c.in_default.not-Some c.action_under.ensures.none e.action h.action
+
 pub returns-in_default-3-clause-none : goal.returns-in_default-3-clause-none
 returns-in_default-3-clause-none c = λ e h. unless_some _ c.in_default-3.not-Some c.in_ok-args.ensures.none e.args
-    (subst (λ o. IsListed IsArgument o e.args) (sym c.get-5.ensures) h.args)
+    (subst (λ o. IsListed IsArgument o e.args) (sym c.get-3.ensures) h.args)
 
 pub returns-clause-found : goal.returns-clause-found
 returns-clause-found c = record {
   only = search rules;
   comment = search rules;
-  error = search rules;
   names = search rules;
   action = search rules;
   args = search rules;

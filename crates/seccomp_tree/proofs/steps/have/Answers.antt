@@ -1,10 +1,18 @@
-use Rattle.std.proofs.Common.{◌^◌, ◌≤◌, length, arith}
+use Rattle.std.proofs.Common.{◌≡◌, ◌-◌, ◌+◌, ◌≤◌, length, get_or, ap, sym, ◌∙◌, arith}
 use Rattle.std.proofs.lemmas.Bool.Decides.{nat_tests}
-use Rattle.seccomp_tree.proofs.Begun.{above_none, steps_more}
+use Rattle.seccomp_tree.specs.declared.steps.Step.{Step}
+use Rattle.seccomp_tree.specs.declared.steps.Target.TheVariants.{Give}
+use Rattle.seccomp_tree.specs.Steps.{found_in}
+use Rattle.seccomp_tree.proofs.Begun.{above_none, begun_all, found_begun}
 use Rattle.seccomp_tree.proofs.steps.have.Goals as goal
 
-pub found-requires : goal.found-requires
-found-requires c =
-    let long : 1 ≤ length c.args.steps.now = grind (arith, nat_tests) in
-    let some = above_none c.args.number 0 c.args.steps.now c.requires.ascend long in
-    steps_more c.args.number (2 ^ 64) c.args.steps.now some (omega arith) c.requires
+pub returns : goal.returns
+returns c =
+    let steps = c.args.steps.now in
+    let n = c.args.number in
+    let d : Step = record { start = 0; target = Give 0 } in
+    let some : 1 ≤ length steps = grind (arith, nat_tests, c.is_empty.ensures, c.if-is_empty.false) in
+    let all = begun_all n 0 steps (n + 1) c.requires.ascend (omega arith) in
+    let last : found_in steps n ≡ (get_or steps (length steps - 1) d).target =
+    found_begun n steps n d c.requires (above_none n 0 steps c.requires.ascend some) ∙ ap (λ k. (get_or steps (k - 1) d).target) all in
+    (λ h. (some, last ∙ c.is.ensures.0 h), λ h. c.is.ensures.1 (sym last ∙ h.1))

@@ -1,0 +1,2 @@
+-- Lemmas for the functions of `defaults`.
+pub mod Greatest

@@ -1,0 +1,39 @@
+-- For the functions of `defaults`: the greatest number that is named, as more is looked at.
+use Rattle.std.proofs.Common.{◌≡◌, ◌≤◌, ℕ, List, [], ◌∷◌, ◌++◌, refl, sym, subst, ◌∙◌, arith, ◌⊎◌, inl, inr}
+use Rattle.std.specs.Prelude.{Any}
+use Rattle.seccomp_oci.specs.Defaults.{IsGreatest}
+use Rattle.seccomp_oci.proofs.Quantified.{any_append, any_nil, any_one}
+
+-- Nothing has a greatest number.
+pub greatest_none : (P : ℕ → Type 0) → ((n : ℕ) → P n → ⊥) → IsGreatest P 0
+greatest_none P none = record { most = λ n has. absurd (none n has); own = inl refl; small = omega arith }
+
+pub greatest_nil : {X : Type 0} (Q : X → ℕ → Type 0) → IsGreatest (λ n. Any (λ x. Q x n) []) 0
+greatest_nil Q = greatest_none (λ n. Any (λ x. Q x n) []) (λ n any. any_nil (λ x. Q x n) any)
+
+-- The greater one is the greatest of what one thing more has.
+pub greatest_more : {X : Type 0} (Q : X → ℕ → Type 0) (xs ys : List X) (x : X) (g h m : ℕ) → ys ≡ xs ++ x ∷ []
+    → IsGreatest (λ n. Any (λ x. Q x n) xs) g → IsGreatest (Q x) h → g ≤ m → h ≤ m → (m ≡ g) ⊎ (m ≡ h)
+    → IsGreatest (λ n. Any (λ x. Q x n) ys) m
+greatest_more Q xs ys x g h m longer before last left right which = subst (λ ys. IsGreatest (λ n. Any (λ x. Q x n) ys) m) (sym longer)
+    (record {
+      most = λ n any. elim ((any_append (λ x. Q x n) xs (x ∷ [])).0 any) [
+        | inl there ↦ let most = before.most n there in omega arith
+        | inr here ↦ let most = last.most n ((any_one (λ x. Q x n) x).0 here) in omega arith
+      ];
+      own = elim which [
+        | inl is ↦ elim before.own [
+          | inl zero ↦ inl (is ∙ zero)
+          | inr has ↦ inr (subst (λ n. Any (λ x. Q x n) (xs ++ x ∷ [])) (sym is) ((any_append (λ x. Q x g) xs (x ∷ [])).1 (inl has)))
+        ]
+        | inr is ↦ elim last.own [
+          | inl zero ↦ inl (is ∙ zero)
+          | inr has ↦ inr (subst (λ n. Any (λ x. Q x n) (xs ++ x ∷ [])) (sym is)
+              ((any_append (λ x. Q x h) xs (x ∷ [])).1 (inr ((any_one (λ x. Q x h) x).1 has))))
+        ]
+      ];
+      small =
+          let one = before.small in
+          let other = last.small in
+          elim which [ inl is ↦ omega arith | inr is ↦ omega arith ];
+    })

@@ -1,3 +1,0 @@
--- Lemmas for the functions of `fault`.
-pub mod Values
-pub mod Told

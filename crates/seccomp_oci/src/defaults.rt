@@ -1,0 +1,188 @@
+// What a profile decides where no entry matches.
+
+ghost use Rattle.std.specs.Prelude.{◌≡◌, ◌↔◌, ◌<◌, ◌≤◌, ◌⊎◌, ℕ, Any, IfOk, IfSome, IsTrue, map, string_bytes};
+ghost use Rattle.seccompiler.specs.Policy.{word_of};
+ghost use Rattle.seccomp_tree.specs.Decided.{AscendFromZero, default_for};
+ghost use Rattle.seccomp_oci.specs.Decision.{Applies, IsAbove, IsDefault, IsNameOf, IsNamed, default_of, lets};
+ghost use Rattle.seccomp_oci.specs.declared.types.Runtime.TheVariants.{Runc};
+ghost use Rattle.seccomp_oci.specs.Defaults.{IsGreatest, is_above};
+
+use crate::concerns::number_of;
+use crate::scope::applies;
+use crate::types::{Container, Entry, Profile, Runtime};
+use seccomp_tree::DefaultValue;
+use seccompiler::{SeccompAction, TargetArch};
+use std::alloc::{AllocError, Global};
+
+/// The default action of the calls of a number.
+pub(crate) fn default_for(
+    arch: TargetArch,
+    container: &Container,
+    profile: &Profile,
+    number: u32,
+) -> SeccompAction
+    ensures { IsDefault arch container.now profile.now number result }
+{
+    let greatest = named_in(arch, container, profile);
+    let above = is_above(greatest, number);
+    default_by(arch, profile.default, above, number)
+}
+
+// Whether a number is above the greatest, if there is one.
+fn is_above(greatest: Option<u32>, number: u32) -> bool
+    ensures { result ≡ is_above greatest number }
+{
+    match greatest {
+        Some(greatest) => greatest < number,
+        None => false,
+    }
+}
+
+// The default action of a number that is above all that are named, or isn't.
+fn default_by(arch: TargetArch, default: SeccompAction, above: bool, number: u32) -> SeccompAction
+    ensures { result ≡ default_of arch default above number }
+{
+    match arch {
+        TargetArch::x86_64 if 0x4000_0000 <= number => {
+            if number < 0xffff_ffff {
+                SeccompAction::KillThread
+            } else {
+                default
+            }
+        }
+        _ if above => SeccompAction::Errno(38),
+        _ => default,
+    }
+}
+
+/// The default values, by ranges of numbers.
+pub(crate) fn defaults_of(
+    alloc: Global,
+    arch: TargetArch,
+    container: &Container,
+    profile: &Profile,
+) -> Result<Vec<DefaultValue>, AllocError>
+    ensures ascend { IfOk result (λ defaults. AscendFromZero defaults.items) }
+    ensures values { IfOk result (λ defaults. (n : ℕ) → (action : _) × IsDefault arch container.now profile.now n action × (default_for defaults.items n ≡ word_of action)) }
+{
+    let greatest = named_in(arch, container, profile);
+    values_of(alloc, arch, profile.default, greatest)
+}
+
+// The default values, where numbers above the greatest are answered with ENOSYS.
+fn values_of(
+    alloc: Global,
+    arch: TargetArch,
+    default: SeccompAction,
+    greatest: Option<u32>,
+) -> Result<Vec<DefaultValue>, AllocError>
+    requires { IfSome greatest (λ g. g < 463) }
+    ensures ascend { IfOk result (λ defaults. AscendFromZero defaults.items) }
+    ensures values { IfOk result (λ defaults. (n : ℕ) → default_for defaults.items n ≡ word_of (default_of arch default (is_above greatest n) n)) }
+{
+    let own = from(0, default);
+    let mut values = match greatest {
+        Some(greatest) => vec![in alloc; own, from(greatest + 1, SeccompAction::Errno(38))]?,
+        None => vec![in alloc; own]?,
+    };
+    if let TargetArch::x86_64 = arch {
+        values.push(from(0x4000_0000, SeccompAction::KillThread))?;
+        values.push(from(0xffff_ffff, default))?;
+    }
+    Ok(values)
+}
+
+// This action from a number on.
+fn from(start: u32, action: SeccompAction) -> DefaultValue
+    ensures { result ≡ record { start = start; value = word_of action } }
+{
+    let value = action.into();
+    DefaultValue { start, value }
+}
+
+// The number above which runc answers with ENOSYS, if it does.
+fn named_in(arch: TargetArch, container: &Container, profile: &Profile) -> Option<u32>
+    ensures above { (n : ℕ) → IsTrue (is_above result n) ↔ IsAbove arch container.now profile.now n }
+    ensures small { IfSome result (λ g. g < 463) }
+{
+    if !is_runc(container) {
+        return None;
+    }
+    if lets(profile.default) {
+        return None;
+    }
+    let greatest = greatest_in(arch, container, profile.entries.as_slice());
+    if greatest == 0 {
+        return None;
+    }
+    Some(greatest)
+}
+
+fn is_runc(container: &Container) -> bool
+    ensures { IsTrue result ↔ (container.now.runtime ≡ Runc) }
+{
+    match container.runtime {
+        Runtime::Runc => true,
+        Runtime::Crun => false,
+    }
+}
+
+// Whether an action lets a call be made.
+fn lets(action: SeccompAction) -> bool
+    ensures { result ≡ lets action }
+{
+    matches!(
+        action,
+        SeccompAction::Allow | SeccompAction::Log | SeccompAction::Trace(_)
+    )
+}
+
+// The greatest number that an entry names that applies; 0 where none names one.
+fn greatest_in(arch: TargetArch, container: &Container, entries: &[Entry]) -> u32
+    ensures { IsGreatest (IsNamed arch container.now entries.now) result }
+{
+    let mut greatest = 0;
+    for entry in entries {
+        greatest = greater(greatest, greatest_by(arch, container, entry));
+    }
+    greatest
+}
+
+// The greatest number that an entry names, if it applies.
+fn greatest_by(arch: TargetArch, container: &Container, entry: &Entry) -> u32
+    ensures { IsGreatest (λ n. Applies arch container.now entry.now × Any (IsNameOf arch n) entry.now.names) result }
+{
+    if !applies(arch, container, entry) {
+        return 0;
+    }
+    greatest_of(arch, entry.names.as_slice())
+}
+
+// The greatest number of the names; 0 where none has one.
+fn greatest_of(arch: TargetArch, names: &[String]) -> u32
+    ensures { IsGreatest (λ n. Any (IsNameOf arch n) (map string_bytes names.now)) result }
+{
+    let mut greatest = 0;
+    for name in names {
+        greatest = greater(greatest, known_number(arch, name.as_str()));
+    }
+    greatest
+}
+
+// The number of the call of this name; 0 where there is none.
+fn known_number(arch: TargetArch, name: &str) -> u32
+    ensures { IsGreatest (λ n. IsNameOf arch n name.now) result }
+{
+    match number_of(arch, name) {
+        Some(number) => number,
+        None => 0,
+    }
+}
+
+fn greater(one: u32, other: u32) -> u32
+    ensures least { one ≤ result }
+    ensures least_too { other ≤ result }
+    ensures own { (result ≡ one) ⊎ (result ≡ other) }
+{
+    if one < other { other } else { one }
+}

@@ -25,7 +25,7 @@ def hanging(line):
 def help_of_source(path):
     """Returns the help that a program in C prints: its usage and what stands behind that."""
     texts = dict(TEXT_OF_C.findall(path.read_text(encoding="utf-8")))
-    return "".join(ast.literal_eval(f"({texts[it]})") for it in ("usage", "help"))
+    return "".join(ast.literal_eval(f"({texts[it]})") for it in ("usage", "help") if it in texts)
 
 
 def listed(block):

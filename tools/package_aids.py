@@ -24,6 +24,7 @@ def check_hardening(results, path):
         "relocations read-only": "GNU_RELRO" in text,
         "a guarded stack": "__stack_chk_fail" in symbols,
         "checked functions": any(it.endswith("_chk") for it in symbols),
+        "a shadow stack": "SHSTK" in "\n".join(told(["readelf", "-nW", path])),
     }
     results.compare(f"{path.name} isn't hardened by", [], [what for what, holds in marks.items() if not holds])
 

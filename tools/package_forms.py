@@ -42,6 +42,6 @@ def told(words):
 
 
 def symbols_of(path, *options):
-    """Returns the names of a library's symbols that `nm` tells, without versions and what may be missing."""
+    """Returns the names of a library's symbols that `nm` tells, without their versions, what names these, and what may be missing."""
     lines = [it.split() for it in told(["nm", *options, path])]
-    return sorted(it[-1].partition("@")[0] for it in lines if len(it) > 1 and it[-2] != "w")
+    return sorted(it[-1].partition("@")[0] for it in lines if len(it) > 1 and it[-2] not in "wA")

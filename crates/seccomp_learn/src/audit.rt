@@ -1,10 +1,10 @@
 // Lines of the audit system and of the kernel's log.
 
-use crate::line::Line;
+use crate::line::{Line, Told};
 use seccompiler::TargetArch;
 
 /// What a line of the audit system or of the kernel's log says.
-pub(crate) fn audit_line(arch: TargetArch, line: &str) -> Line<'_> {
+pub(crate) fn audit_line(line: &str) -> Line<'_> {
     let Some(kind) = field(line, "type=") else {
         return Line::Strange;
     };
@@ -14,17 +14,26 @@ pub(crate) fn audit_line(arch: TargetArch, line: &str) -> Line<'_> {
     if !matches!(kind, "SECCOMP" | "1326" | "SYSCALL" | "1300") {
         return Line::Passed;
     }
-    let (Some(word), Some(call)) = (field(line, "arch="), field(line, "syscall=")) else {
-        return Line::Strange;
-    };
-    if !is_of(arch, word) {
-        return Line::Foreign;
+    match told(line) {
+        Some(told) => Line::Call(told),
+        None => Line::Strange,
     }
-    Line::Call(call, arguments(line))
 }
 
-/// What stands behind this mark at the beginning of a word.
-pub(crate) fn field<'a>(line: &'a str, mark: &str) -> Option<&'a str> {
+// The call that a line tells of.
+fn told(line: &str) -> Option<Told<'_>> {
+    Some(Told {
+        arch_word: word_of(field(line, "arch=")?)?,
+        call: field(line, "syscall=")?,
+        arguments: arguments(line),
+        program: field(line, "comm=").unwrap_or("").trim_matches('"'),
+        process: field(line, "pid=").unwrap_or(""),
+        returned: returned(line),
+    })
+}
+
+// What stands behind this mark at the beginning of a word.
+fn field<'a>(line: &'a str, mark: &str) -> Option<&'a str> {
     for word in line.split_whitespace() {
         if let Some(value) = word.strip_prefix(mark) {
             return Some(value);
@@ -33,9 +42,19 @@ pub(crate) fn field<'a>(line: &'a str, mark: &str) -> Option<&'a str> {
     None
 }
 
-// Whether it is the architecture's name, or its value in hexadecimal digits.
-fn is_of(arch: TargetArch, word: &str) -> bool {
-    word == arch.name() || u32::from_str_radix(word, 16) == Ok(arch.get_audit_value())
+// The `AUDIT_ARCH_*` value of an architecture's name, or of hexadecimal digits.
+fn word_of(text: &str) -> Option<u32> {
+    for arch in TargetArch::all() {
+        if text == arch.name() {
+            return Some(arch.get_audit_value());
+        }
+    }
+    u32::from_str_radix(text, 16).ok()
+}
+
+// What a filter returned, if the line says that.
+fn returned(line: &str) -> Option<u32> {
+    u32::from_str_radix(field(line, "code=")?.strip_prefix("0x")?, 16).ok()
 }
 
 // The arguments that a line has: the audit system writes four, in hexadecimal digits.

@@ -25,7 +25,7 @@
 mod audit;
 mod conditions;
 pub mod limits;
-mod line;
+pub mod line;
 pub mod names;
 mod numbers;
 pub mod observation;
@@ -38,9 +38,10 @@ pub mod trace;
 pub mod usual;
 
 pub use crate::limits::within;
+pub use crate::line::{Line, Told, line_of};
 pub use crate::names::name_of;
 pub use crate::observation::{Kept, Observation};
 pub use crate::policy::{Learned, learn};
 pub use crate::text::policy_text;
-pub use crate::trace::{Trace, read_trace};
+pub use crate::trace::{Trace, read_trace, told_number};
 pub use crate::usual::{start_and_exit, usual_kept};

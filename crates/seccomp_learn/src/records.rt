@@ -1,15 +1,16 @@
 // Call records in bytes.
 
-use crate::observation::Observation;
-use crate::trace::Trace;
+use crate::trace::{Trace, push_seen};
+use itoa::Buffer;
 use seccompiler::TargetArch;
-use std::alloc::AllocError;
+use std::alloc::{AllocError, Global};
 
 // The bytes of a record.
 const RECORD: usize = 64;
 
 /// Adds the calls of records; bytes behind the last record are strange.
 pub(crate) fn push_records(
+    alloc: Global,
     arch: TargetArch,
     trace: &mut Trace,
     bytes: &[u8],
@@ -18,10 +19,15 @@ pub(crate) fn push_records(
     while let Some((record, behind)) = rest.split_first_chunk::<RECORD>() {
         let [n0, n1, n2, n3, a0, a1, a2, a3, ..] = *record;
         if u32::from_le_bytes([a0, a1, a2, a3]) == arch.get_audit_value() {
-            trace.observed.push(Observation {
-                number: u32::from_le_bytes([n0, n1, n2, n3]),
-                arguments: arguments(record),
-            })?;
+            let number = u32::from_le_bytes([n0, n1, n2, n3]);
+            push_seen(
+                alloc,
+                arch,
+                trace,
+                number,
+                arguments(record),
+                Buffer::new().format(number),
+            )?;
         } else {
             trace.foreign = trace.foreign.saturating_add(1);
         }

@@ -1,7 +1,8 @@
 // Lines of strace.
 
-use crate::line::Line;
+use crate::line::{Line, Told};
 use crate::numbers::number_in;
+use seccompiler::TargetArch;
 
 // What stands behind an argument.
 #[derive(Clone, Copy)]
@@ -25,19 +26,26 @@ enum Inside {
 }
 
 /// What a line of strace says.
-pub(crate) fn strace_line(line: &str) -> Line<'_> {
+pub(crate) fn strace_line(arch: TargetArch, line: &str) -> Line<'_> {
     let rest = without_front(line);
     if rest.is_empty() || is_passed(rest) {
         return Line::Passed;
     }
-    let Some((name, behind)) = rest.split_once('(') else {
+    let Some((call, behind)) = rest.split_once('(') else {
         return Line::Strange;
     };
-    if !is_name(name) {
+    if !is_name(call) {
         return Line::Strange;
     }
     match arguments(behind.as_bytes()) {
-        Some(arguments) => Line::Call(name, arguments),
+        Some(arguments) => Line::Call(Told {
+            arch_word: arch.get_audit_value(),
+            call,
+            arguments,
+            program: "",
+            process: "",
+            returned: None,
+        }),
         None => Line::Strange,
     }
 }

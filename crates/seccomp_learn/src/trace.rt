@@ -1,10 +1,9 @@
 // What a trace says of a program's calls.
 
-use crate::audit::audit_line;
-use crate::line::Line;
+use crate::line::{Line, Told, line_of};
+use crate::names::name_of;
 use crate::observation::Observation;
 use crate::records::push_records;
-use crate::strace::strace_line;
 use crate::usual::named_number;
 use seccompiler::TargetArch;
 use std::alloc::{AllocError, Global};
@@ -14,7 +13,7 @@ use std::alloc::{AllocError, Global};
 pub struct Trace {
     /// The calls, in order.
     pub observed: Vec<Observation>,
-    /// The names of calls that the architecture hasn't, each once.
+    /// The names and numbers of calls that the architecture hasn't, as they are written, each once.
     pub unnamed: Vec<String>,
     /// How many calls were of another architecture.
     pub foreign: usize,
@@ -39,7 +38,7 @@ pub fn read_trace(alloc: Global, arch: TargetArch, text: &[u8]) -> Result<Trace,
         first_strange: None,
     };
     if text.contains(&0) {
-        push_records(arch, &mut trace, text)?;
+        push_records(alloc, arch, &mut trace, text)?;
         return Ok(trace);
     }
     for (index, line) in text.split(|byte| *byte == b'\n').enumerate() {
@@ -58,38 +57,48 @@ fn push_line(
     trace: &mut Trace,
     line: &[u8],
 ) -> Result<bool, AllocError> {
-    let Ok(line) = str::from_utf8(line) else {
-        return Ok(false);
-    };
-    let said = match strace_line(line) {
-        Line::Strange => audit_line(arch, line),
-        said => said,
-    };
-    match said {
-        Line::Call(name, arguments) => push_call(alloc, arch, trace, name, arguments)?,
-        Line::Foreign => trace.foreign = trace.foreign.saturating_add(1),
+    match line_of(arch, line) {
+        Line::Call(told) => push_call(alloc, arch, trace, &told)?,
         Line::Passed => {}
         Line::Strange => return Ok(false),
     }
     Ok(true)
 }
 
-// Adds a call by its name or number.
+// Adds a call that a line tells of.
 fn push_call(
     alloc: Global,
     arch: TargetArch,
     trace: &mut Trace,
-    name: &str,
-    arguments: [Option<u64>; 6],
+    told: &Told<'_>,
 ) -> Result<(), AllocError> {
-    match number_of(arch, name) {
-        Some(number) => Ok(trace.observed.push(Observation { number, arguments })?),
-        None => push_unnamed(alloc, &mut trace.unnamed, name),
+    if told.arch_word != arch.get_audit_value() {
+        trace.foreign = trace.foreign.saturating_add(1);
+        return Ok(());
+    }
+    match told_number(arch, told.call) {
+        Some(number) => push_seen(alloc, arch, trace, number, told.arguments, told.call),
+        None => push_unnamed(alloc, &mut trace.unnamed, told.call),
     }
 }
 
-// The number of a call that has this name, or is written by its number.
-fn number_of(arch: TargetArch, name: &str) -> Option<u32> {
+/// Adds a call by its number, or how it is written, if no call of the architecture has the number.
+pub(crate) fn push_seen(
+    alloc: Global,
+    arch: TargetArch,
+    trace: &mut Trace,
+    number: u32,
+    arguments: [Option<u64>; 6],
+    written: &str,
+) -> Result<(), AllocError> {
+    if name_of(arch, number).is_none() {
+        return push_unnamed(alloc, &mut trace.unnamed, written);
+    }
+    Ok(trace.observed.push(Observation { number, arguments })?)
+}
+
+/// The number of a call that has this name, or is written by its number, as lines have it.
+pub fn told_number(arch: TargetArch, name: &str) -> Option<u32> {
     if let Some(number) = named_number(arch, name) {
         return Some(number);
     }

@@ -14,13 +14,17 @@ const CHOOSING: [(&str, u8); 6] = [
     ("socket", 2),
 ];
 
-// The calls by which a program starts, ends, and returns from a signal or to a call that one interrupted.
-const START_AND_EXIT: [&str; 5] = [
+// The calls by which a program starts, ends, and returns from a signal or to a call that one interrupted; and those that a
+// jailer makes behind its last filter.
+const START_AND_EXIT: [&str; 8] = [
     "execve",
     "exit",
     "exit_group",
     "restart_syscall",
+    "rt_sigaction",
+    "rt_sigprocmask",
     "rt_sigreturn",
+    "write",
 ];
 
 /// The arguments that are kept by default: what `fcntl`, `ioctl` and `prctl` are asked for, and what kind of socket
@@ -43,7 +47,7 @@ pub fn usual_kept(alloc: Global, arch: TargetArch) -> Result<Vec<Kept>, AllocErr
     Ok(kept)
 }
 
-/// The calls by which a program starts, ends, and returns from a signal handler.
+/// The calls by which a program starts, ends, and returns from a signal handler, and those that a jailer makes.
 ///
 /// # Errors
 ///

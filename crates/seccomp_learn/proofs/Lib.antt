@@ -1,0 +1,6 @@
+-- Lemmas: of what some of a list's elements have.
+pub mod Quantified
+pub mod TableNumbers
+pub mod Entries
+pub mod Seen
+pub mod Differences

@@ -1,0 +1,4 @@
+-- The definitions that the contracts cite: which records are as calls were observed, and what more than a limit of values is.
+pub mod Observed
+-- Between the functions.
+pub mod Parts

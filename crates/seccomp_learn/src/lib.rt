@@ -1,0 +1,47 @@
+//! From the calls that a program made to a policy that allows these.
+//!
+//! [`read_trace`] reads what `strace`, the kernel's log or the audit system says of a program's calls, [`learn`] makes a
+//! policy of them, and [`policy_text`] writes it as JSON. `docs/LEARNING.md` goes through this step by step.
+//!
+//! ```
+//! use seccomp_learn::{learn, read_trace};
+//! use seccompiler::{JsonFilter, JsonFrontendError, SeccompAction, SeccompFilter, TargetArch};
+//! use std::alloc::Global;
+//!
+//! /// A filter that allows what a trace has, and kills the process at any other call.
+//! fn learned(alloc: Global, trace: &[u8]) -> Result<SeccompFilter, JsonFrontendError> {
+//!     let arch = TargetArch::x86_64;
+//!     let trace = read_trace(alloc, arch, trace)?;
+//!     let nothing = JsonFilter {
+//!         mismatch_action: SeccompAction::KillProcess,
+//!         match_action: SeccompAction::Allow,
+//!         rules: Vec::new(alloc),
+//!     };
+//!     Ok(learn(alloc, arch, &trace.observed, &[], nothing)?.filter)
+//! }
+//! ```
+#![tactic(auto)]
+
+mod audit;
+mod conditions;
+pub mod limits;
+pub mod line;
+pub mod names;
+mod numbers;
+pub mod observation;
+pub mod policy;
+mod records;
+mod rules;
+mod strace;
+pub mod text;
+pub mod trace;
+pub mod usual;
+
+pub use crate::limits::within;
+pub use crate::line::{Line, Told, line_of};
+pub use crate::names::name_of;
+pub use crate::observation::{Kept, Observation};
+pub use crate::policy::{Learned, learn};
+pub use crate::text::policy_text;
+pub use crate::trace::{Trace, read_trace, told_number};
+pub use crate::usual::{start_and_exit, usual_kept};

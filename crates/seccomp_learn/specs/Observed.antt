@@ -38,7 +38,8 @@ pub record IsAsNamed (arch : TargetArch) (kept : List Kept) (r : List ℕ) (o : 
 
 -- Two observations of a call differ in what was seen of a kept argument.
 abbrev pub IsSeenApart : List Kept → Observation → Observation → Type 0
-IsSeenApart kept first second = Any (λ each. (each.number ≡ first.number) × (option_map (part_of each.arg_len) (value_at first each.arg_index)
+IsSeenApart kept first second = Any (λ each. (each.number ≡ first.number)
+    × (option_map (part_of each.arg_len) (value_at first each.arg_index)
     ≢ option_map (part_of each.arg_len) (value_at second each.arg_index))) kept
 
 -- More than `limit` observations of the call differ, each two of them, in a kept argument.

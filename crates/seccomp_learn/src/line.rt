@@ -4,7 +4,7 @@ use crate::audit::audit_line;
 use crate::strace::strace_line;
 use seccompiler::TargetArch;
 
-/// A call that a line tells of.
+/// A call that a line is about.
 #[derive(Clone, Copy, Debug)]
 pub struct Told<'a> {
     /// The `AUDIT_ARCH_*` value of the call.
@@ -32,7 +32,7 @@ pub enum Line<'a> {
     Strange,
 }
 
-/// What a line says, of `strace`, of the audit system or of the kernel's log. What `strace` tells is of this architecture.
+/// What a line says, of `strace`, of the audit system or of the kernel's log. What `strace` prints is of this architecture.
 pub fn line_of(arch: TargetArch, line: &[u8]) -> Line<'_> {
     let Ok(line) = str::from_utf8(line) else {
         return Line::Strange;

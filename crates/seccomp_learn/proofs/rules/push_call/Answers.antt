@@ -12,7 +12,8 @@ returns c =
     let old = c.args.rules.now.items in
     let new = c.push_rule.new.rules.items in
     IfOk-weaker c.push_rule.result (λ x. MeetAlso _ old new)
-    (λ x. (r : List ℕ) → MeetsSome c.args.arch r new ↔ (MeetsSome c.args.arch r old ⊎ IsAsNamed c.args.arch c.args.kept.now r c.args.observation.now))
+    (λ x. (r : List ℕ) → MeetsSome c.args.arch r new
+    ↔ (MeetsSome c.args.arch r old ⊎ IsAsNamed c.args.arch c.args.kept.now r c.args.observation.now))
     (λ x also r. through (also.also c.args.arch r)
     (either_same (entry_as_named c.args.arch c.args.kept.now c.args.observation.now _ r
     (ap (number_of (table_of c.args.arch)) c.in_ok-syscall.ensures.ok ∙ c.in-Some.ensures.name) (c.in_ok-conditions.ensures r))))

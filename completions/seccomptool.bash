@@ -64,7 +64,7 @@ _seccomptool_add_filters() {
     local program=$1 file names
     for file in "${COMP_WORDS[@]:2}"; do
         [[ -f $file ]] || continue
-        mapfile -t names < <("$program" stats -- "$file" 2> /dev/null | sed -n '/\\/d; s/^filter //p')
+        mapfile -t names < <("$program" show --stats -- "$file" 2> /dev/null | sed -n '/\\/d; s/^filter //p')
         _seccomptool_add "${names[@]}"
     done
 }
@@ -73,7 +73,7 @@ _seccomptool_add_filters() {
 _seccomptool_add_of() {
     case $1 in
     FILTER) _seccomptool_add_filters "$2" ;;
-    FILE | NEW | OLD | POLICY | PROGRAM) _seccomptool_add_files ;;
+    FILE | NEW | OLD | SUBJECT) _seccomptool_add_files ;;
     esac
     [[ -z $1 ]] || ! grep -q "^ *[<[]$1[]>].* - for standard input" <<< "$3" || _seccomptool_add -
 }

@@ -41,7 +41,7 @@ COMP_WORDS=("$@") && COMP_CWORD=$(($# - 1)) && "_$name"
 OPTION = re.compile(r"^ +(?:(-\w), )?(--[a-z][a-z-]*)(?: <(\w+)>)?(?:.*\[possible values: ([^]]*)\])?", re.M)
 
 # The arguments that are files.
-FILES = ("FILE", "NEW", "OLD", "POLICY", "PROGRAM")
+FILES = ("FILE", "NEW", "OLD", "POLICY", "SUBJECT")
 
 # A filter's name that does something where a shell expands it, and one that is quoted.
 FILTERS = ("$(touch made)", "a b", "main")
@@ -135,9 +135,9 @@ def compare_commands(results, folder):
 
 def compare_input(results, folder):
     """Looks whether - is completed for each policy, which may be standard input, and for no output."""
-    asked = ["check", ""], ["check", "-"], ["check", "given", ""], ["stats", "given", ""], ["compile", "-o", ""]
+    asked = ["check", ""], ["check", "-"], ["check", "given", ""], ["show", "given", ""], ["compile", "-o", ""]
     given = ["-" in completed(folder, "seccomptool", *words) for words in asked]
-    results.compare("seccomptool check, stats and compile -o: -", ([True, True, True, False, False],), (given,))
+    results.compare("seccomptool check, show and compile -o: -", ([True, True, True, False, False],), (given,))
 
 
 def compare_seccompc(results, folder):

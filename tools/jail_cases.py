@@ -240,7 +240,7 @@ TOOLS = {
 
 # Words of seccomptool that read standard input, whose reading is refused for want of memory.
 READING = [
-    "compile -f a", "compile", "compile --layout linear", "show", "show --layout linear", "stats", "compat", "check",
+    "compile -f a", "compile", "compile --layout linear", "show", "show --layout linear", "show --stats", "check",
     "explain -f log actions.json",
 ]
 

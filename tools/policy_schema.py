@@ -29,7 +29,7 @@ SCHEMA = TOP / "docs/policy.schema.json"
 # The command of seccompc that reads a policy from standard input, and the one that is given its file; and those of
 # seccomptool that read a policy, and their options that have a value behind them, and that ask for help.
 READING, GIVEN_A_FILE = "list", "run"
-OF_TOOL = ("compile", "show", "check", "explain", "stats", "diff", "compat")
+OF_TOOL = ("compile", "show", "check", "explain", "diff")
 WITH_VALUES = (
     "-a", "--arch", "--allow", "-f", "--filter", "-o", "--output", "--layout", "--format", "--most", "--records"
 )
@@ -49,7 +49,7 @@ UNSAID = re.compile(
     FRONTEND + r"(Error (parsing|reading) Json|Repeated key in Json\.|Invalid syscall name: |`match_action` and )"
     r"|Backend error: (The seccomp filter |Invalid target arch: )"
     r"|The input ends inside a record, |Error (reading input|writing output)\."
-    r"|No filter has this name: |Name one of its filters by --filter: |No call of \w+ has this name or number: "
+    r"|No filter has this name: |Name one of its filters: |The policy has no filters\.|No call of \w+ has this name or number: "
     r"|The JSON value is no seccomp profile, |[A-Z][\w ]+ \(os error \d+\)\n|usage: |error: |$"
 )
 
@@ -103,8 +103,7 @@ def names_in(words):
 
 def is_profile(words, text):
     """Returns whether a command of seccomptool takes a text for a profile's."""
-    of_profiles = (["check"], ["compile"], ["diff"], ["explain"], ["stats"])
-    if text is None or words[:1] not in of_profiles or any(it.startswith(("-f", "--filter")) for it in words):
+    if text is None or words[0] not in OF_TOOL:
         return False
     try:
         return isinstance(json.loads(text)["defaultAction"], str)
@@ -120,19 +119,22 @@ def policy_of(case, files):
         name = words[2]
     elif words[:1] == [READING]:
         name = "-"
-    elif words and words[0] in OF_TOOL and not any(it in HELP or it.startswith(("--list", "--program", "--oci")) for it in words):
+    elif words and words[0] in OF_TOOL and not any(it in HELP or it.startswith(("--list", "--oci")) for it in words):
         names = names_in(words[1:])
         several = words[0] == "check" and len(names) > 1
         # What `diff` reports may be about its second policy.
-        of_new = words[0] == "diff" and names and case.errors.startswith(f"seccomptool: {names[-1]}: ")
+        shown = "standard input" if names[-1:] == ["-"] else names[-1] if names else ""
+        of_new = words[0] == "diff" and names and case.errors.startswith(f"seccomptool: {shown}: ")
         name = None if several else names[-1] if of_new else (names or ["-"])[0]
     if name == "-" and "<" in words:
         name = words[words.index("<") + 1]
-    # `diff` knows by its first file of which kind both are.
-    kinds = {name, *names_in(words[1:])[:1]} if words[:1] == ["diff"] else {name}
-    if any(is_profile(words, text_of(it, case, files)) for it in kinds):
-        return None
-    return text_of(name, case, files)
+    text = text_of(name, case, files)
+    return None if is_program(text) or is_profile(words, text) else text
+
+
+def is_program(text):
+    """Returns whether bytes are a program's: no text of JSON has a 0."""
+    return isinstance(text, bytes) and b"\0" in text[:2]
 
 
 def text_of(name, case, files):

@@ -117,10 +117,10 @@ def compare_progress(results, program):
         (folder / "new.bpf").write_bytes(compiled.stdout)
         long = [
             ("diff", 0, "filter a: same\n", 32_000_000, ["old.json", "new.json"]),
-            ("verify", 0, "filter a: same\nother architectures: same\n", 32_000_000, ["old.json", "new.bpf"]),
+            ("diff", 0, "filter a: same\nother architectures: same\n", 32_000_000, ["old.json", "new.bpf"]),
         ]
         for name, status, output, most, files in long:
-            words = [name, *["--quiet"] * (name == "diff"), "--most", str(most), *files]
+            words = [name, "--quiet", "--most", str(most), *files]
             runs = [lanes.submit(it, program, folder, words) for it in (on_terminal, on_pipe)]
             on_the_terminal, on_the_pipe = (it.result() for it in runs)
             what = f"seccomptool {' '.join(words)}"
@@ -138,7 +138,7 @@ def compare_progress(results, program):
 PROFILE = '{"defaultAction": "SCMP_ACT_ALLOW"}'
 OF_BYTES = (
     ["compile", "-q", "few.json"], ["compile", "-q", "--format", "raw", "few.json"], ["compile", "-q", "profile.json"],
-    ["record", "read"],
+    ["call", "--record", "read"],
 )
 FEW = "".join(
     f"{{ {it} }},\n" for it in ("0x20, 0, 0, 0x00000004", "0x15, 0, 1, 0xc000003e", "0x6, 0, 0, 0x00030000", "0x6, 0, 0, 0x80000000")
@@ -158,7 +158,7 @@ def compare_outputs(results, program):
         (folder / "profile.json").write_text(PROFILE)
         for words in OF_BYTES:
             found = on_terminal(program, folder, words, "stdout")
-            results.compare(f"seccomptool {' '.join(words)} to a terminal", (1, NO_BYTES, b""), found)
+            results.compare(f"seccomptool {' '.join(words)} to a terminal", (2, NO_BYTES, b""), found)
         for words, text in OF_TEXT:
             found = on_terminal(program, folder, words, "stdout")
             results.compare(f"seccomptool {' '.join(words)} to a terminal", (0, "", text.replace("\n", "\r\n").encode()), found)

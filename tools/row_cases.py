@@ -20,7 +20,7 @@ length, operator and value. Questions are
     records NUMBER .. | NUMBER .. what both programs return for each of these calls
     compare, compare at most      on which call of which name the policy decides otherwise than the kept one, or permits more: the
                                   name and both actions, or `same`, or `nowhere more permissive`
-    raw INSTRUCTIONS [for RECORD] what a program of no policy returns for this call, as `seccomptool run` prints it, or why it may not
+    raw INSTRUCTIONS [for RECORD] what a program of no policy returns for this call, as `seccomptool explain` prints it, or why it may not
                                   be run; an instruction may stand so many times, as in `4096 x RET 0`, and have a code for a name
     code CONDITION @ OFFSET       the code of a condition that leaves by so many instructions behind its end where it fails
     rule RULE                     the code of a rule
@@ -273,7 +273,7 @@ class Bench:
         if kind in ("program", "tree", "record", "records", "compare"):
             self.is_asked = True
         if kind == "compare":
-            return self.policy.compared(self.kept, {"": "", "at most": "--at-most"}[rest])
+            return self.policy.compared(self.kept, {"": "", "at most": "--only-more"}[rest])
         if kind == "records":
             outcomes = self.policy.outcomes([record_of(it) for it in rest.split("|")])
             return " and ".join(sorted({it.split()[0] for it in outcomes}))
@@ -315,11 +315,11 @@ class Bench:
         return code if isinstance(code, str) else code[7:7 + length_of(condition)]
 
     def ran(self, rest):
-        """Returns what `seccomptool run` prints of a program."""
+        """Returns what `seccomptool explain` prints of a program."""
         text, _, record = rest.partition(" for ")
         (self.folder / "row.bpf").write_bytes(instructions(text))
         (self.folder / "row.bin").write_bytes(record_of(record or "0"))
-        _, output, errors = run("./seccomptool run --records row.bin row.bpf", self.folder)
+        _, output, errors = run("./seccomptool explain --records row.bin row.bpf", self.folder)
         return (output + errors).strip().removeprefix("seccomptool: row.bpf: ")
 
     def held(self, rest):

@@ -6,13 +6,13 @@ from the program's output.
 """
 
 from . import (
-    calls, check, compat, compile, compiled_profiles, conditions, counts, diff, entries, explain, hostile, oci, outputs, profile_checks,
-    profile_faults, profile_stats, record, run, show, stats, verify, warnings, words
+    call, calls, check, compile, compiled_profiles, conditions, counts, diff, entries, explain, gone, hostile, oci, outputs,
+    profile_checks, profile_faults, profile_stats, program_diffs, programs, show, stats, subjects, warnings, words
 )
 from .forms import Case
 
 FILES = {
-    **explain.FILES, **compile.FILES, **diff.FILES, **run.FILES, **verify.FILES, **compiled_profiles.FILES, **oci.FILES,
+    **explain.FILES, **compile.FILES, **diff.FILES, **programs.FILES, **program_diffs.FILES, **subjects.FILES, **compiled_profiles.FILES, **oci.FILES,
     **profile_faults.FILES, **counts.FILES, **profile_checks.FILES, **hostile.FILES, **outputs.FILES
 }
 
@@ -28,8 +28,8 @@ CASES = [
     *[
         case
         for it in (
-            show, check, warnings, conditions, calls, entries, explain, run, stats, record, counts, verify, compat, compiled_profiles,
-            profile_faults, oci, profile_checks, profile_stats, words, hostile, outputs
+            show, check, warnings, conditions, calls, entries, explain, programs, stats, call, counts, program_diffs,
+            compiled_profiles, profile_faults, oci, profile_checks, profile_stats, words, gone, hostile, outputs, subjects
         )
         for case in it.CASES
     ],

@@ -222,8 +222,8 @@ OF_SEVERAL = [
     Case("check logs.json no-filter.json logs.json", 1, LOGS_LINE * 2, NO_FILTER),
     Case("check no-filter.json index.json no-filter.json", 1, "",
          NO_FILTER + TOOL + "index.json: a.filter[0].args[0].index: expected 0 to 5, found 6\n" + NO_FILTER),
-    Case("check missing.json logs.json", 1, LOGS_LINE, TOOL + "missing.json: " + MISSING),
-    Case("check logs.json missing.json", 1, LOGS_LINE, TOOL + "missing.json: " + MISSING),
+    Case("check missing.json logs.json", 2, LOGS_LINE, TOOL + "missing.json: " + MISSING),
+    Case("check logs.json missing.json", 2, LOGS_LINE, TOOL + "missing.json: " + MISSING),
     # Standard input among files, and an architecture for all.
     Case("check logs.json - no-filters.json", 0, LOGS_LINE + lines_of(FINE), "", FINE),
     Case("check logs.json -", 1, LOGS_LINE, INPUT + "a.filter[0].args[0].index: expected 0 to 5, found 6\n",
@@ -231,9 +231,9 @@ OF_SEVERAL = [
     Case("check -a riscv64 unknown-call.json logs.json", 1, LOGS_LINE,
          TOOL + 'unknown-call.json: a.filter[0].syscall: unknown system call "nosyscall" on riscv64\n'),
     # A file's name is written as a filter's: what steers a terminal by its numbers.
-    Case("check \"$(printf 'no\\nfile')\"", 1, "", TOOL + r"no\x0afile: " + MISSING),
+    Case("check \"$(printf 'no\\nfile')\"", 2, "", TOOL + r"no\x0afile: " + MISSING),
     # Where the output takes nothing, each policy with a warning fails.
-    Case("check logs.json no-filters.json logs.json > /dev/full", 1, "", (OUTPUT + FULL) * 2),
+    Case("check logs.json no-filters.json logs.json > /dev/full", 2, "", (OUTPUT + FULL) * 2),
 ]
 
 # Codes that are allowed: of each policy those of all others are printed.

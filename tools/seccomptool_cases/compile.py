@@ -46,7 +46,7 @@ UNKNOWN_CALL = FRONTEND + "Invalid syscall name: nosyscall for given arch: x86_6
 
 # Two filters, one without entries; the other one's name has a byte that steers a terminal.
 TWO = LOGS[:-1] + r',"b\u009b":{"mismatch_action":"trap","match_action":"allow","filter":[]}}'
-WHICH = "Name one of its filters by --filter: {}.\n"
+WHICH = "Name one of its filters: {}.\n"
 
 # A filter that fits in the tree layout alone, since its rules are few tests there; and one that fits in none.
 WIDE = "{" + of_rules("a", 813, ("write", "open", "close", "stat")) + "}"
@@ -116,7 +116,8 @@ CASES = [
     # The policy's only filter is taken where none is named.
     writes("compile two-filters.json -f a", "", TREE),
     rejects("compile two-filters.json", "", WHICH.format("a, b\\xc2\\x9b"), TOOL + "two-filters.json: "),
-    rejects("compile", "{}", WHICH.format("")),
+    rejects("compile", "{}", "The policy has no filters.\n"),
+    rejects("compile", '{"a":' + LOGS[5:-1] + ',"":' + LOGS[5:], WHICH.format("'', a")),
     rejects("compile", "[]", NO_OBJECT),
     rejects("compile", '{"a":{}}', FRONTEND + "Json filter has a wrong shape: a.\n"),
     # `compile` writes a file, where there is no fault.
@@ -147,8 +148,8 @@ CASES = [
     rejects("compile \"$(printf 'missing\\nfile')\"", "", MISSING, TOOL + "missing\\x0afile: "),
     *[case for it in LAYOUTS for case in fails_to_read_and_write("compile" + it)],
     rejects("compile examples", "", FOLDER, TOOL + "examples: "),
-    ("compile < examples", 1, "", INPUT + FOLDER),
-    ("compile <&-", 1, "", INPUT + CLOSED),
-    ("compile < logs.json > /dev/full", 1, "", OUTPUT + FULL),
+    ("compile < examples", 2, "", INPUT + FOLDER),
+    ("compile <&-", 2, "", INPUT + CLOSED),
+    ("compile < logs.json > /dev/full", 2, "", OUTPUT + FULL),
     *[rejects(f"compile --format {it} > /dev/full", LOGS, FULL, OUTPUT) for it in ("listing", "c")],
 ]

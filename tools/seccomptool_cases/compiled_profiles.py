@@ -35,7 +35,7 @@ def compiles(words, given, *decided, told=""):
     """Returns the cases of a profile whose program returns these actions for calls, such as `("read 5", "allow")`."""
     arch = re.search(r"(?:-a |--arch[ =])(\w+)", words)
     return [
-        Case(f"{f'compile {words}'.strip()} | ./seccomptool run -a {arch[1] if arch else 'x86_64'} - {call}", 0, f"{action}\n", told,
+        Case(f"{f'compile {words}'.strip()} | ./seccomptool explain -a {arch[1] if arch else 'x86_64'} - {call}", 0, f"{action}\n", told,
              given if isinstance(given, str) else json.dumps(given))
         for call, action in decided
     ]

@@ -58,7 +58,7 @@ def compares(old, new, words=""):
 CASES = [
     *[it for name, (policy, _) in POLICIES.items() if policy for it in compiles(name)],
     # All filters' warnings count, whichever is compiled or compared.
-    *compiles("six-warnings.json", "--filter=c"), *compares("six-warnings.json", "six-warnings.json", "-f c "),
+    *compiles("six-warnings.json", "--filter=c"), *compares("six-warnings.json", "six-warnings.json"),
     *compiles("three-warnings.json", "-a aarch64 -f a"),
     *[it for old in ("no-warning.json", "one-warning.json", "six-warnings.json") for new in ("no-warning.json", "three-warnings.json")
       for it in compares(old, new)],
@@ -74,6 +74,6 @@ CASES = [
     rejects("compile one-warning.json >&-", "", CLOSED, OUTPUT),
     Case("diff one-warning.json three-warnings.json > /dev/full", 2, "", OUTPUT + FULL),
     Case("diff one-warning.json -", 2, "", INPUT + RESET, Failing(LOGS)),
-    Case("diff -f b one-warning.json three-warnings.json", 2, "", TOOL + "No filter has this name: b.\n"),
+    Case("diff one-warning.json:b three-warnings.json", 2, "", TOOL + "one-warning.json: No filter has this name: b.\n"),
     Case("compile -q -q one-warning.json", 2, "", "error: .."), Case("diff --quiet=true logs.json logs.json", 2, "", "error: .."),
 ]

@@ -77,7 +77,8 @@ CASES = [
     same("logs.json logs.json", SAME),
     same("- logs.json", SAME, LOGS),
     same("logs.json -", SAME, LOGS),
-    same("-f a logs.json logs.json", SAME),
+    same("logs.json:a logs.json", SAME),
+    same("logs.json:a logs.json:a", SAME),
     same("none.json none.json", ""),
     # Programs that are the same need no search, however many sets one would take.
     same("masks.json masks.json", SAME),
@@ -92,27 +93,33 @@ CASES = [
     differ("logs.json traps.json",
            "filter a: different\n  read: log -> trap, less: read(0x0, 0x0, 0x0, 0x0, 0x0, 0x0)\n"
            "  write: log -> trap, less: write(0x0, 0x0, 0x0, 0x0, 0x0, 0x0)\n.."),
-    # With `--at-most` a policy that permits less, or as much of another kind, is none that differs.
-    differ("--at-most logs.json allows-read.json", "filter a: more permissive\n" + READS),
-    same("--at-most allows-read.json logs.json", "filter a: nowhere more permissive\n"),
-    same("logs.json traps.json --at-most", "filter a: nowhere more permissive\n"),
-    same("--at-most errno-1.json errno-2.json", "filter a: nowhere more permissive\n"),
+    # With `--only-more` a policy that permits less, or as much of another kind, is none that differs.
+    differ("--only-more logs.json allows-read.json", "filter a: more permissive\n" + READS),
+    same("--only-more allows-read.json logs.json", "filter a: nowhere more permissive\n"),
+    same("logs.json traps.json --only-more", "filter a: nowhere more permissive\n"),
+    same("--only-more errno-1.json errno-2.json", "filter a: nowhere more permissive\n"),
     # Filters that one policy lacks, those of the old policy first; and one filter alone.
     differ("filters-b-a.json filters-c-a.json", NAMES),
-    differ("--at-most logs.json none.json", "filter a: only in OLD\n"),
-    differ("-f b filters-b-a.json filters-c-a.json", "filter b: only in OLD\n"),
-    differ("--filter=c filters-b-a.json filters-c-a.json", "filter c: only in NEW\n"),
-    same("--filter=a filters-b-a.json filters-c-a.json", SAME),
+    differ("--only-more logs.json none.json", "filter a: only in OLD\n"),
+    same("filters-b-a.json:a filters-c-a.json:a", SAME),
+    same("filters-b-a.json:b filters-c-a.json:c", "filter b -> c: same\n"),
+    same("logs.json filters-c-a.json:c", "filter a -> c: same\n"),
+    fails("filters-b-a.json:b filters-c-a.json:b", "No filter has this name: b.\n", TOOL + "filters-c-a.json: "),
+    fails("filters-b-a.json:c filters-c-a.json:c", "No filter has this name: c.\n", TOOL + "filters-b-a.json: "),
+    fails("filters-b-a.json logs.json:a", "Name one of its filters: a, b.\n", TOOL + "filters-b-a.json: "),
+    # A path with a colon has one more behind it.
+    fails("log:s.json logs.json", MISSING, TOOL + "log: "),
+    fails("log:s.json: logs.json", MISSING, TOOL + "log:s.json: "),
     # No set may be looked at, or few.
     Case("diff --most 0 logs.json allows-read.json", 3, "filter a: undecided\n  read: undecided\n  write: undecided\n..", ""),
-    Case("diff --most=0x0 --at-most logs.json allows-read.json", 3, "filter a: undecided\n  read: undecided\n..", ""),
+    Case("diff --most=0x0 --only-more logs.json allows-read.json", 3, "filter a: undecided\n  read: undecided\n..", ""),
     same("--most 0x10 logs.json logs.json", SAME),
     # The calls of `read` take five sets, by the test of an argument for 5: all of them, which are split below 5; those below;
     # those from 5 on, which are split behind it; 5 alone; and those above. Every other part takes one set.
     same("--most 5 allows-read-of-5.json allows-read-of-5.json", SAME),
     Case("diff --most 4 allows-read-of-5.json allows-read-of-5-twice.json", 3, "filter a: undecided\n  read: undecided\n", ""),
     # A filter that neither has.
-    fails("-f b logs.json logs.json", "No filter has this name: b.\n"),
+    fails("logs.json:b logs.json:b", "No filter has this name: b.\n", TOOL + "logs.json: "),
     # The faults of the old policy, and then those of the new one.
     fails("missing.json logs.json", MISSING, TOOL + "missing.json: "),
     fails("logs.json missing.json", MISSING, TOOL + "missing.json: "),
@@ -126,7 +133,7 @@ CASES = [
     fails("- logs.json", RESET, INPUT, Failing(LOGS)),
     fails("logs.json -", RESET, INPUT, Failing(LOGS)),
     # A filter that neither layout can hold.
-    fails("too-large.json too-large.json", "Backend error: The seccomp filter .."),
+    fails("too-large.json too-large.json", "Backend error: The seccomp filter ..", TOOL + "too-large.json: "),
     # An output that takes nothing.
     fails("logs.json allows-read.json > /dev/full", FULL, OUTPUT),
     fails("logs.json logs.json >&-", CLOSED, OUTPUT),
@@ -137,7 +144,7 @@ CASES = [
             "error: the value of --most is no number from 0 to 18446744073709551615, "
             "decimal or hexadecimal behind 0x\n.."),
     misused("--most=-1 logs.json logs.json"),
-    misused("--at-most=true logs.json logs.json"),
-    misused("--at-most --at-most logs.json logs.json"),
+    misused("--only-more=true logs.json logs.json"),
+    misused("--only-more --only-more logs.json logs.json"),
     misused("logs.json logs.json logs.json"),
 ]

@@ -181,6 +181,6 @@ CASES = [
     *(it for row in (*UNREACHABLE, *REDUNDANT) for it in of_entries(*row)),
     # The 301 rules of three conditions take 9 instructions each, and what is round them 7. With twice these conditions they
     # would take 15 each, which are more than 4096.
-    Case("stats", 0, "filter a\nlinear: 2716 instructions..", "", policy_of([*LARGE, COVERED])),
+    Case("show --stats", 0, "filter a\nlinear: 2716 instructions..", "", policy_of([*LARGE, COVERED])),
     *(writes(f"check {OTHERS}", policy, output) for policy, output in policies_by_chance()),
 ]

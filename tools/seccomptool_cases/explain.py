@@ -125,8 +125,8 @@ CASES = [
       for arch, word in (("x86_64", AARCH64), ("aarch64", X86_64), ("riscv64", 0))],
     # `explain` tells of each record, and then of a rest.
     writes("explain explained-logs.json", TWO_RECORDS, TWO_LINES),
-    Case("explain explained-logs.json", 1, TWO_LINES, INPUT + SHORT, TWO_RECORDS + bytes(1)),
-    ("explain logs.json --records 65-bytes", 1, ANOTHER, TOOL + "65-bytes: " + SHORT),
+    Case("explain explained-logs.json", 2, TWO_LINES, INPUT + SHORT, TWO_RECORDS + bytes(1)),
+    ("explain logs.json --records 65-bytes", 2, ANOTHER, TOOL + "65-bytes: " + SHORT),
     # `explain` tells the first fault; the records' are the last.
     rejects("explain -f b list.json", FAILING_RECORDS, NO_OBJECT, TOOL + "list.json: "),
     rejects("explain -f b -a aarch64 opens.json", FAILING_RECORDS,
@@ -144,8 +144,8 @@ CASES = [
     rejects("explain -f b too-large.json --records 63-bytes", "", LARGE, TOOL + "too-large.json: "),
     # `explain` answers failing readers and writers.
     rejects("explain examples", "", FOLDER, TOOL + "examples: "),
-    ("explain logs.json < examples", 1, "", INPUT + FOLDER),
+    ("explain logs.json < examples", 2, "", INPUT + FOLDER),
     rejects("explain explained-logs.json > /dev/full", bytes(65), FULL, OUTPUT),
     rejects("explain explained-logs.json >&-", bytes(65), CLOSED, OUTPUT),
-    ("explain logs.json < examples/records.bin > /dev/full", 1, "", OUTPUT + FULL),
+    ("explain logs.json < examples/records.bin > /dev/full", 2, "", OUTPUT + FULL),
 ]

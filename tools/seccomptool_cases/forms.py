@@ -14,6 +14,7 @@ CLOSED = "Bad file descriptor (os error 9)\n"
 FOLDER = "Is a directory (os error 21)\n"
 FULL = "No space left on device (os error 28)\n"
 RESET = "Connection reset by peer (os error 104)\n"
+SYSTEM = (MISSING, CLOSED, FOLDER, FULL, RESET)
 
 NO_ARCHITECTURE = "Backend error: Invalid target arch: x8664.\n"
 NO_OBJECT = FRONTEND + "Json is not an object of filters.\n"
@@ -39,8 +40,9 @@ def refuses(words, given, told):
 
 
 def rejects(words, given, told, place=INPUT):
-    """Returns the case of words that write no output, tell this line of a place, and end with 1."""
-    return Case(words, 1, "", place + told, given)
+    """Returns the case of words that write no output and tell this line of a place: `check` answers so, unless it is the system
+    that refuses, and every other command is in trouble."""
+    return Case(words, 1 if words.split()[0] == "check" and told not in SYSTEM else 2, "", place + told, given)
 
 
 def rejects_in_both(words, given, told):

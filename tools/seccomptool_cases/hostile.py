@@ -38,7 +38,7 @@ WORD = shlex.quote(FIRST)
 
 FILES = {
     f"{FIRST}.json": LOGS,
-    f"{FIRST}.bpf": b"\0",
+    f"{FIRST}.bpf": b"\6\0",
     "hostile-filter.json": named(FIRST),
     "hostile-bad.json": '{"a":1}',
     "hostile.bpf": TREE,
@@ -51,11 +51,11 @@ OF_BAD_CALL = policy('{"syscall":' + json.dumps(FIRST) + "}")
 WRONG = FRONTEND + f"Json filter has a wrong shape: {told(FIRST)}.\n"
 
 # The commands that read a file, and those that read two.
-OF_ONE = ("compile", "show", "show --program", "check", "check --oci", "explain", "run", "stats", "stats --oci", "compat", "compile --oci")
-CALLED = ("explain", "run")
+OF_ONE = ("compile", "show", "check", "check --oci", "explain", "show --stats", "show --stats --oci", "compile --oci")
+CALLED = ("explain",)
 
 
-def missing(words, status=1):
+def missing(words, status=2):
     """Returns the case of a file that isn't there."""
     return Case(words, status, "", f"{TOOL}{told(FIRST)}: {MISSING}")
 
@@ -64,54 +64,52 @@ CASES = [
     # A filter's name, in what is written.
     *[writes("show --layout linear", named(it), LOGS_SHOWN.replace("filter 4 a", "filter 4 " + told(it)))
       for it in NAMES if "\\" not in it],
-    *[writes("stats", named(it), LOGS_STEPS.replace("filter a", "filter " + told(it))) for it in NAMES],
+    *[writes("show --stats", named(it), LOGS_STEPS.replace("filter a", "filter " + told(it))) for it in NAMES],
     writes("compile -q --format listing", named(FIRST), listed(told(FIRST), TREE)),
     writes(f"compile -q --format listing -f {WORD}", named(FIRST), listed(told(FIRST), TREE)),
     writes("explain hostile-filter.json", record_of(1, X86_64), "log: no entry of call 1\n"),
     Case("diff -q hostile-filter.json hostile-filter.json", 0, f"filter {told(FIRST)}: same\n", ""),
     Case("diff -q hostile-filter.json logs.json", 1, f"filter {told(FIRST)}: only in OLD\nfilter a: only in NEW\n", ""),
     Case("diff -q logs.json hostile-filter.json", 1, f"filter a: only in OLD\nfilter {told(FIRST)}: only in NEW\n", ""),
-    Case("verify hostile-filter.json hostile.bpf", 0, f"filter {told(FIRST)}: same\n..", ""),
-    writes("compat", policy('{"syscall":"read"},{"syscall":"read","args":[{"index":0,"type":"dword","op":"eq","val":5}]}')
-           .replace('"a"', json.dumps(FIRST)), f"read {told(FIRST)}\n"),
+    Case("diff -q hostile-filter.json hostile.bpf", 0, f"filter {told(FIRST)}: same\n..", ""),
     *[writes("check", policy("", default='"allow"', match='"log"').replace('"a"', json.dumps(it)),
              f"{INPUT[len(TOOL):]}{told(it)}.mismatch_action: warning [allows-by-default]: ..") for it in NAMES],
     # In what is wrong.
     *[rejects(f"{it} -f {WORD} logs.json", "", NO_FILTER, TOOL + "logs.json: ") for it in ("compile -q",)],
     rejects(f"explain -f {WORD} logs.json read", "", NO_FILTER, TOOL + "logs.json: "),
-    Case(f"verify -f {WORD} logs.json hostile.bpf", 2, "", f"{TOOL}logs.json: {NO_FILTER}"),
-    Case(f"diff -f {WORD} logs.json logs.json", 2, "", TOOL + NO_FILTER),
+    Case(f"diff -q logs.json:{WORD} hostile.bpf", 2, "", f"{TOOL}logs.json: {NO_FILTER}"),
+    Case(f"diff logs.json logs.json:{WORD}", 2, "", f"{TOOL}logs.json: {NO_FILTER}"),
     *[rejects(f"compile -q -f {shlex.quote(it)} logs.json", "", f"No filter has this name: {told(it)}.\n", TOOL + "logs.json: ")
       for it in NAMES],
-    rejects("compile", named(FIRST)[:-1] + "," + LOGS[1:], f"Name one of its filters by --filter: a, {told(FIRST)}.\n"),
-    *[rejects(it, '{' + json.dumps(FIRST) + ':{}}', WRONG) for it in ("compile", "show", "stats", "compat")],
-    *[rejects(it, OF_BAD_CALL, BAD_CALL) for it in ("compile", "show", "stats", "compat")],
-    *[rejects("stats", policy('{"syscall":' + json.dumps(it) + "}"),
+    rejects("compile", named(FIRST)[:-1] + "," + LOGS[1:], f"Name one of its filters: a, {told(FIRST)}.\n"),
+    *[rejects(it, '{' + json.dumps(FIRST) + ':{}}', WRONG) for it in ("compile", "show", "show --stats")],
+    *[rejects(it, OF_BAD_CALL, BAD_CALL) for it in ("compile", "show", "show --stats")],
+    *[rejects("show --stats", policy('{"syscall":' + json.dumps(it) + "}"),
               FRONTEND + f"Invalid syscall name: {told(it)} for given arch: x86_64.\n") for it in NAMES],
     Case("diff -q logs.json -", 2, "", INPUT + BAD_CALL, OF_BAD_CALL),
-    Case("verify - hostile.bpf", 2, "", INPUT + BAD_CALL, OF_BAD_CALL),
+    Case("diff - hostile.bpf", 2, "", INPUT + BAD_CALL, OF_BAD_CALL),
     # A call that is asked for.
-    *[rejects(f"{it} {WORD}", "", NO_CALL, TOOL) for it in ("record", "explain logs.json", "run hostile.bpf")],
-    *[rejects(f"record {shlex.quote(it)}", "", f"No call of x86_64 has this name or number: {told(it)}.\n", TOOL) for it in NAMES],
+    *[rejects(f"{it} {WORD}", "", NO_CALL, TOOL) for it in ("call --record", "explain logs.json", "explain hostile.bpf")],
+    *[rejects(f"call --record {shlex.quote(it)}", "", f"No call of x86_64 has this name or number: {told(it)}.\n", TOOL) for it in NAMES],
     # A profile's names and values.
     *[case for it in NAMES for case in left_out("", profile(entry("") | {"names": [it]}), [told(it)], ("read", "errno 1"))],
     *[rejects("compile --oci --strict", json.dumps(profile(entry("") | {"names": [it]})),
               f"names of no system call of x86_64 (1): {told(it)}\n") for it in NAMES],
     # The path of a file.
     *[missing(f"{it} {WORD}") for it in OF_ONE if it not in CALLED], *[missing(f"{it} {WORD} read") for it in CALLED],
-    missing(f"explain --records {WORD} logs.json"), missing(f"run --records {WORD} hostile.bpf"),
+    missing(f"explain --records {WORD} logs.json"), missing(f"explain --records {WORD} hostile.bpf"),
     missing(f"diff {WORD} logs.json", 2), missing(f"diff logs.json {WORD}", 2),
-    missing(f"verify {WORD} hostile.bpf", 2), missing(f"verify logs.json {WORD}", 2),
+    missing(f"diff {WORD} hostile.bpf", 2), missing(f"diff -q logs.json {WORD}", 2),
     *[rejects(f"check {shlex.quote(it)}", "", MISSING, f"{TOOL}{told(it)}: ") for it in NAMES],
     rejects(f"compile -q logs.json -o {WORD}/{WORD}", "", MISSING, f"{TOOL}{told(FIRST)}/{told(FIRST)}: "),
-    rejects(f"run {WORD}.bpf read", "", "..", f"{TOOL}{told(FIRST)}.bpf: "),
+    rejects(f"explain {WORD}.bpf read", "", "..", f"{TOOL}{told(FIRST)}.bpf: "),
     writes(f"compile -q {WORD}.json", "", TREE),
     # Words that are no command.
     *[Case(f"a{it}b", 2, "", f"error: unrecognized subcommand 'a{told(it)}b'\n..") for it in UNQUOTED],
     Case(f"{WORD}", 2, "", f"error: unrecognized subcommand '{told(FIRST)}'\n.."),
     *[Case(f"{it} -a {WORD}", 2, "", f"error: invalid value '{told(FIRST)}' for '--arch <ARCH>'\n..")
-      for it in ("compile", "show", "check", "explain", "run", "stats", "record", "diff", "verify", "compat")],
+      for it in ("check", "compile", "show", "explain", "diff", "call")],
     *[Case(f"{it} --{WORD}", 2, "", f"error: unexpected argument '--{told(FIRST)}' found\n..")
-      for it in ("compile", "show", "check", "explain", "run", "stats", "record", "diff", "verify", "compat")],
+      for it in ("check", "compile", "show", "explain", "diff", "call")],
     Case(f"check --allow {WORD}", 2, "", f"error: invalid value '{told(FIRST)}' for '--allow <CODE>'\n.."),
 ]

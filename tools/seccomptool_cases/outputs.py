@@ -7,7 +7,7 @@ from .forms import FULL, LOGS, MISSING, OUTPUT, TOOL, Case, rejects, writes
 
 FILES = {"read.json": LOGS}
 
-ONTO = "the program isn't written onto its policy\n"
+ONTO = "the output isn't written onto what is read\n"
 
 
 def beside(name, before, words, then, status=0, output="", told=""):
@@ -29,17 +29,20 @@ CASES = [
     beside("taken", "touch older.0.new &&", "read.json -o older", "ls; wc -c < older", 0, f"older\nolder.0.new\nread.json\n{len(TREE)}\n"),
     beside("made", "", "read.json -o made.bpf", "ls; wc -c < made.bpf", 0, f"made.bpf\nolder\nread.json\n{len(TREE)}\n"),
     # An older file stays where anything fails, and nothing is left beside it.
-    beside("faulty", "", "../no-json.json -o older", "ls; cat older", 1, "older\nread.json\nolder\n",
+    beside("faulty", "", "../no-json.json -o older", "ls; cat older", 2, "older\nread.json\nolder\n",
            TOOL + "../no-json.json: " + FRONTEND + "Error parsing Json: .."),
-    beside("unnamed", "", "-f b read.json -o older", "ls; cat older", 1, "older\nread.json\nolder\n",
+    beside("unnamed", "", "-f b read.json -o older", "ls; cat older", 2, "older\nread.json\nolder\n",
            TOOL + "read.json: No filter has this name: b.\n"),
-    beside("nowhere", "", "read.json -o missing/older", "ls; cat older", 1, "older\nread.json\nolder\n",
+    beside("nowhere", "", "read.json -o missing/older", "ls; cat older", 2, "older\nread.json\nolder\n",
            TOOL + "missing/older: " + MISSING),
     # A program isn't written onto its policy, by whichever path.
-    *[beside(f"onto-{number}", "ln -s read.json link &&", f"{policy} -o {output}", "cmp read.json ../read.json; ls", 1,
+    *[beside(f"onto-{number}", "ln -s read.json link &&", f"{policy} -o {output}", "cmp read.json ../read.json; ls", 2,
              "link\nolder\nread.json\n", TOOL + f"{output}: " + ONTO)
       for number, (policy, output) in enumerate([
           ("read.json", "read.json"), ("read.json", "./read.json"), ("read.json", "../onto-2/read.json"), ("link", "read.json"),
           ("read.json", "link")])],
+    # So is a record.
+    Case("call --record -o made.bin read && ./seccomptool call --record read | cmp -s - made.bin; status=$?; rm made.bin; (exit $status)", 0, "", ""),
+    Case("call -o made.bin read", 2, "", "error: --output is for --record\n.."),
     beside("input", "", "- -o read.json < ../read.json", "wc -c < read.json", 0, f"{len(TREE)}\n"),
 ]

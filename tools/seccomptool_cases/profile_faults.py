@@ -224,11 +224,11 @@ FILES = {"config.json": CONFIG, "wrong-profile.json": WRONG}
 
 # What each command has of a profile that it reads, and the exit status.
 COMMANDS = [
-    ("compile --oci {}", 1), ("compile --oci --strict {}", 1), ("compile --oci -a riscv64 --cap CAP_KILL --kernel 6.1 {}", 1),
-    ("compile --oci --format listing -q {}", 1), ("explain --oci {} read", 1), ("explain --oci --format word {} read", 1),
-    ("explain --oci {} < examples/records.bin", 1), ("diff --oci {} reads-profile.json", 2), ("diff --oci reads-profile.json {}", 2),
-    ("diff --oci --at-most --most 0 {} reads-profile.json", 2), ("stats --oci {}", 1),
-    ("stats --oci -a riscv64 --cap CAP_KILL --kernel 6.1 {}", 1),
+    ("compile --oci {}", 2), ("compile --oci --strict {}", 2), ("compile --oci -a riscv64 --cap CAP_KILL --kernel 6.1 {}", 2),
+    ("compile --oci --format listing -q {}", 2), ("explain --oci {} read", 2), ("explain --oci --format word {} read", 2),
+    ("explain --oci {} < examples/records.bin", 2), ("diff --oci {} reads-profile.json", 2), ("diff --oci reads-profile.json {}", 2),
+    ("diff --oci --only-more --most 0 {} reads-profile.json", 2), ("show --stats --oci {}", 2),
+    ("show --stats --oci -a riscv64 --cap CAP_KILL --kernel 6.1 {}", 2),
     ("check --oci {}", 1),
     ("check --oci --deny-warnings --allow never-holds -a riscv64 --cap CAP_KILL --kernel 6.1 {}", 1),
 ]

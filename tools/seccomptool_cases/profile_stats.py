@@ -9,7 +9,7 @@ import struct
 
 from .forms import CLOSED, FOLDER, FULL, LOGS, MISSING, OUTPUT, RESET, TOOL, Case, Failing, rejects, writes
 from .compiled_profiles import PARSING, TOO_LONG, entry, profile
-from .oci import AUDIT_ARCH, COMMENTED, CONTAINER_ONLY, WRONG_DEFAULT, arch_of, file_of, misused, record_of, unnamed, ways
+from .oci import AUDIT_ARCH, COMMENTED, NO_NAME, WRONG_DEFAULT, arch_of, file_of, misused, record_of, unnamed, ways
 from .profile_faults import NO_PROFILE
 from .profiles import PROFILES
 from .stats import LOGS_STEPS
@@ -61,7 +61,7 @@ def compare_measures(results, run):
     for words, file in (*files, *[(it, "examples/oci-profile.json") for it in CONTAINERS]):
         status, written, _ = run(f"compile --oci -q {words} {file}", "")
         wanted = measured(words, written.encode("utf-8", "surrogateescape")) if status == 0 else ""
-        for asked in ways("stats", f"{words} {file}"):
+        for asked in ways("show --stats", f"{words} {file}"):
             results.compare(asked, (0, wanted, ""), run(asked, ""))
 
 
@@ -86,26 +86,26 @@ OPENS = json.dumps(profile(entry("open")))
 
 # Cases of files that are known as profiles, and of no container.
 KNOWN = [
-    writes("stats --oci reads-profile.json", "", READS),
-    writes("stats --oci", json.dumps(profile(entry("read"))), READS),
-    writes("stats --oci -", json.dumps(profile(entry("read"), default="SCMP_ACT_KILL")), KILLS),
-    writes("stats --oci -", json.dumps(profile()), NOTHING),
-    writes("stats --oci -", json.dumps(profile(entry("read"), default="SCMP_ACT_ALLOW")), ALL),
+    writes("show --stats --oci reads-profile.json", "", READS),
+    writes("show --stats --oci", json.dumps(profile(entry("read"))), READS),
+    writes("show --stats --oci -", json.dumps(profile(entry("read"), default="SCMP_ACT_KILL")), KILLS),
+    writes("show --stats --oci -", json.dumps(profile()), NOTHING),
+    writes("show --stats --oci -", json.dumps(profile(entry("read"), default="SCMP_ACT_ALLOW")), ALL),
     # Of the architecture that is named; names that it hasn't are left out, and not listed, nor are flags.
-    writes("stats --oci --arch=amd64 -", OPENS, READS),
-    writes("stats --oci -a arm64 -", OPENS, NOTHING_ELSEWHERE),
-    writes("stats --oci -a riscv64 -", OPENS, NOTHING_ELSEWHERE),
-    writes("stats --oci unknown-profile.json", "", READS),
-    writes("stats --oci flags-profile.json", "", READS),
+    writes("show --stats --oci --arch=amd64 -", OPENS, READS),
+    writes("show --stats --oci -a arm64 -", OPENS, NOTHING_ELSEWHERE),
+    writes("show --stats --oci -a riscv64 -", OPENS, NOTHING_ELSEWHERE),
+    writes("show --stats --oci unknown-profile.json", "", READS),
+    writes("show --stats --oci flags-profile.json", "", READS),
     # A program that just fits, and one that is too large.
-    writes("stats --oci fitting-profile.json", "", "profile: 4095 instructions, at most .."),
-    rejects("stats --oci large-profile.json", "", TOO_LONG, TOOL + "large-profile.json: "),
+    writes("show --stats --oci fitting-profile.json", "", "profile: 4095 instructions, at most .."),
+    rejects("show --stats --oci large-profile.json", "", TOO_LONG, TOOL + "large-profile.json: "),
     # Files, inputs and outputs that fail.
-    rejects("stats --oci missing.json", "", MISSING, TOOL + "missing.json: "),
-    rejects("stats --oci examples", "", FOLDER, TOOL + "examples: "),
-    rejects("stats --oci -", Failing(json.dumps(profile())), RESET),
-    rejects("stats --oci reads-profile.json > /dev/full", "", FULL, OUTPUT),
-    rejects("stats --oci reads-profile.json >&-", "", CLOSED, OUTPUT),
+    rejects("show --stats --oci missing.json", "", MISSING, TOOL + "missing.json: "),
+    rejects("show --stats --oci examples", "", FOLDER, TOOL + "examples: "),
+    rejects("show --stats --oci -", Failing(json.dumps(profile())), RESET),
+    rejects("show --stats --oci reads-profile.json > /dev/full", "", FULL, OUTPUT),
+    rejects("show --stats --oci reads-profile.json >&-", "", CLOSED, OUTPUT),
 ]
 
 # The call 0 matches always. In the linear layout it has a test, two jumps and two returns, behind 4 instructions and in front of a
@@ -115,22 +115,20 @@ COMMENTED_STEPS = "filter a\nlinear: 10 instructions, at most 6 steps, 6 passing
 CASES = [
     *KNOWN,
     *map(unnamed, KNOWN),
-    writes("stats --oci --cap CAP_KILL --kernel 6.1 reads-profile.json", "", READS),
-    writes("stats reads-profile.json --oci --kernel=6.1 --cap=CAP_KILL --cap=CAP_CHOWN", "", READS),
+    writes("show --stats --oci --cap CAP_KILL --kernel 6.1 reads-profile.json", "", READS),
+    writes("show --stats reads-profile.json --oci --kernel=6.1 --cap=CAP_KILL --cap=CAP_CHOWN", "", READS),
     # With `--oci` nothing else is a profile.
-    rejects("stats --oci logs.json", "", NO_PROFILE, TOOL + "logs.json: "),
-    rejects("stats --oci", "{", PARSING),
+    rejects("show --stats --oci logs.json", "", NO_PROFILE, TOOL + "logs.json: "),
+    rejects("show --stats --oci", "{", PARSING),
     # Without it, a policy is one whatever its filters are named, and whatever its text has in other places.
-    writes("stats default-action.json", "", LOGS_STEPS.replace("filter a", "filter defaultAction")),
-    writes("stats", COMMENTED, COMMENTED_STEPS),
+    writes("show --stats default-action.json", "", LOGS_STEPS.replace("filter a", "filter defaultAction")),
+    writes("show --stats", COMMENTED, COMMENTED_STEPS),
     # So is each text that has none of the key's bytes, or another value.
-    rejects("stats", r'{"default\u0041ction": "SCMP_ACT_ALLOW"}', WRONG_DEFAULT),
-    writes("stats --oci", r'{"default\u0041ction": "SCMP_ACT_ALLOW"}', ALL),
-    rejects("stats", '{"defaultAction": null}', WRONG_DEFAULT),
+    rejects("show --stats", r'{"default\u0041ction": "SCMP_ACT_ALLOW"}', WRONG_DEFAULT),
+    writes("show --stats --oci", r'{"default\u0041ction": "SCMP_ACT_ALLOW"}', ALL),
+    rejects("show --stats", '{"defaultAction": null}', WRONG_DEFAULT),
     # What is no command.
-    misused("stats --cap CAP_KILL logs.json", CONTAINER_ONLY),
-    misused("stats --kernel 6.1 reads-profile.json", CONTAINER_ONLY),
-    misused("stats --oci --kernel 6 reads-profile.json", "the value of --kernel is no version of two numbers, as 6.1"),
-    misused("stats --oci --filter a reads-profile.json", "unexpected argument '--filter' found"),
-    misused("stats --oci reads-profile.json reads-profile.json", "unexpected argument 'reads-profile.json' found"),
+    misused("show --stats --oci --kernel 6 reads-profile.json", "the value of --kernel is no version of two numbers, as 6.1"),
+    rejects("show --stats --oci --filter a reads-profile.json", "", NO_NAME, TOOL + "reads-profile.json: "),
+    misused("show --stats --oci reads-profile.json reads-profile.json", "unexpected argument 'reads-profile.json' found"),
 ]

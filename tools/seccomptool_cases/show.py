@@ -6,7 +6,7 @@ from .forms import (
     CLOSED, FOLDER, FULL, INPUT, LAYOUTS, MISSING, NO_OBJECT, OUTPUT, RESET, STEERS, TOOL, Failing,
     fails_to_read_and_write, rejects, rejects_in_both, writes
 )
-from .run import (
+from .programs import (
     ALLOW, ERRNO_1, JUMP, JUMP_AT_LEAST, JUMP_EQUAL, JUMP_GREATER, LOAD, MASK, OF_BIT, OF_READ, UNFIT, program, returns
 )
 
@@ -162,25 +162,25 @@ CASES = [
     # `show` tells the first fault.
     *rejects_in_both("show", "[]", NO_OBJECT),
     *rejects_in_both("show", BOTH_FAULTY, FRONTEND + "Json filter has a wrong shape: a.\n"),
-    ("show --layout linear < too-large.json", 1, "", INPUT + LARGE),
+    ("show --layout linear < too-large.json", 2, "", INPUT + LARGE),
     # `show` answers faults of its reader and its writer.
     *[case for it in LAYOUTS for case in fails_to_read_and_write("show" + it, LOGS, LOGS)],
-    ("show < logs.json > /dev/full", 1, "", OUTPUT + FULL),
+    ("show < logs.json > /dev/full", 2, "", OUTPUT + FULL),
     # `show` writes programs in bytes, of whichever compiler.
-    writes("show --program read.bpf", "", READ_SHOWN),
-    writes("show --program=- < bit.bpf", "", BIT_SHOWN),
-    writes("show --program -", OF_LOADS, LOADS_SHOWN),
-    writes("show --program -", OF_ARCHITECTURES, ARCHITECTURES_SHOWN),
-    writes("show -a aarch64 --program read.bpf", "", READ_SHOWN.replace("; read", "; io_setup")),
-    writes("show -a riscv64 --program -", OF_ARCHITECTURES, ARCHITECTURES_SHOWN.replace("openat", "call 257", 1)),
-    writes("show --program longest.bpf | tail -n 1", "", "4095  ret #0x7fff0000             ; allow\n"),
-    writes("compile -q logs.json -o shown.bpf --layout linear && ./seccomptool show --program shown.bpf; rm shown.bpf", "",
+    writes("show read.bpf", "", READ_SHOWN),
+    writes("show - < bit.bpf", "", BIT_SHOWN),
+    writes("show -", OF_LOADS, LOADS_SHOWN),
+    writes("show -", OF_ARCHITECTURES, ARCHITECTURES_SHOWN),
+    writes("show -a aarch64 read.bpf", "", READ_SHOWN.replace("; read", "; io_setup")),
+    writes("show -a riscv64 -", OF_ARCHITECTURES, ARCHITECTURES_SHOWN.replace("openat", "call 257", 1)),
+    writes("show longest.bpf | tail -n 1", "", "4095  ret #0x7fff0000             ; allow\n"),
+    writes("compile -q logs.json -o shown.bpf --layout linear && ./seccomptool show shown.bpf; rm shown.bpf", "",
            LOGS_SHOWN.replace("filter 4 a\n", "")),
     # Those that aren't taken, and faults of files, of the reader and the writer.
-    *[rejects("show --program -", given, told + "\n") for given, told in UNFIT],
-    rejects("show --program missing.bpf", "", MISSING, TOOL + "missing.bpf: "),
-    rejects("show --program examples", "", FOLDER, TOOL + "examples: "),
-    rejects("show --program -", Failing(OF_READ), RESET),
-    rejects("show --program read.bpf > /dev/full", "", FULL, OUTPUT),
-    rejects("show --program read.bpf >&-", "", CLOSED, OUTPUT),
+    *[rejects("show -", given, told + "\n") for given, told in UNFIT],
+    rejects("show missing.bpf", "", MISSING, TOOL + "missing.bpf: "),
+    rejects("show examples", "", FOLDER, TOOL + "examples: "),
+    rejects("show -", Failing(OF_READ), RESET),
+    rejects("show read.bpf > /dev/full", "", FULL, OUTPUT),
+    rejects("show read.bpf >&-", "", CLOSED, OUTPUT),
 ]

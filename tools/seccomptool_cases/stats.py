@@ -35,19 +35,19 @@ TOO_MANY = "Backend error: The seccomp filter contains too many BPF instructions
 
 CASES = [
     # `stats` tells the lengths and steps.
-    writes("stats", LOGS, LOGS_STEPS),
-    writes("stats", TWO_CALLS, TWO_CALLS_STEPS),
-    writes("stats", STEERS, LOGS_STEPS.replace("filter a", r"filter a\xc2\x9b")),
-    writes("stats", "{}", ""),
-    ("stats < logs.json", 0, LOGS_STEPS, ""),
-    writes("stats -a amd64 logs.json", "", LOGS_STEPS),
+    writes("show --stats", LOGS, LOGS_STEPS),
+    writes("show --stats", TWO_CALLS, TWO_CALLS_STEPS),
+    writes("show --stats", STEERS, LOGS_STEPS.replace("filter a", r"filter a\xc2\x9b")),
+    writes("show --stats", "{}", ""),
+    ("show --stats < logs.json", 0, LOGS_STEPS, ""),
+    writes("show --stats -a amd64 logs.json", "", LOGS_STEPS),
     # `stats` tells the first fault.
-    rejects("stats", "[]", NO_OBJECT),
-    rejects("stats", '{"a":{},' + LARGE_TREE + "}", FRONTEND + "Json filter has a wrong shape: a.\n"),
-    rejects("stats", "{" + LARGE_TREE + "," + LARGE_CHAINS + "}", TOO_MANY.format(8407)),
-    rejects("stats", "{" + LARGE_CHAINS + "}", TOO_MANY.format(4101)),
-    ("stats < too-large.json", 1, "", INPUT + LARGE),
+    rejects("show --stats", "[]", NO_OBJECT),
+    rejects("show --stats", '{"a":{},' + LARGE_TREE + "}", FRONTEND + "Json filter has a wrong shape: a.\n"),
+    rejects("show --stats", "{" + LARGE_TREE + "," + LARGE_CHAINS + "}", TOO_MANY.format(8407)),
+    rejects("show --stats", "{" + LARGE_CHAINS + "}", TOO_MANY.format(4101)),
+    ("show --stats < too-large.json", 2, "", INPUT + LARGE),
     # `stats` answers faults of its reader and its writer.
-    *fails_to_read_and_write("stats"),
-    ("stats < logs.json > /dev/full", 1, "", OUTPUT + FULL),
+    *fails_to_read_and_write("show --stats"),
+    ("show --stats < logs.json > /dev/full", 2, "", OUTPUT + FULL),
 ]

@@ -1,11 +1,11 @@
 -- What `check` gives of a profile: the warnings of filters that decide together.
-use Rattle.std.specs.Prelude.{◌≡◌, ◌↔◌, ℕ, Bool, true, false, List, [], ◌∷◌, ◌++◌, Any, IsTrue, is_some, codes, String}
+use Rattle.std.specs.Prelude.{◌≡◌, ◌↔◌, ℕ, Bool, true, false, List, [], ◌∷◌, ◌++◌, Any, IsTrue, is_some, codes, String, ⊤}
 use Rattle.std.specs.BTreeMap.{get_by_text}
 use Rattle.std.specs.declared.alloc.Global.{Global}
 use Rattle.seccompiler.specs.declared.backend.TargetArch.{TargetArch}
 use Rattle.seccompiler.specs.declared.json.types.JsonFilterMap.{JsonFilterMap}
 use Rattle.seccompiler.specs.JsonTypes.{JsonFilter}
-use Rattle.seccomp_oci.specs.CompiledProfile.{IsCompiledProfile}
+use Rattle.seccomp_oci.specs.CompiledProfile.{IsCompileFault, IsCompiledProfile}
 use Rattle.seccomp_oci.specs.Types.{Container}
 use Rattle.seccomp_warnings.specs.CallWarnings.{DeniesEach}
 use Rattle.seccomp_warnings.specs.Reports.{codes_for, IsReportOf}
@@ -13,6 +13,8 @@ use Rattle.seccomp_warnings.specs.declared.code.Code.{Code}
 use Rattle.seccomp_warnings.specs.declared.code.Code.TheVariants as code
 use Rattle.seccomp_warnings.specs.declared.report.Report.{Report}
 use Rattle.seccomptool.specs.declared.check.profile.CheckedProfile.{CheckedProfile}
+use Rattle.seccomptool.specs.declared.error.ToolError.{ToolError}
+use Rattle.seccomptool.specs.declared.error.ToolError.TheVariants.{Profile, OutOfMemory}
 
 -- ---- the codes that aren't reported
 
@@ -59,3 +61,9 @@ pub record IsProfileCheckOf (target : TargetArch) (container : Container) (allow
   pub compiled : IsCompiledProfile target container false text checked.compiled
   pub filters : JsonFilterMap
   pub report : IsProfileReport target allowed front filters checked.report
+
+-- Why a profile is rejected: what its compiler finds; or want of memory.
+abbrev pub IsRefusedProfile : TargetArch → Container → (strict : Bool) → (text : List ℕ) → ToolError → Type 0
+IsRefusedProfile target container strict text (Profile e) = IsCompileFault target container strict text e
+IsRefusedProfile target container strict text OutOfMemory = ⊤
+IsRefusedProfile target container strict text e = ⊥

@@ -1,9 +1,13 @@
 -- What it means that a command is carried out on the texts that it is given, and with which status it ends.
-use Rattle.std.specs.Prelude.{◌≡◌, ◌≤◌, ◌⊎◌, ℕ, ◌/◌, All, Bool, Contains, List, length, Option, Some, None, string_bytes, ⊤}
+use Rattle.std.specs.Prelude.{◌≡◌, ◌≢◌, ◌≤◌, ◌⊎◌, ℕ, ◌/◌, All, Bool, true, false, Contains, List, length, Option, Some, None}
+use Rattle.std.specs.Prelude.{string_bytes, ⊤}
+use Rattle.std.specs.Borrow.{Bor}
 use Rattle.std.specs.Simd.{first_chunks}
 use Rattle.std.specs.List.{AllZip}
 use Rattle.seccompiler.specs.declared.backend.TargetArch.{TargetArch}
+use Rattle.seccompiler.specs.declared.backend.TargetArch.TheVariants.{x86_64}
 use Rattle.seccompiler.specs.declared.bpf.sock_filter.{sock_filter}
+use Rattle.seccompiler.specs.declared.machine.Outcome.{Outcome}
 use Rattle.seccomp_tree.specs.declared.layout.Layout.{Layout}
 use Rattle.seccompiler.specs.JsonAnswers.{OfValue}
 use Rattle.seccompiler.specs.Machine.{IsChecked}
@@ -15,38 +19,37 @@ use Rattle.seccomp_warnings.specs.declared.report.Report.{Report}
 use Rattle.seccomptool.specs.declared.check.profile.CheckedProfile.{CheckedProfile}
 use Rattle.seccomptool.specs.declared.compile.NamedProgram.{NamedProgram}
 use Rattle.seccomptool.specs.declared.diff.Diff.{Diff}
+use Rattle.seccomptool.specs.declared.diff.scope.Scope.{Scope}
+use Rattle.seccomptool.specs.declared.error.ToolError.{ToolError}
+use Rattle.seccomptool.specs.declared.error.ToolError.TheVariants.{OutOfMemory}
 use Rattle.seccomptool.specs.declared.explain.Explanation.{Explanation}
 use Rattle.seccomptool.specs.declared.failure.Failure.{Failure}
 use Rattle.seccomptool.specs.declared.failure.Failure.TheVariants as failure
 use Rattle.seccomptool.specs.declared.findings.Terms.{Terms}
 use Rattle.seccomptool.specs.declared.findings.Verdict.{Verdict}
 use Rattle.seccomptool.specs.declared.findings.Verdict.TheVariants.{Same, Different, Undecided}
+use Rattle.seccomptool.specs.declared.kind.Reading.{Reading}
 use Rattle.seccomptool.specs.declared.kind.Subject.{Subject}
 use Rattle.seccomptool.specs.declared.kind.Subject.TheVariants as subject
+use Rattle.seccomptool.specs.declared.record.KnownCall.{KnownCall}
+use Rattle.seccomptool.specs.declared.sides.Side.{Side}
 use Rattle.seccomptool.specs.declared.stats.FilterStats.{FilterStats}
 use Rattle.seccomptool.specs.declared.stats.measure.Measure.{Measure}
-use Rattle.seccomptool.specs.declared.compat.FilterCalls.{FilterCalls}
-use Rattle.seccomptool.specs.declared.verify.Verification.{Verification}
-use Rattle.seccomptool.specs.declared.verify.scope.Scope.{Scope}
 use Rattle.seccomptool.specs.declared.words.Call.{Call}
 use Rattle.seccomptool.specs.declared.words.Command.{Command}
-use Rattle.seccomptool.specs.declared.words.Command.TheVariants.{Compile, Show, Check, Codes, Explain, Run, Stats, Record, Diff as DiffOf}
-use Rattle.seccomptool.specs.declared.words.Command.TheVariants.{Verify, Compat}
+use Rattle.seccomptool.specs.declared.words.Command.TheVariants.{Compile, Show, Check, Codes, Explain, Call as CallOf, Diff as DiffOf}
 use Rattle.seccomptool.specs.declared.words.Inputs.{Inputs}
-use Rattle.seccomptool.specs.declared.words.Shown.{Shown}
-use Rattle.seccomptool.specs.declared.words.Shown.TheVariants as shown
-use Rattle.seccomptool.specs.Check.{IsCheckOf, verdict_where}
-use Rattle.seccomptool.specs.CheckProfile.{IsProfileCheckOf}
+use Rattle.seccomptool.specs.declared.words.Names.{Names}
+use Rattle.seccomptool.specs.Check.{IsCheckOf, IsRefusal, verdict_where}
+use Rattle.seccomptool.specs.CheckProfile.{IsProfileCheckOf, IsRefusedProfile}
 use Rattle.seccomptool.specs.Chosen.{IsChosen, text_of}
-use Rattle.seccomptool.specs.Compat.{AreCalls}
 use Rattle.seccomptool.specs.Compile.{ArePrograms, IsProgramUnder}
-use Rattle.seccomptool.specs.Diff.{IsDiff, verdict_all}
-use Rattle.seccomptool.specs.Explain.{IsExplanation}
+use Rattle.seccomptool.specs.Diff.{IsDiff, verdict_in}
+use Rattle.seccomptool.specs.Explain.{IsOfPolicy, IsOfProfile}
 use Rattle.seccomptool.specs.Kinds.{IsTakenAs}
-use Rattle.seccomptool.specs.Record.{IsRecordOf}
-use Rattle.seccomptool.specs.Run.{AreReturned, IsProgramOf}
-use Rattle.seccomptool.specs.Stats.{AreStats, IsProfileMeasure}
-use Rattle.seccomptool.specs.Verify.{IsVerification, verdict_in}
+use Rattle.seccomptool.specs.Record.{IsCall, IsRecordOf}
+use Rattle.seccomptool.specs.Run.{AreReturned, IsProgramOf, IsRefusedProgram}
+use Rattle.seccomptool.specs.Stats.{AreStats, IsMeasureOf, IsProfileMeasure}
 
 -- ---- what each command answers
 
@@ -59,31 +62,64 @@ IsFilterCompiled arch layout asked text =
 abbrev pub IsProfileCompiled : TargetArch → Container → (strict : Bool) → (text : List ℕ) → Type 0
 IsProfileCompiled arch container strict text = (compiled : CompiledProfile) × IsCompiledProfile arch container strict text compiled
 
+-- The bytes are those of a program that may be run.
+abbrev pub IsCheckedProgram : (bytes : List ℕ) → Type 0
+IsCheckedProgram bytes = (program : List sock_filter) × IsProgramOf bytes program × IsChecked program
+
 -- The program of what is given.
-abbrev pub IsCompiledAs : TargetArch → Subject → Layout → (strict : Bool) → (asked : Option (List ℕ)) → (text : List ℕ) → Type 0
+abbrev pub IsCompiledAs : TargetArch → Subject → Layout → (strict : Bool) → (asked : Option (List ℕ)) → (given : List ℕ) → Type 0
 IsCompiledAs arch subject.Policy layout strict asked text = IsFilterCompiled arch layout asked text
 IsCompiledAs arch (subject.Profile container) layout strict asked text = IsProfileCompiled arch container.now strict text
+IsCompiledAs arch subject.Program layout strict asked bytes = IsCheckedProgram bytes
 
-abbrev pub IsCompiled : TargetArch → Option Container → Layout → (strict : Bool) → (asked : Option (List ℕ)) → (text : List ℕ) → Type 0
-IsCompiled arch container layout strict asked text =
-    (kind : Subject) × IsTakenAs container asked text kind × IsCompiledAs arch kind layout strict asked text
+abbrev pub IsCompiled : TargetArch → Reading → Layout → (strict : Bool) → (asked : Option (List ℕ)) → (given : List ℕ) → Type 0
+IsCompiled arch reading layout strict asked given =
+    (kind : Subject) × IsTakenAs reading given kind × IsCompiledAs arch kind layout strict asked given
 
--- The programs of a policy, or a program.
-abbrev pub IsShown : TargetArch → Layout → Shown → (given : List ℕ) → Type 0
-IsShown arch layout shown.Policy text = (all : List NamedProgram) × OfValue text (λ d. ArePrograms layout arch d all)
-IsShown arch layout shown.Program bytes = (program : List sock_filter) × IsProgramOf bytes program × IsChecked program
+-- The programs of what is given, all those of a policy.
+abbrev pub IsShownAs : TargetArch → Subject → Layout → (given : List ℕ) → Type 0
+IsShownAs arch subject.Policy layout text = (all : List NamedProgram) × OfValue text (λ d. ArePrograms layout arch d all)
+IsShownAs arch (subject.Profile container) layout text = IsProfileCompiled arch container.now false text
+IsShownAs arch subject.Program layout bytes = IsCheckedProgram bytes
 
--- The warnings of a policy or a profile, and whether they count.
-abbrev pub IsCheckedAs : TargetArch → Subject → (denied : Bool) → (allowed : List Code) → (text : List ℕ) → Verdict → Type 0
-IsCheckedAs arch subject.Policy denied allowed text v =
+-- The numbers of the programs of what is given.
+abbrev pub IsMeasuredAs : TargetArch → Subject → (given : List ℕ) → Type 0
+IsMeasuredAs arch subject.Policy text = (all : List FilterStats) × OfValue text (λ d. AreStats arch d all)
+IsMeasuredAs arch (subject.Profile container) text = (measure : Measure) × IsProfileMeasure arch container.now text measure
+IsMeasuredAs arch subject.Program bytes =
+    (program : List sock_filter) × IsProgramOf bytes program × (measure : Measure) × IsMeasureOf arch program measure
+
+abbrev pub IsShownOrMeasured : (measured : Bool) → TargetArch → Subject → Layout → (given : List ℕ) → Type 0
+IsShownOrMeasured false arch kind layout given = IsShownAs arch kind layout given
+IsShownOrMeasured true arch kind layout given = IsMeasuredAs arch kind given
+
+abbrev pub IsShown : TargetArch → Reading → Layout → (measured : Bool) → (given : List ℕ) → Type 0
+IsShown arch reading layout measured given =
+    (kind : Subject) × IsTakenAs reading given kind × IsShownOrMeasured measured arch kind layout given
+
+-- What is given is accepted, with its warnings, and whether they count.
+abbrev pub IsAccepted : TargetArch → Subject → (denied : Bool) → (allowed : List Code) → (given : List ℕ) → Verdict → Type 0
+IsAccepted arch subject.Policy denied allowed text v =
     (front : List ℕ) × (report : Report) × IsCheckOf arch allowed front text report × (v ≡ verdict_where denied report.count)
-IsCheckedAs arch (subject.Profile container) denied allowed text v = (front : List ℕ) × (checked : CheckedProfile)
+IsAccepted arch (subject.Profile container) denied allowed text v = (front : List ℕ) × (checked : CheckedProfile)
     × IsProfileCheckOf arch container.now allowed front text checked × (v ≡ verdict_where denied checked.report.count)
+IsAccepted arch subject.Program denied allowed bytes v = IsCheckedProgram bytes × (v ≡ Same)
 
--- The warnings of what is given.
-abbrev pub IsCheck : TargetArch → Option Container → (denied : Bool) → (allowed : List Code) → (text : List ℕ) → Verdict → Type 0
-IsCheck arch container denied allowed text v =
-    (kind : Subject) × IsTakenAs container None text kind × IsCheckedAs arch kind denied allowed text v
+-- What is given is rejected for this, or memory ran out.
+abbrev pub IsRejectedFor : TargetArch → Subject → (given : List ℕ) → ToolError → Type 0
+IsRejectedFor arch subject.Policy text e = IsRefusal arch text e
+IsRejectedFor arch (subject.Profile container) text e = IsRefusedProfile arch container.now false text e
+IsRejectedFor arch subject.Program bytes e = IsRefusedProgram bytes e
+
+-- What is given is accepted; or it is rejected, and not for want of memory.
+pub data IsJudged (arch : TargetArch) (kind : Subject) (denied : Bool) (allowed : List Code) (given : List ℕ) (v : Verdict) : Type 0 where
+  accepted : IsAccepted arch kind denied allowed given v → IsJudged arch kind denied allowed given v
+  rejected : (e : ToolError) → IsRejectedFor arch kind given e → e ≢ OutOfMemory → v ≡ Different
+      → IsJudged arch kind denied allowed given v
+
+abbrev pub IsCheck : TargetArch → Reading → (denied : Bool) → (allowed : List Code) → (given : List ℕ) → Verdict → Type 0
+IsCheck arch reading denied allowed given v =
+    (kind : Subject) × IsTakenAs reading given kind × IsJudged arch kind denied allowed given v
 
 -- The whole records of these bytes.
 abbrev pub records_in : List ℕ → List (List ℕ)
@@ -95,59 +131,57 @@ OnRecords arch (Some call) bytes P =
     (record_of : List ℕ) × IsRecordOf arch call.name.now call.arguments record_of × P (records_in record_of)
 OnRecords arch None bytes P = P (records_in bytes)
 
--- What a policy's filter or a profile decides on the records, and why.
-abbrev pub IsExplained : TargetArch → Option Container → (asked : Option (List ℕ)) → (text : List ℕ) → (records : List (List ℕ)) → Type 0
-IsExplained arch container asked text records = (kind : Subject) × IsTakenAs container asked text kind
-    × (explanation : Explanation) × IsExplanation arch kind asked text records explanation
+-- What is given decides so on the records: a policy's filter or a profile, and why; or a program.
+abbrev pub IsExplainedAs : TargetArch → Subject → (asked : Option (List ℕ)) → (given : List ℕ) → (records : List (List ℕ)) → Type 0
+IsExplainedAs arch subject.Policy asked text records = (e : Explanation) × IsOfPolicy arch asked text records e
+IsExplainedAs arch (subject.Profile container) asked text records = (e : Explanation) × IsOfProfile arch container.now text records e
+IsExplainedAs arch subject.Program asked bytes records =
+    (program : List sock_filter) × IsProgramOf bytes program × (outcomes : List Outcome) × AreReturned program records outcomes
 
--- What a program returns for the records.
-abbrev pub IsRun : (program : List ℕ) → (records : List (List ℕ)) → Type 0
-IsRun bytes records =
-    (program : List sock_filter) × IsProgramOf bytes program × (words : List ℕ) × AreReturned program records words
+abbrev pub IsExplained : TargetArch → Reading → (asked : Option (List ℕ)) → (given : List ℕ) → (records : List (List ℕ)) → Type 0
+IsExplained arch reading asked given records =
+    (kind : Subject) × IsTakenAs reading given kind × IsExplainedAs arch kind asked given records
 
--- The numbers of the programs of a policy, or of that of a profile.
-abbrev pub IsMeasuredAs : TargetArch → Subject → (text : List ℕ) → Type 0
-IsMeasuredAs arch subject.Policy text = (all : List FilterStats) × OfValue text (λ d. AreStats arch d all)
-IsMeasuredAs arch (subject.Profile container) text = (measure : Measure) × IsProfileMeasure arch container.now text measure
+-- The architectures' calls of this name or number; or the record of one.
+abbrev pub IsCalled : Option TargetArch → Call → (recorded : Bool) → Type 0
+IsCalled arch call false =
+    (calls : List KnownCall) × All (λ (known : KnownCall). IsCall known.target call.name.now known.number) calls
+IsCalled None call true = (bytes : List ℕ) × IsRecordOf x86_64 call.name.now call.arguments bytes
+IsCalled (Some arch) call true = (bytes : List ℕ) × IsRecordOf arch call.name.now call.arguments bytes
 
--- The numbers of what is given.
-abbrev pub IsMeasured : TargetArch → Option Container → (text : List ℕ) → Type 0
-IsMeasured arch container text = (kind : Subject) × IsTakenAs container None text kind × IsMeasuredAs arch kind text
+-- The side is of these bytes, and of this filter of theirs.
+pub record IsSideOf (reading : Reading) (filter : Option (Bor (List ℕ))) (given : List ℕ) (side : Side) : Type 0 where
+  pub kind : IsTakenAs reading given side.kind
+  pub filter_is : side.filter ≡ filter
+  pub given_is : side.given.now ≡ given
 
--- On which calls what is given decides otherwise, and whether on any.
-abbrev pub IsCompared : Terms → Option Container → (asked : Option (List ℕ)) → (old new : List ℕ) → Verdict → Type 0
-IsCompared terms container asked old new v = (kind : Subject) × IsTakenAs container asked old kind
-    × (diff : Diff) × IsDiff terms.target terms.relation kind asked old new diff × (v ≡ verdict_all diff.all.items)
-
--- On which calls a program decides otherwise than a filter, and whether on any that counts.
-abbrev pub IsVerified : Terms → (asked : Option (List ℕ)) → Scope → (policy program : List ℕ) → Verdict → Type 0
-IsVerified terms asked scope policy program v =
-    (found : Verification) × IsVerification terms.target terms.relation asked policy program found × (v ≡ verdict_in scope found)
-
--- The calls that the Rust crate would decide otherwise.
-abbrev pub AreWidenedIn : TargetArch → (text : List ℕ) → Type 0
-AreWidenedIn arch text = (all : List FilterCalls) × OfValue text (λ d. AreCalls arch d all)
+-- On which calls the one decides otherwise than the other, and whether on any that counts.
+pub record IsCompared (terms : Terms) (reading : Reading) (names : Names) (counted : Scope) (old_given new_given : List ℕ) (v : Verdict)
+    : Type 0 where
+  pub old : Side
+  pub new : Side
+  pub of_old : IsSideOf reading names.old old_given old
+  pub of_new : IsSideOf reading names.new new_given new
+  pub found : Diff
+  pub is : IsDiff terms.target terms.relation old new found
+  pub verdict : v ≡ verdict_in counted found
 
 -- ---- a command
 
--- The command is carried out on these texts, the first and the second that it reads: a value is made that is so, and this is its
--- verdict. Where it takes policies and profiles, the container and the text say which is given.
+-- The command is carried out on these bytes, the first and the second that it reads: a value is made that is so, and this is its
+-- verdict. The bytes say what is given.
 abbrev pub IsCarriedOut : Command → (first second : List ℕ) → Verdict → Type 0
-IsCarriedOut (Compile arch container strict filter layout format quiet) text none v =
-    IsCompiled arch container layout strict (text_of filter) text × (v ≡ Same)
-IsCarriedOut (Show arch layout shown) given none v = IsShown arch layout shown given × (v ≡ Same)
-IsCarriedOut (Check arch container denied allowed) text none v = IsCheck arch container denied allowed.items text v
+IsCarriedOut (Compile arch reading strict filter layout format quiet) given none v =
+    IsCompiled arch reading layout strict (text_of filter) given × (v ≡ Same)
+IsCarriedOut (Show arch reading filter layout measured) given none v = IsShown arch reading layout measured given × (v ≡ Same)
+IsCarriedOut (Check arch reading denied allowed) given none v = IsCheck arch reading denied allowed.items given v
 IsCarriedOut Codes none other v = v ≡ Same
-IsCarriedOut (Explain arch container filter format call) text bytes v =
-    OnRecords arch call bytes (IsExplained arch container (text_of filter) text) × (v ≡ Same)
-IsCarriedOut (Run arch call) program bytes v = OnRecords arch call bytes (IsRun program) × (v ≡ Same)
-IsCarriedOut (Stats arch container) text none v = IsMeasured arch container text × (v ≡ Same)
-IsCarriedOut (Record arch call) none other v = (bytes : List ℕ) × IsRecordOf arch call.name.now call.arguments bytes × (v ≡ Same)
-IsCarriedOut (DiffOf terms container filter quiet) old new v = IsCompared terms container (text_of filter) old new v
-IsCarriedOut (Verify terms filter scope) policy program v = IsVerified terms (text_of filter) scope policy program v
-IsCarriedOut (Compat arch) text none v = AreWidenedIn arch text × (v ≡ Same)
+IsCarriedOut (Explain arch reading filter format call) given bytes v =
+    OnRecords arch call bytes (IsExplained arch reading (text_of filter) given) × (v ≡ Same)
+IsCarriedOut (CallOf arch call recorded) none other v = IsCalled arch call recorded × (v ≡ Same)
+IsCarriedOut (DiffOf terms reading names counted quiet) old new v = IsCompared terms reading names counted old new v
 
--- It is carried out on some texts.
+-- It is carried out on some bytes.
 abbrev pub IsPerformed : Command → Verdict → Type 0
 IsPerformed command v = (first : List ℕ) × (second : List ℕ) × IsCarriedOut command first second v
 
@@ -164,16 +198,10 @@ verdict_status Same = 0
 verdict_status Different = 1
 verdict_status Undecided = 3
 
--- The status of a command that fails.
-abbrev pub trouble : Command → ℕ
-trouble (DiffOf terms container filter quiet) = 2
-trouble (Verify terms filter scope) = 2
-trouble command = 1
-
--- The command may end with this status: where that is a verdict's, and not that of a failure, it is carried out, and this is
--- what it finds.
+-- The command may end with this status: where that is a verdict's, and not that of trouble, it is carried out, and this is what it
+-- finds.
 abbrev pub EndsWith : Command → ℕ → Type 0
-EndsWith command status = (v : Verdict) → status ≡ verdict_status v → (status ≡ trouble command → ⊥) → IsPerformed command v
+EndsWith command status = (v : Verdict) → status ≡ verdict_status v → IsPerformed command v
 
 -- The command ends with statuses, one for each of these that it is carried out on, of which this is the greatest; it is 0 where
 -- there is none.

@@ -1,5 +1,5 @@
 -- What `explain` gives: what a filter of a policy, or a profile, decides on records, and why.
-use Rattle.std.specs.Prelude.{◌≡◌, ◌≢◌, ℕ, List, All, Option, Some, None, IfSome, String, string_bytes}
+use Rattle.std.specs.Prelude.{◌≡◌, ◌≢◌, ◌↔◌, ℕ, List, All, Any, Option, Some, None, IfSome, String, string_bytes}
 use Rattle.std.specs.List.{AllZip}
 use Rattle.std.specs.declared.alloc.Global.{Global}
 use Rattle.seccompiler.specs.declared.backend.SeccompAction.{SeccompAction}
@@ -7,11 +7,12 @@ use Rattle.seccompiler.specs.declared.backend.SeccompAction.TheVariants.{KillPro
 use Rattle.seccompiler.specs.declared.backend.TargetArch.{TargetArch}
 use Rattle.seccompiler.specs.Architecture.{audit_word}
 use Rattle.seccompiler.specs.JsonAnswers.{OfValue}
+use Rattle.seccompiler.specs.JsonEntries.{MeetsEntry}
 use Rattle.seccompiler.specs.JsonPolicyOf.{IsPolicyOf}
 use Rattle.seccompiler.specs.JsonShape.{IsFilter, Under}
 use Rattle.seccompiler.specs.JsonTypes.{JsonFilter}
 use Rattle.seccompiler.specs.Machine.{word_at}
-use Rattle.seccompiler.specs.Policy.{Filter, IsDecision, word_of}
+use Rattle.seccompiler.specs.Policy.{Filter, IsDecision, Matches, word_of}
 use Rattle.seccomp_oci.specs.declared.decide.ProfileDecision.{ProfileDecision}
 use Rattle.seccomp_oci.specs.Decision.{IsByEntry, IsProfileDecision}
 use Rattle.seccomp_oci.specs.ProfileText.{IsProfileText}
@@ -22,8 +23,6 @@ use Rattle.seccomptool.specs.declared.explain.NamedFilter.{NamedFilter}
 use Rattle.seccomptool.specs.declared.explain.Why.TheVariants as variant
 use Rattle.seccomptool.specs.declared.explain.reason.Reason.{Reason}
 use Rattle.seccomptool.specs.declared.explain.reason.Reason.TheVariants.{AnotherArchitecture, NoEntry, NoMatch, Entry}
-use Rattle.seccomptool.specs.declared.kind.Subject.{Subject}
-use Rattle.seccomptool.specs.declared.kind.Subject.TheVariants as subject
 use Rattle.seccomptool.specs.Chosen.{IsChosen}
 use Rattle.seccomptool.specs.Reasons.{IsReason}
 
@@ -46,9 +45,17 @@ pub record IsExplainedBy (target : TargetArch) (j : JsonFilter) (r : List ℕ) (
   pub action : e.action ≡ action_of j reason
   pub decided : (policy : Filter) → IsPolicyOf target j policy → IsDecision policy r (word_of e.action)
 
+-- Policies of the filter match exactly the records that meet one of its entries.
+abbrev pub AreMatched : TargetArch → JsonFilter → Type 0
+AreMatched target j = (policy : Filter) → IsPolicyOf target j policy → (r : List ℕ) → Matches policy r ↔ Any (MeetsEntry target r) j.rules
+
+-- The filter has a policy.
+abbrev pub HasPolicy : TargetArch → JsonFilter → Type 0
+HasPolicy target j = ((policy : Filter) × IsPolicyOf target j policy) × AreMatched target j
+
 -- Each filter has a policy.
 abbrev pub HavePolicies : TargetArch → List (String Global × JsonFilter) → Type 0
-HavePolicies target filters = All (λ (named : String Global × JsonFilter). (policy : Filter) × IsPolicyOf target named.1 policy) filters
+HavePolicies target filters = All (λ (named : String Global × JsonFilter). HasPolicy target named.1) filters
 
 -- The filter that is asked for, or the only one, of the policy's text decides so on the records.
 pub record IsOfPolicy (target : TargetArch) (asked : Option (List ℕ)) (text : List ℕ) (records : List (List ℕ)) (e : Explanation) : Type 0
@@ -83,10 +90,3 @@ pub record IsOfProfile (target : TargetArch) (container : Container) (text : Lis
     pub of_text : IsProfileText text profile
     pub is : e.filter ≡ None
     pub each : AllZip (IsExplainedByProfile target container profile) records e.records.items
-
--- ---- both
-
--- The text, a policy's or a profile's, decides so on the records.
-abbrev pub IsExplanation : TargetArch → Subject → Option (List ℕ) → List ℕ → List (List ℕ) → Explanation → Type 0
-IsExplanation target subject.Policy asked text records e = IsOfPolicy target asked text records e
-IsExplanation target (subject.Profile container) asked text records e = IsOfProfile target container.now text records e

@@ -1,12 +1,11 @@
--- Which texts are taken for profiles of container runtimes, where both a profile and a policy may be given.
-use Rattle.std.specs.Prelude.{◌≡◌, ℕ, List, [], ◌++◌, Option, Some, None, codes, ⊤}
+-- What is given: which bytes are a program's, and which texts are those of profiles of container runtimes.
+use Rattle.std.specs.Prelude.{◌≡◌, ℕ, Bool, true, false, List, ◌++◌, Option, Some, codes, slice_get, ⊤}
 use Rattle.serde_json.specs.Data.{Data, string}
 use Rattle.seccompiler.specs.declared.backend.TargetArch.{TargetArch}
 use Rattle.seccompiler.specs.JsonAnswers.{ArePoliciesOf, IsReadAs, OfValue}
 use Rattle.seccompiler.specs.JsonShape.{Under}
 use Rattle.seccompiler.specs.Policy.{Filter}
-use Rattle.seccomp_oci.specs.declared.types.Runtime.TheVariants.{Crun}
-use Rattle.seccomp_oci.specs.Types.{Container}
+use Rattle.seccomptool.specs.declared.kind.Reading.{Reading}
 use Rattle.seccomptool.specs.declared.kind.Subject.{Subject}
 use Rattle.seccomptool.specs.declared.kind.Subject.TheVariants as subject
 
@@ -34,16 +33,19 @@ pub record IsOfProfile (text : List ℕ) : Type 0 where
 abbrev pub IsPolicyText : TargetArch → List ℕ → Type 0
 IsPolicyText arch text = (find : List ℕ → Option Filter) × OfValue text (ArePoliciesOf arch find)
 
--- A container of which nothing is said.
-abbrev pub plain_container : Container
-plain_container = record { caps = []; kernel = None; runtime = Crun }
+-- The bytes begin as those of a program: the second one, the high byte of the first instruction's code, is 0.
+abbrev pub BeginsAsProgram : List ℕ → Type 0
+BeginsAsProgram bytes = slice_get bytes 1 ≡ Some 0
 
--- The text is taken as this, where this container is given, or none, and this filter is asked for, or none: as a profile in the
--- container that is given; else as one in a plain container, where the text is a profile's and no filter is asked for; else as a
--- policy.
-abbrev pub IsTakenAs : Option Container → Option (List ℕ) → List ℕ → Subject → Type 0
-IsTakenAs (Some container) asked text (subject.Profile given) = given.now ≡ container
-IsTakenAs None None text (subject.Profile given) = IsOfProfile text × (given.now ≡ plain_container)
-IsTakenAs None None text subject.Policy = IsOfProfile text → ⊥
-IsTakenAs None (Some name) text subject.Policy = ⊤
-IsTakenAs container asked text taken = ⊥
+-- The text is a profile's: all are, or it is taken for one's.
+abbrev pub IsReadAsProfile : (of_profiles : Bool) → List ℕ → Type 0
+IsReadAsProfile true text = ⊤
+IsReadAsProfile false text = IsOfProfile text
+
+-- The bytes are taken as this: as a program where they begin as one; else as a profile in the container that is given, where they
+-- are read as one; else as a policy.
+abbrev pub IsTakenAs : Reading → List ℕ → Subject → Type 0
+IsTakenAs reading bytes subject.Program = BeginsAsProgram bytes
+IsTakenAs reading bytes (subject.Profile given) =
+    (BeginsAsProgram bytes → ⊥) × IsReadAsProfile reading.of_profiles bytes × (given.now ≡ reading.container)
+IsTakenAs reading bytes subject.Policy = (BeginsAsProgram bytes → ⊥) × (IsReadAsProfile reading.of_profiles bytes → ⊥)

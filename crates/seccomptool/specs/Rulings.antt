@@ -1,21 +1,16 @@
 -- What decides calls, a program that stands for it, and what is found of two that do.
-use Rattle.std.specs.Prelude.{◌≡◌, ℕ, List, Option, Some, None}
+use Rattle.std.specs.Prelude.{◌≡◌, ℕ, List}
 use Rattle.seccompiler.specs.declared.backend.SeccompAction.{SeccompAction}
 use Rattle.seccompiler.specs.declared.backend.TargetArch.{TargetArch}
 use Rattle.seccompiler.specs.declared.bpf.sock_filter.{sock_filter}
 use Rattle.seccompiler.specs.Architecture.{audit_word}
-use Rattle.seccompiler.specs.JsonAnswers.{HasPolicy, OfValue}
-use Rattle.seccompiler.specs.JsonShape.{Lacks, Under}
 use Rattle.seccompiler.specs.Machine.{Ends, IsChecked, IsRecord, word_at}
 use Rattle.seccompiler.specs.Policy.{Filter, IsDecision, word_of}
 use Rattle.seccomp_compare.specs.declared.Relation.{Relation}
 use Rattle.seccomp_oci.specs.Decision.{IsProfileDecision}
-use Rattle.seccomp_oci.specs.ProfileText.{IsProfileText}
 use Rattle.seccomp_oci.specs.Types.{Container, Profile}
 use Rattle.seccomptool.specs.declared.findings.Finding.{Finding}
 use Rattle.seccomptool.specs.declared.findings.Verdict.TheVariants.{Same}
-use Rattle.seccomptool.specs.declared.kind.Subject.{Subject}
-use Rattle.seccomptool.specs.declared.kind.Subject.TheVariants as subject
 use Rattle.seccomptool.specs.Findings.{AreFindings, HoldsThroughout, verdict_of}
 
 -- What decides: a filter, a profile in a container, or a program.
@@ -35,13 +30,6 @@ Decides target (of_program p) r word = (steps : ℕ) × Ends p r steps word
 pub record StandsFor (target : TargetArch) (ruling : Ruling) (p : List sock_filter) : Type 0 where
   pub checked : IsChecked p
   pub decides : (r : List ℕ) → IsRecord r → (steps word : ℕ) → Ends p r steps word → Decides target ruling r word
-
--- Under the name, None for a profile, the text rules so; or it has no such name.
-abbrev pub Rules : TargetArch → Subject → List ℕ → Option (List ℕ) → Option Ruling → Type 0
-Rules target subject.Policy text (Some name) (Some (of_filter f)) = OfValue text (λ d. Under d name (λ value. HasPolicy target value f))
-Rules target subject.Policy text (Some name) None = OfValue text (λ d. Lacks d name)
-Rules target (subject.Profile container) text None (Some (of_profile c p)) = IsProfileText text p × (c ≡ container.now)
-Rules target kind text name ruling = ⊥
 
 -- The words are what the new and the old ruling decide for the record.
 abbrev pub AreDecided : TargetArch → (new old : Ruling) → List ℕ → ℕ → ℕ → Type 0

@@ -2,6 +2,7 @@
 use Rattle.std.specs.Prelude.{◌≡◌, ℕ, ◌*◌, ◌%◌, ◌<◌, ◌≤◌, ◌⊎◌, List, length, ⊤}
 use Rattle.std.specs.List.{AllZip}
 use Rattle.seccompiler.specs.declared.bpf.sock_filter.{sock_filter}
+use Rattle.seccompiler.specs.declared.machine.Outcome.{Outcome}
 use Rattle.seccompiler.specs.Machine.{AreInRange, Ends, greatest_length}
 use Rattle.seccomptool.specs.declared.error.ToolError.{ToolError}
 use Rattle.seccomptool.specs.declared.error.ToolError.TheVariants.{Program, OutOfMemory}
@@ -29,9 +30,9 @@ IsRefusedProgram bytes (Program fault) = IsProgramFault bytes fault
 IsRefusedProgram bytes OutOfMemory = ⊤
 IsRefusedProgram bytes e = ⊥
 
--- The words are those that the program returns for the records, one for each, in order.
-abbrev pub AreReturned : List sock_filter → List (List ℕ) → List ℕ → Type 0
-AreReturned program = AllZip (λ call word. (steps : ℕ) × Ends program call steps word)
+-- So the program ends on the records, one after the other.
+abbrev pub AreReturned : List sock_filter → List (List ℕ) → List Outcome → Type 0
+AreReturned program = AllZip (λ call (outcome : Outcome). Ends program call outcome.steps outcome.word)
 
 -- Between layers: a fault of bytes that aren't those of a program of a length that is taken.
 abbrev pub IsCutFault : List ℕ → ProgramFault → Type 0

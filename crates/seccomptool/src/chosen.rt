@@ -1,6 +1,6 @@
 // The filter that a command is asked for.
 
-ghost use Rattle.std.specs.Prelude.{◌≡◌, ◌≢◌, [], ◌∷◌, length, IfOk, IfSome, map, string_bytes, string_cmp};
+ghost use Rattle.std.specs.Prelude.{◌≡◌, ◌≢◌, [], ◌∷◌, length, IfOk, IfSome, None, OnOk, map, string_bytes, string_cmp};
 ghost use Rattle.std.specs.BTreeMap as tree;
 ghost use Rattle.seccomptool.specs.Chosen.{HoldsOnly, IsChosen, text_of};
 
@@ -41,7 +41,39 @@ fn only_name(alloc: Global, filters: &JsonFilterMap) -> Result<String, ToolError
     Err(ToolError::Unchosen(names_of(alloc, &filters.0)?))
 }
 
-// The names of filters, in byte order.
+// That no filter is asked for, where there is none.
+pub(crate) fn refuse_name(alloc: Global, asked: Option<&str>) -> Result<(), ToolError>
+    ensures { OnOk result (asked.entry ≡ None) }
+{
+    match asked {
+        Some(name) => Err(ToolError::NoFilter(String::from_str(alloc, name)?)),
+        None => Ok(()),
+    }
+}
+
+// Whether a filter is the one that is asked for, or none is.
+pub(crate) fn is_asked(asked: Option<&str>, name: &str) -> bool {
+    match asked {
+        Some(asked) => asked == name,
+        None => true,
+    }
+}
+
+// A text of filters, in which something stands where one is asked for.
+pub(crate) fn some_text(
+    alloc: Global,
+    asked: Option<&str>,
+    text: Vec<u8>,
+) -> Result<Vec<u8>, ToolError> {
+    match asked {
+        Some(name) if text.is_empty() => {
+            Err(ToolError::NoFilter(String::from_str(alloc, name)?))
+        }
+        _ => Ok(text),
+    }
+}
+
+// The names of filters, in byte order, an empty one in quotes.
 pub(crate) fn names_of<V>(
     alloc: Global,
     filters: &BTreeMap<String, V>,
@@ -50,6 +82,9 @@ pub(crate) fn names_of<V>(
     for (name, _) in filters {
         if !text.is_empty() {
             text.extend_from_slice(b", ")?;
+        }
+        if name.is_empty() {
+            text.extend_from_slice(b"''")?;
         }
         push_readable(&mut text, name.as_str())?;
     }

@@ -6,22 +6,6 @@ use seccompiler::json::filters_of;
 use seccompiler::{JsonFrontendError, TargetArch};
 use std::alloc::{AllocError, Global};
 
-// The notes on an old policy, and then those on a new one.
-pub(crate) fn both_counted(
-    alloc: Global,
-    quiet: bool,
-    arch: TargetArch,
-    old_path: &str,
-    new_path: &str,
-    old: &[u8],
-    new: &[u8],
-) -> Result<Vec<u8>, AllocError> {
-    let mut notes = counted(alloc, quiet, arch, old_path, old)?;
-    let of_new = counted(alloc, quiet, arch, new_path, new)?;
-    notes.extend_from_slice(&of_new)?;
-    Ok(notes)
-}
-
 // The notes on the policy of this path and text: how many warnings `check` has for it. There are none where it has no warning,
 // where they are to be left out, and where the text has a fault, which is for the command to report.
 pub(crate) fn counted(

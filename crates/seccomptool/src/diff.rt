@@ -1,104 +1,122 @@
-// On which calls a new text rules otherwise than an old one, or permits more.
+// On which calls a new side rules otherwise than an old one, or permits more.
 
 pub(crate) mod lines;
+pub mod pair;
+pub mod scope;
 
-ghost use Rattle.std.specs.Prelude.{◌≡◌, All, IfOk, Some, map, option_map, string_bytes};
+ghost use Rattle.std.specs.Prelude.{◌≡◌, All, IfOk, map, option_map, string_bytes};
 ghost use Rattle.std.specs.BTreeMap.{get_by_text};
 ghost use Rattle.seccomptool.specs.Diff as spec;
-ghost use Rattle.seccomptool.specs.Diff.{IsDiff, IsFoundOf, name_bytes, verdict_all};
-ghost use Rattle.seccomptool.specs.DiffParts.{AreAllNames, AreOfProfiles, IsFoundUnder};
-ghost use Rattle.seccomptool.specs.Rulings.{of_filter};
-ghost use Rattle.seccomptool.specs.declared.kind.Subject.TheVariants as kind;
+ghost use Rattle.seccomptool.specs.Diff.{AreByName, IsDiff, IsFoundOf, IsPairOf, name_bytes, verdict_all};
+ghost use Rattle.seccomptool.specs.DiffParts.{AreAllNames, IsFoundUnder};
 
-use crate::error::ToolError;
+use crate::diff::pair::{Pair, compare_pair, loads_pointer};
+use crate::diff::scope::Scope;
+use crate::error::{FaultAt, ToolError};
 use crate::findings::fitting::fitting_program;
 use crate::findings::{Finding, Terms, Verdict, findings_of, verdict_of};
 use crate::kind::Subject;
-use crate::profile::compiled_of;
 use crate::progress::Progress;
-use seccomp_oci::Container;
+use crate::sides::{Side, ruled_by};
 use seccompiler::{JsonCompiler, SeccompFilter};
-use std::alloc::Global;
+use std::alloc::{AllocError, Global};
 use std::collections::BTreeMap;
 
 /// What is found under a name.
 #[derive(Drop)]
 pub enum Found {
-    /// The old text alone has the name.
+    /// The old policy alone has the name.
     OnlyOld,
-    /// The new text alone has the name.
+    /// The new policy alone has the name.
     OnlyNew,
     /// What is found on each part of the calls.
     Both(Vec<Finding>),
 }
 
-/// A name, and what is found under it; of profiles there is no name.
+/// A name, and what is found under it.
 #[derive(Drop)]
 pub struct NamedFound {
     /// The name.
-    pub name: Option<String>,
+    pub name: String,
     /// What is found.
     pub found: Found,
 }
 
-/// What a comparison of two texts finds: the old text's names in byte order, and then those that the new one alone has.
+/// What a comparison of two sides finds.
 #[derive(Drop)]
-pub struct Diff {
-    /// What is found, name by name.
-    pub all: Vec<NamedFound>,
+pub enum Diff {
+    /// Of two policies, name by name: the old one's names in byte order, and then those that the new one alone has.
+    ByName(Vec<NamedFound>),
+    /// Of one thing on each side.
+    OfPair(Pair),
 }
 
-/// Compares two texts, of policies or of profiles; where a filter is asked for, that one alone.
+/// Compares two sides: two policies name by name, if no filter is asked for; else what is asked for, or the only filter of a policy.
 ///
 /// What is compared are programs, each of which is made once: that of a filter as a tree where that fits, else in the linear
-/// layout, and that of [`compile_profile`](seccomp_oci::compile_profile), without the names that no call of the architecture
-/// has. Calls of other architectures are left out: policies kill the process on each, and profiles say nothing of them.
+/// layout; that of [`compile_profile`](seccomp_oci::compile_profile), without the names that no call of the architecture
+/// has; and those that are given. Of calls of other architectures a profile says nothing.
 ///
 /// `progress` gets how many sets of records were looked at without an answer, part by part. Where it shows them, a part is tried
 /// with few sets first and with twice as many each time, up to `terms.most`. No answer depends on it.
 ///
 /// # Errors
 ///
-/// `Library` and `Import` with what is at fault in the old text, and `NewPolicy` and `NewImport` with what is in the new one;
-/// `NoFilter` with the name where neither policy has the filter that is asked for; `Library` with `FilterTooLarge` of a filter that
-/// both have and that is too large in both layouts. `OutOfMemory` where memory runs out.
+/// Those of [`ruled_by`](crate::sides::ruled_by), of the old side first; `Library` with `FilterTooLarge` of a filter that
+/// both policies have and that is too large in both layouts.
 pub fn diff_of<G: Progress>(
     alloc: Global,
     terms: Terms,
-    subject: Subject<'_>,
-    asked: Option<&str>,
-    old: &[u8],
-    new: &[u8],
+    old: Side<'_>,
+    new: Side<'_>,
     progress: &mut G,
-) -> Result<Diff, ToolError>
-    ensures { IfOk result (IsDiff terms.target terms.relation subject.entry (option_map (λ name. name.now) asked.entry) old.now new.now) }
+) -> Result<Diff, FaultAt>
+    ensures { IfOk result (IsDiff terms.target terms.relation old.entry new.entry) }
 {
-    match subject {
-        Subject::Policy => diff_policies(alloc, terms, asked, old, new, progress),
-        Subject::Profile(container) => {
-            let found = diff_profiles(alloc, terms, container, old, new, progress)?;
-            let named = NamedFound {
-                name: None,
-                found: Found::Both(found),
-            };
-            Ok(Diff {
-                all: vec![in alloc; named]?,
-            })
-        }
+    if is_whole(old) && is_whole(new) {
+        let all = diff_policies(alloc, terms, old.given, new.given, progress)?;
+        return Ok(Diff::ByName(all));
+    }
+    Ok(Diff::OfPair(diff_pair(alloc, terms, old, new, progress)?))
+}
+
+// Whether all filters of a side are compared.
+pub(crate) fn is_whole(side: Side<'_>) -> bool
+    ensures { result ≡ spec.is_whole side.entry }
+{
+    match (side.kind, side.filter) {
+        (Subject::Policy, None) => true,
+        _ => false,
     }
 }
 
 impl Diff {
-    /// The verdict of all that is found.
-    pub fn verdict(&self) -> Verdict
-        ensures { result ≡ verdict_all self.now.all.items }
+    /// The verdict: on the architecture's calls, or on all.
+    pub fn verdict(&self, scope: Scope) -> Verdict
+        ensures { result ≡ spec.verdict_in scope self.now }
     {
-        let mut verdict = Verdict::Same;
-        for named in &self.all {
-            verdict = verdict.worse(verdict_found(&named.found));
+        match self {
+            Diff::ByName(all) => verdict_by_name(all),
+            Diff::OfPair(pair) => {
+                let own = verdict_of(&pair.found.own);
+                match scope {
+                    Scope::Named => own,
+                    Scope::All => own.worse(verdict_of(&pair.found.others)),
+                }
+            }
         }
-        verdict
     }
+}
+
+// The verdict of what is found under all names.
+fn verdict_by_name(all: &[NamedFound]) -> Verdict
+    ensures { result ≡ verdict_all all.now }
+{
+    let mut verdict = Verdict::Same;
+    for named in all {
+        verdict = verdict.worse(verdict_found(&named.found));
+    }
+    verdict
 }
 
 // The verdict of what is found under a name.
@@ -111,69 +129,59 @@ pub(crate) fn verdict_found(found: &Found) -> Verdict
     }
 }
 
+fn diff_pair<G: Progress>(
+    alloc: Global,
+    terms: Terms,
+    old: Side<'_>,
+    new: Side<'_>,
+    progress: &mut G,
+) -> Result<Pair, FaultAt>
+    ensures { IfOk result (IsPairOf terms.target terms.relation old.entry new.entry) }
+{
+    let by_old = ruled_by(alloc, terms.target, old)?;
+    let by_new = match ruled_by(alloc, terms.target, new) {
+        Ok(by_new) => by_new,
+        Err(error) => return Err(FaultAt::in_new(error)),
+    };
+    let found = compare_pair(alloc, terms, &by_new.program, &by_old.program, progress)?;
+    let loads_pointer = loads_pointer(&by_old.program) || loads_pointer(&by_new.program);
+    Ok(Pair {
+        old_name: by_old.name,
+        new_name: by_new.name,
+        loads_pointer,
+        found,
+    })
+}
+
 fn diff_policies<G: Progress>(
     alloc: Global,
     terms: Terms,
-    asked: Option<&str>,
     old: &[u8],
     new: &[u8],
     progress: &mut G,
-) -> Result<Diff, ToolError>
-    ensures { IfOk result (IsDiff terms.target terms.relation kind.Policy (option_map (λ name. name.now) asked.entry) old.now new.now) }
+) -> Result<Vec<NamedFound>, FaultAt>
+    ensures { IfOk result (λ all. AreByName terms.target terms.relation old.now new.now all.items) }
 {
     let compiler = JsonCompiler::new(terms.target);
     let old = compiler.policies_of(alloc, old)?;
     let new = match compiler.policies_of(alloc, new) {
         Ok(new) => new,
-        Err(error) => return Err(of_new(error.into())),
+        Err(error) => return Err(FaultAt::in_new(error.into())),
     };
-    let names = names_of(alloc, asked, &old, &new)?;
-    Ok(Diff {
-        all: found_under(alloc, terms, &names, &old, &new, progress)?,
-    })
+    let names = names_of(alloc, &old, &new)?;
+    let all = found_under(alloc, terms, &names, &old, &new, progress)?;
+    Ok(all)
 }
 
-fn diff_profiles<G: Progress>(
-    alloc: Global,
-    terms: Terms,
-    container: &Container,
-    old: &[u8],
-    new: &[u8],
-    progress: &mut G,
-) -> Result<Vec<Finding>, ToolError>
-    ensures { IfOk result (λ findings. AreOfProfiles terms.target terms.relation container.now old.now new.now findings.items) }
-{
-    let old = compiled_of(alloc, terms.target, container, false, old)?;
-    let new = match compiled_of(alloc, terms.target, container, false, new) {
-        Ok(new) => new,
-        Err(error) => return Err(of_new(error)),
-    };
-    findings_of(alloc, terms, &new.program, &old.program, progress)
-}
-
-// An error of a text, as one of the new text.
-pub(crate) fn of_new(error: ToolError) -> ToolError {
-    match error {
-        ToolError::Library(error) => ToolError::NewPolicy(error),
-        ToolError::Profile(error) => ToolError::NewProfile(error),
-        error => error,
-    }
-}
-
-// The name that is asked for; or all names of both policies.
+// All names of both policies.
 fn names_of(
     alloc: Global,
-    asked: Option<&str>,
     old: &BTreeMap<String, SeccompFilter>,
     new: &BTreeMap<String, SeccompFilter>,
-) -> Result<Vec<String>, ToolError>
-    ensures { IfOk result (λ names. AreAllNames (option_map (λ name. name.now) asked.entry) (get_by_text old.now) (get_by_text new.now) (map string_bytes names.items)) }
+) -> Result<Vec<String>, AllocError>
+    ensures { IfOk result (λ names. AreAllNames (get_by_text old.now) (get_by_text new.now) (map string_bytes names.items)) }
 {
     let mut names = Vec::new(alloc);
-    if let Some(name) = asked {
-        names.push(String::from_str(alloc, name)?)?;
-        return Ok(names);
-    }
     for (name, _) in old {
         names.push(name.clone()?)?;
     }
@@ -194,8 +202,8 @@ fn found_under<G: Progress>(
     old: &BTreeMap<String, SeccompFilter>,
     new: &BTreeMap<String, SeccompFilter>,
     progress: &mut G,
-) -> Result<Vec<NamedFound>, ToolError>
-    ensures named { IfOk result (λ all. map name_bytes all.items ≡ map (λ name. Some (string_bytes name)) names.now) }
+) -> Result<Vec<NamedFound>, FaultAt>
+    ensures named { IfOk result (λ all. map name_bytes all.items ≡ map string_bytes names.now) }
     ensures each { IfOk result (λ all. All (IsFoundUnder terms.target terms.relation (get_by_text old.now) (get_by_text new.now)) all.items) }
 {
     let mut all = Vec::new(alloc);
@@ -203,7 +211,7 @@ fn found_under<G: Progress>(
         let text = name.as_str();
         let found = found_of(alloc, terms, text, old.get(text), new.get(text), progress)?;
         all.push(NamedFound {
-            name: Some(name.clone()?),
+            name: name.clone()?,
             found,
         })?;
     }
@@ -218,17 +226,20 @@ fn found_of<G: Progress>(
     old: Option<&SeccompFilter>,
     new: Option<&SeccompFilter>,
     progress: &mut G,
-) -> Result<Found, ToolError>
-    ensures { IfOk result (IsFoundOf terms.target terms.relation (option_map (λ f. of_filter f.now) old.entry) (option_map (λ f. of_filter f.now) new.entry)) }
+) -> Result<Found, FaultAt>
+    ensures { IfOk result (IsFoundOf terms.target terms.relation (option_map (λ f. f.now) old.entry) (option_map (λ f. f.now) new.entry)) }
 {
     match (old, new) {
         (Some(old), Some(new)) => {
-            let new = fitting_program(alloc, new)?;
             let old = fitting_program(alloc, old)?;
+            let new = match fitting_program(alloc, new) {
+                Ok(new) => new,
+                Err(error) => return Err(FaultAt::in_new(error)),
+            };
             Ok(Found::Both(findings_of(alloc, terms, &new, &old, progress)?))
         }
         (Some(_), None) => Ok(Found::OnlyOld),
         (None, Some(_)) => Ok(Found::OnlyNew),
-        (None, None) => Err(ToolError::NoFilter(String::from_str(alloc, name)?)),
+        (None, None) => Err(ToolError::NoFilter(String::from_str(alloc, name)?).into()),
     }
 }

@@ -15,14 +15,14 @@ use std::fmt;
 pub enum ToolError {
     /// The library's error.
     Library(seccompiler::Error),
-    /// The library's error of the new one of two policies.
-    NewPolicy(seccompiler::Error),
     /// No filter of the policy has this name.
     NoFilter(String),
     /// No filter is asked for, and the policy hasn't one but these, by their names.
     Unchosen(String),
     /// The architecture has no call of this name or number.
     UnknownCall(String, TargetArch),
+    /// No architecture has a call of this name or number.
+    NoCall(String),
     /// The policy has a fault that has a place; the text names the place, what stands there and what may.
     Fault(String),
     /// A filter would have more than 4096 instructions as a tree.
@@ -31,10 +31,96 @@ pub enum ToolError {
     Program(ProgramFault),
     /// A profile isn't compiled.
     Profile(CompileError),
-    /// The new one of two profiles isn't compiled.
-    NewProfile(CompileError),
     /// Memory ran out.
     OutOfMemory,
+}
+
+impl ToolError {
+    ghost use Rattle.std.specs.Prelude.{◌≡◌, ◌≢◌, false};
+    ghost use Rattle.seccomptool.specs.declared.error.ToolError.TheVariants.{OutOfMemory};
+
+    /// Whether memory ran out.
+    pub(crate) fn is_out_of_memory(&self) -> bool
+        ensures { result ≡ false → self.now ≢ OutOfMemory }
+    {
+        match self {
+            ToolError::OutOfMemory => true,
+            ToolError::Library(_)
+            | ToolError::NoFilter(_)
+            | ToolError::Unchosen(_)
+            | ToolError::UnknownCall(_, _)
+            | ToolError::NoCall(_)
+            | ToolError::Fault(_)
+            | ToolError::TreeTooLarge
+            | ToolError::Program(_)
+            | ToolError::Profile(_) => false,
+        }
+    }
+}
+
+/// Where a fault is.
+#[derive(Clone, Copy)]
+pub enum Place {
+    /// Nowhere in what is read or written.
+    Nowhere,
+    /// In the first one of what is read.
+    First,
+    /// In the second one.
+    Second,
+    /// In the output.
+    Output,
+}
+
+/// Why a command isn't carried out, and where that is.
+#[derive(Drop)]
+pub struct FaultAt {
+    /// Where it is.
+    pub place: Place,
+    /// What it is.
+    pub error: ToolError,
+}
+
+impl FaultAt {
+    // An error of the new one of two sides.
+    pub(crate) fn in_new(error: ToolError) -> FaultAt {
+        match error {
+            ToolError::OutOfMemory => error.into(),
+            error => FaultAt {
+                place: Place::Second,
+                error,
+            },
+        }
+    }
+}
+
+/// An error of the first one of what is read, or of the arguments; running out of memory has no place.
+impl From<ToolError> for FaultAt {
+    fn from(error: ToolError) -> FaultAt {
+        let place = match error {
+            ToolError::UnknownCall(_, _) | ToolError::NoCall(_) | ToolError::OutOfMemory =>
+                Place::Nowhere,
+            _ => Place::First,
+        };
+        FaultAt { place, error }
+    }
+}
+
+impl From<AllocError> for FaultAt {
+    fn from(_refused: AllocError) -> FaultAt {
+        ToolError::OutOfMemory.into()
+    }
+}
+
+impl<T: Drop> From<AllocFailed<T>> for FaultAt {
+    fn from(_failed: AllocFailed<T>) -> FaultAt {
+        ToolError::OutOfMemory.into()
+    }
+}
+
+impl From<JsonFrontendError> for FaultAt {
+    fn from(refusal: JsonFrontendError) -> FaultAt {
+        ToolError::from(refusal).into()
+    }
 }
 
 /// The error's text.
@@ -42,13 +128,19 @@ impl fmt::Display for ToolError {
     fn fmt<W: fmt::Write>(&self, f: &mut fmt::Formatter<W>) -> fmt::Result {
         match self {
             ToolError::Library(error) => write!(f, "{error}"),
-            ToolError::NewPolicy(error) => write!(f, "{error}"),
             ToolError::NoFilter(name) => write!(f, "No filter has this name: {name}."),
-            ToolError::Unchosen(names) => {
-                write!(f, "Name one of its filters by --filter: {names}.")
+            ToolError::Unchosen(names) if names.is_empty() => {
+                f.write_str("The policy has no filters.")
             }
+            ToolError::Unchosen(names) => write!(f, "Name one of its filters: {names}."),
             ToolError::UnknownCall(call, arch) => {
                 write!(f, "No call of {arch} has this name or number: {call}.")
+            }
+            ToolError::NoCall(call) => {
+                write!(
+                    f,
+                    "No architecture has a call of this name or number: {call}."
+                )
             }
             ToolError::Fault(told) => f.write_str(told.as_str()),
             ToolError::TreeTooLarge => {
@@ -56,7 +148,6 @@ impl fmt::Display for ToolError {
             }
             ToolError::Program(fault) => write!(f, "{fault}"),
             ToolError::Profile(fault) => write!(f, "{fault}"),
-            ToolError::NewProfile(fault) => write!(f, "{fault}"),
             ToolError::OutOfMemory => f.write_str("Out of memory."),
         }
     }

@@ -11,13 +11,12 @@ ghost use Rattle.seccompiler.specs.JsonPolicyOf.{IsFineEntry};
 ghost use Rattle.seccomp_oci.specs.Types.{AllOnArguments};
 ghost use Rattle.seccomp_oci.specs.ProfileText.{IsProfileText};
 ghost use Rattle.seccomptool.specs.Explain as spec;
-ghost use Rattle.seccomptool.specs.Explain.{HavePolicies, IsExplainedBy, IsExplainedByProfile, IsExplanation, IsOfPolicy, IsOfProfile};
+ghost use Rattle.seccomptool.specs.Explain.{AreMatched, HavePolicies, IsExplainedBy, IsExplainedByProfile, IsOfPolicy, IsOfProfile};
 
 use crate::chosen::chosen_name;
 use crate::error::ToolError;
 use crate::explain::reason::Reason;
 use crate::explain::search::{reason_of, word_at};
-use crate::kind::Subject;
 use seccomp_oci::{CompileError, Container, Profile, ProfileError, decision_of_profile};
 use seccompiler::json::filters_of;
 use seccompiler::{
@@ -68,7 +67,7 @@ pub struct Explanation {
     pub records: Vec<Explained>,
 }
 
-/// Explains what a filter of a policy, the one that is asked for or the only one, or what a profile decides on records.
+/// Explains what a filter of a policy decides, the one that is asked for or the only one.
 ///
 /// A filter's reason is the first of these that is so:
 ///
@@ -79,32 +78,11 @@ pub struct Explanation {
 /// - entries are for it, and none of them matches. In each of them a condition is the first that does not hold; of these the nearest
 ///   miss is the one that stands furthest behind in its entry, and of several the first.
 ///
-/// A profile decides the strictest action of the entries that count for the record, of equally strict ones the first entry's, and
-/// the default action where none counts.
-///
 /// # Errors
 ///
 /// `Library` with what `compile_from_json` rejects the policy for, whichever filter has the fault; `Unchosen` where no filter is
-/// asked for and the policy hasn't exactly one; `NoFilter` with the name where no filter has it; `Import` with `Profile` and what
-/// [`profile_of`](seccomp_oci::profile_of) gives of a profile. `OutOfMemory` where memory runs out.
-pub fn explain_of(
-    alloc: Global,
-    target: TargetArch,
-    subject: Subject<'_>,
-    asked: Option<&str>,
-    text: &[u8],
-    records: &[[u8; 64]],
-) -> Result<Explanation, ToolError>
-    ensures { IfOk result (IsExplanation target subject.entry (option_map (λ name. name.now) asked.entry) text.now records.now) }
-{
-    match subject {
-        Subject::Policy => explain_policy(alloc, target, asked, text, records),
-        Subject::Profile(container) => explain_profile(alloc, target, container, text, records),
-    }
-}
-
-// Explains what a filter of a policy decides.
-fn explain_policy(
+/// asked for and the policy hasn't exactly one; `NoFilter` with the name where no filter has it. `OutOfMemory` where memory runs out.
+pub fn explain_policy(
     alloc: Global,
     target: TargetArch,
     asked: Option<&str>,
@@ -164,7 +142,8 @@ fn explain_each(
     filter: &JsonFilter,
     records: &[[u8; 64]],
 ) -> Result<Vec<Explained>, AllocError>
-    requires { All (IsFineEntry target) filter.now.rules }
+    requires fine { All (IsFineEntry target) filter.now.rules }
+    requires matched { AreMatched target filter.now }
     ensures { IfOk result (λ all. AllZip (IsExplainedBy target filter.now) records.now all.items) }
 {
     let mut all = Vec::new(alloc);
@@ -181,7 +160,8 @@ fn explain_record(
     filter: &JsonFilter,
     call: &[u8; 64],
 ) -> Result<Explained, AllocError>
-    requires { All (IsFineEntry target) filter.now.rules }
+    requires fine { All (IsFineEntry target) filter.now.rules }
+    requires matched { AreMatched target filter.now }
     ensures { IfOk result (IsExplainedBy target filter.now call.now) }
 {
     let entries = filter.rules.as_slice();
@@ -203,8 +183,12 @@ fn action_of(filter: &JsonFilter, reason: Reason) -> SeccompAction
     }
 }
 
-// Explains what a profile decides.
-fn explain_profile(
+/// Explains what a profile decides: the action, by which of its entries.
+///
+/// # Errors
+///
+/// `Profile` with what [`profile_of`](seccomp_oci::profile_of) gives of a profile. `OutOfMemory` where memory runs out.
+pub fn explain_profile(
     alloc: Global,
     target: TargetArch,
     container: &Container,

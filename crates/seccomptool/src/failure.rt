@@ -1,10 +1,9 @@
 // What the program tells of a failure.
 
-use crate::error::ToolError;
+use crate::error::{FaultAt, Place, ToolError};
 use crate::readable::{LineFeeds, readable};
-use crate::words::{Asked, Command, Inputs};
+use crate::words::{Asked, Inputs};
 use seccomp_command_line::names::push_readable;
-use seccompiler::Error;
 use std::alloc::{AllocError, Global};
 use std::fmt::Display;
 use std::io;
@@ -26,20 +25,7 @@ pub(crate) enum Failure {
     /// The output can't be written; how much of it went out is not known.
     Output(io::Error),
     /// What the command reads has this fault.
-    Engine(ToolError),
-}
-
-/// Where a failure is.
-#[derive(Clone, Copy)]
-pub(crate) enum Place {
-    /// Nowhere in what is read or written.
-    Nowhere,
-    /// In the first one of what is read.
-    First,
-    /// In the second one.
-    Second,
-    /// In the output.
-    Output,
+    Engine(FaultAt),
 }
 
 // Tells a failure on standard error: the program, the file that it is in, and the error, in one line.
@@ -50,13 +36,13 @@ pub(crate) fn tell(
     failure: &Failure,
 ) {
     let alloc = rt.alloc();
-    let path = match place_of(&asked.command, failure) {
+    let path = match place_of(failure) {
         Place::Nowhere => None,
         Place::First => Some((inputs.first, "standard input")),
         Place::Second => Some((inputs.second, "standard input")),
         Place::Output => Some((asked.output, "standard output")),
     };
-    let _ = match line_of(alloc, path, failure) {
+    let _ = match failure_line(alloc, path, failure) {
         Ok(line) => eprintln!(rt; "{line}"),
         Err(_) => eprintln!(rt; "seccomptool: Out of memory."),
     };
@@ -69,9 +55,8 @@ pub(crate) fn note(rt: &(impl Eprint + AllocGlobal), notes: &[u8]) {
     }
 }
 
-// Where a failure of a command is: faults that aren't of the words are of the first one that is read, those of two filters that
-// are compared aside, and those of a program that is verified.
-fn place_of(command: &Command<'_>, failure: &Failure) -> Place {
+// Where a failure is.
+fn place_of(failure: &Failure) -> Place {
     if is_out_of_memory(failure) {
         return Place::Nowhere;
     }
@@ -82,7 +67,7 @@ fn place_of(command: &Command<'_>, failure: &Failure) -> Place {
         Failure::Terminal => Place::Output,
         Failure::Onto => Place::Output,
         Failure::Output(_) => Place::Output,
-        Failure::Engine(error) => place_in(command, error),
+        Failure::Engine(fault) => fault.place,
     }
 }
 
@@ -96,25 +81,20 @@ fn is_out_of_memory(failure: &Failure) -> bool {
     }
 }
 
-// Where an error of a command is.
-pub(crate) fn place_in(command: &Command<'_>, error: &ToolError) -> Place {
-    match (error, command) {
-        (ToolError::NewPolicy(_), _) => Place::Second,
-        (ToolError::NewProfile(_), _) => Place::Second,
-        (ToolError::Program(_), Command::Verify { .. }) => Place::Second,
-        (ToolError::UnknownCall(_, _), _) => Place::Nowhere,
-        (ToolError::OutOfMemory, _) => Place::Nowhere,
-        (ToolError::NoFilter(_), Command::Diff { .. }) => Place::Nowhere,
-        (ToolError::Library(Error::Backend(_)), Command::Diff { .. }) => Place::Nowhere,
-        _ => Place::First,
-    }
+fn failure_line(
+    alloc: Global,
+    path: Option<(Option<&str>, &str)>,
+    failure: &Failure,
+) -> Result<String, AllocError> {
+    let told = told(alloc, failure)?;
+    line_of(alloc, path, told.as_str())
 }
 
 // The line of a failure: the program, a path with another name where it is `-`, and what is wrong.
 fn line_of(
     alloc: Global,
     path: Option<(Option<&str>, &str)>,
-    failure: &Failure,
+    told: &str,
 ) -> Result<String, AllocError> {
     let mut line = Vec::new(alloc);
     line.extend_from_slice(b"seccomptool: ")?;
@@ -125,8 +105,21 @@ fn line_of(
         }
         line.extend_from_slice(b": ")?;
     }
-    line.extend_from_slice(told(alloc, failure)?.as_bytes())?;
+    line.extend_from_slice(told.as_bytes())?;
     readable(alloc, &line, LineFeeds::Numbered)
+}
+
+// The line of what is wrong with what stands at a path.
+pub(crate) fn rejection(
+    alloc: Global,
+    path: &str,
+    error: &ToolError,
+) -> Result<Vec<u8>, AllocError> {
+    let told = format!(in alloc; "{error}")?;
+    let line = line_of(alloc, Some((Some(path), "standard input")), told.as_str())?;
+    let mut bytes = line.into_bytes();
+    bytes.push(b'\n')?;
+    Ok(bytes)
 }
 
 // What is wrong, in the system's words where it is the system that refuses.
@@ -144,8 +137,11 @@ fn told(alloc: Global, failure: &Failure) -> Result<String, AllocError> {
                 "bytes aren't written to a terminal; give a file or a pipe",
             )
         }
-        Failure::Onto => String::from_str(alloc, "the program isn't written onto its policy"),
-        Failure::Engine(error) => format!(in alloc; "{error}"),
+        Failure::Onto => String::from_str(alloc, "the output isn't written onto what is read"),
+        Failure::Engine(fault) => {
+            let error = &fault.error;
+            format!(in alloc; "{error}")
+        }
     }
 }
 

@@ -1,44 +1,58 @@
-// Whether a text is a profile's or a policy's, where both may be given.
+// What is given: a policy, a profile or a program.
 
-ghost use Rattle.std.specs.Prelude.{◌≡◌, ◌↔◌, IfOk, IsTrue, codes, option_map};
+ghost use Rattle.std.specs.Prelude.{◌↔◌, IfOk, IsTrue, codes};
 ghost use Rattle.serde_json.specs.View.{view};
-ghost use Rattle.seccomptool.specs.Kinds as spec;
 ghost use Rattle.seccompiler.specs.declared.backend.TargetArch.{TargetArch};
-ghost use Rattle.seccomptool.specs.Kinds.{IsOfProfile, IsPolicyText, IsTakenAs, NamesDefault, StandsIn};
-ghost use Rattle.seccomptool.specs.Chosen.{text_of};
+ghost use Rattle.seccomptool.specs.Kinds.{BeginsAsProgram, IsOfProfile, IsPolicyText, IsTakenAs, NamesDefault, StandsIn};
 
-use seccomp_oci::{Container, Runtime};
+use seccomp_oci::Container;
 use serde_json::Value;
 use std::alloc::{AllocError, Global};
 
-/// What a text is.
-#[derive(Clone, Copy)]
-pub enum Subject<'a> {
-    /// A policy.
-    Policy,
-    /// A profile, in this container.
-    Profile(&'a Container),
+/// How what is given is read.
+#[derive(Drop)]
+pub struct Reading {
+    /// Whether all texts are profiles; else each says itself what it is.
+    pub of_profiles: bool,
+    /// The container in which a profile is.
+    pub container: Container,
 }
 
-// What a text is, where this container is given, or none, and this filter is asked for, or none: a profile in the container that
-// is given; or one in a plain container, where the text is taken for a profile's and no filter is asked for; or else a policy.
+/// What is given.
+#[derive(Clone, Copy)]
+pub enum Subject<'a> {
+    /// The text of a policy.
+    Policy,
+    /// The text of a profile, in this container.
+    Profile(&'a Container),
+    /// The bytes of a program.
+    Program,
+}
+
+// What bytes are: a program, where they begin as one; else a profile, where all texts are profiles or this one is taken for a
+// profile's; else a policy.
 pub(crate) fn subject_of<'a>(
     alloc: Global,
-    given: Option<&'a Container>,
-    plain: &'a Container,
-    filter: Option<&str>,
+    reading: &'a Reading,
     text: &[u8],
 ) -> Result<Subject<'a>, AllocError>
-    requires { plain.now ≡ spec.plain_container }
-    ensures { IfOk result (IsTakenAs (option_map (λ c. c.now) given.entry) (text_of filter.entry) text.now) }
+    ensures { IfOk result (IsTakenAs reading.now text.now) }
 {
-    if let Some(container) = given {
-        return Ok(Subject::Profile(container));
+    if begins_as_program(text) {
+        return Ok(Subject::Program);
     }
-    if filter.is_none() && is_of_profile(alloc, text)? {
-        return Ok(Subject::Profile(plain));
+    if reading.of_profiles || is_of_profile(alloc, text)? {
+        return Ok(Subject::Profile(&reading.container));
     }
     Ok(Subject::Policy)
+}
+
+// Whether bytes begin as those of a program: the second one is the high byte of the first instruction's code, which is 0, and no
+// text of JSON has a 0.
+fn begins_as_program(text: &[u8]) -> bool
+    ensures { IsTrue result ↔ BeginsAsProgram text.now }
+{
+    text.len() > 1 && text[1] == 0
 }
 
 // Whether a text is taken for a profile. Only one that has the key's bytes is parsed, since policies may be large.
@@ -77,16 +91,5 @@ fn names_default(value: &Value) -> bool
     match value.get("defaultAction") {
         Some(action) => action.is_string(),
         None => false,
-    }
-}
-
-// A container of which nothing is said.
-pub(crate) fn plain_container(alloc: Global) -> Container
-    ensures { result ≡ spec.plain_container }
-{
-    Container {
-        caps: Vec::new(alloc),
-        kernel: None,
-        runtime: Runtime::Crun,
     }
 }

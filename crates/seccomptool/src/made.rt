@@ -1,45 +1,44 @@
-// What each command makes of the texts that it is given: an answer, and a view of it.
+// What each command makes of the bytes that it is given: an answer, and a view of it.
 
-ghost use Rattle.std.specs.Prelude.{◌≡◌, ℕ, List, IfOk, option_map};
+ghost use Rattle.std.specs.Prelude.{◌≡◌, IfErr, IfOk};
 ghost use Rattle.seccomptool.specs.Chosen.{text_of};
-ghost use Rattle.seccomptool.specs.Commands.{AreWidenedIn, IsCheck, IsCompared, IsCompiled, IsExplained, IsFilterCompiled, IsMeasured, IsProfileCompiled, IsRun, IsShown, IsVerified, OnRecords, records_in};
-ghost use Rattle.seccomptool.specs.Record.{IsRecordOf};
+ghost use Rattle.seccomptool.specs.Commands.{IsAccepted, IsCalled, IsCheck, IsCheckedProgram, IsCompared, IsCompiled, IsExplained, IsExplainedAs, IsFilterCompiled, IsMeasuredAs, IsProfileCompiled, IsRejectedFor, IsShown, IsShownAs, OnRecords, records_in};
 ghost use Rattle.seccomptool.specs.declared.findings.Verdict.TheVariants.{Same};
 
 use crate::check::profile::{CheckedProfile, profile_checked};
 use crate::check::{checked, verdict_where};
+use crate::chosen::refuse_name;
 use crate::codes::codes_text;
-use crate::compat::{calls_text, widened_calls};
 use crate::compile::format::ProgramFormat;
 use crate::compile::{NamedProgram, compiled, program_text};
-use crate::counts::{both_counted, counted};
-use crate::diff::diff_of;
-use crate::diff::lines::diff_lines;
-use crate::error::ToolError;
-use crate::explain::explain_of;
+use crate::counts::counted;
+use crate::diff::lines::{lines_by_name, pair_lines};
+use crate::diff::scope::Scope;
+use crate::diff::{Diff, diff_of};
+use crate::error::{FaultAt, ToolError};
 use crate::explain::format::LineFormat;
 use crate::explain::lines::explained_lines;
+use crate::explain::{explain_policy, explain_profile};
+use crate::failure::rejection;
 use crate::findings::{Terms, Verdict};
-use crate::kind::{Subject, plain_container, subject_of};
+use crate::kind::{Reading, Subject, subject_of};
 use crate::notes::front_of;
 use crate::profile::compiled_of;
 use crate::profile::notes::{profile_notes, uncompiled};
 use crate::progress::Progress;
-use crate::record::called_record;
+use crate::record::{called_record, calls_text, known_calls};
 use crate::run::program::program_of;
-use crate::run::{returned, words_text};
+use crate::run::{outcomes_text, returned};
 use crate::show;
 use crate::show::programs_in;
-use crate::stats::{filters_text, profile_stats, profile_text, stats_of};
-use crate::verify::lines::verified_lines;
-use crate::verify::scope::Scope;
-use crate::verify::verify_of;
-use crate::words::{Call, Inputs, Shown};
+use crate::sides::Side;
+use crate::stats::{filters_text, measure_of, measure_text, profile_stats, stats_of};
+use crate::words::{Call, Inputs, Names};
 use seccomp_oci::Container;
 use seccomp_tree::Layout;
 use seccomp_warnings::Code;
 use seccompiler::TargetArch;
-use std::alloc::Global;
+use std::alloc::{AllocError, Global};
 
 /// What a command makes of the texts that it is given.
 #[derive(Drop)]
@@ -78,7 +77,7 @@ impl Made {
 pub(crate) fn compile_made(
     alloc: Global,
     arch: TargetArch,
-    container: Option<&Container>,
+    reading: &Reading,
     strict: bool,
     filter: Option<&str>,
     layout: Layout,
@@ -86,14 +85,18 @@ pub(crate) fn compile_made(
     quiet: bool,
     path: &str,
     given: &[u8],
-) -> Result<Made, ToolError>
-    ensures { IfOk result (λ made. IsCompiled arch (option_map (λ c. c.now) container.entry) layout strict (text_of filter.entry) given.now × (made.verdict ≡ Same)) }
+) -> Result<Made, FaultAt>
+    ensures { IfOk result (λ made. IsCompiled arch reading.now layout strict (text_of filter.entry) given.now × (made.verdict ≡ Same)) }
 {
-    let plain = plain_container(alloc);
-    match subject_of(alloc, container, &plain, filter, given)? {
+    match subject_of(alloc, reading, given)? {
         Subject::Policy => policy_made(alloc, arch, filter, layout, format, quiet, path, given),
         Subject::Profile(container) => {
+            refuse_name(alloc, filter)?;
             profile_made(alloc, arch, container, strict, format, quiet, path, given)
+        }
+        Subject::Program => {
+            refuse_name(alloc, filter)?;
+            program_made(alloc, format, given)
         }
     }
 }
@@ -107,7 +110,7 @@ fn policy_made(
     quiet: bool,
     path: &str,
     policy: &[u8],
-) -> Result<Made, ToolError>
+) -> Result<Made, FaultAt>
     ensures { IfOk result (λ made. IsFilterCompiled arch layout (text_of filter.entry) policy.now × (made.verdict ≡ Same)) }
 {
     let program = compiled(alloc, arch, layout, filter, policy)?;
@@ -130,12 +133,12 @@ fn profile_made(
     quiet: bool,
     path: &str,
     profile: &[u8],
-) -> Result<Made, ToolError>
+) -> Result<Made, FaultAt>
     ensures { IfOk result (λ made. IsProfileCompiled arch container.now strict profile.now × (made.verdict ≡ Same)) }
 {
     let compiled = match compiled_of(alloc, arch, container, strict, profile) {
         Ok(compiled) => compiled,
-        Err(error) => return Err(uncompiled(alloc, arch, error)),
+        Err(error) => return Err(uncompiled(alloc, arch, error).into()),
     };
     let notes = if quiet {
         Vec::new(alloc)
@@ -155,25 +158,91 @@ fn profile_made(
     })
 }
 
+fn program_made(alloc: Global, format: ProgramFormat, given: &[u8]) -> Result<Made, FaultAt>
+    ensures { IfOk result (λ made. IsCheckedProgram given.now × (made.verdict ≡ Same)) }
+{
+    let program = NamedProgram {
+        name: String::from_str(alloc, "program")?,
+        program: program_of(alloc, given)?,
+    };
+    let text = program_text(alloc, format, &program)?;
+    Ok(Made::plain(alloc, text))
+}
+
 pub(crate) fn show_made(
     alloc: Global,
     arch: TargetArch,
+    reading: &Reading,
+    filter: Option<&str>,
     layout: Layout,
-    shown: Shown,
+    measured: bool,
     given: &[u8],
-) -> Result<Made, ToolError>
-    ensures { IfOk result (λ made. IsShown arch layout shown given.now × (made.verdict ≡ Same)) }
+) -> Result<Made, FaultAt>
+    ensures { IfOk result (λ made. IsShown arch reading.now layout measured given.now × (made.verdict ≡ Same)) }
 {
-    match shown {
-        Shown::Policy => {
+    let subject = subject_of(alloc, reading, given)?;
+    let text = if measured {
+        measured_text(alloc, arch, subject, filter, given)?
+    } else {
+        shown_text(alloc, arch, layout, subject, filter, given)?
+    };
+    Ok(Made::plain(alloc, text))
+}
+
+// The programs of what is given.
+fn shown_text(
+    alloc: Global,
+    arch: TargetArch,
+    layout: Layout,
+    subject: Subject<'_>,
+    filter: Option<&str>,
+    given: &[u8],
+) -> Result<Vec<u8>, ToolError>
+    ensures { IfOk result (λ text. IsShownAs arch subject.entry layout given.now) }
+{
+    match subject {
+        Subject::Policy => {
             let programs = programs_in(alloc, arch, layout, given)?;
-            let text = show::programs_text(alloc, &programs)?;
-            Ok(Made::plain(alloc, text))
+            show::programs_text(alloc, filter, &programs)
         }
-        Shown::Program => {
+        Subject::Profile(container) => {
+            refuse_name(alloc, filter)?;
+            let compiled = compiled_of(alloc, arch, container, false, given)?;
+            Ok(show::program_text(alloc, arch, &compiled.program)?)
+        }
+        Subject::Program => {
+            refuse_name(alloc, filter)?;
             let program = program_of(alloc, given)?;
-            let text = show::program_text(alloc, arch, &program)?;
-            Ok(Made::plain(alloc, text))
+            Ok(show::program_text(alloc, arch, &program)?)
+        }
+    }
+}
+
+// How long the programs of what is given are, and how many steps they take.
+fn measured_text(
+    alloc: Global,
+    arch: TargetArch,
+    subject: Subject<'_>,
+    filter: Option<&str>,
+    given: &[u8],
+) -> Result<Vec<u8>, ToolError>
+    ensures { IfOk result (λ text. IsMeasuredAs arch subject.entry given.now) }
+{
+    match subject {
+        Subject::Policy => {
+            let all = stats_of(alloc, arch, given)?;
+            filters_text(alloc, filter, &all)
+        }
+        Subject::Profile(container) => {
+            refuse_name(alloc, filter)?;
+            let measure = profile_stats(alloc, arch, container, given)?;
+            Ok(measure_text(alloc, "profile", measure)?)
+        }
+        Subject::Program => {
+            refuse_name(alloc, filter)?;
+            let program = program_of(alloc, given)?;
+            let measure = measure_of(alloc, arch, &program)?;
+            Ok(measure_text(alloc, "program", measure)?)
         }
     }
 }
@@ -181,23 +250,49 @@ pub(crate) fn show_made(
 pub(crate) fn check_made(
     alloc: Global,
     arch: TargetArch,
-    container: Option<&Container>,
+    reading: &Reading,
+    denied: bool,
+    allowed: &[Code],
+    path: &str,
+    given: &[u8],
+) -> Result<Made, FaultAt>
+    ensures { IfOk result (λ made. IsCheck arch reading.now denied allowed.now given.now made.verdict) }
+{
+    let subject = subject_of(alloc, reading, given)?;
+    match accepted(alloc, arch, subject, denied, allowed, path, given) {
+        Ok(made) => Ok(made),
+        Err(fault) if fault.is_out_of_memory() => Err(fault.into()),
+        Err(fault) => Ok(Made {
+            text: Vec::new(alloc),
+            rest: 0,
+            verdict: Verdict::Different,
+            notes: rejection(alloc, path, &fault)?,
+        }),
+    }
+}
+
+// What `check` makes of what is accepted.
+fn accepted(
+    alloc: Global,
+    arch: TargetArch,
+    subject: Subject<'_>,
     denied: bool,
     allowed: &[Code],
     path: &str,
     given: &[u8],
 ) -> Result<Made, ToolError>
-    ensures { IfOk result (λ made. IsCheck arch (option_map (λ c. c.now) container.entry) denied allowed.now given.now made.verdict) }
+    ensures accepted { IfOk result (λ made. IsAccepted arch subject.entry denied allowed.now given.now made.verdict) }
+    ensures rejected { IfErr result (IsRejectedFor arch subject.entry given.now) }
 {
-    let plain = plain_container(alloc);
-    let front = front_of(alloc, path)?;
-    match subject_of(alloc, container, &plain, None, given)? {
+    match subject {
         Subject::Policy => {
+            let front = front_of(alloc, path)?;
             let report = checked(alloc, arch, allowed, &front, given)?;
             let verdict = verdict_where(denied, report.count);
             Ok(Made::found(alloc, report.text, verdict))
         }
         Subject::Profile(container) => {
+            let front = front_of(alloc, path)?;
             let checked = profile_checked(alloc, arch, container, allowed, &front, given)?;
             let CheckedProfile { compiled, report } = checked;
             let notes = profile_notes(alloc, arch, path, &compiled.left_out, &compiled.flags)?;
@@ -208,10 +303,14 @@ pub(crate) fn check_made(
                 notes,
             })
         }
+        Subject::Program => {
+            let _program = program_of(alloc, given)?;
+            Ok(Made::plain(alloc, Vec::new(alloc)))
+        }
     }
 }
 
-pub(crate) fn codes_made(alloc: Global) -> Result<Made, ToolError>
+pub(crate) fn codes_made(alloc: Global) -> Result<Made, FaultAt>
     ensures { IfOk result (λ made. made.verdict ≡ Same) }
 {
     let text = codes_text(alloc)?;
@@ -221,40 +320,38 @@ pub(crate) fn codes_made(alloc: Global) -> Result<Made, ToolError>
 pub(crate) fn explain_made(
     alloc: Global,
     arch: TargetArch,
-    container: Option<&Container>,
+    reading: &Reading,
     filter: Option<&str>,
     format: LineFormat,
     call: Option<Call<'_>>,
     given: &[u8],
     records: &[u8],
-) -> Result<Made, ToolError>
-    ensures { IfOk result (λ made. OnRecords arch call.entry records.now (IsExplained arch (option_map (λ c. c.now) container.entry) (text_of filter.entry) given.now) × (made.verdict ≡ Same)) }
+) -> Result<Made, FaultAt>
+    ensures { IfOk result (λ made. OnRecords arch call.entry records.now (IsExplained arch reading.now (text_of filter.entry) given.now) × (made.verdict ≡ Same)) }
 {
     match call {
         Some(call) => {
             let record = called_record(alloc, arch, call.name, &call.arguments)?;
-            explain_records(alloc, arch, container, filter, format, given, &record)
+            explain_records(alloc, arch, reading, filter, format, given, &record)
         }
-        None => explain_records(alloc, arch, container, filter, format, given, records),
+        None => explain_records(alloc, arch, reading, filter, format, given, records),
     }
 }
 
 fn explain_records(
     alloc: Global,
     arch: TargetArch,
-    container: Option<&Container>,
+    reading: &Reading,
     filter: Option<&str>,
     format: LineFormat,
     given: &[u8],
     records: &[u8],
-) -> Result<Made, ToolError>
-    ensures { IfOk result (λ made. IsExplained arch (option_map (λ c. c.now) container.entry) (text_of filter.entry) given.now (records_in records.now) × (made.verdict ≡ Same)) }
+) -> Result<Made, FaultAt>
+    ensures { IfOk result (λ made. IsExplained arch reading.now (text_of filter.entry) given.now (records_in records.now) × (made.verdict ≡ Same)) }
 {
+    let subject = subject_of(alloc, reading, given)?;
     let (records, rest) = records.as_chunks::<64>();
-    let plain = plain_container(alloc);
-    let subject = subject_of(alloc, container, &plain, filter, given)?;
-    let explanation = explain_of(alloc, arch, subject, filter, given, records)?;
-    let text = explained_lines(alloc, arch, format, &explanation)?;
+    let text = explained_text(alloc, arch, subject, filter, format, given, records)?;
     Ok(Made {
         text,
         rest: rest.len(),
@@ -263,132 +360,114 @@ fn explain_records(
     })
 }
 
-pub(crate) fn run_made(
+// What is decided on records, and why.
+fn explained_text(
     alloc: Global,
     arch: TargetArch,
-    call: Option<Call<'_>>,
-    program: &[u8],
-    records: &[u8],
-) -> Result<Made, ToolError>
-    ensures { IfOk result (λ made. OnRecords arch call.entry records.now (IsRun program.now) × (made.verdict ≡ Same)) }
-{
-    match call {
-        Some(call) => {
-            let record = called_record(alloc, arch, call.name, &call.arguments)?;
-            run_records(alloc, program, &record)
-        }
-        None => run_records(alloc, program, records),
-    }
-}
-
-fn run_records(alloc: Global, program: &[u8], records: &[u8]) -> Result<Made, ToolError>
-    ensures { IfOk result (λ made. IsRun program.now (records_in records.now) × (made.verdict ≡ Same)) }
-{
-    let program = program_of(alloc, program)?;
-    let (records, rest) = records.as_chunks::<64>();
-    let words = returned(alloc, &program, records)?;
-    let text = words_text(alloc, &words)?;
-    Ok(Made {
-        text,
-        rest: rest.len(),
-        verdict: Verdict::Same,
-        notes: Vec::new(alloc),
-    })
-}
-
-pub(crate) fn stats_made(
-    alloc: Global,
-    arch: TargetArch,
-    container: Option<&Container>,
+    subject: Subject<'_>,
+    filter: Option<&str>,
+    format: LineFormat,
     given: &[u8],
-) -> Result<Made, ToolError>
-    ensures { IfOk result (λ made. IsMeasured arch (option_map (λ c. c.now) container.entry) given.now × (made.verdict ≡ Same)) }
+    records: &[[u8; 64]],
+) -> Result<Vec<u8>, ToolError>
+    ensures { IfOk result (λ text. IsExplainedAs arch subject.entry (text_of filter.entry) given.now records.now) }
 {
-    let outside = plain_container(alloc);
-    match subject_of(alloc, container, &outside, None, given)? {
+    match subject {
         Subject::Policy => {
-            let all = stats_of(alloc, arch, given)?;
-            let text = filters_text(alloc, &all)?;
-            Ok(Made::plain(alloc, text))
+            let explanation = explain_policy(alloc, arch, filter, given, records)?;
+            Ok(explained_lines(alloc, arch, format, &explanation)?)
         }
         Subject::Profile(container) => {
-            let measure = profile_stats(alloc, arch, container, given)?;
-            let text = profile_text(alloc, measure)?;
-            Ok(Made::plain(alloc, text))
+            refuse_name(alloc, filter)?;
+            let explanation = explain_profile(alloc, arch, container, given, records)?;
+            Ok(explained_lines(alloc, arch, format, &explanation)?)
+        }
+        Subject::Program => {
+            refuse_name(alloc, filter)?;
+            let program = program_of(alloc, given)?;
+            let outcomes = returned(alloc, &program, records)?;
+            Ok(outcomes_text(alloc, format, &outcomes)?)
         }
     }
 }
 
-pub(crate) fn record_made(
+pub(crate) fn call_made(
     alloc: Global,
-    arch: TargetArch,
+    arch: Option<TargetArch>,
     call: Call<'_>,
-) -> Result<Made, ToolError>
-    ensures { IfOk result (λ made. (bytes : List ℕ) × IsRecordOf arch call.entry.name.now call.entry.arguments bytes × (made.verdict ≡ Same)) }
+    recorded: bool,
+) -> Result<Made, FaultAt>
+    ensures { IfOk result (λ made. IsCalled arch call.entry recorded × (made.verdict ≡ Same)) }
 {
-    let record = called_record(alloc, arch, call.name, &call.arguments)?;
-    Ok(Made::plain(alloc, record))
+    if recorded {
+        let arch = arch.unwrap_or(TargetArch::x86_64);
+        let record = called_record(alloc, arch, call.name, &call.arguments)?;
+        return Ok(Made::plain(alloc, record));
+    }
+    let calls = match arch {
+        Some(arch) => known_calls(alloc, &[arch], call.name)?,
+        None => known_calls(alloc, &ALL, call.name)?,
+    };
+    let text = calls_text(alloc, call.name, &calls)?;
+    Ok(Made::plain(alloc, text))
 }
+
+// All architectures.
+static ALL: [TargetArch; 3] = [TargetArch::x86_64, TargetArch::aarch64, TargetArch::riscv64];
 
 pub(crate) fn diff_made<G: Progress>(
     alloc: Global,
     terms: Terms,
-    container: Option<&Container>,
-    filter: Option<&str>,
+    reading: &Reading,
+    names: Names<'_>,
+    scope: Scope,
     quiet: bool,
     inputs: Inputs<'_>,
     old: &[u8],
     new: &[u8],
     progress: &mut G,
-) -> Result<Made, ToolError>
-    ensures { IfOk result (λ made. IsCompared terms (option_map (λ c. c.now) container.entry) (text_of filter.entry) old.now new.now made.verdict) }
+) -> Result<Made, FaultAt>
+    ensures { IfOk result (λ made. IsCompared terms reading.now names.entry scope old.now new.now made.verdict) }
 {
-    let plain = plain_container(alloc);
-    let subject = subject_of(alloc, container, &plain, filter, old)?;
-    let notes = match subject {
-        Subject::Policy => {
-            let (first, second) = (inputs.first.unwrap_or("-"), inputs.second.unwrap_or("-"));
-            both_counted(alloc, quiet, terms.target, first, second, old, new)?
-        }
-        Subject::Profile(_) => Vec::new(alloc),
+    let old = Side {
+        kind: subject_of(alloc, reading, old)?,
+        filter: names.old,
+        given: old,
     };
+    let new = Side {
+        kind: subject_of(alloc, reading, new)?,
+        filter: names.new,
+        given: new,
+    };
+    let mut notes = side_counted(alloc, quiet, terms.target, inputs.first, old)?;
+    let of_new = side_counted(alloc, quiet, terms.target, inputs.second, new)?;
+    notes.extend_from_slice(&of_new)?;
     progress.begin();
-    let found = diff_of(alloc, terms, subject, filter, old, new, progress);
+    let found = diff_of(alloc, terms, old, new, progress);
     progress.end();
     let found = found?;
-    let text = diff_lines(alloc, terms, &found)?;
+    let text = match &found {
+        Diff::ByName(all) => lines_by_name(alloc, terms, all)?,
+        Diff::OfPair(pair) => pair_lines(alloc, terms, old, new, pair)?,
+    };
     Ok(Made {
         text,
         rest: 0,
-        verdict: found.verdict(),
+        verdict: found.verdict(scope),
         notes,
     })
 }
 
-pub(crate) fn verify_made<G: Progress>(
+// The note on how many warnings a side has, if it is a policy.
+fn side_counted(
     alloc: Global,
-    terms: Terms,
-    filter: Option<&str>,
-    scope: Scope,
-    policy: &[u8],
-    program: &[u8],
-    progress: &mut G,
-) -> Result<Made, ToolError>
-    ensures { IfOk result (λ made. IsVerified terms (text_of filter.entry) scope policy.now program.now made.verdict) }
-{
-    progress.begin();
-    let found = verify_of(alloc, terms, filter, policy, program, progress);
-    progress.end();
-    let found = found?;
-    let text = verified_lines(alloc, terms, &found)?;
-    let verdict = found.verdict(scope);
-    Ok(Made::found(alloc, text, verdict))
-}
-
-pub(crate) fn compat_made(alloc: Global, arch: TargetArch, policy: &[u8]) -> Result<Made, ToolError>
-    ensures { IfOk result (λ made. AreWidenedIn arch policy.now × (made.verdict ≡ Same)) }
-{
-    let all = widened_calls(alloc, arch, policy)?;
-    let text = calls_text(alloc, arch, &all)?;
-    Ok(Made::plain(alloc, text))
+    quiet: bool,
+    arch: TargetArch,
+    path: Option<&str>,
+    side: Side<'_>,
+) -> Result<Vec<u8>, AllocError> {
+    match side.kind {
+        Subject::Policy => counted(alloc, quiet, arch, path.unwrap_or("-"), side.given),
+        _ => Ok(Vec::new(alloc)),
+    }
 }

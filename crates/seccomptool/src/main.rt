@@ -4,7 +4,6 @@
 mod check;
 mod chosen;
 mod codes;
-mod compat;
 mod compile;
 mod counts;
 mod diff;
@@ -26,9 +25,9 @@ mod record;
 mod run;
 mod shell;
 mod show;
+mod sides;
 mod source;
 mod stats;
-mod verify;
 mod words;
 
 use crate::progress::Watch;

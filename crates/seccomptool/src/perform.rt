@@ -4,12 +4,11 @@ ghost use Rattle.std.specs.Prelude.{◌≡◌, IfErr, IfOk, IfSome};
 ghost use Rattle.seccompiler.specs.Reads.{Reads};
 ghost use Rattle.seccomptool.specs.Commands.{IsCarriedOut, KeepsOutput};
 
-use crate::error::ToolError;
-use crate::failure::{Failure, Place, place_in};
+use crate::error::{FaultAt, Place};
+use crate::failure::Failure;
 use crate::findings::Verdict;
 use crate::made::{
-    Made, check_made, codes_made, compat_made, compile_made, diff_made, explain_made, record_made,
-    run_made, show_made, stats_made, verify_made,
+    Made, call_made, check_made, codes_made, compile_made, diff_made, explain_made, show_made,
 };
 use crate::progress::Progress;
 use crate::readable::{LineFeeds, readable};
@@ -95,10 +94,10 @@ fn fault_before<G: Progress>(
     inputs: Inputs<'_>,
     first: &[u8],
     progress: &mut G,
-) -> Option<ToolError> {
+) -> Option<FaultAt> {
     match made_by(alloc, command, inputs, first, b"", progress) {
         Ok(_) => None,
-        Err(fault) => match place_in(command, &fault) {
+        Err(fault) => match fault.place {
             Place::Second => None,
             _ => Some(fault),
         },
@@ -113,7 +112,7 @@ fn ready<G: Progress>(
     first: &[u8],
     second: &[u8],
     progress: &mut G,
-) -> Result<Made, ToolError>
+) -> Result<Made, FaultAt>
     ensures { IfOk result (λ made. IsCarriedOut command.now first.now second.now made.verdict) }
 {
     let Made {
@@ -156,91 +155,58 @@ fn made_by<G: Progress>(
     first: &[u8],
     second: &[u8],
     progress: &mut G,
-) -> Result<Made, ToolError>
+) -> Result<Made, FaultAt>
     ensures { IfOk result (λ made. IsCarriedOut command.now first.now second.now made.verdict) }
 {
     let path = inputs.first.unwrap_or("-");
     match command {
         Command::Compile {
             arch,
-            container,
+            reading,
             strict,
             filter,
             layout,
             format,
             quiet,
         } => compile_made(
-            alloc,
-            *arch,
-            container.as_ref(),
-            *strict,
-            *filter,
-            *layout,
-            *format,
-            *quiet,
-            path,
-            first,
+            alloc, *arch, reading, *strict, *filter, *layout, *format, *quiet, path, first,
         ),
         Command::Show {
             arch,
+            reading,
+            filter,
             layout,
-            shown,
-        } => show_made(alloc, *arch, *layout, *shown, first),
+            measured,
+        } => show_made(alloc, *arch, reading, *filter, *layout, *measured, first),
         Command::Check {
             arch,
-            container,
+            reading,
             denied,
             allowed,
-        } => check_made(
-            alloc,
-            *arch,
-            container.as_ref(),
-            *denied,
-            allowed,
-            path,
-            first,
-        ),
+        } => check_made(alloc, *arch, reading, *denied, allowed, path, first),
         Command::Codes => codes_made(alloc),
         Command::Explain {
             arch,
-            container,
+            reading,
             filter,
             format,
             call,
         } => explain_made(
-            alloc,
-            *arch,
-            container.as_ref(),
-            *filter,
-            *format,
-            *call,
-            first,
-            second,
+            alloc, *arch, reading, *filter, *format, *call, first, second,
         ),
-        Command::Run { arch, call } => run_made(alloc, *arch, *call, first, second),
-        Command::Stats { arch, container } => stats_made(alloc, *arch, container.as_ref(), first),
-        Command::Record { arch, call } => record_made(alloc, *arch, *call),
+        Command::Call {
+            arch,
+            call,
+            recorded,
+        } => call_made(alloc, *arch, *call, *recorded),
         Command::Diff {
             terms,
-            container,
-            filter,
+            reading,
+            names,
+            scope,
             quiet,
         } => diff_made(
-            alloc,
-            *terms,
-            container.as_ref(),
-            *filter,
-            *quiet,
-            inputs,
-            first,
-            second,
-            progress,
+            alloc, *terms, reading, *names, *scope, *quiet, inputs, first, second, progress,
         ),
-        Command::Verify {
-            terms,
-            filter,
-            scope,
-        } => verify_made(alloc, *terms, *filter, *scope, first, second, progress),
-        Command::Compat { arch } => compat_made(alloc, *arch, first),
     }
 }

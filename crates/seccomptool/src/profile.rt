@@ -2,8 +2,9 @@
 
 pub(crate) mod notes;
 
-ghost use Rattle.std.specs.Prelude.{IfOk};
+ghost use Rattle.std.specs.Prelude.{IfErr, IfOk};
 ghost use Rattle.seccomp_oci.specs.CompiledProfile.{IsCompiledProfile};
+ghost use Rattle.seccomptool.specs.CheckProfile.{IsRefusedProfile};
 
 use crate::error::ToolError;
 use seccomp_oci::{CompileError, CompiledProfile, Container, ProfileError, compile_profile};
@@ -22,7 +23,8 @@ pub(crate) fn compiled_of(
     strict: bool,
     text: &[u8],
 ) -> Result<CompiledProfile, ToolError>
-    ensures { IfOk result (IsCompiledProfile target container.now strict text.now) }
+    ensures compiled { IfOk result (IsCompiledProfile target container.now strict text.now) }
+    ensures refused { IfErr result (IsRefusedProfile target container.now strict text.now) }
 {
     match compile_profile(alloc, target, container, strict, text) {
         Ok(compiled) => Ok(compiled),

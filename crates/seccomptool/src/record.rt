@@ -1,11 +1,12 @@
 // The record of a call.
 
-ghost use Rattle.std.specs.Prelude.{◌≡◌, ◌++◌, ℕ, map, IfOk, IfErr, IfSome, IfNone, OnOk};
+ghost use Rattle.std.specs.Prelude.{◌≡◌, ◌++◌, ℕ, All, map, IfOk, IfErr, IfSome, IfNone, OnOk};
 ghost use Rattle.std.specs.Int.{w64, to_le_bytes};
 ghost use Rattle.std.specs.List.{concat};
 ghost use Rattle.seccomptool.specs.Record.{IsCall, IsRecordOf, IsUncalled, record_bytes};
 
 use crate::error::ToolError;
+use crate::findings::parts::name_of;
 use crate::numbers::read_number;
 use seccompiler::{SyscallTable, TargetArch};
 use std::alloc::{AllocError, Global};
@@ -34,6 +35,69 @@ pub fn called_record(
         return Err(ToolError::UnknownCall(String::from_str(alloc, call)?, target));
     };
     Ok(record_of(alloc, target, number, arguments)?)
+}
+
+/// A call of an architecture.
+#[derive(Clone, Copy)]
+pub struct KnownCall {
+    /// The architecture.
+    pub target: TargetArch,
+    /// Its number.
+    pub number: u32,
+}
+
+/// The calls of this name or number on these architectures; of a number those alone that have a name.
+///
+/// # Errors
+///
+/// `NoCall` with the text where there is none; `OutOfMemory` in its place where memory runs out.
+pub fn known_calls(
+    alloc: Global,
+    targets: &[TargetArch],
+    call: &str,
+) -> Result<Vec<KnownCall>, ToolError>
+    ensures { IfOk result (λ calls. All (λ known. IsCall known.target call.now known.number) calls.items) }
+{
+    let mut calls = Vec::new(alloc);
+    for target in targets {
+        push_known(&mut calls, *target, call)?;
+    }
+    if calls.is_empty() {
+        return Err(ToolError::NoCall(String::from_str(alloc, call)?));
+    }
+    Ok(calls)
+}
+
+// Adds the call of an architecture, if it has one.
+fn push_known(calls: &mut Vec<KnownCall>, target: TargetArch, call: &str) -> Result<(), AllocError>
+    ensures { OnOk result (All (λ known. IsCall known.target call.now known.number) calls.old.items → All (λ known. IsCall known.target call.now known.number) calls.new.items) }
+{
+    let Some(number) = call_number(target, call) else {
+        return Ok(());
+    };
+    if name_of(target, number).is_none() {
+        return Ok(());
+    }
+    calls.push(KnownCall { target, number })?;
+    Ok(())
+}
+
+/// The lines of calls: the architecture, the call's name, as it is given where it is no number, and its number.
+pub(crate) fn calls_text(
+    alloc: Global,
+    given: &str,
+    calls: &[KnownCall],
+) -> Result<Vec<u8>, AllocError> {
+    let mut text = Vec::new(alloc);
+    for known in calls {
+        let (arch, number) = (known.target.name(), known.number);
+        let name = match read_number(given) {
+            Some(_) => name_of(known.target, number).unwrap_or(given),
+            None => given,
+        };
+        text.extend_from_slice(format!(in alloc; "{arch} {name} {number}\n")?.as_bytes())?;
+    }
+    Ok(text)
 }
 
 // The number of the call of this name or number.

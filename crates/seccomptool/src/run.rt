@@ -8,7 +8,9 @@ ghost use Rattle.std.specs.Prelude.{IfOk};
 ghost use Rattle.seccompiler.specs.Machine.{IsChecked};
 ghost use Rattle.seccomptool.specs.Run.{AreReturned};
 
+use crate::explain::format::LineFormat;
 use crate::findings::lines::Word;
+use seccompiler::machine::Outcome;
 use seccompiler::{BpfProgramRef, machine};
 use std::alloc::{AllocError, Global};
 
@@ -20,25 +22,37 @@ pub fn returned(
     alloc: Global,
     program: BpfProgramRef<'_>,
     records: &[[u8; 64]],
-) -> Result<Vec<u32>, AllocError>
+) -> Result<Vec<Outcome>, AllocError>
     requires { IsChecked program.now }
-    ensures { IfOk result (λ words. AreReturned program.now records.now words.items) }
+    ensures { IfOk result (λ outcomes. AreReturned program.now records.now outcomes.items) }
 {
-    let mut words = Vec::new(alloc);
+    let mut outcomes = Vec::new(alloc);
     for record in records {
-        words.push(machine::run(program, record).word)?;
+        outcomes.push(machine::run(program, record))?;
     }
-    Ok(words)
+    Ok(outcomes)
 }
 
 /// The lines of what is returned: the action of a value by its name in a policy: `allow`, `log`,
 /// `trap`, `kill_thread`, `kill_process` and `user_notif`, a space and the low 16 bits in decimal behind
-/// `errno` and `trace`; a value that is none of these is written in hexadecimal digits behind `0x`.
-pub(crate) fn words_text(alloc: Global, words: &[u32]) -> Result<Vec<u8>, AllocError> {
+/// `errno` and `trace`; a value that is none of these is written in hexadecimal digits behind `0x`. By `LineFormat::Word` the value
+/// in 8 hexadecimal digits, a space, and the steps.
+pub(crate) fn outcomes_text(
+    alloc: Global,
+    format: LineFormat,
+    outcomes: &[Outcome],
+) -> Result<Vec<u8>, AllocError> {
     let mut text = Vec::new(alloc);
-    for word in words {
-        let action = Word(*word);
-        text.extend_from_slice(format!(in alloc; "{action}\n")?.as_bytes())?;
+    for outcome in outcomes {
+        let Outcome { word, steps } = *outcome;
+        let line = match format {
+            LineFormat::Path => {
+                let action = Word(word);
+                format!(in alloc; "{action}\n")?
+            }
+            LineFormat::Word => format!(in alloc; "{word:08x} {steps}\n")?,
+        };
+        text.extend_from_slice(line.as_bytes())?;
     }
     Ok(text)
 }

@@ -4,7 +4,6 @@ ghost use Rattle.std.specs.Prelude.{◌≡◌, ◌≤◌, ◌⊎◌, IfOk};
 ghost use Rattle.std.specs.Process.{exit_status};
 ghost use Rattle.clap.specs.Words.{kind_of};
 ghost use Rattle.clap.specs.declared.error.kind.ErrorKind.TheVariants.{DisplayHelp, DisplayVersion};
-ghost use Rattle.seccomptool.specs.Commands as spec;
 ghost use Rattle.seccomptool.specs.Commands.{EndWith, EndsWith, IsPerformed, verdict_status};
 
 use crate::compile::format::ProgramFormat;
@@ -21,6 +20,9 @@ use std::io;
 use std::process::ExitCode;
 use std::rt::Files;
 
+// The status of a command that fails.
+const TROUBLE: u8 = 2;
+
 /// Carries out what the arguments behind the program's name ask for, or says what is wrong with
 /// them, or writes the help or the version that they ask for. `to_terminal` says whether standard output
 /// is a terminal; `progress` gets how far comparisons are.
@@ -32,14 +34,32 @@ pub(crate) fn answer<G: Progress>(
 ) -> ExitCode
     ensures ended { exit_status result ≤ 3 }
 {
+    if let Some(word) = words.first() {
+        if let Some(verb) = verb_for(word.as_str()) {
+            let _ = eprintln!(rt; "seccomptool: '{word}' is now '{verb}'");
+            return ExitCode::from(TROUBLE);
+        }
+    }
     match read(rt.alloc(), words) {
         Ok(asked) => ExitCode::from(carry_out_each(rt, &asked, to_terminal, progress)),
         Err(error) => misused(rt, &error),
     }
 }
 
-// Tells what `clap` has to say: status 0 where that is help or the version, and it is written, and 1 where it
-// isn't; 2 where the words are no command, or memory runs out before one is known.
+// What does now what a command did that is gone.
+fn verb_for(command: &str) -> Option<&'static str> {
+    match command {
+        "stats" => Some("show --stats"),
+        "run" => Some("explain"),
+        "record" => Some("call --record"),
+        "verify" => Some("diff"),
+        "compat" => Some("check"),
+        "import" => Some("compile"),
+        _ => None,
+    }
+}
+
+// Tells what `clap` has to say: status 0 where that is help or the version, and it is written; else 2.
 fn misused(rt: &(impl Print + Eprint + AllocGlobal), error: &clap::Error) -> ExitCode
     ensures ended { exit_status result ≤ 2 }
     ensures shown { exit_status result ≤ 1 → (kind_of error.now ≡ DisplayHelp) ⊎ (kind_of error.now ≡ DisplayVersion) }
@@ -68,15 +88,15 @@ fn tell_misuse(rt: &(impl Eprint + AllocGlobal), error: &clap::Error) {
     }
 }
 
-// Writes help or the version: status 0, or 1 where that fails.
+// Writes help or the version: status 0, or 2 where that fails.
 fn printed(rt: &(impl Print + Eprint), error: &clap::Error) -> ExitCode
-    ensures { exit_status result ≤ 1 }
+    ensures { exit_status result ≤ 2 }
 {
     match error.print(rt) {
         Ok(()) => ExitCode::SUCCESS,
         Err(error) => {
             let _ = eprintln!(rt; "seccomptool: standard output: {error}");
-            ExitCode::FAILURE
+            ExitCode::from(TROUBLE)
         }
     }
 }
@@ -135,7 +155,7 @@ fn carry_out<G: Progress>(
         }
         Err(failure) => {
             tell(rt, asked, inputs, &failure);
-            trouble(&asked.command)
+            TROUBLE
         }
     }
 }
@@ -199,7 +219,7 @@ fn is_onto(rt: &(impl Files + AllocGlobal), asked: &Asked<'_>, inputs: Inputs<'_
 pub(crate) fn writes_bytes(command: &Command<'_>) -> bool {
     match command {
         Command::Compile { format, .. } => matches!(format, ProgramFormat::Raw),
-        Command::Record { .. } => true,
+        Command::Call { recorded, .. } => *recorded,
         _ => false,
     }
 }
@@ -213,17 +233,5 @@ fn status_of(verdict: Verdict) -> u8
         Verdict::Same => 0,
         Verdict::Different => 1,
         Verdict::Undecided => 3,
-    }
-}
-
-// The status of a command that fails.
-fn trouble(command: &Command<'_>) -> u8
-    ensures is { result ≡ spec.trouble command.now }
-    ensures ended { result ≤ 2 }
-{
-    match command {
-        Command::Diff { .. } => 2,
-        Command::Verify { .. } => 2,
-        _ => 1,
     }
 }

@@ -6,30 +6,27 @@ mod program;
 mod values;
 
 use crate::compile::format::ProgramFormat;
+use crate::diff::scope::Scope;
 use crate::explain::format::LineFormat;
 use crate::findings::Terms;
-use crate::verify::scope::Scope;
+use crate::kind::Reading;
 use crate::words::matches::asked_in;
 use crate::words::program::program;
 use clap::error::ErrorKind;
-use seccomp_oci::Container;
 use seccomp_tree::Layout;
 use seccomp_warnings::Code;
 use seccompiler::TargetArch;
 use std::alloc::{AllocError, AllocFailed, Global};
 
 /// A command of the program, with its options.
-///
-/// Where a command takes policies and profiles, a container says that profiles are given, and in which container they are; where
-/// there is none, the text says what is given.
 #[derive(Drop)]
 pub enum Command<'a> {
-    /// Write the program of a filter.
+    /// Write the program of what is given.
     Compile {
         /// The architecture.
         arch: TargetArch,
-        /// The container.
-        container: Option<Container>,
+        /// How what is given is read.
+        reading: Reading,
         /// Whether names that no call of the architecture has are an error, in a profile.
         strict: bool,
         /// The filter's name; the policy's only filter where there is none.
@@ -41,21 +38,25 @@ pub enum Command<'a> {
         /// Whether the number of warnings is left out.
         quiet: bool,
     },
-    /// Print the programs of a policy, or a program, for people.
+    /// Print the programs of what is given for people, or how long they are and how many steps they take.
     Show {
         /// The architecture.
         arch: TargetArch,
+        /// How what is given is read.
+        reading: Reading,
+        /// The filter's name; all filters of a policy where there is none.
+        filter: Option<&'a str>,
         /// The programs' layout.
         layout: Layout,
-        /// What is printed.
-        shown: Shown,
+        /// Whether they are measured.
+        measured: bool,
     },
-    /// Print the first error of a policy or a profile, or else its warnings.
+    /// Print the first error of what is given, or else its warnings.
     Check {
         /// The architecture.
         arch: TargetArch,
-        /// The container.
-        container: Option<Container>,
+        /// How what is given is read.
+        reading: Reading,
         /// Whether warnings count for the exit status.
         denied: bool,
         /// The codes whose warnings aren't printed.
@@ -63,12 +64,12 @@ pub enum Command<'a> {
     },
     /// Print the codes of warnings.
     Codes,
-    /// Print what a filter or a profile decides on calls, and why.
+    /// Print what is decided on calls, and why.
     Explain {
         /// The architecture.
         arch: TargetArch,
-        /// The container.
-        container: Option<Container>,
+        /// How what is given is read.
+        reading: Reading,
         /// The filter's name; the policy's only filter where there is none.
         filter: Option<&'a str>,
         /// How a line is written.
@@ -76,61 +77,37 @@ pub enum Command<'a> {
         /// The call; those of the records where there is none.
         call: Option<Call<'a>>,
     },
-    /// Print what a program returns for calls.
-    Run {
-        /// The architecture of a call.
-        arch: TargetArch,
-        /// The call; those of the records where there is none.
-        call: Option<Call<'a>>,
-    },
-    /// Print how long the programs of a policy or a profile are, and how many steps they take.
-    Stats {
-        /// The architecture.
-        arch: TargetArch,
-        /// The container.
-        container: Option<Container>,
-    },
-    /// Write the record of a call.
-    Record {
-        /// The architecture.
-        arch: TargetArch,
+    /// Print the name and the number of a call, or write its record.
+    Call {
+        /// The architecture; all where there is none.
+        arch: Option<TargetArch>,
         /// The call.
         call: Call<'a>,
+        /// Whether its record is written.
+        recorded: bool,
     },
-    /// Print the calls that two policies or profiles decide otherwise.
+    /// Print the calls that two sides decide otherwise.
     Diff {
         /// On which terms.
         terms: Terms,
-        /// The container.
-        container: Option<Container>,
-        /// The filter's name; all filters where there is none.
-        filter: Option<&'a str>,
+        /// How both are read.
+        reading: Reading,
+        /// The filters that are asked for.
+        names: Names<'a>,
+        /// Which calls count for the exit status.
+        scope: Scope,
         /// Whether the numbers of warnings are left out.
         quiet: bool,
     },
-    /// Print the calls that a program decides otherwise than a filter.
-    Verify {
-        /// On which terms.
-        terms: Terms,
-        /// The filter's name; the policy's only filter where there is none.
-        filter: Option<&'a str>,
-        /// Which calls count for the exit status.
-        scope: Scope,
-    },
-    /// Print the calls that the Rust crate would decide otherwise.
-    Compat {
-        /// The architecture.
-        arch: TargetArch,
-    },
 }
 
-/// What `show` prints.
+/// The names of the filters of two sides, where they are asked for.
 #[derive(Clone, Copy)]
-pub enum Shown {
-    /// The programs of a policy.
-    Policy,
-    /// A program.
-    Program,
+pub struct Names<'a> {
+    /// The old one.
+    pub old: Option<&'a str>,
+    /// The new one.
+    pub new: Option<&'a str>,
 }
 
 /// A call that a command is asked about.
@@ -145,9 +122,9 @@ pub struct Call<'a> {
 /// The paths of what a command reads; `-` is standard input.
 #[derive(Clone, Copy)]
 pub struct Inputs<'a> {
-    /// A policy, a profile or a program; of two that are compared the old one, or the policy.
+    /// A policy, a profile or a program; of two that are compared the old one.
     pub first: Option<&'a str>,
-    /// Records; of two that are compared the new one, or the program.
+    /// Records; of two that are compared the new one.
     pub second: Option<&'a str>,
 }
 
@@ -187,11 +164,10 @@ impl<T: Drop> From<AllocFailed<T>> for Misuse {
 /// # Errors
 ///
 /// `clap`'s: help and the version where they are asked for, and its own error of arguments that are no
-/// command. `ValueValidation` where an ARG or the value of `--most` is no number, where `explain` or `run`
-/// is given both CALL and `--records`, or `show` both POLICY and `--program`, where the value of `--kernel` is no version, where
-/// `check`, `diff`, `explain` or `stats` is given `--cap` or `--kernel` without `--oci`, or both `--oci` and `--filter`, and where
-/// two files would both be read from standard input: policy and records, program and records, policy and program, or both policies
-/// or profiles of `diff`. `OutOfMemory` may come in place of any.
+/// command. `ValueValidation` where an ARG or the value of `--most` is no number, where `explain` is given both CALL and
+/// `--records`, where the value of `--kernel` is no version, where `call` is given `--output` without `--record`, and where two files
+/// would both be read from standard input: what is explained and records, or both of what is compared. `OutOfMemory` may come in
+/// place of any.
 pub(crate) fn read<'a>(alloc: Global, words: &'a [String]) -> Result<Asked<'a>, clap::Error> {
     let mut program = program(alloc)?;
     let matches = program.try_get_matches_from_mut(words)?;

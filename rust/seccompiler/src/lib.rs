@@ -22,7 +22,7 @@
 //! Names, types and traits are those of the crate, and programs are equal byte for byte. But:
 //!
 //! - **An entry of a JSON filter without `args` matches its call always.** In the crate it has no effect beside entries
-//!   with `args` for the same call. This may permit more: `seccomptool compat` lists such calls.
+//!   with `args` for the same call. This may permit more: `seccomptool check` warns of such calls.
 //! - A program of exactly 4096 instructions, which is the most that a kernel takes, is made; the crate rejects it.
 //! - A number of a system call that is below 0 or above 4294967295 is the error
 //!   [`BackendError::InvalidSyscallNumber`]; the crate panics.

@@ -14,9 +14,9 @@ use Rattle.seccompiler.specs.Policy.{Filter}
 use Rattle.seccomp_command_line.proofs.ByName.{by_text, found_name}
 use Rattle.seccompiler.specs.declared.backend.TargetArch.{TargetArch}
 use Rattle.seccomp_compare.specs.declared.Relation.{Relation}
-use Rattle.seccomptool.specs.Diff.{IsFoundOf, Policies, name_bytes}
+use Rattle.seccomptool.specs.Diff.{IsFoundOf, name_bytes}
+use Rattle.seccomptool.specs.Sides.{Policies}
 use Rattle.seccomptool.specs.DiffParts.{IsFoundUnder}
-use Rattle.seccomptool.specs.Rulings.{of_filter}
 use Rattle.seccomptool.specs.declared.diff.NamedFound.{NamedFound}
 
 -- ---- the names of maps
@@ -64,31 +64,25 @@ found_among names entries all name f is =
 -- One name more.
 pub named_more : (names : List (String Global)) (at : ℕ) (name : String Global) (old new : List NamedFound) (one : NamedFound)
     → at < length names → get_or names at name ≡ name
-    → map name_bytes old ≡ map (λ (n : String Global). Some (string_bytes n)) (take at names)
-    → name_bytes one ≡ Some (string_bytes name) → new ≡ old ++ one ∷ []
-    → map name_bytes new ≡ map (λ (n : String Global). Some (string_bytes n)) (take (at + 1) names)
+    → map name_bytes old ≡ map (λ (n : String Global). string_bytes n) (take at names)
+    → name_bytes one ≡ string_bytes name → new ≡ old ++ one ∷ []
+    → map name_bytes new ≡ map (λ (n : String Global). string_bytes n) (take (at + 1) names)
 named_more names at name old new one room here so_far own is =
     ap (map name_bytes) is ∙ map-append name_bytes old (one ∷ []) ∙ ap (λ ns. ns ++ name_bytes one ∷ []) so_far
-    ∙ ap (λ n. map (λ (n : String Global). Some (string_bytes n)) (take at names) ++ n ∷ []) own
-    ∙ sym (map-append (λ (n : String Global). Some (string_bytes n)) (take at names) (name ∷ []))
-    ∙ ap (map (λ (n : String Global). Some (string_bytes n))) (ap (λ n. take at names ++ n ∷ []) (sym here)
+    ∙ ap (λ n. map (λ (n : String Global). string_bytes n) (take at names) ++ n ∷ []) own
+    ∙ sym (map-append (λ (n : String Global). string_bytes n) (take at names) (name ∷ []))
+    ∙ ap (map (λ (n : String Global). string_bytes n)) (ap (λ n. take at names ++ n ∷ []) (sym here)
     ∙ sym (take_more names at name room))
 
 -- What is found of two filters is found under their name.
 pub under_name : (target : TargetArch) (relation : Relation) (old new : Policies) (name : List ℕ) (one : NamedFound)
-    (old_found new_found : Option (Bor Filter)) → name_bytes one ≡ Some name → option_map (λ f. f.now) old_found ≡ old name
+    (old_found new_found : Option (Bor Filter)) → name_bytes one ≡ name → option_map (λ f. f.now) old_found ≡ old name
     → option_map (λ f. f.now) new_found ≡ new name
-    → IsFoundOf target relation (option_map (λ f. of_filter f.now) old_found) (option_map (λ f. of_filter f.now) new_found) one.found
+    → IsFoundOf target relation (option_map (λ f. f.now) old_found) (option_map (λ f. f.now) new_found) one.found
     → IsFoundUnder target relation old new one
 under_name target relation old new name one old_found new_found is of_old of_new found = record {
   name = name;
   is = is;
-  found = subst (λ o. IsFoundOf target relation o (option_map of_filter (new name)) one.found) (both old_found (old name) of_old)
-      (subst (λ o. IsFoundOf target relation (option_map (λ f. of_filter f.now) old_found) o one.found) (both new_found (new name) of_new)
-      found);
+  found = subst (λ o. IsFoundOf target relation o (new name) one.found) of_old
+      (subst (λ o. IsFoundOf target relation (option_map (λ f. f.now) old_found) o one.found) of_new found);
 }
-  where
-    both : (o : Option (Bor Filter)) (p : Option Filter) → option_map (λ f. f.now) o ≡ p
-        → option_map (λ f. of_filter f.now) o ≡ option_map of_filter p
-    both (Some f) p e = ap (option_map of_filter) e
-    both None p e = ap (option_map of_filter) e

@@ -6,7 +6,7 @@ use Rattle.std.specs.List.{AllZip}
 use Rattle.std.proofs.lemmas.List.{take_more}
 use Rattle.std.proofs.lemmas.List.Elements.{All-nil, All-push, All-weaker, Contains-append_left, Contains-push}
 use Rattle.std.proofs.lemmas.Slice.Zip.{all_zipped_more}
-use Rattle.seccomptool.specs.Commands.{EndWith, EndsWith, IsPerformed, trouble, verdict_status}
+use Rattle.seccomptool.specs.Commands.{EndWith, EndsWith, IsPerformed, verdict_status}
 use Rattle.seccomptool.specs.declared.findings.Verdict.{Verdict}
 use Rattle.seccomptool.specs.declared.findings.Verdict.TheVariants.{Same, Different, Undecided}
 use Rattle.seccomptool.specs.declared.words.Command.{Command}
@@ -27,11 +27,13 @@ one_status Undecided Undecided e = refl
 -- A command that is carried out ends with the status of its verdict.
 pub performed : (command : Command) (found : Verdict) (status : ℕ) → IsPerformed command found → status ≡ verdict_status found
     → EndsWith command status
-performed command found status is own v shown other = subst (IsPerformed command) (one_status found v (sym own ∙ shown)) is
+performed command found status is own v shown = subst (IsPerformed command) (one_status found v (sym own ∙ shown)) is
 
--- A command that fails ends with its own status of that.
-pub failed : (command : Command) (status : ℕ) → status ≡ trouble command → EndsWith command status
-failed command status own v shown other = absurd (other own)
+-- That of trouble is no verdict's.
+pub failed : (command : Command) → EndsWith command 2
+failed command Same shown = absurd (omega (arith, shown))
+failed command Different shown = absurd (omega (arith, shown))
+failed command Undecided shown = absurd (omega (arith, shown))
 
 -- Nothing ends with 0.
 pub none_ended : (command : Command) → EndWith command [] 0

@@ -1,13 +1,11 @@
 // The warnings of a profile of a container runtime.
 
-ghost use Rattle.std.specs.Prelude.{◌≡◌, ◌++◌, ◌↔◌, IfOk, IsTrue};
-ghost use Rattle.seccomptool.specs.CheckProfile.{DenyClone3, IsProfileCheckOf, IsProfileReport, codes_of_base, codes_of_each, codes_of_others, has_base};
+ghost use Rattle.std.specs.Prelude.{◌≡◌, ◌++◌, ◌↔◌, IfErr, IfOk, IsTrue, false};
+ghost use Rattle.seccomptool.specs.CheckProfile.{DenyClone3, IsProfileCheckOf, IsProfileReport, IsRefusedProfile, codes_of_base, codes_of_each, codes_of_others, has_base};
 
 use crate::error::ToolError;
 use crate::profile::compiled_of;
-use seccomp_oci::{
-    CompileError, CompiledProfile, Container, Profile, ProfileError, json_filters_of, profile_of,
-};
+use seccomp_oci::{CompiledProfile, Container, Profile, json_filters_of, profile_of};
 use seccomp_warnings::{Code, Report, denies_each, report_by_name};
 use seccompiler::{JsonFilter, JsonFilterMap, SeccompAction, TargetArch};
 use std::alloc::{AllocError, Global};
@@ -43,7 +41,8 @@ pub fn profile_checked(
     front: &[u8],
     text: &[u8],
 ) -> Result<CheckedProfile, ToolError>
-    ensures { IfOk result (IsProfileCheckOf target container.now allowed.now front.now text.now) }
+    ensures report { IfOk result (IsProfileCheckOf target container.now allowed.now front.now text.now) }
+    ensures refused { IfErr result (IsRefusedProfile target container.now false text.now) }
 {
     let compiled = compiled_of(alloc, target, container, false, text)?;
     let filters = filters_in(alloc, target, container, text)?;
@@ -51,20 +50,18 @@ pub fn profile_checked(
     Ok(CheckedProfile { compiled, report })
 }
 
-// The filters of a profile's text, by name.
+// The filters of the text of a profile that is compiled, by name: an error is want of memory.
 fn filters_in(
     alloc: Global,
     target: TargetArch,
     container: &Container,
     text: &[u8],
-) -> Result<JsonFilterMap, ToolError> {
-    let profile = match profile_of(alloc, text) {
-        Ok(profile) => profile,
-        Err(ProfileError::OutOfMemory) => return Err(ToolError::OutOfMemory),
-        Err(fault) => return Err(ToolError::Profile(CompileError::Profile(fault))),
+) -> Result<JsonFilterMap, AllocError> {
+    let Ok(profile) = profile_of(alloc, text) else {
+        return Err(AllocError);
     };
     let filters = json_filters_of(alloc, target, container, &profile)?;
-    Ok(by_name(alloc, &profile, filters)?)
+    by_name(alloc, &profile, filters)
 }
 
 // The filters by name: the last one is `base`, where the default action isn't to allow.

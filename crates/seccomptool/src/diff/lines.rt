@@ -1,44 +1,111 @@
 // What is printed of a comparison.
 
-use crate::diff::{Diff, Found, NamedFound, verdict_found};
-use crate::findings::Terms;
+use crate::diff::pair::Pair;
+use crate::diff::{Found, NamedFound, verdict_found};
 use crate::findings::lines::{Shown, push_filter, push_finding, push_verdict};
+use crate::findings::{Finding, Part, Terms, verdict_of};
+use crate::kind::Subject;
+use crate::sides::Side;
+use seccomp_command_line::names::push_readable;
 use std::alloc::{AllocError, Global};
 
-/// The lines of a comparison: under each name what is found, and then a line for each part of the calls on which the relation
-/// doesn't hold, or that is undecided.
-pub(crate) fn diff_lines(alloc: Global, terms: Terms, diff: &Diff) -> Result<Vec<u8>, AllocError> {
-    let mut text = Vec::new(alloc);
-    for named in &diff.all {
-        push_found(alloc, &mut text, terms, named)?;
-    }
-    Ok(text)
-}
-
-// Adds what is found under a name.
-fn push_found(
+/// The lines of a comparison of two policies: under each name what is found, and then a line for each part of the calls on which
+/// the relation doesn't hold, or that is undecided.
+pub(crate) fn lines_by_name(
     alloc: Global,
-    text: &mut Vec<u8>,
     terms: Terms,
-    named: &NamedFound,
-) -> Result<(), AllocError> {
-    match &named.name {
-        Some(name) => push_filter(text, name.as_str())?,
-        None => text.extend_from_slice(b"profile")?,
-    }
+    all: &[NamedFound],
+) -> Result<Vec<u8>, AllocError> {
+    let mut text = Vec::new(alloc);
     let shown = Shown {
         target: terms.target,
         pointer: false,
     };
-    match &named.found {
-        Found::OnlyOld => text.extend_from_slice(b": only in OLD\n"),
-        Found::OnlyNew => text.extend_from_slice(b": only in NEW\n"),
-        Found::Both(findings) => {
-            push_verdict(text, terms.relation, verdict_found(&named.found))?;
-            for finding in findings {
-                push_finding(alloc, text, shown, *finding)?;
+    for named in all {
+        push_filter(&mut text, named.name.as_str())?;
+        match &named.found {
+            Found::OnlyOld => text.extend_from_slice(b": only in OLD\n")?,
+            Found::OnlyNew => text.extend_from_slice(b": only in NEW\n")?,
+            Found::Both(findings) => {
+                push_verdict(&mut text, terms.relation, verdict_found(&named.found))?;
+                push_all(alloc, &mut text, shown, findings)?;
             }
-            Ok(())
         }
     }
+    Ok(text)
+}
+
+/// The lines of a comparison of a pair of sides: what is found on the architecture's calls, those that have a name first; and then,
+/// where one of the sides is a program, on the calls of others.
+pub(crate) fn pair_lines(
+    alloc: Global,
+    terms: Terms,
+    old: Side<'_>,
+    new: Side<'_>,
+    pair: &Pair,
+) -> Result<Vec<u8>, AllocError> {
+    let shown = Shown {
+        target: terms.target,
+        pointer: pair.loads_pointer,
+    };
+    let mut text = Vec::new(alloc);
+    push_title(&mut text, old, new, pair)?;
+    let own = pair.found.own.as_slice();
+    push_verdict(&mut text, terms.relation, verdict_of(own))?;
+    for finding in own {
+        if let Part::Named { .. } = finding.part {
+            push_finding(alloc, &mut text, shown, *finding)?;
+        }
+    }
+    for finding in own {
+        if let Part::Unnamed { .. } = finding.part {
+            push_finding(alloc, &mut text, shown, *finding)?;
+        }
+    }
+    if is_program(old) || is_program(new) {
+        let others = pair.found.others.as_slice();
+        text.extend_from_slice(b"other architectures")?;
+        push_verdict(&mut text, terms.relation, verdict_of(others))?;
+        push_all(alloc, &mut text, shown, others)?;
+    }
+    Ok(text)
+}
+
+fn is_program(side: Side<'_>) -> bool {
+    matches!(side.kind, Subject::Program)
+}
+
+// Adds what is compared: a filter by its name, or both by theirs; else a profile or a program.
+fn push_title(
+    text: &mut Vec<u8>,
+    old: Side<'_>,
+    new: Side<'_>,
+    pair: &Pair,
+) -> Result<(), AllocError> {
+    match (&pair.old_name, &pair.new_name) {
+        (Some(old), Some(new)) => {
+            push_filter(text, old.as_str())?;
+            if old == new {
+                return Ok(());
+            }
+            text.extend_from_slice(b" -> ")?;
+            push_readable(text, new.as_str())
+        }
+        (Some(name), None) | (None, Some(name)) => push_filter(text, name.as_str()),
+        (None, None) if is_program(old) && is_program(new) => text.extend_from_slice(b"program"),
+        (None, None) => text.extend_from_slice(b"profile"),
+    }
+}
+
+// Adds the lines of findings.
+fn push_all(
+    alloc: Global,
+    text: &mut Vec<u8>,
+    shown: Shown,
+    findings: &[Finding],
+) -> Result<(), AllocError> {
+    for finding in findings {
+        push_finding(alloc, text, shown, *finding)?;
+    }
+    Ok(())
 }

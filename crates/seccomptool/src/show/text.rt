@@ -1,6 +1,8 @@
 // The text of programs for people.
 
+use crate::chosen::{is_asked, some_text};
 use crate::compile::NamedProgram;
+use crate::error::ToolError;
 use crate::show::instruction::words;
 use crate::show::notes::notes;
 use seccomp_command_line::names::push_readable;
@@ -17,19 +19,26 @@ use std::alloc::{AllocError, Global};
 /// is filled with spaces up to 28 bytes, and `; ` stands in front of the note. The notes are read off the
 /// program: what a load gets of the record, which call, calls, architecture or half of an argument a test is
 /// about, and which action a returned value stands for.
+///
+/// # Errors
+///
+/// `NoFilter` with the name that is asked for, where none of the filters has it; `OutOfMemory` where memory runs out.
 pub(crate) fn programs_text(
     alloc: Global,
+    asked: Option<&str>,
     programs: &[NamedProgram],
-) -> Result<Vec<u8>, AllocError> {
+) -> Result<Vec<u8>, ToolError> {
     let mut text = Vec::new(alloc);
     for made in programs {
-        let count = made.program.len();
-        text.extend_from_slice(format!(in alloc; "filter {count} ")?.as_bytes())?;
-        push_readable(&mut text, made.name.as_str())?;
-        text.push(b'\n')?;
-        push_instructions(alloc, &mut text, None, &made.program)?;
+        if is_asked(asked, made.name.as_str()) {
+            let count = made.program.len();
+            text.extend_from_slice(format!(in alloc; "filter {count} ")?.as_bytes())?;
+            push_readable(&mut text, made.name.as_str())?;
+            text.push(b'\n')?;
+            push_instructions(alloc, &mut text, None, &made.program)?;
+        }
     }
-    Ok(text)
+    some_text(alloc, asked, text)
 }
 
 /// The text of a program by itself. Its calls have their names on the architecture that it tests for, and on this one where it

@@ -1,5 +1,7 @@
 // The numbers of programs, in lines.
 
+use crate::chosen::{is_asked, some_text};
+use crate::error::ToolError;
 use crate::stats::{FilterStats, Measure};
 use seccomp_command_line::names::push_readable;
 use std::alloc::{AllocError, Global};
@@ -20,22 +22,36 @@ use std::alloc::{AllocError, Global};
 /// 4294967295, which no architecture has, with arguments that are 0. In the linear layout each call that
 /// the filter doesn't list takes exactly as many, if it lists any; in the tree another one may take more
 /// or fewer.
-pub(crate) fn filters_text(alloc: Global, all: &[FilterStats]) -> Result<Vec<u8>, AllocError> {
+///
+/// # Errors
+///
+/// `NoFilter` with the name that is asked for, where none of the filters has it; `OutOfMemory` where memory runs out.
+pub(crate) fn filters_text(
+    alloc: Global,
+    asked: Option<&str>,
+    all: &[FilterStats],
+) -> Result<Vec<u8>, ToolError> {
     let mut text = Vec::new(alloc);
     for filter in all {
-        text.extend_from_slice(b"filter ")?;
-        push_readable(&mut text, filter.name.as_str())?;
-        text.push(b'\n')?;
-        push_measure(alloc, &mut text, "linear", filter.linear)?;
-        push_measure(alloc, &mut text, "tree", filter.tree)?;
+        if is_asked(asked, filter.name.as_str()) {
+            text.extend_from_slice(b"filter ")?;
+            push_readable(&mut text, filter.name.as_str())?;
+            text.push(b'\n')?;
+            push_measure(alloc, &mut text, "linear", filter.linear)?;
+            push_measure(alloc, &mut text, "tree", filter.tree)?;
+        }
     }
-    Ok(text)
+    some_text(alloc, asked, text)
 }
 
-/// The line of the numbers of a profile's program.
-pub(crate) fn profile_text(alloc: Global, measure: Measure) -> Result<Vec<u8>, AllocError> {
+/// The line of the numbers of one program.
+pub(crate) fn measure_text(
+    alloc: Global,
+    front: &str,
+    measure: Measure,
+) -> Result<Vec<u8>, AllocError> {
     let mut text = Vec::new(alloc);
-    push_measure(alloc, &mut text, "profile", measure)?;
+    push_measure(alloc, &mut text, front, measure)?;
     Ok(text)
 }
 

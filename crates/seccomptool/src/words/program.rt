@@ -1,17 +1,19 @@
 // What `clap` is told of the command line: the commands, and which options and arguments each takes.
 
-use super::options::{
-    Built, at_most, begun, beside, choice, filter, flag, given, input, layout, most, of_call,
-    of_profiles, place, quiet, records, several, value, with,
-};
+use super::options::Takes::{File, Files, Nothing, OneOf, Place, Places, Several, Value};
+use super::options::{Built, Row, subcommand};
 use clap::Command;
 use std::alloc::Global;
 
-static PROGRAM_FORMATS: [&str; 3] = ["raw", "listing", "c"];
+const ARCHITECTURES: &[&str] = &["x86_64", "aarch64", "riscv64", "amd64", "arm64"];
 
-static LINE_FORMATS: [&str; 2] = ["path", "word"];
+const LAYOUTS: &[&str] = &["linear", "tree"];
 
-static CODES: [&str; 15] = [
+const PROGRAM_FORMATS: &[&str] = &["raw", "listing", "c"];
+
+const LINE_FORMATS: &[&str] = &["path", "word"];
+
+const CODES: &[&str] = &[
     "fake-success",
     "errno-too-large",
     "trace-without-tracer",
@@ -30,40 +32,182 @@ static CODES: [&str; 15] = [
 ];
 
 const AFTER: &str = "\
-POLICY, OLD, NEW, PROGRAM and FILE are paths; - is standard input, and so is
-POLICY where it isn't given. CALL is the name or number of a
-system call. Numbers are decimal, or hexadecimal behind 0x; an ARG may be
-negative, and then stands behind --, as in `seccomptool record lseek 3 -- -1`.
+SUBJECT, OLD and NEW are a policy, a seccomp profile of a container runtime, or a
+program in bytes; which one shows in the file. FILE is a path, and - is standard
+input. CALL is the name or number of a system call. Numbers are decimal, or
+hexadecimal behind 0x; an ARG may be negative, and then stands behind --, as in
+`seccomptool call --record lseek 3 -- -1`.
 
-Exit status: 0; 1 where the policy is rejected or a file or the output fails; 2
-where the arguments are no command. Of `diff` and `verify`: 0 where nothing
-differs, 1 where something does, 2 on any failure, 3 where it wasn't decided.";
+Exit status: 0 for yes, 1 for no (`check`: rejected; `diff`: different), 2 for
+trouble, 3 where `diff` didn't decide.";
 
-const POLICY: &str = "The policy's file, or - for standard input";
+const FILE: &str = "The policy's, profile's or program's file, or - for standard input";
 
 const ONE_FILTER: &str = "The filter's name; it may be left out where the policy has one filter";
 
-const PROFILE: &str =
-    "The policy is a seccomp profile of a container runtime; --cap and --kernel need it";
+const SHOWN_FILTER: &str = "The name of the filter that is shown; all filters where it isn't given";
 
-const PROFILES: &str =
-    "The policies are seccomp profiles of a container runtime; --cap and --kernel need it";
+const LAYOUT: &str =
+    "How a program finds a call's rules: one call after the other, or by a tree of tests";
 
-const PROGRAM: &str = "The program's file, as compile writes it, or - for standard input";
+const PROGRAM_FORMAT: &str =
+    "How the program is written: as bytes, as a listing, or as an initialiser in C";
+
+const LINE_FORMAT: &str =
+    "How a line is written: with places in the policy, or in numbers for scripts";
+
+const OTHERS: &str =
+    "Count other architectures for the exit status too, where a program is compared";
+
+const MOST: &str = "How many sets of arguments are looked at, at most, for each call";
+
+const OLD: &str = "The old file, or - for standard input; :FILTER behind it names a filter";
+
+const NEW: &str = "The new file, or - for standard input; :FILTER behind it names a filter";
+
+const OCI: &str = "Take texts for profiles of a container runtime, whatever they have";
+
+const KERNEL: &str =
+    "The kernel's version for a profile, as 6.1; newer than each where it isn't given";
+
+const ARGUMENTS: &str = "The call's arguments, 0 where they aren't given";
+
+const QUIET: Row<'static> = ("quiet", Nothing, "Don't print how many warnings there are");
+
+const IN_LAYOUT: Row<'static> = ("layout", OneOf("LAYOUT", LAYOUTS, "tree"), LAYOUT);
+
+// Those of every command that takes subjects.
+static COMMON: [Row<'static>; 4] = [
+    (
+        "arch",
+        OneOf("ARCH", ARCHITECTURES, "x86_64"),
+        "The architecture",
+    ),
+    ("oci", Nothing, OCI),
+    (
+        "cap",
+        Several("CAP", &[]),
+        "A capability that a profile's container has, as CAP_SYS_ADMIN",
+    ),
+    ("kernel", Value("KERNEL"), KERNEL),
+];
+
+static CHECK: [Row<'static>; 4] = [
+    (
+        "deny-warnings",
+        Nothing,
+        "End with exit status 1 where there is a warning",
+    ),
+    (
+        "allow",
+        Several("CODE", CODES),
+        "Don't print the warnings of this code",
+    ),
+    (
+        "list",
+        Nothing,
+        "Print what the codes of warnings are about, and check nothing",
+    ),
+    (
+        "subject",
+        Files("SUBJECT"),
+        "The files, or - for standard input",
+    ),
+];
+
+static COMPILE: [Row<'static>; 7] = [
+    ("filter", Value("FILTER"), ONE_FILTER),
+    IN_LAYOUT,
+    (
+        "format",
+        OneOf("FORMAT", PROGRAM_FORMATS, "raw"),
+        PROGRAM_FORMAT,
+    ),
+    (
+        "output",
+        Value("FILE"),
+        "Where the program goes, in place of standard output",
+    ),
+    QUIET,
+    (
+        "strict",
+        Nothing,
+        "Reject a profile that names calls which the architecture hasn't",
+    ),
+    ("subject", File("SUBJECT"), FILE),
+];
+
+static SHOW: [Row<'static>; 4] = [
+    ("filter", Value("FILTER"), SHOWN_FILTER),
+    IN_LAYOUT,
+    (
+        "stats",
+        Nothing,
+        "Print how long the programs are, and how many steps they take",
+    ),
+    ("subject", File("SUBJECT"), FILE),
+];
+
+static EXPLAIN: [Row<'static>; 6] = [
+    ("filter", Value("FILTER"), ONE_FILTER),
+    ("format", OneOf("FORMAT", LINE_FORMATS, "path"), LINE_FORMAT),
+    (
+        "records",
+        Value("FILE"),
+        "Records of calls, in place of standard input, where no CALL is given",
+    ),
+    ("subject", Place("SUBJECT", true), FILE),
+    ("call", Place("CALL", false), "The call's name or number"),
+    ("arguments", Places("ARG", 6), ARGUMENTS),
+];
+
+static DIFF: [Row<'static>; 6] = [
+    (
+        "only-more",
+        Nothing,
+        "Ask only where NEW permits more than OLD",
+    ),
+    ("all", Nothing, OTHERS),
+    ("most", OneOf("N", &[], "1000000"), MOST),
+    QUIET,
+    ("old", Place("OLD", true), OLD),
+    ("new", Place("NEW", true), NEW),
+];
+
+static CALL: [Row<'static>; 5] = [
+    ("arch", OneOf("ARCH", ARCHITECTURES, ""), "The architecture"),
+    ("record", Nothing, "Write the call's record, 64 bytes"),
+    (
+        "output",
+        Value("FILE"),
+        "Where the record goes, in place of standard output",
+    ),
+    ("call", Place("CALL", true), "The call's name or number"),
+    ("arguments", Places("ARG", 6), ARGUMENTS),
+];
 
 /// The subcommands and their arguments. The arguments that it reads are those behind the program's own name.
 pub(super) fn program<'a>(alloc: Global) -> Built<'a> {
-    let command = top(alloc);
-    let command = beside(command, compile(alloc));
-    let command = beside(command, show(alloc));
-    let command = beside(command, check(alloc));
-    let command = beside(command, explain(alloc));
-    let command = beside(command, run(alloc));
-    let command = beside(command, stats(alloc));
-    let command = beside(command, record(alloc));
-    let command = beside(command, diff(alloc));
-    let command = beside(command, verify(alloc));
-    beside(command, compat(alloc))
+    let check =
+        "Print the first error of a policy or a profile with its place, or else its warnings";
+    let compile = "Write the program of a filter or of a profile";
+    let show = "Print the programs, and what their instructions are for";
+    let explain = "Print what is decided on calls, and why";
+    let diff = "Print the calls that OLD and NEW decide otherwise";
+    let call = "Print the name and the number of a call, or write its struct seccomp_data";
+    let commands: [(&'a str, &'a str, &'a [Row<'a>], &'a [Row<'a>]); 6] = [
+        ("check", check, &COMMON, &CHECK),
+        ("compile", compile, &COMMON, &COMPILE),
+        ("show", show, &COMMON, &SHOW),
+        ("explain", explain, &COMMON, &EXPLAIN),
+        ("diff", diff, &COMMON, &DIFF),
+        ("call", call, &[], &CALL),
+    ];
+    let mut command = top(alloc)?;
+    for (name, about, common, own) in commands {
+        command = command.subcommand(subcommand(alloc, name, about, common, own)?)?;
+    }
+    Ok(command)
 }
 
 fn top<'a>(alloc: Global) -> Built<'a> {
@@ -77,179 +221,4 @@ fn top<'a>(alloc: Global) -> Built<'a> {
             .subcommand_required(true)
             .arg_required_else_help(true),
     )
-}
-
-fn compile<'a>(alloc: Global) -> Built<'a> {
-    let format = "How the program is written: as bytes, as a listing, or as an initialiser in C";
-    let output = "Where the program goes, in place of standard output";
-    let strict = "Reject a profile that names calls which the architecture hasn't";
-    let command = begun(
-        alloc,
-        "compile",
-        "Write the program of a filter or of a profile",
-    );
-    let command = with(command, filter(alloc, ONE_FILTER));
-    let command = with(command, layout(alloc));
-    let command = with(
-        command,
-        choice(
-            alloc,
-            "format",
-            "FORMAT",
-            PROGRAM_FORMATS.as_slice(),
-            "raw",
-            format,
-        ),
-    );
-    let command = with(command, value(alloc, "output", "FILE", output).short('o'));
-    let command = with(command, quiet(alloc));
-    let command = of_profiles(alloc, command, PROFILE);
-    let command = with(command, flag(alloc, "strict", strict));
-    with(command, input(alloc, "policy", "POLICY", POLICY))
-}
-
-fn show<'a>(alloc: Global) -> Built<'a> {
-    let about = "Print the programs, and what their instructions are for";
-    let program = "A program's file, as compile writes it, in place of a policy";
-    let command = begun(alloc, "show", about);
-    let command = with(command, layout(alloc));
-    let command = with(command, value(alloc, "program", "FILE", program));
-    with(command, place(alloc, "policy", "POLICY", POLICY))
-}
-
-fn check<'a>(alloc: Global) -> Built<'a> {
-    let about = "Print the first error of a policy with its place, or else its warnings";
-    let list = "Print what the codes of warnings are about, and check nothing";
-    let command = begun(alloc, "check", about);
-    let command = with(
-        command,
-        flag(
-            alloc,
-            "deny-warnings",
-            "End with exit status 1 where there is a warning",
-        ),
-    );
-    let command = with(
-        command,
-        several(value(
-            alloc,
-            "allow",
-            "CODE",
-            "Don't print the warnings of this code",
-        ))
-        .value_parser(CODES.as_slice()),
-    );
-    let command = with(command, flag(alloc, "list", list));
-    let command = of_profiles(alloc, command, PROFILES);
-    let policies = input(
-        alloc,
-        "policy",
-        "POLICY",
-        "The policies' files, or - for standard input",
-    );
-    with(command, policies.num_args(1..))
-}
-
-fn explain<'a>(alloc: Global) -> Built<'a> {
-    let format = "How a line is written: with places in the policy, or in numbers for scripts";
-    let command = begun(
-        alloc,
-        "explain",
-        "Print what a filter decides on calls, and why",
-    );
-    let command = with(command, filter(alloc, ONE_FILTER));
-    let command = with(
-        command,
-        choice(
-            alloc,
-            "format",
-            "FORMAT",
-            LINE_FORMATS.as_slice(),
-            "path",
-            format,
-        ),
-    );
-    let command = with(command, records(alloc));
-    let command = of_profiles(alloc, command, PROFILE);
-    let command = with(command, given(alloc, "policy", "POLICY", POLICY));
-    of_call(alloc, command, false)
-}
-
-fn run<'a>(alloc: Global) -> Built<'a> {
-    let command = begun(alloc, "run", "Print what a program returns for calls");
-    let command = with(command, records(alloc));
-    let command = with(command, given(alloc, "program", "PROGRAM", PROGRAM));
-    of_call(alloc, command, false)
-}
-
-fn stats<'a>(alloc: Global) -> Built<'a> {
-    let about = "Print how long the programs are, and how many steps they take";
-    let command = begun(alloc, "stats", about);
-    let command = of_profiles(alloc, command, PROFILE);
-    with(command, input(alloc, "policy", "POLICY", POLICY))
-}
-
-fn record<'a>(alloc: Global) -> Built<'a> {
-    let command = begun(
-        alloc,
-        "record",
-        "Write the struct seccomp_data of a call, 64 bytes",
-    );
-    of_call(alloc, command, true)
-}
-
-fn diff<'a>(alloc: Global) -> Built<'a> {
-    let filters = "The name of the filter that is compared; all filters where it isn't given";
-    let command = begun(
-        alloc,
-        "diff",
-        "Print the calls that two policies decide otherwise",
-    );
-    let command = with(command, filter(alloc, filters));
-    let command = with(command, at_most(alloc));
-    let command = with(command, most(alloc));
-    let command = with(command, quiet(alloc));
-    let command = of_profiles(alloc, command, PROFILES);
-    let command = with(
-        command,
-        given(
-            alloc,
-            "old",
-            "OLD",
-            "The old policy's file, or - for standard input",
-        ),
-    );
-    with(
-        command,
-        given(
-            alloc,
-            "new",
-            "NEW",
-            "The new policy's file, or - for standard input",
-        ),
-    )
-}
-
-fn verify<'a>(alloc: Global) -> Built<'a> {
-    let about = "Print the calls that a program decides otherwise than a filter";
-    let command = begun(alloc, "verify", about);
-    let command = with(command, filter(alloc, ONE_FILTER));
-    let command = with(command, at_most(alloc));
-    let command = with(
-        command,
-        flag(
-            alloc,
-            "all",
-            "Count other architectures for the exit status too",
-        ),
-    );
-    let command = with(command, most(alloc));
-    let command = with(command, given(alloc, "policy", "POLICY", POLICY));
-    with(command, given(alloc, "program", "PROGRAM", PROGRAM))
-}
-
-fn compat<'a>(alloc: Global) -> Built<'a> {
-    let about = "Print the calls that the Rust crate would decide otherwise";
-    let command = begun(alloc, "compat", about);
-    with(command, input(alloc, "policy", "POLICY", POLICY))
 }

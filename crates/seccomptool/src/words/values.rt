@@ -6,6 +6,7 @@ use super::{Call, Inputs, Misuse};
 use crate::compile::format::ProgramFormat;
 use crate::explain::format::LineFormat;
 use crate::findings::Terms;
+use crate::kind::Reading;
 use crate::numbers::read_number;
 use clap::ArgMatches;
 use seccomp_compare::Relation;
@@ -17,6 +18,9 @@ use std::alloc::{AllocError, Global};
 
 const NO_ARGUMENT: &str =
     "an ARG is no number from -9223372036854775808 to 18446744073709551615, decimal or hexadecimal behind 0x";
+
+const BOTH: &str =
+    "SUBJECT and records can't both be read from standard input: give CALL or --records";
 
 const NO_MOST: &str =
     "the value of --most is no number from 0 to 18446744073709551615, decimal or hexadecimal behind 0x";
@@ -32,10 +36,16 @@ pub(super) fn path_in<'a>(found: &ArgMatches<'a>, id: &str) -> &'a str {
 }
 
 pub(super) fn arch_in(found: &ArgMatches<'_>) -> TargetArch {
+    given_arch(found).unwrap_or(TargetArch::x86_64)
+}
+
+// The architecture that is given, or is one where none is.
+pub(super) fn given_arch(found: &ArgMatches<'_>) -> Option<TargetArch> {
     match found.get_str("arch") {
-        Some("aarch64" | "arm64") => TargetArch::aarch64,
-        Some("riscv64") => TargetArch::riscv64,
-        _ => TargetArch::x86_64,
+        Some("x86_64" | "amd64") => Some(TargetArch::x86_64),
+        Some("aarch64" | "arm64") => Some(TargetArch::aarch64),
+        Some("riscv64") => Some(TargetArch::riscv64),
+        _ => None,
     }
 }
 
@@ -72,12 +82,12 @@ pub(super) fn allowed_in(alloc: Global, found: &ArgMatches<'_>) -> Result<Vec<Co
     Ok(allowed)
 }
 
-// The policies of `check`: standard input where none is given.
-pub(super) fn policies_in<'a>(
+// What `check` is given: standard input where nothing is.
+pub(super) fn subjects_in<'a>(
     alloc: Global,
     found: &ArgMatches<'a>,
 ) -> Result<Vec<Inputs<'a>>, AllocError> {
-    let Some(paths) = found.get_strs("policy") else {
+    let Some(paths) = found.get_strs("subject") else {
         return Ok(vec![in alloc; on_one("-")]?);
     };
     let mut inputs = Vec::new(alloc);
@@ -101,7 +111,7 @@ pub(super) fn terms_in(found: &ArgMatches<'_>) -> Result<Terms, Misuse> {
     };
     Ok(Terms {
         target: arch_in(found),
-        relation: if is_set(found, "at-most") {
+        relation: if is_set(found, "only-more") {
             Relation::AtMostAsPermissive
         } else {
             Relation::Alike
@@ -110,17 +120,16 @@ pub(super) fn terms_in(found: &ArgMatches<'_>) -> Result<Terms, Misuse> {
     })
 }
 
-// The call that is asked about, or else the path of the records; both may not be standard input, of which `both` tells.
+// The call that is asked about, or else the path of the records; both what is explained and records may not be standard input.
 pub(super) fn call_in<'a>(
     found: &ArgMatches<'a>,
-    beside: &str,
-    both: &'static str,
+    subject: &str,
 ) -> Result<(Option<Call<'a>>, Option<&'a str>), Misuse> {
     let arguments = arguments_in(found)?;
     let Some(name) = found.get_str("call") else {
         let records = path_in(found, "records");
-        if records == "-" && beside == "-" {
-            return Err(Misuse::Told(both));
+        if records == "-" && subject == "-" {
+            return Err(Misuse::Told(BOTH));
         }
         return Ok((None, Some(records)));
     };
@@ -134,6 +143,9 @@ pub(super) fn call_in<'a>(
 pub(super) fn arguments_in(found: &ArgMatches<'_>) -> Result<[u64; 6], Misuse> {
     let mut arguments = [0; 6];
     let texts = found.get_strs("arguments").unwrap_or(&[]);
+    if texts.len() > 6 {
+        return Err(Misuse::Told("a call has at most 6 arguments"));
+    }
     for (argument, text) in arguments.iter_mut().zip(texts) {
         match argument_of(text) {
             Some(number) => *argument = number,
@@ -155,34 +167,21 @@ fn argument_of(text: &str) -> Option<u64> {
     Some(u64::MAX - number + 1)
 }
 
-// The container of the profiles, where it is profiles that are given.
-pub(super) fn given_container(
-    alloc: Global,
-    found: &ArgMatches<'_>,
-) -> Result<Option<Container>, Misuse> {
-    if is_set(found, "oci") {
-        if found.get_str("filter").is_some() {
-            return Err(Misuse::Told("--filter can't be given with --oci"));
-        }
-        return Ok(Some(container_in(alloc, found)?));
-    }
-    if found.get_str("cap").is_some() || found.get_str("kernel").is_some() {
-        return Err(Misuse::Told("--cap and --kernel are for --oci"));
-    }
-    Ok(None)
-}
-
-// The container of the capabilities that `--cap` names, and of the kernel that `--kernel` names.
-fn container_in(alloc: Global, found: &ArgMatches<'_>) -> Result<Container, Misuse> {
+// How what is given is read: whether as profiles, and in the container of the capabilities that `--cap` names, and of the kernel
+// that `--kernel` names.
+pub(super) fn reading_in(alloc: Global, found: &ArgMatches<'_>) -> Result<Reading, Misuse> {
     let kernel = kernel_in(found)?;
     let mut caps = Vec::new(alloc);
     for cap in found.get_strs("cap").unwrap_or(&[]) {
         caps.push(String::from_str(alloc, cap)?)?;
     }
-    Ok(Container {
-        caps,
-        kernel,
-        runtime: Runtime::Crun,
+    Ok(Reading {
+        of_profiles: is_set(found, "oci"),
+        container: Container {
+            caps,
+            kernel,
+            runtime: Runtime::Crun,
+        },
     })
 }
 

@@ -1,7 +1,5 @@
-use Rattle.std.proofs.Common.{◌≡◌, ◌∙◌, ap, map, Some, string_bytes, String, Global, sym, subst}
+use Rattle.std.proofs.Common.{◌∙◌, ap, map, string_bytes, String, Global, subst}
 use Rattle.std.specs.BTreeMap.{get_by_text}
-use Rattle.std.specs.Prelude.{option_map}
-use Rattle.std.proofs.lemmas.Simd.{map-map}
 use Rattle.seccompiler.specs.JsonAnswers.{ArePoliciesOf, OfValue}
 use Rattle.seccomptool.proofs.diff.Texts.{policies_differ}
 use Rattle.seccomptool.proofs.diff.diff_policies.Goals as goal
@@ -12,10 +10,9 @@ returns g c =
     let old = get_by_text c.in_ok-old.old in
     let new = get_by_text c.in-Ok.new in
     let target = c.new-compiler.ensures in
-    policies_differ c.args.terms.target c.args.terms.relation (option_map (λ name. name.now) c.args.asked) c.args.old.now c.args.new.now
+    policies_differ c.args.terms.target c.args.terms.relation c.args.old.now c.args.new.now
     old new (subst (λ t. OfValue c.args.old.now (ArePoliciesOf t old)) target c.in_ok-old.ensures.policies)
     (subst (λ t. OfValue c.args.new.now (ArePoliciesOf t new)) target c.in-Ok.ensures.policies)
-    (record { all = c.in_ok-found_under.field-0 }) (map string_bytes names) c.in_ok-names.ensures
-    (c.in_ok-found_under.ensures.named ∙ ap (map (λ (name : String Global). Some (string_bytes name))) c.deref.ensures.value
-    ∙ sym (map-map Some string_bytes names))
-    c.in_ok-found_under.ensures.each
+    c.in_ok-all.all.items (map string_bytes names) c.in_ok-names.ensures
+    (c.in_ok-all.ensures.named ∙ ap (map (λ (name : String Global). string_bytes name)) c.deref.ensures.value)
+    c.in_ok-all.ensures.each

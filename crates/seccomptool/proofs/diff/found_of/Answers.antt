@@ -5,7 +5,7 @@ use Rattle.seccomptool.proofs.diff.found_of.Goals as goal
 
 pub findings_of-requires-clause-new_checked : goal.findings_of-requires-clause-new_checked
 findings_of-requires-clause-new_checked g c =
-    subst IsChecked (sym c.deref.ensures.value) (c.in_ok-new-in-Some-Some.ensures c.args.terms.target).checked
+    subst IsChecked (sym c.deref.ensures.value) (c.in-Ok.ensures c.args.terms.target).checked
 
 pub findings_of-requires-clause-old_checked : goal.findings_of-requires-clause-old_checked
 findings_of-requires-clause-old_checked g c =
@@ -17,5 +17,5 @@ returns-in_ok-findings_of-in-Some-Some g c =
     let new = of_filter c.in-Some-Some.new.now in
     let old = of_filter c.in-Some-Some.old.now in
     rw (c.in-Some-Some.is-0, c.in-Some-Some.is-1) (c.in_ok-findings_of-in-Some-Some.ensures new old
-    (subst (StandsFor target new) (sym c.deref.ensures.value) (c.in_ok-new-in-Some-Some.ensures target))
+    (subst (StandsFor target new) (sym c.deref.ensures.value) (c.in-Ok.ensures target))
     (subst (StandsFor target old) (sym c.deref-in-Some-Some.ensures.value) (c.in_ok-old-in-Some-Some.ensures target)))

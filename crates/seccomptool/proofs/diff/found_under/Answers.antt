@@ -6,7 +6,6 @@ use Rattle.seccompiler.specs.Policy.{Filter}
 use Rattle.seccomptool.specs.declared.diff.NamedFound.{NamedFound}
 use Rattle.seccomptool.specs.DiffParts.{IsFoundUnder}
 use Rattle.seccomptool.specs.Diff.{IsFoundOf, name_bytes}
-use Rattle.seccomptool.specs.Rulings.{of_filter}
 use Rattle.seccomptool.proofs.diff.Names.{named_more, under_name}
 use Rattle.seccomptool.proofs.diff.found_under.Goals as goal
 
@@ -19,10 +18,10 @@ loop-name-preserved g c =
     let new = get_by_text c.args.new.now in
     let name = c.name-item.result in
     let text = c.as_str-text.result.now in
-    let one : NamedFound = record { name = Some c.in_ok-clone.field-0; found = c.in_ok-found.found } in
-    let same : name_bytes one ≡ Some (string_bytes name) = ap (λ t. Some t) c.in_ok-clone.ensures.cases in
+    let one : NamedFound = record { name = c.in_ok-clone.field-0; found = c.in_ok-found.found } in
+    let same : name_bytes one ≡ string_bytes name = c.in_ok-clone.ensures.cases in
     let own : IsFoundUnder target relation old new one =
-    under_name target relation old new text one _ _ (same ∙ ap (λ t. Some t) (sym c.as_str-text.ensures.value)) c.get.ensures.value
+    under_name target relation old new text one _ _ (same ∙ sym c.as_str-text.ensures.value) c.get.ensures.value
     c.get-in-loop-name.ensures.value c.in_ok-found.ensures in
     record {
       named = named_more c.args.names.now l.name-index name l.all.items c.push.new.self.items one c.loop-name-test.true

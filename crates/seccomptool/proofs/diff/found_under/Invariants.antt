@@ -7,6 +7,6 @@ use Rattle.seccomptool.proofs.diff.found_under.Given as goal
 -- what is found is that of the names so far
 abbrev pub invariant-loop-name : goal.invariant-loop-name
 invariant-loop-name g l = record {
-  named : map name_bytes l.all.items ≡ map (λ (name : String Global). Some (string_bytes name)) (take l.name-index l.names);
+  named : map name_bytes l.all.items ≡ map (λ (name : String Global). string_bytes name) (take l.name-index l.names);
   each : All (IsFoundUnder l.terms.target l.terms.relation (get_by_text l.old) (get_by_text l.new)) l.all.items;
 }

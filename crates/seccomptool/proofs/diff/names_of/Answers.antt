@@ -12,12 +12,12 @@ pub loop-name-preserved : goal.loop-name-preserved
 loop-name-preserved c =
     let l = c.loop-name in
     let done : Entries = l.invariant.done in
-    let e : String Global × Filter = (c.in-Some-2.name.now, c.in-Some-2.field-0-1.now) in
-    let names = c.push-in-loop-name.new.self.items in
-    let added = c.in_ok-push-2.ensures.items in
+    let e : String Global × Filter = (c.in-Some.name.now, c.in-Some.field-0-1.now) in
+    let names = c.push.new.self.items in
+    let added = c.in_ok-push.ensures.items in
     record {
       done = done ++ e ∷ [];
-      whole = l.invariant.whole ∙ ap (λ (es : Entries). done ++ es) c.in-Some-2.ensures.steps
+      whole = l.invariant.whole ∙ ap (λ (es : Entries). done ++ es) c.in-Some.ensures.steps
           ∙ sym (append_assoc done (e ∷ []) c.next.new.self);
       among = All-push (Contains_name names) done e (all_kept l.names.items names c.in_ok-clone.field-0 added done l.invariant.among)
           (subst (λ b. Contains (map (λ (n : String Global). string_bytes n) names) b) c.in_ok-clone.ensures.cases
@@ -35,7 +35,7 @@ loop-name-2-init c = record {
 }
 
 pub returns : goal.returns
-returns c = λ name f is rule.
+returns c = λ name f rule.
     let l = c.loop-name-2 in
     let whole = l.invariant.whole ∙ ap (λ (es : Entries). l.invariant.done ++ es) c.in-None-2.ensures.steps.0
     ∙ append-nil l.invariant.done in
@@ -49,14 +49,14 @@ pub loop-name-2-preserved-in-Some-get : goal.loop-name-2-preserved-in-Some-get
 loop-name-2-preserved-in-Some-get c =
     let l = c.loop-name-2 in
     let done : Entries = l.invariant.done in
-    let e : String Global × Filter = (c.in-Some-3.name.now, c.in-Some-3.field-0-1.now) in
+    let e : String Global × Filter = (c.in-Some-2.name.now, c.in-Some-2.field-0-1.now) in
     let text = c.as_str.result.now in
     let there : get_by_text c.args.old.now text ≡ Some c.in-Some-get.field-0.now =
     sym c.get.ensures.value ∙ ap (λ (o : Option (Bor Filter)). option_map (λ f. f.now) o) c.in-Some-get.is in
     record {
       old = l.invariant.old;
       done = done ++ e ∷ [];
-      whole = l.invariant.whole ∙ ap (λ (es : Entries). done ++ es) c.in-Some-3.ensures.steps
+      whole = l.invariant.whole ∙ ap (λ (es : Entries). done ++ es) c.in-Some-2.ensures.steps
           ∙ sym (append_assoc done (e ∷ []) c.next-in-loop-name-2.new.self);
       among = All-push (Contains_name l.names.items) done e l.invariant.among
           (subst (λ b. Contains (map (λ (n : String Global). string_bytes n) l.names.items) b) c.as_str.ensures.value
@@ -67,14 +67,14 @@ pub loop-name-2-preserved : goal.loop-name-2-preserved
 loop-name-2-preserved c =
     let l = c.loop-name-2 in
     let done : Entries = l.invariant.done in
-    let e : String Global × Filter = (c.in-Some-3.name.now, c.in-Some-3.field-0-1.now) in
+    let e : String Global × Filter = (c.in-Some-2.name.now, c.in-Some-2.field-0-1.now) in
     let names = c.push-in-None-get.new.self.items in
     let copy = c.in_ok-clone-in-None-get.field-0 in
     let added = c.in_ok-push-in-None-get.ensures.items in
     record {
       old = all_kept l.names.items names copy added c.args.old.now.entries l.invariant.old;
       done = done ++ e ∷ [];
-      whole = l.invariant.whole ∙ ap (λ (es : Entries). done ++ es) c.in-Some-3.ensures.steps
+      whole = l.invariant.whole ∙ ap (λ (es : Entries). done ++ es) c.in-Some-2.ensures.steps
           ∙ sym (append_assoc done (e ∷ []) c.next-in-loop-name-2.new.self);
       among = All-push (Contains_name names) done e (all_kept l.names.items names copy added done l.invariant.among)
           (subst (λ b. Contains (map (λ (n : String Global). string_bytes n) names) b) c.in_ok-clone-in-None-get.ensures.cases

@@ -5,11 +5,17 @@ use Rattle.seccomptool.proofs.Found.{there}
 use Rattle.seccomptool.proofs.explain.Filters.{taken}
 use Rattle.seccomptool.proofs.explain.explain_policy.Goals as goal
 
-pub explain_each-requires : goal.explain_each-requires
-explain_each-requires c =
+pub explain_each-requires-clause-fine : goal.explain_each-requires-clause-fine
+explain_each-requires-clause-fine c =
     let own = taken c.args.target c.in_ok-filters.filters (string_bytes c.in_ok-name.name) c.as_str.result.now c.in-Some.filter
     c.in_ok-check_filters.ensures c.as_str.ensures.value c.in-Some.ensures.value in
-    own.1.1.entries
+    own.1.0.1.entries
+
+pub explain_each-requires-clause-matched : goal.explain_each-requires-clause-matched
+explain_each-requires-clause-matched c =
+    let own = taken c.args.target c.in_ok-filters.filters (string_bytes c.in_ok-name.name) c.as_str.result.now c.in-Some.filter
+    c.in_ok-check_filters.ensures c.as_str.ensures.value c.in-Some.ensures.value in
+    own.1.1
 
 pub returns : goal.returns
 returns c =
@@ -23,7 +29,7 @@ returns c =
       is = refl;
       chosen = c.in_ok-name.ensures;
       of_text = (read.0, read.1, there IsFilter (get_by_text filters.0) read.0 read.2 name c.in-Some.filter own.0);
-      policy = own.1.0;
-      is_policy = own.1.1;
+      policy = own.1.0.0;
+      is_policy = own.1.0.1;
       each = c.in_ok-records.ensures;
     }

@@ -22,5 +22,5 @@ returns c =
       only = subst (λ entries. (other : Reason) → IsReason target entries call other → other ≡ reason) same c.in_ok-reason.ensures.only;
       action = c.action_of.ensures;
       decided = λ policy is_policy. subst (λ a. IsDecision policy call (word_of a)) (sym c.action_of.ensures)
-          (reason_decides target call filter policy is_policy reason why);
+          (reason_decides target call filter policy is_policy (c.requires.matched policy is_policy call) reason why);
     }

@@ -1,23 +1,21 @@
 use Rattle.std.proofs.Common.{◌≡◌, ◌∷◌, ◌++◌, [], List, String, Global, sym, ap, ◌∙◌, append_assoc, append-nil, subst}
 use Rattle.std.proofs.lemmas.List.Elements.{All-nil, All-push}
-use Rattle.seccompiler.specs.JsonPolicyOf.{IsPolicyOf}
 use Rattle.seccompiler.specs.JsonTypes.{JsonFilter}
-use Rattle.seccompiler.specs.Policy.{Filter}
 use Rattle.seccompiler.specs.declared.backend.TargetArch.{TargetArch}
-use Rattle.seccomptool.specs.Explain.{HavePolicies}
+use Rattle.seccomptool.specs.Explain.{HasPolicy, HavePolicies}
 use Rattle.seccomptool.proofs.explain.policies_of.Goals as goal
 
 abbrev Entries : Type 0
 Entries = List (String Global × JsonFilter)
 
-abbrev HasPolicy : TargetArch → String Global × JsonFilter → Type 0
-HasPolicy target named = (policy : Filter) × IsPolicyOf target named.1 policy
+abbrev Named : TargetArch → String Global × JsonFilter → Type 0
+Named target named = HasPolicy target named.1
 
 pub filters-init : goal.filters-init
 filters-init c = record {
   done = [];
   whole = sym c.into_iter-name-iterator.ensures.into_iter_gives.0;
-  each = All-nil (HasPolicy c.args.target);
+  each = All-nil (Named c.args.target);
 }
 
 pub filters-preserved : goal.filters-preserved
@@ -31,8 +29,8 @@ filters-preserved c =
     record {
       done = done ++ e ∷ [];
       whole = so_far.whole ∙ ap (λ (es : Entries). done ++ es) c.in-Some.ensures.steps ∙ sym (append_assoc done (e ∷ []) left);
-      each = All-push (HasPolicy target) done e so_far.each
-          (policy, subst (λ t. IsPolicyOf t e.1 policy) c.new-compiler.ensures c.in_ok-make_seccomp_filter.ensures.policy);
+      each = All-push (Named target) done e so_far.each (subst (λ t. HasPolicy t e.1) c.new-compiler.ensures
+          ((policy, c.in_ok-make_seccomp_filter.ensures.policy), c.in_ok-make_seccomp_filter.ensures.entries e.1));
     }
 
 pub returns : goal.returns

@@ -1,15 +1,19 @@
+use Rattle.std.proofs.Common.{refl}
 use Rattle.std.proofs.lemmas.Result.{IfOk-at_ok}
-use Rattle.seccomptool.specs.Chosen.{text_of}
 use Rattle.seccomptool.specs.Diff.{IsDiff}
+use Rattle.seccomptool.specs.declared.sides.Side.{Side}
 use Rattle.seccomptool.proofs.made.diff_made.Goals as goal
 
 pub returns : goal.returns
-returns g c = (
-  c.in_ok-subject.subject,
-  c.in_ok-subject.ensures,
-  c.in_ok-found.found,
-  IfOk-at_ok (IsDiff c.args.terms.target c.args.terms.relation c.in_ok-subject.subject (text_of c.args.filter) c.args.old.now
-      c.args.new.now)
-      c.in_ok-found.was c.diff_of-found.ensures,
-  c.verdict.ensures,
-)
+returns g c =
+    let old : Side = record { kind = c.in_ok-subject_of.field-0; filter = c.args.names.old; given = c.args.old } in
+    let new : Side = record { kind = c.in_ok-subject_of-2.field-0; filter = c.args.names.new; given = c.args.new } in
+    record {
+      old = old;
+      new = new;
+      of_old = record { kind = c.in_ok-subject_of.ensures; filter_is = refl; given_is = refl };
+      of_new = record { kind = c.in_ok-subject_of-2.ensures; filter_is = refl; given_is = refl };
+      found = c.in_ok-found.found;
+      is = IfOk-at_ok (IsDiff c.args.terms.target c.args.terms.relation old new) c.in_ok-found.was c.diff_of-found.ensures;
+      verdict = c.verdict.ensures;
+    }

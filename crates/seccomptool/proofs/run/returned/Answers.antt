@@ -1,5 +1,6 @@
 use Rattle.std.proofs.Common.{[], ℕ, List, get_or}
 use Rattle.std.proofs.lemmas.List.{get_or_default}
+use Rattle.seccompiler.specs.declared.machine.Outcome.{Outcome}
 use Rattle.seccompiler.specs.Machine.{Ends}
 use Rattle.seccomptool.proofs.Pairs.{one_more}
 use Rattle.seccomptool.proofs.run.returned.Goals as goal
@@ -11,6 +12,6 @@ loop-record-preserved c =
     let records = c.args.records.now in
     let call = get_or records l.record-index [] in
     rw c.in_ok-push.ensures.items
-    (one_more (λ (r : List ℕ) (word : ℕ). (steps : ℕ) × Ends program r steps word) records l.words.items l.record-index call
-    c.run.result.word c.loop-record-test.true (get_or_default records l.record-index [] call c.loop-record-test.true)
-    l.invariant (c.run.result.steps, c.run.ensures.ends))
+    (one_more (λ (r : List ℕ) (outcome : Outcome). Ends program r outcome.steps outcome.word) records l.outcomes.items l.record-index call
+    c.run.result c.loop-record-test.true (get_or_default records l.record-index [] call c.loop-record-test.true)
+    l.invariant c.run.ensures.ends)

@@ -6,4 +6,4 @@ returns-in-Ok-clause-performed g c =
     performed c.args.asked.now.command c.in-Ok.done.verdict c.status_of.result c.in-Ok.ensures c.status_of.ensures.is
 
 pub returns-in-Err-clause-performed : goal.returns-in-Err-clause-performed
-returns-in-Err-clause-performed g c = failed c.args.asked.now.command c.trouble.result c.trouble.ensures.is
+returns-in-Err-clause-performed g c = failed c.args.asked.now.command

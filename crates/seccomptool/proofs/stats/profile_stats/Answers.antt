@@ -5,6 +5,6 @@ use Rattle.seccomptool.proofs.stats.profile_stats.Goals as goal
 pub returns : goal.returns
 returns c = record {
   compiled = c.in_ok-compiled.compiled;
-  is_compiled = c.in_ok-compiled.ensures;
+  is_compiled = c.in_ok-compiled.ensures.compiled;
   measure = subst (λ p. IsMeasureOf c.args.target p c.in_ok-measure_of.field-0) c.deref.ensures.value c.in_ok-measure_of.ensures;
 }

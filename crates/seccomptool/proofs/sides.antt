@@ -1,0 +1,3 @@
+-- Lemmas for the functions of `sides`.
+pub mod Names
+pub mod Profiles

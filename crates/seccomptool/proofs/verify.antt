@@ -1,3 +1,0 @@
--- Lemmas for the functions of `verify`.
-pub mod Names
-pub mod Others

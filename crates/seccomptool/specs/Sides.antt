@@ -1,0 +1,54 @@
+-- A side of a comparison: what it rules, and which programs stand for it.
+use Rattle.std.specs.Prelude.{◌≡◌, ℕ, List, Option, Some, None}
+use Rattle.seccompiler.specs.declared.backend.TargetArch.{TargetArch}
+use Rattle.seccompiler.specs.declared.bpf.sock_filter.{sock_filter}
+use Rattle.seccompiler.specs.JsonAnswers.{ArePoliciesOf, OfValue}
+use Rattle.seccompiler.specs.Policy.{Filter}
+use Rattle.seccomp_oci.specs.ProfileText.{IsProfileText}
+use Rattle.seccomptool.specs.Chosen.{text_of}
+use Rattle.seccomptool.specs.Rulings.{Ruling, StandsFor, of_filter, of_profile, of_program}
+use Rattle.seccomptool.specs.Run.{IsProgramOf}
+use Rattle.seccomptool.specs.declared.kind.Subject.{Subject}
+use Rattle.seccomptool.specs.declared.kind.Subject.TheVariants as subject
+use Rattle.seccomptool.specs.declared.sides.Side.{Side}
+
+-- A policy: what is found under each name.
+abbrev pub Policies : Type 0
+Policies = List ℕ → Option Filter
+
+-- The filter stands under this name, and under no other does one.
+pub record IsOnly (filters : Policies) (name : List ℕ) (filter : Filter) : Type 0 where
+  pub there : filters name ≡ Some filter
+  pub only : (other : List ℕ) (g : Filter) → filters other ≡ Some g → other ≡ name
+
+-- The filter of the name that is asked for; or, where none is, the only one, under its name.
+abbrev pub IsChosen : Option (List ℕ) → Policies → List ℕ → Filter → Type 0
+IsChosen (Some asked) filters name filter = (name ≡ asked) × (filters asked ≡ Some filter)
+IsChosen None filters name filter = IsOnly filters name filter
+
+-- The filter is the one that is asked for, or the only one, of the policy's text.
+pub record IsFilterOf (target : TargetArch) (asked : Option (List ℕ)) (text : List ℕ) (filter : Filter) : Type 0 where
+  pub filters : Policies
+  pub of_text : OfValue text (ArePoliciesOf target filters)
+  pub name : List ℕ
+  pub chosen : IsChosen asked filters name filter
+
+-- What is given rules so.
+abbrev pub Rules : TargetArch → Subject → Option (List ℕ) → List ℕ → Ruling → Type 0
+Rules target subject.Policy asked text (of_filter f) = IsFilterOf target asked text f
+Rules target (subject.Profile container) asked text (of_profile c p) = (asked ≡ None) × IsProfileText text p × (c ≡ container.now)
+Rules target subject.Program asked bytes (of_program p) = (asked ≡ None) × IsProgramOf bytes p
+Rules target kind asked given ruling = ⊥
+
+-- The side rules so.
+abbrev pub IsRuling : TargetArch → Side → Ruling → Type 0
+IsRuling target side ruling = Rules target side.kind (text_of side.filter) side.given.now ruling
+
+-- Between layers: the program stands for what the side rules.
+abbrev pub StandsForSide : TargetArch → Side → List sock_filter → Type 0
+StandsForSide target side program = (ruling : Ruling) × IsRuling target side ruling × StandsFor target ruling program
+
+-- Between layers: the program stands for the filter of the policy's text that is asked for, or for the only one.
+abbrev pub StandsForFilter : TargetArch → Option (List ℕ) → (text : List ℕ) → List sock_filter → Type 0
+StandsForFilter target asked text program =
+    (filter : Filter) × IsFilterOf target asked text filter × StandsFor target (of_filter filter) program

@@ -1,0 +1,122 @@
+// A side of a comparison: what it rules, and a program that stands for it.
+
+ghost use Rattle.std.specs.Prelude.{IfOk, None, option_map, string_bytes};
+ghost use Rattle.std.specs.BTreeMap.{get_by_text};
+ghost use Rattle.seccomptool.specs.Chosen.{text_of};
+ghost use Rattle.seccomptool.specs.Sides.{IsChosen, StandsForFilter, StandsForSide};
+
+use crate::chosen::{names_of, refuse_name};
+use crate::error::ToolError;
+use crate::findings::fitting::fitting_program;
+use crate::kind::Subject;
+use crate::profile::compiled_of;
+use crate::run::program::program_of;
+use seccompiler::{BpfProgram, JsonCompiler, SeccompFilter, TargetArch};
+use std::alloc::Global;
+use std::collections::BTreeMap;
+
+/// A side of a comparison.
+#[derive(Clone, Copy)]
+pub struct Side<'a> {
+    /// What it is.
+    pub kind: Subject<'a>,
+    /// The filter that is asked for, of a policy; its only one where none is.
+    pub filter: Option<&'a str>,
+    /// Its bytes.
+    pub given: &'a [u8],
+}
+
+/// What is compared of a side.
+#[derive(Drop)]
+pub(crate) struct Ruled {
+    /// The filter's name, of a policy.
+    pub name: Option<String>,
+    /// The program that stands for it.
+    pub program: BpfProgram,
+}
+
+/// What is compared of a side: a policy's filter, the one that is asked for or the only one, a profile, or a program, which may be of
+/// any compiler, if `machine::check` passes it.
+///
+/// # Errors
+///
+/// `Library` with what is at fault in a policy; `NoFilter` with the name where no filter has the one that is asked for; `Unchosen`
+/// where no filter is asked for and the policy hasn't exactly one; `Library` with `FilterTooLarge` where the filter is too large in
+/// both layouts; `Profile` with what is at fault in a profile; `Program` with the first fault of a program. `OutOfMemory` where
+/// memory runs out.
+pub(crate) fn ruled_by(
+    alloc: Global,
+    target: TargetArch,
+    side: Side<'_>,
+) -> Result<Ruled, ToolError>
+    ensures { IfOk result (λ ruled. StandsForSide target side.entry ruled.program.items) }
+{
+    match side.kind {
+        Subject::Policy => of_policy(alloc, target, side.filter, side.given),
+        Subject::Profile(container) => {
+            refuse_name(alloc, side.filter)?;
+            let compiled = compiled_of(alloc, target, container, false, side.given)?;
+            Ok(Ruled {
+                name: None,
+                program: compiled.program,
+            })
+        }
+        Subject::Program => {
+            refuse_name(alloc, side.filter)?;
+            Ok(Ruled {
+                name: None,
+                program: program_of(alloc, side.given)?,
+            })
+        }
+    }
+}
+
+// What is compared of a policy's text.
+fn of_policy(
+    alloc: Global,
+    target: TargetArch,
+    asked: Option<&str>,
+    text: &[u8],
+) -> Result<Ruled, ToolError>
+    ensures { IfOk result (λ ruled. StandsForFilter target (text_of asked.entry) text.now ruled.program.items) }
+{
+    let filters = JsonCompiler::new(target).policies_of(alloc, text)?;
+    let chosen = chosen_of(alloc, asked, &filters)?;
+    let program = fitting_program(alloc, chosen.1)?;
+    Ok(Ruled {
+        name: Some(chosen.0),
+        program,
+    })
+}
+
+// The filter that is asked for, or the policy's only one.
+fn chosen_of<'a>(
+    alloc: Global,
+    asked: Option<&str>,
+    filters: &'a BTreeMap<String, SeccompFilter>,
+) -> Result<(String, &'a SeccompFilter), ToolError>
+    ensures { IfOk result (λ one. IsChosen (option_map (λ name. name.now) asked.entry) (get_by_text filters.now) (string_bytes one.0) one.1.now) }
+{
+    match asked {
+        Some(name) => match filters.get(name) {
+            Some(filter) => Ok((String::from_str(alloc, name)?, filter)),
+            None => Err(ToolError::NoFilter(String::from_str(alloc, name)?)),
+        },
+        None => only_of(alloc, filters),
+    }
+}
+
+// The policy's only filter.
+fn only_of<'a>(
+    alloc: Global,
+    filters: &'a BTreeMap<String, SeccompFilter>,
+) -> Result<(String, &'a SeccompFilter), ToolError>
+    ensures { IfOk result (λ one. IsChosen None (get_by_text filters.now) (string_bytes one.0) one.1.now) }
+{
+    if filters.len() == 1 {
+        if let Some((name, filter)) = filters.first_key_value() {
+            return Ok((name.clone()?, filter));
+        }
+    }
+    Err(ToolError::Unchosen(names_of(alloc, filters)?))
+}

@@ -1,0 +1,165 @@
+"""What `diff` has to do of programs: the calls on which a program decides otherwise than a policy's filter or another program, and
+the faults."""
+
+from program_cases import FRONTEND
+
+from .diff import policy
+from .forms import CLOSED, FOLDER, FULL, LOGS, MISSING, NO_OBJECT, OUTPUT, RESET, TOOL, Case, Failing
+from .programs import ALLOW, ERRNO_1, JUMP_AT_LEAST, JUMP_EQUAL, LOAD, MASK, UNFIT, program, returns
+
+# `AUDIT_ARCH_*` values (linux/audit.h), return values (linux/seccomp.h), and the bit of x32 numbers.
+X86_64, I386, RISCV64 = 0xC000003E, 0x40000003, 0xC00000F3
+KILL_PROCESS, KILL_THREAD, LOG, TRAP, X32 = 0x80000000, 0, 0x7FFC0000, 0x00030000, 0x40000000
+
+
+def guarded(*instructions, arch=X86_64, other=KILL_PROCESS):
+    """Returns a program that answers other architectures by a return value, and runs instructions on this one's
+    call numbers."""
+    return program((LOAD, 0, 0, 4), (JUMP_EQUAL, 1, 0, arch), returns(other), (LOAD, 0, 0, 0), *instructions)
+
+
+# Each of x86_64: `read` (0) is allowed and all else is logged; by a test of greater numbers; with another call in
+# place of `read`; with x32 numbers that are trapped; with another return value on other architectures.
+READ = (JUMP_EQUAL, 0, 1, 0), returns(ALLOW), returns(LOG)
+
+PROGRAMS = {
+    "reads.bpf": guarded(*READ),
+    "reads-by-order.bpf": guarded((JUMP_AT_LEAST, 1, 0, 1), returns(ALLOW), returns(LOG)),
+    "writes.bpf": guarded((JUMP_EQUAL, 0, 1, 1), returns(ALLOW), returns(LOG)),
+    "reads-x32.bpf": guarded((JUMP_AT_LEAST, 0, 1, X32), returns(TRAP), *READ),
+    "reads-kills-thread.bpf": guarded(*READ, other=KILL_THREAD),
+    "reads-other-kills.bpf": guarded(*READ, other=KILL_PROCESS + 1),
+    "reads-anywhere.bpf": program((LOAD, 0, 0, 0), *READ),
+    "reads-riscv64.bpf": guarded((JUMP_EQUAL, 0, 1, 63), returns(ALLOW), returns(LOG), arch=RISCV64),
+    "logs.bpf": program(returns(LOG)),
+    "allows.bpf": program(returns(ALLOW)),
+    # `read` of 5 (a condition on the low half of argument 0), and of numbers whose bit 0 is set; and `read` where the high half of
+    # the instruction pointer is 5.
+    "reads-5.bpf": guarded((JUMP_EQUAL, 0, 3, 0), (LOAD, 0, 0, 16), (JUMP_EQUAL, 0, 1, 5), returns(ALLOW), returns(LOG)),
+    "reads-odd.bpf": guarded(
+        (JUMP_EQUAL, 0, 4, 0), (LOAD, 0, 0, 16), (MASK, 0, 0, 1), (JUMP_EQUAL, 0, 1, 1), returns(ALLOW), returns(LOG)
+    ),
+    "reads-from-5.bpf": guarded((JUMP_EQUAL, 0, 3, 0), (LOAD, 0, 0, 12), (JUMP_EQUAL, 0, 1, 5), returns(ALLOW), returns(LOG)),
+    "errno-1.bpf": guarded(returns(ERRNO_1)),
+}
+FILES = {"errno-2-only.json": policy("", default='{"errno":2}'), **PROGRAMS}
+
+NONE = "(0x0, 0x0, 0x0, 0x0, 0x0, 0x0)\n"
+SAME, DIFFERENT, UNDECIDED = "filter a: same\n", "filter a: different\n", "filter a: undecided\n"
+MORE, NO_MORE = "filter a: more permissive\n", "filter a: nowhere more permissive\n"
+OTHERS = "other architectures: "
+OTHERS_SAME, OTHERS_DIFFER, OTHERS_NO_MORE = OTHERS + "same\n", OTHERS + "different\n", OTHERS + "nowhere more permissive\n"
+OTHERS_MORE = OTHERS + "more permissive\n"
+
+# Calls that the program decides otherwise.
+READS = "  read: log -> allow, more: read" + NONE
+NO_LONGER_READS = "  read: allow -> log, less: read" + NONE
+WRITES = "  write: log -> allow, more: write" + NONE
+
+# The other architectures, in two parts.
+BELOW, ABOVE = "  other architectures 0x0 to 0xc000003d: ", "  other architectures 0xc000003f to 0xffffffff: "
+
+
+def others(change, number="0"):
+    """Returns the lines of a change on all other architectures, the least of each part being the example."""
+    return f"{BELOW}{change}: 0x0 {number}{NONE}{ABOVE}{change}: 0xc000003f {number}{NONE}"
+
+
+def same(words, output, given=""):
+    """Returns the case of a program on which nothing is found that counts."""
+    return Case("diff -q " + words, 0, output, "", given)
+
+
+def differs(words, output, given=""):
+    """Returns the case of a program that differs."""
+    return Case("diff -q " + words, 1, output, "", given)
+
+
+def fails(words, told, place=TOOL, given=""):
+    """Returns the case of words that write no output and tell this line of a place."""
+    return Case("diff -q " + words, 2, "", place + told, given)
+
+
+def compiled(arch, layout, file):
+    """Returns words behind which the program of a policy's file, in this layout, is standard input."""
+    return f"compile -q {arch} -f a --layout {layout} {file} | ./seccomptool diff -q {arch} {file}:a -"
+
+
+CASES = [
+    # A policy's own programs, in both layouts and of each architecture, decide as it does, of all architectures.
+    *[Case(compiled(f"-a {arch}", layout, file), 0, SAME + OTHERS_SAME, "")
+      for arch in ("x86_64", "aarch64", "riscv64") for layout in ("linear", "tree")
+      for file in ("logs.json", "allows-read.json", "allows-read-of-5.json")],
+    Case("compile -q allows-read.json | ./seccomptool diff -q --all allows-read.json -", 0, SAME + OTHERS_SAME, ""),
+    # So do programs of other compilers.
+    same("allows-read.json reads.bpf", SAME + OTHERS_SAME),
+    same("allows-read.json reads-by-order.bpf --all", SAME + OTHERS_SAME),
+    same("- reads.bpf", SAME + OTHERS_SAME, policy('{"syscall":"read"}')),
+    same("allows-read.json -", SAME + OTHERS_SAME, PROGRAMS["reads.bpf"]),
+    same("two-filters.json:a -", SAME + OTHERS_SAME, guarded(returns(LOG))),
+    # A program of another policy of one call more, or of one less; calls come in the order of numbers.
+    differs("logs.json reads.bpf", DIFFERENT + READS + OTHERS_SAME),
+    differs("allows-read.json -", DIFFERENT + NO_LONGER_READS + OTHERS_SAME, guarded(returns(LOG))),
+    differs("allows-read.json writes.bpf", DIFFERENT + NO_LONGER_READS + WRITES + OTHERS_SAME),
+    Case("compile -q --layout linear allows-read.json | ./seccomptool diff -q logs.json -", 1, DIFFERENT + READS + OTHERS_SAME, ""),
+    # An example is a call on which the two differ.
+    differs("logs.json reads-odd.bpf", DIFFERENT + "  read: log -> allow, more: read(0x1, 0x0, 0x0, 0x0, 0x0, 0x0)\n" + OTHERS_SAME),
+    # It tells the instruction pointer of a program that loads that.
+    differs("logs.json reads-from-5.bpf", DIFFERENT + READS[:-1] + " at 0x500000000\n" + OTHERS_SAME),
+    differs("allows-read.json reads-from-5.bpf", DIFFERENT + NO_LONGER_READS[:-1] + " at 0x0\n" + OTHERS_SAME),
+    # The high half of an argument that is compared as `dword` doesn't count.
+    same("allows-read-of-5.json reads-5.bpf", SAME + OTHERS_SAME),
+    # x32 numbers are among those without a name, whose ranges come behind the calls.
+    differs("allows-read.json reads-x32.bpf",
+            DIFFERENT + "  other calls 463 to 4294967295: log -> trap, less: 1073741824" + NONE + OTHERS_SAME),
+    # Other architectures are told, and count with `--all` alone.
+    same("allows-read.json reads-kills-thread.bpf", SAME + OTHERS_DIFFER + others("kill_process -> kill_thread, more")),
+    differs("--all allows-read.json reads-kills-thread.bpf", SAME + OTHERS_DIFFER + others("kill_process -> kill_thread, more")),
+    same("allows-read.json reads-other-kills.bpf", SAME + OTHERS_DIFFER + others("kill_process -> 0x80000001, otherwise")),
+    same("--all --only-more allows-read.json reads-other-kills.bpf", NO_MORE + OTHERS_NO_MORE),
+    same("--only-more allows-read.json reads-anywhere.bpf", NO_MORE + OTHERS_MORE + BELOW + "kill_process -> .."),
+    differs("--only-more allows-read.json reads-anywhere.bpf --all", NO_MORE + OTHERS_MORE + BELOW + "kill_process -> .."),
+    # Of another architecture's program nothing is right.
+    same("-a riscv64 --only-more allows-read.json reads-riscv64.bpf", NO_MORE + OTHERS_NO_MORE),
+    differs("-a riscv64 allows-read.json reads.bpf", "filter a: different\n.."),
+    # With `--only-more` only what the program permits more than the policy counts.
+    same("--only-more allows-read.json -", NO_MORE + OTHERS_NO_MORE, guarded(returns(LOG))),
+    differs("--only-more logs.json reads.bpf", MORE + READS + OTHERS_NO_MORE),
+    differs("allows-read.json writes.bpf --only-more", MORE + WRITES + OTHERS_NO_MORE),
+    same("--only-more allows-read.json reads-x32.bpf", NO_MORE + OTHERS_NO_MORE),
+    same("--only-more errno-2-only.json errno-1.bpf", NO_MORE + OTHERS_NO_MORE),
+    differs("errno-2-only.json errno-1.bpf", DIFFERENT + "  read: errno 2 -> errno 1, otherwise: read" + NONE + ".."),
+    # No set may be looked at, or few.
+    Case("diff -q --most 0 logs.json logs.bpf", 3, UNDECIDED + "  read: undecided\n  write: undecided\n..", ""),
+    same("--most 0x10 --only-more allows-read.json reads.bpf", NO_MORE + OTHERS_NO_MORE),
+    # The calls of `read` take five sets, as with `diff`, and those of every other part take one.
+    same("--most 5 allows-read-of-5.json reads-5.bpf", SAME + OTHERS_SAME),
+    Case("diff -q --most 4 allows-read-of-5.json reads-5.bpf", 3, UNDECIDED + "  read: undecided\n" + OTHERS_SAME, ""),
+    # The faults of the policy, of the choice of its filter, and then of the program.
+    fails("missing.json reads.bpf", MISSING, TOOL + "missing.json: "),
+    fails("examples reads.bpf", FOLDER, TOOL + "examples: "),
+    fails("- reads.bpf", NO_OBJECT, TOOL + "standard input: ", "[]"),
+    fails("- longest.bpf", RESET, TOOL + "standard input: ", Failing(LOGS)),
+    fails("unknown-call.json reads.bpf", FRONTEND + "Invalid syscall name: nosyscall for given arch: x86_64.\n",
+          TOOL + "unknown-call.json: "),
+    fails("logs.json:b reads.bpf", "No filter has this name: b.\n", TOOL + "logs.json: "),
+    fails("two-filters.json reads.bpf", "Name one of its filters: a, b\\xc2\\x9b.\n",
+          TOOL + "two-filters.json: "),
+    fails("none.json reads.bpf", "The policy has no filters.\n", TOOL + "none.json: "),
+    fails("logs.json:b -", "No filter has this name: b.\n", TOOL + "logs.json: ", b"\6\0\0"),
+    *[fails("logs.json -", told + "\n", TOOL + "standard input: ", given) for given, told in UNFIT],
+    fails("logs.json missing.bpf", MISSING, TOOL + "missing.bpf: "),
+    fails("logs.json examples", FOLDER, TOOL + "examples: "),
+    fails("logs.json -", RESET, TOOL + "standard input: ", Failing(PROGRAMS["reads.bpf"])),
+    # A filter that neither layout can hold, in front of the faults of the program.
+    fails("too-large.json reads.bpf", "Backend error: The seccomp filter ..", TOOL + "too-large.json: "),
+    fails("too-large.json -", "Backend error: The seccomp filter ..", TOOL + "too-large.json: ", b"\6\0\0"),
+    # An output that takes nothing.
+    fails("logs.json reads.bpf > /dev/full", FULL, OUTPUT),
+    fails("allows-read.json reads.bpf >&-", CLOSED, OUTPUT),
+    # Words that are no command.
+    Case("diff -q logs.json", 2, "", "error: .."),
+    Case("diff -q - -", 2, "", "error: .."),
+    Case("diff -q --all=true logs.json reads.bpf", 2, "", "error: .."),
+    Case("diff -q logs.json reads.bpf reads.bpf", 2, "", "error: .."),
+]

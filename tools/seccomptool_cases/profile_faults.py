@@ -64,7 +64,8 @@ TOO_GREAT, SHOWN_TOO_GREAT = "18446744073709551616", "1.8446744073709552e.."
 
 def shown(value):
     """Returns how a value is shown that may not stand at its place."""
-    return "an object" if isinstance(value, dict) else "an array" if isinstance(value, list) else json.dumps(value)
+    kind = "an object" if isinstance(value, dict) else "an array" if isinstance(value, list) else None
+    return kind or json.dumps(value, ensure_ascii=False).replace("\u009b", r"\xc2\x9b")
 
 
 def stands(form, value):

@@ -69,15 +69,15 @@
  *
  * message, message_capacity
  *     The caller's buffer for an error message, and its size in bytes. The message says why a code is
- *     returned. It is UTF-8 and ends in a NUL byte; where no code is returned it is empty. Where the buffer
+ *     returned. It is UTF-8 and ends in a NUL byte; if no code is returned it is empty. If the buffer
  *     is too short, the message is cut after the last whole character that fits with the NUL byte. Bytes
  *     after the NUL byte are left as they were, and a buffer of 0 bytes is left alone. 256 bytes are enough
  *     for each message that has no name and no value of the policy. In a path, names have their control
  *     characters as \x and two digits for each byte, and values are printed as JSON; so such a message is one
- *     line. Where memory runs out for the path, the message has none, and a name in it is as the policy has
- *     it, line feeds and U+0000 included. Where it runs out for that too, it is that of seccompiler_strerror.
+ *     line. If memory runs out for the path, the message has none, and a name in it is as the policy has
+ *     it, line feeds and U+0000 included. If it runs out for that too, it is that of seccompiler_strerror.
  *
- * Where a function takes a pointer and a length, the pointer isn't null, even for a length of 0. The functions
+ * If a function takes a pointer and a length, the pointer isn't null, even for a length of 0. The functions
  * are proved over references of Rust, which are never null, so the proofs say nothing of a null pointer. A
  * pointer is aligned for its type, and what it points to has that length, and is initialized. An array, buffer
  * or object that a function writes overlaps no other argument, and no other thread reads or writes it during
@@ -85,14 +85,14 @@
  *
  * RETURN VALUES
  *
- * A negative return value is one of the codes below. Each function lists its codes: where several apply, it
+ * A negative return value is one of the codes below. Each function lists its codes: if several apply, it
  * returns the first of them in the order of its list. A function that returns a code writes nothing but the
  * message, if it takes one.
  *
  * MEMORY, THREADS
  *
  * The functions that take a policy or rules, and seccompiler_compare, allocate by malloc and free all of it
- * before they return. Where malloc fails they return SECCOMPILER_OUT_OF_MEMORY. The others allocate nothing.
+ * before they return. If malloc fails they return SECCOMPILER_OUT_OF_MEMORY. The others allocate nothing.
  * Nothing is kept between calls, no system call is made but those of malloc, and no file is opened. So the
  * functions may be called from several threads at once. They mustn't be called from a signal handler, nor in
  * the forked child of a process with several threads. A policy may nest 127 levels deep, which takes up to
@@ -146,7 +146,7 @@ extern "C" {
 #define SECCOMPILER_UNKNOWN_OPERATOR (-15)
 /* A rule has no conditions. */
 #define SECCOMPILER_EMPTY_RULE (-16)
-/* The two actions are the same, with the same data where these aren't ignored. */
+/* The two actions are the same, with the same data if these aren't ignored. */
 #define SECCOMPILER_EQUAL_ACTIONS (-17)
 /* The chains aren't in ascending order of their call numbers, or two have the same. */
 #define SECCOMPILER_BAD_ORDER (-18)
@@ -183,13 +183,13 @@ extern "C" {
 /* In place of an architecture of seccompiler_compare: all calls, of all architectures. */
 #define SECCOMPILER_ALL_CALLS 0
 
-/* The rules for one system call. It is matched where one of them holds, or where there are none. */
+/* The rules for one system call. It is matched if one of them holds, or if there are none. */
 struct seccompiler_chain {
     int64_t number; /* of the system call */
     size_t rules;   /* how many; after those of the chains before */
 };
 
-/* A rule, which holds where all its conditions do. */
+/* A rule, which holds if all its conditions do. */
 struct seccompiler_rule {
     size_t conditions; /* how many; after those of the rules before */
 };
@@ -216,11 +216,11 @@ struct seccompiler_condition {
  * any but the first two. All filters of the policy are read, so an error in another filter is REJECTED too.
  * Whether another filter's program is too large doesn't matter.
  *
- * The message of REJECTED says what is wrong with the policy, behind the path of the place:
+ * The message of REJECTED says what is wrong with the policy, after the path of the place:
  *
  *     main_thread.filter[1].syscall: unknown system call "fnctl" on x86_64; did you mean "fcntl"?
  *
- * Where the policy isn't JSON in UTF-8, or nests too deep, it begins with "Error parsing Json: ". What follows
+ * If the policy isn't JSON in UTF-8, or nests too deep, it begins with "Error parsing Json: ". What follows
  * names the error and its place, and isn't proved. Of a repeated key it has no place. The message of NO_ROOM has
  * the program's length.
  */
@@ -232,8 +232,8 @@ int64_t seccompiler_compile(const char *policy, size_t policy_length, uint32_t a
 /*
  * Decides a call record as the filter of this name specifies, without making a program.
  *
- * Returns an action, 0 to 4294967295, such as SECCOMP_RET_ALLOW: the filter's match action where the filter
- * matches the call, its mismatch action where it doesn't, and SECCOMP_RET_KILL_PROCESS for a record of another
+ * Returns an action, 0 to 4294967295, such as SECCOMP_RET_ALLOW: the filter's match action if the filter
+ * matches the call, its mismatch action if it doesn't, and SECCOMP_RET_KILL_PROCESS for a record of another
  * architecture. Or returns a code, and writes the message, as seccompiler_compile does: UNKNOWN_ARCHITECTURE,
  * REJECTED, NO_FILTER; or OUT_OF_MEMORY in place of any but the first.
  */
@@ -246,10 +246,10 @@ int64_t seccompiler_decide(const char *policy, size_t policy_length, uint32_t ar
  * So a caller who begins with 0 and goes on until NO_FILTER gets all names.
  *
  * Returns the length of the name in bytes, and writes the name with a NUL byte at its end into the front of
- * `name`. Where the buffer is too short, the name is cut as a message is. The rest of the buffer is as it was.
+ * `name`. If the buffer is too short, the name is cut as a message is. The rest of the buffer is as it was.
  *
- * Returns a code, writes the message, and leaves `name` as it was, in these cases: REJECTED, where the policy is
- * no JSON text of filters; NO_FILTER, where it has no filter of this index; or OUT_OF_MEMORY in place of any
+ * Returns a code, writes the message, and leaves `name` as it was, in these cases: REJECTED, if the policy is
+ * no JSON text of filters; NO_FILTER, if it has no filter of this index; or OUT_OF_MEMORY in place of any
  * return value. Whether its filters have errors on an architecture doesn't matter.
  */
 int64_t seccompiler_filter_names(const char *policy, size_t policy_length, size_t index,
@@ -261,7 +261,7 @@ int64_t seccompiler_filter_names(const char *policy, size_t policy_length, size_
  * which has `capacity` instructions. The chains are in ascending order of their call numbers.
  *
  * Returns the number of instructions, and writes a program, as seccompiler_compile does for a policy's filter.
- * The action for a call is the match action where a chain of its number matches it, and else the mismatch action.
+ * The action for a call is the match action if a chain of its number matches it, and else the mismatch action.
  *
  * Returns a code, and leaves the whole array as it was, in these cases: UNKNOWN_ARCHITECTURE,
  * UNKNOWN_LAYOUT, UNKNOWN_ACTION, BAD_COUNTS, BAD_ARGUMENT, UNKNOWN_LENGTH, UNKNOWN_OPERATOR, EMPTY_RULE,
@@ -295,7 +295,7 @@ int64_t seccompiler_rules_length(const struct seccompiler_chain *chains, size_t 
 /*
  * Writes the code of the rule of these conditions into the front of the array `code`, which has `capacity`
  * instructions. This is no whole program, but the part of one that tests the rule. Entered at its first
- * instruction, it leaves at its end where the rule holds for the call record, and one instruction further where
+ * instruction, it leaves at its end if the rule holds for the call record, and one instruction further if
  * it doesn't.
  *
  * Returns the number of instructions, which may be more than 4096. The rest of the array is as it was.
@@ -323,16 +323,16 @@ int64_t seccompiler_decide_rules(const struct seccompiler_chain *chains, size_t 
 /*
  * Checks whether a program may be run. One that passes has 1 to 4096 instructions, of the seven kinds that compiled
  * programs consist of, and the last one returns. Each load takes 4 aligned bytes of a record, and each jump leads to
- * a place of the program. Returns 1 where the program passes, 0 where it doesn't.
+ * a place of the program. Returns 1 if the program passes, 0 if it doesn't.
  */
 int32_t seccompiler_check(const struct sock_filter *program, size_t count);
 
 /*
  * Checks as seccompiler_check does whether a program may be run, and finds the first place at which it fails.
  *
- * Returns 1 where the program passes, and leaves `place` as it was. Returns 0 where it doesn't, and writes the first
- * of these places, from 0 on: that of an instruction that no program may have there; 4096, where there are more
- * instructions; the last one, if it doesn't return; and 0, where there are no instructions.
+ * Returns 1 if the program passes, and leaves `place` as it was. Returns 0 if it doesn't, and writes the first
+ * of these places, from 0 on: that of an instruction that no program may have there; 4096, if there are more
+ * instructions; the last one, if it doesn't return; and 0, if there are no instructions.
  */
 int32_t seccompiler_check_at(const struct sock_filter *program, size_t count, size_t *place);
 
@@ -346,14 +346,14 @@ int64_t seccompiler_run(const struct sock_filter *program, size_t count,
 
 /*
  * Compares what two programs, of whichever compilers, return for each call of a set. These are the calls of the
- * architecture with numbers from `least` to `greatest`, both included. Where `architecture` is
+ * architecture with numbers from `least` to `greatest`, both included. If `architecture` is
  * SECCOMPILER_ALL_CALLS they are all calls, and the two numbers are ignored. The relation is SECCOMPILER_ALIKE or
  * SECCOMPILER_AT_MOST_AS_PERMISSIVE.
  *
- * Returns 1 where the relation holds for each of these calls. Returns 0 where it doesn't, and writes the record of
+ * Returns 1 if the relation holds for each of these calls. Returns 0 if it doesn't, and writes the record of
  * a call for which it doesn't into `difference`, in little-endian bytes. Else `difference` is as it was.
  *
- * Returns a code in these cases: UNKNOWN_ARCHITECTURE; UNKNOWN_RELATION; NOT_CHECKED, where one of the programs
+ * Returns a code in these cases: UNKNOWN_ARCHITECTURE; UNKNOWN_RELATION; NOT_CHECKED, if one of the programs
  * doesn't pass seccompiler_check, which here takes the operation BPF_JMP | BPF_JSET | BPF_K as well; or
  * OUT_OF_MEMORY or UNDECIDED in place of 1 or 0. The comparison splits the calls into sets of which it knows what
  * the programs return, and looks at `most` sets at most. Most pairs of programs take some sets for each test, and a
@@ -373,7 +373,7 @@ int64_t seccompiler_call_number(uint32_t architecture, const char *name, size_t 
 
 /*
  * Writes the message of a code into the front of `message`: a sentence in ASCII with a NUL byte at its end, cut
- * where the buffer is too short. For a number that is no code it is "Unknown code.".
+ * if the buffer is too short. For a number that is no code it is "Unknown code.".
  *
  * Returns the length of the whole message in bytes, 1 to 100, cut or not.
  */

@@ -29,7 +29,7 @@
 #include <unistd.h>
 
 #if defined __STRICT_ANSI__ && !defined __cplusplus
-/* <unistd.h> doesn't declare it where a program is compiled as standard C, as by -std=c11. */
+/* <unistd.h> doesn't declare it if a program is compiled as standard C, as by -std=c11. */
 long syscall(long number, ...);
 #endif
 
@@ -39,20 +39,20 @@ long syscall(long number, ...);
  *
  * `flags` are those of seccomp(2): 0 for the calling thread, SECCOMP_FILTER_FLAG_TSYNC for all threads.
  *
- * Returns 0 where seccomp succeeds: then the program is installed. An earlier filter can fake that, by an action
+ * Returns 0 if seccomp succeeds: then the program is installed. An earlier filter can fake that, by an action
  * for seccomp with the errno 0.
  *
- * Returns a negative errno where a call fails:
- *     -EINVAL      `count` isn't 1 to 4096, as where it is a code of seccompiler_compile; then neither call was
+ * Returns a negative errno if a call fails:
+ *     -EINVAL      `count` isn't 1 to 4096: for example, it is a code of seccompiler_compile. Then neither call was
  *                  made. Or the kernel doesn't know the flags, or rejects the program.
- *     -EINTR       A call was interrupted before the kernel began with it. That can happen where another process
+ *     -EINTR       A call was interrupted before the kernel began with it. That can happen if another process
  *                  supervises this one's calls. The function may be called again. It doesn't retry by itself,
  *                  since an earlier filter may return this errno each time.
  *     any other    The errno of prctl or seccomp, as -EACCES, -ENOSYS, -ENOMEM or -ESRCH, or one that an earlier
  *                  filter returns for them.
  * no_new_privs may be set then, and can't be unset.
  *
- * Returns a positive number where SECCOMP_FILTER_FLAG_TSYNC is set and some thread has a filter that the calling
+ * Returns a positive number if SECCOMP_FILTER_FLAG_TSYNC is set and some thread has a filter that the calling
  * thread doesn't have: the number of that thread. Then no thread got the program. With
  * SECCOMP_FILTER_FLAG_NEW_LISTENER a positive number is the listener's file descriptor, and the program is
  * installed.

@@ -124,7 +124,7 @@ static inline void seccompiler_rules_drop(struct seccompiler_rules *filter, stru
     chain->rules = 0;
 }
 
-/* Puts a rule behind those of its call, so that the arrays stay in order. Returns 0, or SECCOMPILER_NO_ROOM. */
+/* Puts a rule after those of its call, so that the arrays stay in order. Returns 0, or SECCOMPILER_NO_ROOM. */
 static inline int64_t seccompiler_rules_put(struct seccompiler_rules *filter, int64_t number,
                                             const struct seccompiler_condition *conditions, size_t count)
 {

@@ -50,7 +50,7 @@ POLICY = json.dumps({name: ENTRIES for name in FILTERS})
 
 
 def completed(folder, name, *words):
-    """Returns what bash completes for the last of these words behind the program, in order."""
+    """Returns what bash completes for the last of these words after the program, in order."""
     command = ["bash", "--norc", "-c", ASKED, "bash", TOP / f"completions/{name}.bash", name, f"./{name}", *words]
     ran = subprocess.run(command, cwd=folder, capture_output=True, text=True, timeout=SECONDS)
     return sorted(ran.stdout.splitlines()) + ran.stderr.splitlines()
@@ -166,7 +166,7 @@ ASKED_OF = {
 
 
 def completed_by(shell, folder, *words):
-    """Returns what this shell completes for the last of these words behind the program, in order."""
+    """Returns what this shell completes for the last of these words after the program, in order."""
     script, name = ASKED_OF[shell]
     command = {"zsh": ["zsh", "-f", "-c", script, "zsh"], "fish": ["fish", "-N", "-c", script]}[shell]
     command += [TOP / f"completions/{name}", "./seccomptool", *words]

@@ -30,10 +30,10 @@ length, operator and value. Questions are
                                   of the filter's linear program or its tree, and the filter
     compare RELATION ..: CODE with CODE
     condition, copied_rule, equal_rules, holds, action, architecture, number
-                                  of what stands behind
+                                  of what stands after
     compile_from_json, programs_of, compile, policies_of, filters_of ARCH TEXT
                                   programs or filters by name, with their lengths, or JSON filters with the number of their entries
-    failing FAULT CALL ..         the same of readers that give a byte at a time and fail behind each; FAULT may be `never`
+    failing FAULT CALL ..         the same of readers that give a byte at a time and fail after each; FAULT may be `never`
     make_seccomp_filter, widened ARCH TEXT; read_filters, repeats_key TEXT
 
 Where a call is rejected the answer is the error's text. In a TEXT `<3 x ENTRY>` stands for an entry three times.
@@ -53,7 +53,7 @@ STATEMENTS = ("#", "policy", "call", "calls", "decisions", "keep")
 OUT_OF_MEMORY = " => Out of memory."
 COUNTED = re.compile(r"(.*?)(?: \[([0-9]+|\+)\])?")
 
-# What tools/short-calls.c is told, and with which number the first request fails: it alone, or with all behind it.
+# What tools/short-calls.c is told, and with which number the first request fails: it alone, or with all after it.
 REFUSALS = (("REFUSED", 1), ("GRANTED", 0))
 
 

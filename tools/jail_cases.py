@@ -173,7 +173,7 @@ CALLED = [
 # Filters of actions.json under which `unlinkat` is answered with 0, and nothing is done.
 FAKED = [f"errno {it}" for it, number in LARGE_ERRNOS.items() if number == 0]
 
-# Filters of actions.json that can't be installed one behind the other: the first that isn't, and the call that fails,
+# Filters of actions.json that can't be installed one after the other: the first that isn't, and the call that fails,
 # which the jailer in Rust names. With --log the flags of `seccomp` have SECCOMP_FILTER_FLAG_LOG, which is 2.
 UNINSTALLED = [
     ([], "no seccomp,errno", "errno", "seccomp"),

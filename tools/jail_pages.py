@@ -84,7 +84,7 @@ def try_documents(results, folder):
 
 
 def try_lines_of_c(results, folder):
-    """Builds the lines of C that the pages show, and runs commands behind them."""
+    """Builds the lines of C that the pages show, and runs commands after them."""
     kit = pathlib.Path(subprocess.check_output(["rt", "doc"], text=True).strip()).parent
     flags = ["-std=c11", "-Wall", "-Wextra", "-Werror", "-I", TOP / "include"]
     source, program = folder / "lines.c", folder / "bin/lines"

@@ -138,7 +138,7 @@ def try_profiles(results, jailers, folder):
             try_podman(results, jailer, folder, way, end)
 
 
-# What is no profile, as seccomptool reports it: the options and the file, and what is reported behind its name.
+# What is no profile, as seccomptool reports it: the options and the file, and what is reported after its name.
 NO_PROFILES = [
     (["missing.json"], "missing.json: No such file or directory (os error 2)\n"), (["."], ".: Is a directory (os error 21)\n"),
     (["empty"], "empty: Error parsing Json: .."), (["--cap", "CAP_KILL", "empty"], "empty: Error parsing Json: .."),

@@ -10,7 +10,7 @@ from man_of_help import escaped, hanging
 TOP = pathlib.Path(__file__).resolve().parent.parent
 HEADER = TOP / "include/seccompiler.h"
 
-# A comment with what stands behind it up to an empty line or the next comment.
+# A comment with what stands after it up to an empty line or the next comment.
 PART = re.compile(r"^/\*(.*?)\*/\n((?:(?!/\*|\n)[^\n]*\n)*)", re.M | re.S)
 HEADING = re.compile(r"^([A-Z]+(?:,? [A-Z]+)*)$")
 FUNCTION = re.compile(r"\b(seccompiler_\w+)\(")
@@ -33,7 +33,7 @@ def verbatim(lines):
 
 
 def running(lines):
-    """Returns the paragraphs of lines as running text; one whose lines behind the first are indented has it as tag."""
+    """Returns the paragraphs of lines as running text; one whose lines after the first are indented has it as tag."""
     text = ""
     for lines_of_one in paragraphs(lines):
         if len(lines_of_one) > 1 and all(it.startswith("    ") for it in lines_of_one[1:]):
@@ -59,7 +59,7 @@ def opening(comment):
 
 
 def declared(behind):
-    """Returns the declaration behind a comment, without what a header has besides."""
+    """Returns the declaration after a comment, without what a header has besides."""
     return re.sub(r"^#(?:if|endif|include|ifdef).*\n|^extern.*\n|^}\n", "", behind, flags=re.M).rstrip("\n")
 
 

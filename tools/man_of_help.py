@@ -23,7 +23,7 @@ def hanging(line):
 
 
 def help_of_source(path):
-    """Returns the help that a program in C prints: its usage and what stands behind that."""
+    """Returns the help that a program in C prints: its usage and what stands after that."""
     texts = dict(TEXT_OF_C.findall(path.read_text(encoding="utf-8")))
     return "".join(ast.literal_eval(f"({texts[it]})") for it in ("usage", "help") if it in texts)
 

@@ -11,12 +11,11 @@ usage: tools/page_checks.py [--long]
   of a Lib.antt. docs/DEFINITIONS.md names all promised ones.
 - Pages use the terms of the table 'Words' of CONTRIBUTING.md, and none of those that its last column has. So does the
   documentation in the sources of DOCUMENTED, that of Rust and Rattle in its lines `///` and `//!`, outside examples.
-- A table's cell has at most 200 characters, README.md at most 1,000 words outside its blocks of code, and README.md,
-  CONTRIBUTING.md and the pages of docs/ together have at most PAGES_WORDS, blocks included.
+- README.md has at most README_WORDS outside its blocks of code; README.md, CONTRIBUTING.md and the pages of docs/ together
+  have at most PAGES_WORDS, blocks included; CHANGELOG.md has at most CHANGES_WORDS.
 - docs/CHECKS.md has the codes of warnings in the order of the definitions, in its table and as sections, and the first
   line of each section, without its marks, is what the code's definition says.
 - The picture in docs/ is what tools/make-picture makes of its source.
-- README.md names one kit. If `rt` says another, that is printed and is no failure.
 - A line of proofs or definitions has at most 140 characters, in each crate.
 
 Prints each difference, and as its last line 'N passed, M failed'. With --long it prints the sentences of more than
@@ -29,15 +28,14 @@ import itertools
 import os
 import pathlib
 import re
-import shutil
 import subprocess
 import sys
 
 TOP = pathlib.Path(__file__).resolve().parent.parent
-CELL = 200
 LINE = 140
-README_WORDS = 1000
-PAGES_WORDS = 35000
+README_WORDS = 900
+PAGES_WORDS = 32000
+CHANGES_WORDS = 900
 SENTENCE = 30
 
 LINK = re.compile(r"\[[^\]]*\]\(<?([^()\s>]+)>?\)|(?:src|srcset)=\"([^\"]+)\"")
@@ -237,7 +235,7 @@ def documentation_of(source):
 
 def compare_terms(results):
     """Looks for terms that pages don't use, outside code and the table itself."""
-    results.compare("CONTRIBUTING.md: terms in its table 'Words'", (True,), (len(unwanted_terms()) > 9,))
+    results.compare("CONTRIBUTING.md: terms in its table 'Words'", (True,), (bool(unwanted_terms()),))
     table = section_of(TOP / "CONTRIBUTING.md", "Words")
     texts = {page: [it for it in lines_of(page) if it not in table] for page in pages()}
     for pattern in DOCUMENTED:
@@ -249,18 +247,15 @@ def compare_terms(results):
 
 
 def compare_lengths(results):
-    """Compares the lengths of the cells of tables, of the README, and of all pages for readers."""
-    for page in pages():
-        rows = [(number, cell) for number, line in lines_of(page) for cell in cells_of(line)]
-        long = [f"{number}: {cell}" for number, cell in rows if len(cell) > CELL]
-        results.compare(f"{name_of(page)}: cells of more than {CELL} characters", ([],), (long,))
-        if name_of(page) == "README.md":
-            text = LINK.sub(lambda it: it[0].partition("](")[0], "\n".join(line for _, line in lines_of(page)))
-            words = len(re.findall(r"\S*\w\S*", re.sub(r"<[^>]*>", "", text)))
-            results.compare(f"README.md: at most {README_WORDS} words", (True,), (words <= README_WORDS or words,))
+    """Compares the lengths of the README, of the changelog, and of all pages for readers together."""
+    readme = LINK.sub(lambda it: it[0].partition("](")[0], "\n".join(line for _, line in lines_of(TOP / "README.md")))
     counted = [TOP / "README.md", TOP / "CONTRIBUTING.md", *TOP.glob("docs/*.md")]
-    words = sum(len(page.read_text(encoding="utf-8").split()) for page in counted)
-    results.compare(f"the pages: at most {PAGES_WORDS} words", (True,), (words <= PAGES_WORDS or words,))
+    for what, words, most in (
+        ("README.md", len(re.findall(r"\S*\w\S*", re.sub(r"<[^>]*>", "", readme))), README_WORDS),
+        ("CHANGELOG.md", len((TOP / "CHANGELOG.md").read_text(encoding="utf-8").split()), CHANGES_WORDS),
+        ("the pages", sum(len(page.read_text(encoding="utf-8").split()) for page in counted), PAGES_WORDS),
+    ):
+        results.compare(f"{what}: at most {most} words", (True,), (words <= most or words,))
 
 
 def compare_picture(results):
@@ -268,18 +263,6 @@ def compare_picture(results):
     made = subprocess.run([sys.executable, TOP / "tools/make-picture", "--print"], capture_output=True, text=True)
     same = made.stdout == (TOP / "docs/pipeline.svg").read_text(encoding="utf-8")
     results.compare("docs/pipeline.svg is what tools/make-picture makes", (0, True), (made.returncode, same))
-
-
-def compare_kit(results):
-    """Compares how many kits README.md names, and prints if another one is installed.
-
-    Another kit is no fault of a page: whether it proves the sources, `rt ci` says."""
-    named = re.findall(r"rattle-kit-\w+", (TOP / "README.md").read_text(encoding="utf-8"))
-    results.compare("README.md names a kit", (1,), (len(named),))
-    if shutil.which("rt") is not None:
-        version = subprocess.run(["rt", "version"], capture_output=True, text=True, check=False).stdout.split()
-        if version[:1] != named:
-            print(f"README.md names {named}, and `rt version` says {version[:1]}: name this one after a whole run")
 
 
 def plain(text):
@@ -330,7 +313,6 @@ def compare_pages(results):
     compare_lengths(results)
     compare_codes(results)
     compare_picture(results)
-    compare_kit(results)
     compare_proofs(results)
 
 

@@ -27,7 +27,7 @@ TOP = pathlib.Path(__file__).resolve().parent.parent
 SCHEMA = TOP / "docs/policy.schema.json"
 
 # The command of seccompc that reads a policy from standard input, and the one that is given its file; and those of
-# seccomptool that read a policy, and their options that have a value behind them, and that ask for help.
+# seccomptool that read a policy, and their options that have a value after them, and that ask for help.
 READING, GIVEN_A_FILE = "list", "run"
 OF_TOOL = ("compile", "show", "check", "explain", "diff")
 WITH_VALUES = (
@@ -53,7 +53,7 @@ UNSAID = re.compile(
     r"|The JSON value is no seccomp profile, |[A-Z][\w ]+ \(os error \d+\)\n|usage: |error: |$"
 )
 
-# What `check` reports behind a place: that the shape is wrong there; and what can only be found in one that is right.
+# What `check` reports after a place: that the shape is wrong there; and what can only be found in one that is right.
 WRONG_AT = re.compile(
     r'(expected .*, found .*|"[^"]*": unknown key; expected .*|missing "\w+"( or "\w+")?'
     r'|expected one of "\w+" and "\w+", found both)\n'

@@ -54,7 +54,7 @@ LARGE = (
     "Max length is 4096.\n"
 )
 
-# What stands behind `./seccompc`, the status, standard output, and standard error; where that ends
+# What stands after `./seccompc`, the status, standard output, and standard error; where that ends
 # with `..`, it only has to begin so.
 CASES = [
     # What each command writes.

@@ -87,7 +87,7 @@ def on_pipe(program, folder, words):
 
 
 def sums_of_tries(most):
-    """Returns how many sets all tries so far looked at, behind each try but one that has an answer."""
+    """Returns how many sets all tries so far looked at, after each try but one that has an answer."""
     tries = [min(FIRST, most)]
     while tries[-1] < most:
         tries.append(min(2 * tries[-1], most))

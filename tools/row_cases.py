@@ -5,7 +5,7 @@ A row is a line `QUESTION => ANSWER`, or a statement, which has no answer. Lines
 row above them. Statements are
 
     policy ARCH MISMATCH MATCH    a policy without entries, under which the next rows stand; an action is `allow` or `errno(1)`
-    call NUMBER[: RULE]           one entry more of it; behind the number may stand how often, as in `call 7, 813 times: RULE`
+    call NUMBER[: RULE]           one entry more of it; after the number may stand how often, as in `call 7, 813 times: RULE`
 
     keep                          the policy above is the old one of the comparisons below
 
@@ -22,7 +22,7 @@ length, operator and value. Questions are
                                   name and both actions, or `same`, or `nowhere more permissive`
     raw INSTRUCTIONS [for RECORD] what a program of no policy returns for this call, as `seccomptool explain` prints it, or why it may not
                                   be run; an instruction may stand so many times, as in `4096 x RET 0`, and have a code for a name
-    code CONDITION @ OFFSET       the code of a condition that leaves by so many instructions behind its end where it fails
+    code CONDITION @ OFFSET       the code of a condition that fails into the place so many instructions after its end
     rule RULE                     the code of a rule
     holds CONDITION for ARGS      whether the condition holds for `all` of these values of its argument, or for `none`
     action ACTION                 what a program returns for it
@@ -307,7 +307,7 @@ class Bench:
         raise NoRow(f"not understood: {kind}")
 
     def code_at(self, text, offset):
-        """Returns the code of a condition at an offset: one less instruction of other conditions stand behind it."""
+        """Returns the code of a condition at an offset: one less instruction of other conditions stand after it."""
         (condition,), behind = conditions(text), int(offset) - 1
         front = conditions("0 dword masked_eq(1) 1") * (behind % 2)
         front += conditions("0 dword eq 1") * ((behind - 3 * len(front)) // 2)

@@ -21,7 +21,7 @@ class Failing(NamedTuple):
 
 
 class Calls(NamedTuple):
-    """Reads from a descriptor, or writes to it: at most so many bytes a call, and behind so many bytes in all each
+    """Reads from a descriptor, or writes to it: at most so many bytes a call, and after so many bytes in all each
     call fails with an error number; without one none fails."""
 
     descriptor: int
@@ -35,7 +35,7 @@ class Calls(NamedTuple):
 
 
 class Case(NamedTuple):
-    """What stands behind the program's name, the status, standard output, and standard error; where one of these
+    """What stands after the program's name, the status, standard output, and standard error; where one of these
     ends with `..`, it only has to begin so. Standard input is empty where a case has none. Calls may fall short."""
 
     words: str
@@ -65,7 +65,7 @@ def run(command, folder, **more):
 
 @contextlib.contextmanager
 def standard_input(given):
-    """Gives a file of these bytes; or, where reading is to fail behind them, a socket whose other end went away
+    """Gives a file of these bytes; or, where reading is to fail after them, a socket whose other end went away
     without reading what was sent to it, which Linux answers by ECONNRESET once all was read."""
     if isinstance(given, Failing):
         read, other = socket.socketpair()

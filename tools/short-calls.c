@@ -2,11 +2,11 @@
  * Calls that stand before the C library's in a built program, and fall short as the environment says.
  * tools/running.py builds and preloads them.
  *
- * GRANTED: so many requests for memory are granted, and each behind them is refused.
+ * GRANTED: so many requests for memory are granted, and each after them is refused.
  * REFUSED: the request for memory of this number, counted from 1, is refused alone.
  * TOLD: a byte is written to this descriptor when the first request is refused.
  * DESCRIPTOR, AT_ONCE, BYTES and ERROR: a call that reads from this descriptor, or writes to it, passes at
- * most AT_ONCE bytes; behind BYTES bytes in all each fails with this error number. Without ERROR none fails.
+ * most AT_ONCE bytes; after BYTES bytes in all each fails with this error number. Without ERROR none fails.
  */
 #define _GNU_SOURCE
 #include <dlfcn.h>

@@ -214,7 +214,7 @@ fn top<'a>(alloc: Global) -> Built<'a> {
     let named = Command::new(alloc, "seccomptool").bin_name("seccomptool")?;
     Ok(
         named
-            .version("0.5.0")
+            .version("0.6.0")
             .about("Compiles, checks and explains seccomp policies")
             .after_help(AFTER)
             .no_binary_name(true)

@@ -39,6 +39,17 @@
 #include "seccompiler.h"
 #include "seccompiler_install.h"
 
+/* Where arrays that seccompiler_compile_rules rejects with SECCOMPILER_BAD_ORDER are out of order: the index of the first
+ * chain whose number isn't above the one before, or `count` if the numbers ascend. Whoever moves a chain moves its rules,
+ * and their conditions, with it. */
+static inline size_t seccompiler_unordered_chain(const struct seccompiler_chain *chains, size_t count)
+{
+    for (size_t k = 1; k < count; k++)
+        if (chains[k].number <= chains[k - 1].number)
+            return k;
+    return count;
+}
+
 /* How much a filter holds. No program in the linear layout tests more. */
 #define SECCOMPILER_RULES_MOST_CALLS 1024
 #define SECCOMPILER_RULES_MOST 2048

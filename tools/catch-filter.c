@@ -26,6 +26,10 @@
 #include <sys/wait.h>
 #include <unistd.h>
 
+#ifndef VERSION
+#define VERSION "unversioned"
+#endif
+
 /* Not of <sys/ptrace.h>: it and <linux/ptrace.h> define the same names. */
 extern long ptrace(int request, ...);
 
@@ -45,6 +49,7 @@ static const char help[] =
     "  -o, --output PREFIX  Write PREFIX.1.bpf, PREFIX.2.bpf and so on [default: caught]\n"
     "  -p, --pid PID        Read the programs of a running process\n"
     "  -h, --help           Print help\n"
+    "  -V, --version        Print the version\n"
     "\n"
     "Exit status: 0 programs were written, 1 none was installed, 2 trouble.\n";
 
@@ -394,33 +399,64 @@ static int catch_process(const char *text)
     return written ? CAUGHT : NONE;
 }
 
+/* Opens the standard streams that are closed, so that no file becomes one of them. */
+static void open_streams(void)
+{
+    for (int stream = STDIN_FILENO; stream <= STDERR_FILENO; stream++)
+        if (fcntl(stream, F_GETFD) < 0 && open("/dev/null", O_RDWR) != stream)
+            _exit(TROUBLE);
+}
+
+/* Ends with what is wrong with an option, if one is named. */
+static void fail_usage(const char *option, const char *what)
+{
+    fputs("catch-filter: ", stderr);
+    if (option) {
+        print_name(option);
+        fputs(": ", stderr);
+    }
+    fprintf(stderr, "%s\nTry 'catch-filter --help'.\n", what);
+    exit(TROUBLE);
+}
+
+/* Ends with what is wrong with the option of this letter, or of no letter that is known: with this word. */
+static void fail_option(const char *word, int letter, const char *what)
+{
+    const char option[] = {'-', (char)letter, '\0'};
+
+    fail_usage(strchr("hV", letter) ? word : option, what);
+}
+
+static int print(const char *text)
+{
+    return fputs(text, stdout) >= 0 && fflush(stdout) == 0 ? CAUGHT : TROUBLE;
+}
+
 int main(int argc, char **argv)
 {
     static const struct option options[] = {
-        {"output", required_argument, NULL, 'o'},
-        {"pid", required_argument, NULL, 'p'},
-        {"help", no_argument, NULL, 'h'},
-        {NULL, 0, NULL, 0},
+        {"output", required_argument, NULL, 'o'}, {"pid", required_argument, NULL, 'p'}, {"help", no_argument, NULL, 'h'},
+        {"version", no_argument, NULL, 'V'},      {NULL, 0, NULL, 0},
     };
     const char *pid = NULL;
     int option;
 
-    while ((option = getopt_long(argc, argv, "+o:p:h", options, NULL)) != -1) {
-        if (option == 'o') {
+    open_streams();
+    while ((option = getopt_long(argc, argv, "+:o:p:hV", options, NULL)) != -1) {
+        if (option == 'o')
             prefix = optarg;
-        } else if (option == 'p') {
+        else if (option == 'p')
             pid = optarg;
-        } else if (option == 'h') {
-            fputs(help, stdout);
-            return fflush(stdout) == 0 ? CAUGHT : TROUBLE;
-        } else {
-            fputs("Try 'catch-filter --help'.\n", stderr);
-            return TROUBLE;
-        }
+        else if (option == 'h')
+            return print(help);
+        else if (option == 'V')
+            return print("catch-filter " VERSION "\n");
+        else if (option == ':')
+            fail_option(NULL, optopt, "expected an argument");
+        else
+            fail_option(argv[optind - 1], optopt, "unexpected");
     }
-    if (!pid == (optind == argc)) {
-        fputs("catch-filter: expected a command, or -p PID\nTry 'catch-filter --help'.\n", stderr);
-        return TROUBLE;
-    }
+    if (!pid == (optind >= argc))
+        fail_usage(NULL, "expected a command, or -p PID");
     return pid ? catch_process(pid) : catch_command(argv + optind);
 }

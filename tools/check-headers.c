@@ -157,12 +157,24 @@ static void check_file(const char *path, const char *text, const char *name, int
 
 #define ONE "{\"match_action\":\"allow\",\"mismatch_action\":\"trap\",\"filter\":[]}"
 
+static void unordered(void)
+{
+    static const struct seccompiler_chain ascend[] = {{-1, 0}, {0, 1}, {7, 0}}, twice[] = {{0, 1}, {7, 0}, {7, 2}, {1, 0}};
+
+    message[0] = 0;
+    is((int64_t)seccompiler_unordered_chain(ascend, 3), 3, "", "numbers that ascend");
+    is((int64_t)seccompiler_unordered_chain(ascend, 0), 0, "", "no numbers");
+    is((int64_t)seccompiler_unordered_chain(twice, 4), 2, "", "a number twice");
+    is((int64_t)seccompiler_unordered_chain(twice + 2, 2), 1, "", "a number below the one before");
+}
+
 int main(int count, char **words)
 {
     const char *path = count > 1 ? words[1] : "policy.json";
 
     check_by_chance();
     check_errors();
+    unordered();
     /* A filter without entries has the three instructions of the architecture, the number's load and two returns. */
     check_file(path, "{\"a\":" ONE "}", NULL, 4, "");
     check_file(path, "{\"a\":" ONE "}", "a", 4, "");

@@ -25,6 +25,23 @@ static const char SHAPELESS[] = "{\"\xc2\xb5\":{}}";
 static const char SHAPELESS_SAID[] = "\xc2\xb5: missing \"mismatch_action\" or \"default_action\"";
 static const char WITHOUT_PLACE[] = "Json filter has a wrong shape: \xc2\xb5.";
 
+/* The same of a name of characters that steer a terminal or aren't seen there, which messages have by their bytes'
+ * numbers: U+0000, U+001B, U+007F, U+0080, U+009F, U+061C, U+200B, U+200F, U+2028, U+202E, U+2060, U+2066, U+2069, U+FEFF. */
+static const char STEERING[] =
+    "{\"\\u0000\\u001b\x7f\xc2\x80\xc2\x9f\xd8\x9c\xe2\x80\x8b\xe2\x80\x8f\xe2\x80\xa8\xe2\x80\xae"
+    "\xe2\x81\xa0\xe2\x81\xa6\xe2\x81\xa9\xef\xbb\xbf\":{}}";
+#define STEERING_NAME \
+    "\\x00\\x1b\\x7f\\xc2\\x80\\xc2\\x9f\\xd8\\x9c\\xe2\\x80\\x8b\\xe2\\x80\\x8f\\xe2\\x80\\xa8\\xe2\\x80\\xae" \
+    "\\xe2\\x81\\xa0\\xe2\\x81\\xa6\\xe2\\x81\\xa9\\xef\\xbb\\xbf"
+static const char STEERING_SAID[] = STEERING_NAME ": missing \"mismatch_action\" or \"default_action\"";
+static const char STEERING_WITHOUT_PLACE[] = "Json filter has a wrong shape: " STEERING_NAME ".";
+
+/* Their neighbours, which stand in a message as they are: U+0020, U+007E, U+00A0, U+061B, U+061D, U+200A, U+2010, U+2027,
+ * U+202F, U+205F, U+2061, U+2065, U+206A, U+FEFE, U+FF00, U+1F600. */
+#define SEEN \
+    " ~\xc2\xa0\xd8\x9b\xd8\x9d\xe2\x80\x8a\xe2\x80\x90\xe2\x80\xa7\xe2\x80\xaf\xe2\x81\x9f\xe2\x81\xa1" \
+    "\xe2\x81\xa5\xe2\x81\xaa\xef\xbb\xbe\xef\xbc\x80\xf0\x9f\x98\x80"
+
 /* The filter `a` of one entry. */
 #define OF_ENTRY(entry) \
     "{\"a\":{\"mismatch_action\":\"trap\",\"match_action\":\"allow\",\"filter\":[" entry "]}}"
@@ -101,7 +118,7 @@ static const char *const SENTENCES[] = {
     "The operator of a condition is above 6.",
     "A rule has no conditions.",
     "The two actions are the same.",
-    "The numbers of the chains don't ascend.",
+    "The numbers of the chains don't ascend; sort their rules with them.",
     "The number of a chain is below 0 or above 4294967295.",
     "The comparison is undecided.",
 };
@@ -190,6 +207,11 @@ static const struct {
      "the policy: expected an object of filters, found an empty array"},
     {"{\"a\":{\"x\":1,\"x\":1}}", "b", AUDIT_ARCH_X86_64, 0, 0, SECCOMPILER_REJECTED, "Repeated key in Json."},
     {SHAPELESS, "b", AUDIT_ARCH_X86_64, 1, 0, SECCOMPILER_REJECTED, SHAPELESS_SAID},
+    {STEERING, "b", AUDIT_ARCH_X86_64, 1, 0, SECCOMPILER_REJECTED, STEERING_SAID},
+    {"{\"" SEEN "\":{}}", "b", AUDIT_ARCH_X86_64, 1, 0, SECCOMPILER_REJECTED,
+     SEEN ": missing \"mismatch_action\" or \"default_action\""},
+    {OF_ENTRY("{\"syscall\":\"nosyscall\xc2\x9b\xe2\x80\xae\"}"), "b", AUDIT_ARCH_X86_64, 0, 0, SECCOMPILER_REJECTED,
+     "a.filter[0].syscall: unknown system call \"nosyscall\\xc2\\x9b\\xe2\\x80\\xae\" on x86_64"},
     {OF_ENTRY("{\"syscall\":\"nosyscall\"}"), "b", AUDIT_ARCH_AARCH64, 0, 0, SECCOMPILER_REJECTED,
      "a.filter[0].syscall: unknown system call \"nosyscall\" on aarch64"},
     {UNKNOWN, "b", AUDIT_ARCH_X86_64, 0, 0, SECCOMPILER_REJECTED,

@@ -95,6 +95,10 @@ def try_command(results, program, folder):
         (["-p", "1", "true"], "catch-filter: expected a command, or -p PID\n" + usage, 2),
         (["-p", "x"], "catch-filter: x: expected the number of a process\n", 2),
         (["-p", "0"], "catch-filter: 0: expected the number of a process\n", 2),
+        (["--a\x1b\x9b"], r"catch-filter: --a\x1b\xc2\x9b: unexpected" + "\n" + usage, 2),
+        (["-\x1b"], r"catch-filter: -\x1b: unexpected" + "\n" + usage, 2),
+        (["--help=1"], "catch-filter: --help=1: unexpected\n" + usage, 2),
+        (["-o"], "catch-filter: -o: expected an argument\n" + usage, 2),
     ):
         results.compare(f"catch-filter {words[:2]}", ("", text, wanted), run([program, *words], folder))
     before = sorted(folder.iterdir())
@@ -128,9 +132,10 @@ def try_process(results, program, folder):
 def try_catching(results, folder):
     """Builds tools/catch-filter.c, and runs its cases."""
     program = folder / "bin/catch-filter"
-    flags = ["-std=gnu11", "-O2", "-Wall", "-Wextra", "-Wpedantic", "-Werror"]
+    flags = ["-std=gnu11", "-O2", "-Wall", "-Wextra", "-Wpedantic", "-Werror", '-DVERSION="1.2.3"']
     if not step(results, "catch-filter.c", ["cc", *flags, TOP / "tools/catch-filter.c", "-o", program]):
         return
+    results.compare("catch-filter --version", ("catch-filter 1.2.3\n", "", 0), run([program, "--version"], folder))
     room = pathlib.Path(folder / "caught")
     room.mkdir()
     os.chmod(room, 0o700)

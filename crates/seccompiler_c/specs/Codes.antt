@@ -47,7 +47,7 @@ code_text code.UnknownLength = codes "The length of a condition is neither 4 nor
 code_text code.UnknownOperator = codes "The operator of a condition is above 6."
 code_text code.EmptyRule = codes "A rule has no conditions."
 code_text code.EqualActions = codes "The two actions are the same."
-code_text code.BadOrder = codes "The numbers of the chains don't ascend."
+code_text code.BadOrder = codes "The numbers of the chains don't ascend; sort their rules with them."
 code_text code.BadNumber = codes "The number of a chain is below 0 or above 4294967295."
 code_text code.Undecided = codes "The comparison is undecided."
 

@@ -9,6 +9,7 @@ use Rattle.seccomp_tree.specs.Layouts.{filter_text}
 use Rattle.seccomp_check.specs.Checks.{TellsFaultOf, frontend_cause}
 use Rattle.seccomp_check.specs.declared.fault.Cause.{Cause}
 use Rattle.seccompiler_c.specs.Codes.{fault_code, code_text, IsSentence}
+use Rattle.seccompiler_c.specs.Readable.{IsShown}
 use Rattle.seccompiler_c.specs.declared.fault.Fault.{Fault}
 use Rattle.seccompiler_c.specs.declared.fault.Fault.TheVariants.{OutOfMemory, UnknownArchitecture, UnknownLayout, Text, NoFilter, NoIndex}
 use Rattle.seccompiler_c.specs.declared.fault.Fault.TheVariants.{Filter, NoRoom}
@@ -43,9 +44,9 @@ pub data HoldsMessage (said old new : List ℕ) : Type 0 where
   holds : HoldsFront said old new → HoldsMessage said old new
   no_byte : length old ≡ 0 → new ≡ old → HoldsMessage said old new
 
--- The sentence is the fault's text, or, where memory is refused for it, what the fault's code means.
+-- The sentence is the fault's text, as people read it, or, where memory is refused for it, what the fault's code means.
 abbrev pub IsTold : Fault → List ℕ → Type 0
-IsTold fault said = IsFaultText fault said ⊎ (said ≡ code_text (fault_code fault))
+IsTold fault said = IsShown (IsFaultText fault) said ⊎ (said ≡ code_text (fault_code fault))
 
 -- The buffer holds a sentence that tells the fault.
 pub record TellsFault (fault : Fault) (old new : List ℕ) : Type 0 where
@@ -66,10 +67,10 @@ pub record IsPlaced (target : TargetArch) (text : List ℕ) (fault : Fault) (sai
   pub kind : fault_cause target fault ≡ Some cause
   pub placed : (d : Data) → IsReadAs text d → TellsFaultOf cause d said
 
--- The sentence tells the fault of a policy's text: by its place, on an architecture of which P holds; or else as any fault
--- is told.
+-- The sentence tells the fault of a policy's text: by its place, on an architecture of which P holds, as people read it; or
+-- else as any fault is told.
 pub data IsToldOf (P : TargetArch → Type 0) (text : List ℕ) (fault : Fault) (said : List ℕ) : Type 0 where
-  by_place : (target : TargetArch) → P target → IsPlaced target text fault said → IsToldOf P text fault said
+  by_place : (target : TargetArch) → P target → IsShown (IsPlaced target text fault) said → IsToldOf P text fault said
   without_place : IsTold fault said → IsToldOf P text fault said
 
 -- The buffer holds a sentence that tells the fault so.

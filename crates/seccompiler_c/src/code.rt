@@ -140,7 +140,7 @@ impl Code {
             Code::UnknownOperator => "The operator of a condition is above 6.",
             Code::EmptyRule => "A rule has no conditions.",
             Code::EqualActions => "The two actions are the same.",
-            Code::BadOrder => "The numbers of the chains don't ascend.",
+            Code::BadOrder => "The numbers of the chains don't ascend; sort their rules with them.",
             Code::BadNumber => "The number of a chain is below 0 or above 4294967295.",
             Code::Undecided => "The comparison is undecided.",
         }

@@ -4,9 +4,11 @@ ghost use Rattle.std.specs.Prelude.{◌≡◌, [], pos, length, IfOk, IfSome, st
 ghost use Rattle.seccompiler.specs.declared.backend.TargetArch.{TargetArch};
 ghost use Rattle.seccompiler_c.specs.Arguments.{IsArchitecture};
 ghost use Rattle.seccompiler_c.specs.Messages.{HoldsMessage, IsFaultText, TellsFault, fault_cause, IsPlaced, TellsPolicyFault};
+ghost use Rattle.seccompiler_c.specs.Readable.{IsShown};
 
 use crate::arguments::architecture_of;
 use crate::fault::Fault;
+use crate::readable::readable;
 use seccomp_check::{Cause, cause_of_frontend, place};
 use seccompiler::TargetArch;
 use std::alloc::Global;
@@ -44,6 +46,16 @@ fn text_of(alloc: Global, fault: &Fault) -> Result<String, fmt::Error>
     Ok(f.into_inner())
 }
 
+// The same as people read it, where there is memory for it.
+fn shown(alloc: Global, fault: &Fault) -> Option<String>
+    ensures { IfSome result (λ said. IsShown (IsFaultText fault.now) (string_bytes said)) }
+{
+    match text_of(alloc, fault) {
+        Ok(text) => readable(alloc, text.as_str()),
+        Err(_) => None,
+    }
+}
+
 // Writes the text of a fault, or what its code means where there is no memory for the text. Where there is
 // no room for it, no memory is asked for.
 pub(crate) fn tell(alloc: Global, fault: &Fault, message: &mut [u8])
@@ -52,9 +64,9 @@ pub(crate) fn tell(alloc: Global, fault: &Fault, message: &mut [u8])
     if message.is_empty() {
         return write_message(fault.code().text(), message);
     }
-    match text_of(alloc, fault) {
-        Ok(text) => write_message(text.as_str(), message),
-        Err(_) => write_message(fault.code().text(), message),
+    match shown(alloc, fault) {
+        Some(said) => write_message(said.as_str(), message),
+        None => write_message(fault.code().text(), message),
     }
 }
 
@@ -79,6 +91,14 @@ fn placed(alloc: Global, policy: &[u8], target: TargetArch, fault: &Fault) -> Op
     }
 }
 
+// The same as people read it.
+fn shown_place(alloc: Global, policy: &[u8], target: TargetArch, fault: &Fault) -> Option<String>
+    ensures { IfSome result (λ said. IsShown (IsPlaced target policy.now fault.now) (string_bytes said)) }
+{
+    let text = placed(alloc, policy, target, fault)?;
+    readable(alloc, text.as_str())
+}
+
 // Writes the text of a policy's fault on an architecture: with the path of its place where it has one, and
 // else as `tell` does.
 pub(crate) fn tell_place(
@@ -93,7 +113,7 @@ pub(crate) fn tell_place(
     if message.is_empty() {
         return tell(alloc, fault, message);
     }
-    match placed(alloc, policy, target, fault) {
+    match shown_place(alloc, policy, target, fault) {
         Some(said) => write_message(said.as_str(), message),
         None => tell(alloc, fault, message),
     }

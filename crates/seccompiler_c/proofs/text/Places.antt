@@ -8,6 +8,7 @@ use Rattle.seccomp_check.specs.Checks.{TellsFaultOf}
 use Rattle.seccomp_check.specs.declared.fault.Cause.{Cause}
 use Rattle.seccompiler_c.specs.Messages.{HoldsMessage, TellsFault, TellsPolicyFault, fault_cause}
 use Rattle.seccompiler_c.specs.Messages.{IsPlaced, IsToldOf, by_place, without_place}
+use Rattle.seccompiler_c.specs.Readable.{IsShown}
 use Rattle.seccompiler_c.specs.declared.fault.Fault.{Fault}
 
 module _ (text : List ℕ) (fault : Fault) (old new : List ℕ) where
@@ -16,8 +17,8 @@ module _ (text : List ℕ) (fault : Fault) (old new : List ℕ) where
   told_alone P tells = record { said = tells.said; utf8 = tells.utf8; told = without_place tells.told; holds = tells.holds }
 
   -- A sentence with a place.
-  pub told_there : (target : TargetArch) (said : List ℕ) → IsUtf8 said → IsPlaced target text fault said → HoldsMessage said old new
-      → TellsPolicyFault (λ t. t ≡ target) text fault old new
+  pub told_there : (target : TargetArch) (said : List ℕ) → IsUtf8 said → IsShown (IsPlaced target text fault) said
+      → HoldsMessage said old new → TellsPolicyFault (λ t. t ≡ target) text fault old new
   told_there target said utf8 placed holds = record { said = said; utf8 = utf8; told = by_place target refl placed; holds = holds }
 
   -- What is told on one architecture is told on those of which P holds, if it does of that one.

@@ -1,0 +1,21 @@
+use Rattle.std.proofs.Common.{◌≡◌, ℕ, List, [], ◌∷◌, length, refl, sym, ◌∙◌, append_assoc, append-nil}
+use Rattle.std.specs.Str.{chars}
+use Rattle.std.proofs.lemmas.Str.{IsUtf8-past_char, chars_past_char}
+use Rattle.seccompiler_c.specs.Readable.{readable}
+use Rattle.seccompiler_c.proofs.readable.push_readable.Goals as goal
+
+pub loop-character-preserved : goal.loop-character-preserved
+loop-character-preserved c =
+    let held = c.loop-character.invariant in
+    let parts = c.in-Some.ensures.steps.0 in
+    let step = chars_past_char _ _ c.in-Some.character held.0 parts in
+    (IsUtf8-past_char _ _ c.in-Some.character held.0 parts, rw (c.in_ok-push_character.ensures, append_assoc) (rw step at held.1))
+
+-- Of nothing, nothing is read.
+nothing_left : (text : List ℕ) → length text ≡ 0 → readable text ≡ []
+unfolding chars
+nothing_left [] none = refl
+nothing_left (b ∷ bytes) none = absurd cc
+
+pub returns : goal.returns
+returns c = sym (append-nil _) ∙ rw (nothing_left _ c.in-None.ensures.steps.0.0) at c.loop-character.invariant.1

@@ -98,9 +98,9 @@ abbrev pub FitsAsTree : Filter → Option ℕ → Type 0
 FitsAsTree f (Some n) = (p : List sock_filter) × IsTreeCompiled f p × (length p ≡ n)
 FitsAsTree f None = IsTreeTooLarge f
 
--- The problem is there, and it is one of the part that stands there: what may stand there is what this part has to be,
--- and the names that are told are those that this part may have, has to have, or has to have one of. A name that is
--- suggested may stand there.
+-- The problem is at its place, and is one of the part there. What is expected is what the part has to be, and
+-- the names reported are those that the part may have, has to have, or has to have one of. A suggested name is
+-- one that may stand there.
 abbrev pub IsBroken : Part → Data → Problem → Type 0
 IsBroken part d (problem.Stands text e near) = (part_of e ≡ part) × IsShown d (string_bytes text) × (IsAllowed e d → ⊥)
     × IfSome near (λ name. IsAllowed e (string name.now))

@@ -1,5 +1,5 @@
--- What the parts of a policy are, what stands under a name or at a place of each, and how a value has to be made that is
--- one. docs/JSON.md has the format.
+-- The parts of a policy, what each may contain under a name or at a place, and the form of a value that is one.
+-- docs/JSON.md has the format.
 use Rattle.std.specs.Prelude.{◌≡◌, ◌≢◌, ℕ, ◌^◌, ◌-◌, ◌⊎◌, List, [], ◌∷◌, Option, Some, None, option_and_then, codes, string_bytes}
 use Rattle.std.specs.Map.{keys_of, lookup}
 use Rattle.std.specs.Str.{bytes_eq}

@@ -9,9 +9,10 @@ use crate::values::{ALL, Values, between};
 use seccompiler::backend::TargetArch;
 use std::marker::Model;
 
-/// A set of calls: all, those of an architecture or of several, or those of one or more call numbers of one.
+/// A set of calls: all, those of one or several architectures, or those of one architecture with one or more
+/// call numbers.
 ///
-/// Whatever the set, their instruction pointers and arguments are any.
+/// Their instruction pointers and arguments may have any value.
 ///
 /// ```
 /// // x86_64 has no name for these numbers.

@@ -21,9 +21,9 @@ const _: () = prove!(JUMP_IF_SET == 0x45);
 
 /// Says whether a program may be run.
 ///
-/// A program passes as it passes [`check`](seccompiler::machine::check) of `seccompiler`, except that its
-/// instructions may also be `BPF_JMP | BPF_JSET | BPF_K`, which jumps where the accumulator has one of the
-/// bits of `k`. So the programs of runc, minijail and Chromium pass.
+/// A program passes as it passes [`check`](seccompiler::machine::check) of `seccompiler`, except that it may
+/// also contain `BPF_JMP | BPF_JSET | BPF_K`, which jumps if the accumulator has one of the bits of `k`. So the
+/// programs of runc, minijail and Chromium pass.
 ///
 /// ```
 /// // Allows a call unless its number has the bit of x32.

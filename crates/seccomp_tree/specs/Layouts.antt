@@ -31,8 +31,8 @@ pub record IsTreeTooLarge (f : Filter) : Type 0 where
   pub numbers : AreCallNumbers (numbers_of f.chains)
   pub large : IsTooLargeFor (decisions_of f) TooLarge
 
--- The refusal of a filter in the layout comes of its own cause alone: of the least number that is no call number; else of
--- the length; and want of memory comes only where the filter may be compiled, or of a tree where all are call numbers.
+-- Each refusal of a filter in the layout has its own cause: the least number that is no call number; else the
+-- length. OutOfMemory comes only if the filter may be compiled, or for a tree if all are call numbers.
 abbrev pub IsRefusalIn : Layout → Filter → FilterError → Type 0
 IsRefusalIn layout f (InvalidSyscallNumber n) = IsLeastUnfit (numbers_of f.chains) n
 IsRefusalIn Linear f (FilterTooLarge n) = IsTooLarge f n

@@ -115,7 +115,7 @@ fn of_bytes(alloc: Global, call: &str, arch: TargetArch, text: &[u8]) -> Result<
     }
 }
 
-// What a call gives for a reader that gives a byte at a time, and fails so behind each of them: the same each time.
+// What a call gives for a reader that gives one byte at a time and fails after each: the same each time.
 fn failing(
     alloc: Global,
     call: &str,
@@ -156,7 +156,8 @@ pub(crate) fn of_text(alloc: Global, call: &str, rest: &str) -> Result<String, F
     Ok(told)
 }
 
-/// The same of readers that give a byte at a time and fail behind each, by the fault whose name comes first, or `never`.
+/// The answers for readers that give one byte at a time and fail after each, with the fault that comes first by
+/// names, or `never`.
 pub(crate) fn of_failing(alloc: Global, rest: &str) -> Result<String, Fault> {
     let (fault, rest) = rest.split_once(' ').ok_or(Fault::Row)?;
     let (call, rest) = rest.split_once(' ').ok_or(Fault::Row)?;

@@ -24,8 +24,8 @@ fn joined(
     SeccompRule::new(conditions)
 }
 
-// Adds a rule for each of the entries of this call: the entry's conditions and these. A program tests the conditions of a
-// rule from the last one on. So on calls at which these don't hold, each rule is left before it splits them any further.
+// Adds a rule for each of the entries of this call: the entry's conditions and these. A program tests a rule's
+// conditions from the last one on, so it leaves each rule early on calls at which these don't hold.
 pub(crate) fn push_rules(
     rules: &mut Vec<SeccompRule>,
     alloc: Global,

@@ -36,12 +36,11 @@ pub enum Command<'a> {
     },
 }
 
-/// Reads the arguments that follow the program's name: exactly the command that they are, or `None`
-/// where they are none. Takes no memory.
+/// Reads the arguments after the program's name as a command, or `None` if they are none. Takes no memory.
 ///
-/// The commands are `probe ARCH NR INDEX VALUE`, `list ARCH` and `run ARCH FILE NAME`. ARCH, FILE and
-/// NAME are any texts. NR, INDEX and VALUE are one or more ASCII digits, NR with at most one `-` in
-/// front, and fit `i64`, `u8` and `u64`.
+/// The commands are `probe ARCH NR INDEX VALUE`, `list ARCH` and `run ARCH FILE NAME`. ARCH, FILE and NAME are
+/// any texts. NR, INDEX and VALUE are one or more ASCII digits, NR with at most one `-` in front, and fit
+/// `i64`, `u8` and `u64`.
 pub fn read_words(words: &[String]) -> Option<Command<'_>>
     ensures read { IfSome result (IsCommand (map string_bytes words.now)) }
     ensures unread { IfNone result ((command : Command) → IsCommand (map string_bytes words.now) command → ⊥) }

@@ -14,12 +14,12 @@ const SECCOMP_FILTER_FLAG_TSYNC: u64 = 1;
 
 /// A kernel that programs can be installed in: the two system calls that installing takes.
 ///
-/// This crate makes no system call itself. Whoever installs a program hands in a value that does,
-/// or one that stands in for a kernel, as in a test.
+/// This crate makes no system call itself. The caller hands in a value that does, or a stand-in for a kernel,
+/// as in a test.
 ///
 /// Each call answers a code and an errno, as `prctl(2)` and `seccomp(2)` return a code and set `errno`. For
-/// each call the trait names a relation between the kernel before it, its arguments, its answer and the
-/// kernel after it; what installing does is said in terms of these two alone.
+/// each call the trait names a relation between the kernel before it, its arguments, its answer and the kernel
+/// after it; these two relations define what installing does.
 ///
 /// ```
 /// /// A kernel whose calls all succeed, and of whose calls no more is known.
@@ -81,10 +81,9 @@ pub trait Kernel {
 ///
 /// # Errors
 ///
-/// `EmptyFilter` where the program has no instruction, and then no call is made. `Prctl` with the
-/// errno where setting `no_new_privs` answers another code than 0, and then the filter is not asked for. Else
-/// as the code for the filter says: `Seccomp` with the errno where it is
-/// negative, `ThreadSync` with the code where it is positive.
+/// `EmptyFilter` if the program has no instruction, and then no call is made. `Prctl` with the errno if setting
+/// `no_new_privs` answers another code than 0, and then the filter is not installed. Else `Seccomp` with the
+/// errno if installing the filter answers a negative code, and `ThreadSync` with the code if it is positive.
 ///
 /// # Examples
 ///

@@ -38,16 +38,15 @@ impl SeccompFilter {
 
     /// The filter's program.
     ///
-    /// It has `program_len` instructions, passes `machine::check`, and returns for every call
-    /// record, within as many steps as it has instructions, the value that `decide` gives. A call of
-    /// the filter's architecture without a chain is answered in a number of steps that the
-    /// filter's map alone determines.
+    /// It has `program_len` instructions, passes `machine::check`, and returns for every call record, within as
+    /// many steps as it has instructions, the value that `decide` gives. For a call of the filter's
+    /// architecture without a chain, the filter's map alone determines the number of steps.
     ///
     /// # Errors
     ///
-    /// `InvalidSyscallNumber` with the least key that lies outside 0 to 4294967295, where there is
-    /// one; else `FilterTooLarge` with `program_len` where that is more than 4096; both take
-    /// no memory. `OutOfMemory` where memory for the program runs out.
+    /// `InvalidSyscallNumber` with the least key that lies outside 0 to 4294967295, if there is one; else
+    /// `FilterTooLarge` with `program_len` if that is more than 4096; both take no memory. `OutOfMemory` if
+    /// memory for the program runs out.
     ///
     /// # Examples
     ///

@@ -71,7 +71,7 @@ array_text n =
     else if n == 1 then codes "an array of 1 value"
     else codes "an array of " ++ decimal n ++ codes " values"
 
--- The text is JSON of the value: the one that serde_json writes, where no number is a float.
+-- The text is JSON of the value: the one that serde_json writes, if no number is a float.
 pub record IsWritten (d : Data) (text : List ℕ) : Type 0 where
   pub exact : has_float d ≡ false → text ≡ compact_text d
   pub reads_back : read text ≡ Some d
@@ -92,8 +92,8 @@ abbrev pub OfObject : Part → (Kind → Type 0) → Type 0
 OfObject (parts.Object kind) P = P kind
 OfObject part P = ⊥
 
--- In the tree layout a program of this many instructions is compiled for the filter; or, where no number is given, it is too
--- large for one.
+-- In the tree layout a program of this many instructions is compiled for the filter; or, if no number is given, it is
+-- too large for one.
 abbrev pub FitsAsTree : Filter → Option ℕ → Type 0
 FitsAsTree f (Some n) = (p : List sock_filter) × IsTreeCompiled f p × (length p ≡ n)
 FitsAsTree f None = IsTreeTooLarge f
@@ -131,7 +131,7 @@ cause_of (problem.TooLong n tree target) = cause.Length target
 cause_of p = cause.Shape
 
 -- The fault's path leads from the value of a part to one where the problem is there, which is of this kind, and one of
--- the part that stands behind the path.
+-- the part that comes after the path.
 pub record IsFaultBehind (cause : Cause) (outer : Part) (d : Data) (fault : Fault) : Type 0 where
   pub value : Data
   pub leads : follow fault.path.items d ≡ Some value
@@ -144,7 +144,7 @@ pub record IsFaultBehind (cause : Cause) (outer : Part) (d : Data) (fault : Faul
 abbrev pub IsFaultIn : Cause → Data → Fault → Type 0
 IsFaultIn cause d fault = IsFaultBehind cause parts.Policy d fault
 
--- What is found is a fault of this kind in the value of a part. Want of memory may come in place of it.
+-- What is found is a fault of this kind in the value of a part. Lack of memory may come in place of it.
 abbrev pub Tells : Cause → Part → Data → Finding → Type 0
 Tells cause outer d (finding.Fault fault) = IsFaultBehind cause outer d fault
 Tells cause outer d finding.OutOfMemory = ⊤

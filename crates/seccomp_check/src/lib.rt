@@ -1,7 +1,7 @@
 //! The place at which a policy is rejected.
 //!
 //! The library's errors say what is wrong with a policy, and this crate finds where: [`check`] reads a policy's
-//! text, and reports the first fault by its path, what stands there and what may, as
+//! text, and reports the first fault by its path, what is there and what may, as
 //! `main_thread.filter[1].syscall: unknown system call "fnctl" on x86_64; did you mean "fcntl"?`.
 //! [`place`] finds the place of an error that the library already gave.
 //!
@@ -95,7 +95,7 @@ pub fn place(alloc: Global, cause: Cause, text: &[u8]) -> Result<Option<String>,
     }
 }
 
-/// The kind of fault that an error of the front end reports, where it has a place in the policy.
+/// The kind of fault that an error of the front end reports, if it has a place in the policy.
 pub fn cause_of_frontend(target: TargetArch, refusal: &JsonFrontendError) -> Option<Cause>
     ensures { result ≡ frontend_cause target refusal.now }
 {
@@ -110,7 +110,7 @@ pub fn cause_of_frontend(target: TargetArch, refusal: &JsonFrontendError) -> Opt
     }
 }
 
-/// The kind of fault that an error of the library reports, where it has a place in the policy.
+/// The kind of fault that an error of the library reports, if it has a place in the policy.
 pub fn cause_of(target: TargetArch, refusal: &Error) -> Option<Cause>
     ensures { result ≡ cause_told target refusal.now }
 {

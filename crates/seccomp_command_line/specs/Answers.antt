@@ -7,7 +7,7 @@ use Rattle.seccomp_command_line.specs.Records.{WritesLines}
 use Rattle.seccomp_command_line.specs.declared.error.ToolError.{ToolError}
 use Rattle.seccomp_command_line.specs.declared.error.ToolError.TheVariants.{ShortRecord, Read, Write}
 
--- The answer of an engine that writes one text at once: it is Ok only where there is a text that is as IsText says, and
+-- The answer of an engine that writes one text at once: it is Ok only if there is a text that is as IsText says, and
 -- that is written. Of a failed write there is such a text too. Any other error is as IsRefused says.
 abbrev pub Answers : (IsText : List ℕ → Type 0) → (IsRefused : ToolError → Type 0) → Result ⊤ ToolError → (old new : Option (List ℕ))
     → Type 0

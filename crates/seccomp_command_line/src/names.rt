@@ -58,7 +58,7 @@ fn push_byte(text: &mut Vec<u8>, byte: u8) -> Result<(), AllocError>
     }
 }
 
-// Whether people are told a character by the numbers of its bytes.
+// Whether people are shown a character by the numbers of its bytes.
 fn is_numbered(character: char) -> bool
     ensures { result ≡ is_numbered character }
 {

@@ -21,7 +21,7 @@ pub trait TellsRecords {
     ///
     /// # Errors
     ///
-    /// `AllocError` where memory runs out.
+    /// `AllocError` if memory runs out.
     fn text_of(&self, alloc: Global, records: &[[u8; 64]]) -> Result<Vec<u8>, AllocError>
         requires { can_tell self.now }
         ensures { IfOk result (λ text. is_text_of self.now records.now text.items) };

@@ -17,7 +17,7 @@ use Rattle.seccomp_compare.specs.declared.values.Values.{Values}
 use Rattle.seccomp_compare.specs.WordSets.{HasValue, IsTight}
 use Rattle.seccomp_compare.specs.RecordSets.{IsIn, AreTight, Reaches}
 
--- what stands in a list after a write: the new value at its place, the old ones elsewhere
+-- what is in a list after a write: the new value at its place, the old ones elsewhere
 pub set_found : (part : List Values) (w : ℕ) (v : Values) (j : ℕ) (s : Values) → slice_get (slice_set part w v) j ≡ Some s
     → ((j ≡ w) × (v ≡ s)) ⊎ (slice_get part j ≡ Some s)
 set_found part w v j s found =
@@ -51,7 +51,7 @@ set_kept part w v j s found =
     (λ other. inr (slice_get-get_or (slice_set part w v) j s in_new ∙ ap (λ t. Some t) (get_or-set_other part w j v s other ∙ is)))
     (cases_eq j w)
 
--- what was written stands there
+-- what was written is there
 pub set_here : (part : List Values) (w : ℕ) (v : Values) → w < length part → slice_get (slice_set part w v) w ≡ Some v
 set_here part w v within =
     let long = length-set part w v in

@@ -54,7 +54,7 @@ impl Calls {
     }
 
     /// The calls whose `AUDIT_ARCH_*` values lie from `least` to `greatest`, both included, with any
-    /// numbers; none where `greatest` is less. So those of all architectures but one are two such sets.
+    /// numbers; none if `greatest` is less. So those of all architectures but one are two such sets.
     pub fn of_arch_words(least: u32, greatest: u32) -> Self
         ensures { (r : List ℕ) → (IsCallOf result r
             ↔ (IsRecord r × (least ≤ word_at r 4) × (word_at r 4 ≤ greatest))) }
@@ -84,7 +84,7 @@ impl Calls {
     }
 
     /// The calls of the numbers from `least` to `greatest` of an architecture, both included; none
-    /// where `greatest` is less.
+    /// if `greatest` is less.
     pub fn of_numbers(arch: TargetArch, least: u32, greatest: u32) -> Self
         ensures { (r : List ℕ) → (IsCallOf result r
             ↔ (IsRecord r × (word_at r 4 ≡ audit_word arch) × (least ≤ word_at r 0) × (word_at r 0 ≤ greatest))) }

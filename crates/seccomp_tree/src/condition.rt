@@ -1,4 +1,4 @@
-// Conditions as targets: where one holds, the one target; else the other.
+// Conditions as targets: if one holds, the one target; else the other.
 
 ghost use Rattle.std.specs.Prelude.{◌≡◌, ◌≤◌, ◌%◌, IfOk, IfErr, length};
 ghost use Rattle.seccompiler.specs.declared.backend.SeccompCmpOp.TheVariants.{MaskedEq};
@@ -23,7 +23,7 @@ impl Code {
     ///
     /// # Errors
     ///
-    /// `TooLarge` where the code has no room for the condition, and `OutOfMemory` where memory runs out.
+    /// `TooLarge` where the code has no room for the condition, and `OutOfMemory` if memory runs out.
     pub(crate) fn condition(
         &mut self,
         alloc: Global,
@@ -51,7 +51,7 @@ impl Code {
     ///
     /// # Errors
     ///
-    /// `TooLarge` where the code has no room for the steps, and `OutOfMemory` where memory runs out.
+    /// `TooLarge` where the code has no room for the steps, and `OutOfMemory` if memory runs out.
     pub(crate) fn part(
         &mut self,
         alloc: Global,

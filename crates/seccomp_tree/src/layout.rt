@@ -20,7 +20,7 @@ pub enum Layout {
     /// out. A call's number is compared with each number in front of its own.
     Linear,
     /// A tree of tests over ranges of call numbers. A call's number is found by halving, and so is an
-    /// argument where neighbouring rules compare it alone.
+    /// argument if neighbouring rules compare it alone.
     Tree,
 }
 

@@ -139,7 +139,7 @@ fn failing(
     Ok(told)
 }
 
-// The architecture and the text of a question, behind the call's name.
+// The architecture and the text of a question, after the call's name.
 fn arch_and_text(alloc: Global, rest: &str) -> Result<(TargetArch, String), Fault> {
     let (arch, text) = rest.split_once(' ').unwrap_or((rest, ""));
     let arch = TargetArch::from_text(alloc, arch)?;
@@ -156,8 +156,8 @@ pub(crate) fn of_text(alloc: Global, call: &str, rest: &str) -> Result<String, F
     Ok(told)
 }
 
-/// The answers for readers that give one byte at a time and fail after each, with the fault that comes first by
-/// names, or `never`.
+/// The answers for readers that give one byte at a time and fail after each, with the fault that
+/// the text names first, or `never`.
 pub(crate) fn of_failing(alloc: Global, rest: &str) -> Result<String, Fault> {
     let (fault, rest) = rest.split_once(' ').ok_or(Fault::Row)?;
     let (call, rest) = rest.split_once(' ').ok_or(Fault::Row)?;

@@ -43,7 +43,7 @@ pub(crate) fn push_rules(
     Ok(())
 }
 
-// The chain of these conditions, which matches where they hold.
+// The chain of these conditions, which matches if they hold.
 fn chain_of(
     alloc: Global,
     conditions: &[SeccompCondition],
@@ -89,7 +89,7 @@ fn filter_without(alloc: Global, arch: TargetArch) -> Result<SeccompFilter, Back
     )
 }
 
-// The filter of rules, of which there may be none.
+// The filter of rules, perhaps of none.
 fn filter_of(
     alloc: Global,
     arch: TargetArch,

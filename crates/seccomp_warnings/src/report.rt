@@ -16,7 +16,7 @@ use std::alloc::Global;
 /// The warnings of a policy, as lines.
 #[derive(Drop)]
 pub struct Report {
-    /// The lines, each with a line feed; empty where there is no warning.
+    /// The lines, each with a line feed; empty if there is no warning.
     pub text: Vec<u8>,
     /// How many there are.
     pub count: usize,

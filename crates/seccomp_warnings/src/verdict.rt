@@ -124,7 +124,7 @@ fn verdict_at(
     Ok(verdict)
 }
 
-// The verdict of an entry beside others: those in front of it, and those behind it.
+// The verdict of an entry beside others: those before it, and those after it.
 fn verdict_of(
     alloc: Global,
     arch: TargetArch,

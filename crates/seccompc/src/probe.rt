@@ -67,7 +67,7 @@ pub(crate) fn program_of(
     Ok(probe_filter(alloc, arch, nr, index, value)?.to_bpf(alloc)?)
 }
 
-// The filter that lets call `nr` pass where argument `index` equals `value`.
+// The filter that lets call `nr` pass if argument `index` equals `value`.
 fn probe_filter(
     alloc: Global,
     arch: &str,

@@ -1,4 +1,4 @@
--- What the policies of a JSON text are, and which of its faults is told.
+-- What the policies of a JSON text are, and which of its faults is reported.
 use Rattle.std.specs.Prelude.{◌≡◌, ℕ, List, Option, Some, string_bytes, ⊤}
 use Rattle.std.specs.Str.{IsUtf8}
 use Rattle.serde_json.specs.Data.{Data}
@@ -48,7 +48,7 @@ IsLeastRefused arch fault d = AreAll IsSomeFilter d × (name : List ℕ)
 
 -- The error tells what is at fault in the text, and nothing that comes earlier in the order of faults is: the bytes
 -- are no JSON; they have more colons than names; the top is no object; a filter has a wrong shape; a filter is refused. The least
--- name's fault comes first. A failed read tells nothing of the text, and want of memory may come in place of all.
+-- name's fault comes first. A failed read tells nothing of the text, and lack of memory may come in place of all.
 abbrev pub TellsFrontendFault : TargetArch → List ℕ → JsonFrontendError → Type 0
 TellsFrontendFault arch text (Backend cause) = OfValue text (IsLeastRefused arch (refused cause))
 TellsFrontendFault arch text (SerdeJson cause) = (d : Data) → IsReadAs text d → ⊥

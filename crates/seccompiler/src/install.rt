@@ -55,14 +55,14 @@ pub trait Kernel {
 
     /// Sets the calling thread's `no_new_privs`, as `prctl(PR_SET_NO_NEW_PRIVS, 1, 0, 0, 0)`.
     ///
-    /// The code is 0 where the call succeeded; else the errno says why it failed.
+    /// The code is 0 if the call succeeded; else the errno says why it failed.
     fn set_no_new_privs(&mut self) -> (i32, i32)
         ensures { no_new_privs self.old result.0 result.1 self.new };
 
     /// Installs a filter, as `seccomp(SECCOMP_SET_MODE_FILTER, flags, program)`.
     ///
-    /// The code is 0 where the filter is installed. It is negative where the call failed, and the
-    /// errno then says why. It is positive where `flags` asked for all threads and some
+    /// The code is 0 if the filter is installed. It is negative if the call failed, and the
+    /// errno then says why. It is positive if `flags` asked for all threads and some
     /// thread could not take the filter: that thread's id.
     ///
     /// The program has at most 65535 instructions, so that its length fits the 16 bits of
@@ -103,7 +103,7 @@ pub fn apply_filter<K: Kernel>(kernel: &mut K, prog: BpfProgramRef<'_>) -> Resul
 
 /// Installs a program for all threads of the process.
 ///
-/// As [`apply_filter`], with the flag `SECCOMP_FILTER_FLAG_TSYNC` of `seccomp(2)`. Where some thread
+/// As [`apply_filter`], with the flag `SECCOMP_FILTER_FLAG_TSYNC` of `seccomp(2)`. If some thread
 /// cannot take the filter, no thread has it, and `ThreadSync` holds that thread's id.
 ///
 /// ```

@@ -16,7 +16,7 @@ use Rattle.seccompiler_c.specs.declared.fault.Fault.TheVariants.{OutOfMemory, Un
 use Rattle.seccompiler_c.specs.declared.fault.Fault.TheVariants.{Filter as TooLarge, NoRoom}
 
 -- What a caller asks for: the filter of a name in a JSON text, compiled for the architecture of a word in the layout of
--- a number, where the program has at most so many instructions.
+-- a number, if the program has at most so many instructions.
 pub record Request : Type 0 where
   pub text : List ℕ
   pub architecture : ℕ
@@ -48,7 +48,7 @@ OfPolicy r P = OfWords r (λ target layout. NamesPolicy target r.text r.name (P 
 abbrev pub OfProgram : Request → (List sock_filter → Type 0) → Type 0
 OfProgram r P = OfPolicy r (λ layout policy. (program : List sock_filter) × IsCompiledIn layout policy program × P program)
 
--- Why a request is refused: for the first of these that is so. Want of memory may come in place of all but the first
+-- Why a request is refused: for the first of these that is so. Lack of memory may come in place of all but the first
 -- two.
 abbrev pub IsRefusal : Request → Fault → Type 0
 IsRefusal r OutOfMemory = OfWords r (λ target layout. ⊤)
@@ -60,15 +60,15 @@ IsRefusal r (TooLarge e) = OfPolicy r (λ layout policy. IsTooLargeIn layout pol
 IsRefusal r (NoRoom n) = OfProgram r (λ program. (n ≡ length program) × (r.capacity < length program))
 IsRefusal r f = ⊥
 
--- The array holds the program, and behind it what it held; the answer is the program's length.
+-- The array holds the program, and after it what it held; the answer is the program's length.
 pub record Holds (old new : List sock_filter) (answer : ℤ) (program : List sock_filter) : Type 0 where
   pub room : length program ≤ length old
   pub written : new ≡ program ++ drop (length program) old
   pub told : answer ≡ pos (length program)
 
--- What seccompiler_compile answers, what the array then holds, and what the message: the program, and an empty sentence;
--- or what the array held before, where the request is refused; the answer is the refusal's code, and the sentence tells it,
--- by its place on the architecture that was asked for or without one.
+-- What seccompiler_compile answers, what the array then holds, and what the message: the program, and an empty
+-- sentence; or what the array held before, if the request is refused; the answer is the refusal's code, and the
+-- sentence tells it, by its place on the architecture that was asked for or without one.
 pub data AnswersCompile (r : Request) (old new : List sock_filter) (answer : ℤ) (message_old message_new : List ℕ) : Type 0 where
   compiled : OfProgram r (Holds old new answer) → HoldsMessage [] message_old message_new
       → AnswersCompile r old new answer message_old message_new

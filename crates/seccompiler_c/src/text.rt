@@ -13,7 +13,7 @@ use std::alloc::Global;
 use std::fmt;
 use std::fmt::Display;
 
-// Writes a text's front, as many whole characters as there is room for with a byte 0 behind them, and
+// Writes a text's front, as many whole characters as there is room for with a byte 0 after them, and
 // this byte.
 pub(crate) fn write_message(text: &str, message: &mut [u8])
     ensures { HoldsMessage text.now message.old message.new }
@@ -44,7 +44,7 @@ fn text_of(alloc: Global, fault: &Fault) -> Result<String, fmt::Error>
     Ok(f.into_inner())
 }
 
-// Writes the text of a fault, or what its code means where there is no memory for the text. Where there is
+// Writes the text of a fault, or what its code means if there is no memory for the text. If there is
 // no room for it, no memory is asked for.
 pub(crate) fn tell(alloc: Global, fault: &Fault, message: &mut [u8])
     ensures { TellsFault fault.now message.old message.new }
@@ -58,7 +58,7 @@ pub(crate) fn tell(alloc: Global, fault: &Fault, message: &mut [u8])
     }
 }
 
-// The kind of a fault, where it has a place in the policy.
+// The kind of a fault, if it has a place in the policy.
 fn cause_of(target: TargetArch, fault: &Fault) -> Option<Cause>
     ensures { result ≡ fault_cause target fault.now }
 {
@@ -68,7 +68,7 @@ fn cause_of(target: TargetArch, fault: &Fault) -> Option<Cause>
     }
 }
 
-// The text of a policy's fault with the path of its place, where it has one and there is memory for it.
+// The text of a policy's fault with the path of its place, if it has one and there is memory for it.
 fn placed(alloc: Global, policy: &[u8], target: TargetArch, fault: &Fault) -> Option<String>
     ensures { IfSome result (λ said. IsPlaced target policy.now fault.now (string_bytes said)) }
 {
@@ -79,7 +79,7 @@ fn placed(alloc: Global, policy: &[u8], target: TargetArch, fault: &Fault) -> Op
     }
 }
 
-// Writes the text of a policy's fault on an architecture: with the path of its place where it has one, and
+// Writes the text of a policy's fault on an architecture: with the path of its place if it has one, and
 // else as `tell` does.
 pub(crate) fn tell_place(
     alloc: Global,

@@ -20,7 +20,7 @@ use Rattle.seccomp_check.specs.declared.rejection.Rejection.TheVariants.{Library
 use Rattle.seccomp_check.specs.Faults.{IsFaultIn}
 use Rattle.seccomp_check.specs.Texts.{fault_text}
 
--- The kind of fault that the front end's refusal of a policy tells, if it has a place in the policy.
+-- The kind of fault that the front end's refusal of a policy reports, if it has a place in the policy.
 abbrev pub frontend_cause : TargetArch → JsonFrontendError → Option Cause
 frontend_cause target frontend.NotAnObject = Some cause.Top
 frontend_cause target (frontend.Shape name) = Some cause.Shape

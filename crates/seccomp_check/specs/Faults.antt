@@ -87,7 +87,7 @@ abbrev pub HasActions : Data → SeccompAction → SeccompAction → Type 0
 HasActions d a b = IsOneAction (get (codes "mismatch_action") d) (get (codes "default_action") d) a
     × IsOneAction (get (codes "match_action") d) (get (codes "filter_action") d) b
 
--- The part is an object of a kind of which P holds.
+-- The part is an object of a kind for which P holds.
 abbrev pub OfObject : Part → (Kind → Type 0) → Type 0
 OfObject (parts.Object kind) P = P kind
 OfObject part P = ⊥

@@ -121,7 +121,7 @@ pub fn cause_of(target: TargetArch, refusal: &Error) -> Option<Cause>
     }
 }
 
-// The refusal with its place, or as it is where none is found.
+// The refusal with its place, or as it is if none is found.
 fn placed(alloc: Global, target: TargetArch, text: &[u8], refusal: Error) -> Rejection
     ensures { IsNoMemoryInside refusal → TellsFirstFault target text.now refusal → IsRejection target text.now result }
 {

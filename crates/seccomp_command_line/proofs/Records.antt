@@ -56,7 +56,7 @@ lines_sent IsTextOf items slice tail text sent records rest old new same chunks 
   appends = subst (Appends old new) is appends;
 }
 
--- Where a text of records is one in other words too, what is written of them is.
+-- If a text of records is one in other words too, what is written of them is.
 pub retold : (IsTextOf IsOther : List (List ℕ) → List ℕ → Type 0)
     → ((records : List (List ℕ)) (text : List ℕ) → IsTextOf records text → IsOther records text)
     → (bytes : List ℕ) (rest : ℕ) (old new : Option (List ℕ)) → WritesLines IsTextOf bytes rest old new
@@ -71,7 +71,7 @@ retold IsTextOf IsOther tells bytes rest old new w = record {
   appends = w.appends;
 }
 
--- An error that tells of no rest of a record says nothing of the records.
+-- An error that reports no rest of a record says nothing of the records.
 pub answers_none : (IsTextOf : List (List ℕ) → List ℕ → Type 0) (e : ToolError) → ((rest : ℕ) → e ≡ tool.ShortRecord rest → ⊥)
     → (bytes : List ℕ) (old new : Option (List ℕ)) → AnswersRecords IsTextOf bytes (Err e) old new
 answers_none IsTextOf (tool.ShortRecord rest) none bytes old new = absurd (none rest refl)

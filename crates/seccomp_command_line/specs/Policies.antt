@@ -27,7 +27,7 @@ NamesArchitecture text = (target : TargetArch) × IsNameOf text target
 abbrev pub OfPolicy : List ℕ → Option (List ℕ) → (TargetArch → Data → Type 0) → Type 0
 OfPolicy arch known P = (target : TargetArch) × IsNameOf arch target × Reads known (λ text. OfValue text (P target))
 
--- The text names no architecture, and the error tells it as it was given.
+-- The text names no architecture, and the error reports it as it was given.
 pub record IsNoArchitecture (arch : List ℕ) (e : Error) : Type 0 where
   pub text : String Global
   pub unnamed : (target : TargetArch) → IsNameOf arch target → ⊥

@@ -101,7 +101,7 @@ tight_narrowed part w v tight new_tight = record {
       (set_found part w v j s found);
 }
 
--- where a program comes to a return, its run ends
+-- if a program comes to a return, its run ends
 pub ends_at : (p : List sock_filter) (r : List ℕ) (at : At) (i : sock_filter) (before : Reaches p r at) → slice_get p at.place ≡ Some i
     → i.code ≡ 0x06 → Ends p r (before.steps + 1) i.k
 ends_at p r at i before here code = before.ends 1 i.k (returns i here code)

@@ -197,7 +197,7 @@ fn raised(known: u32, value: u32, least: u32) -> Option<u32>
 }
 
 // The same words from this one on, which none of them is below under the mask and which agrees with the known bits; the
-// mask's bits are known where the bounds leave one word.
+// mask's bits are known if the bounds leave one word.
 fn from(values: Values, least: u32) -> Values
     requires kept { KeepsKnown values }
     requires within { bit_and least values.mask ≡ least }

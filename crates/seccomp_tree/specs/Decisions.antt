@@ -71,7 +71,7 @@ pub data RunTakes (conditions : List Condition) (n : ℕ) : ℕ → Type 0 where
   by_steps : (c : Condition) (k : ℕ) → only conditions ≡ Some c → 2 * n + 1 ≤ 2 ^ k → RunTakes conditions n (part_steps c.arg_len k + 1)
   by_conditions : only conditions ≡ None → RunTakes conditions n (conditions_steps conditions)
 
--- How many steps it takes to enter a ruling: those of its run, where it begins one.
+-- How many steps it takes to enter a ruling: those of its run, if it begins one.
 pub data Enters (first : List Condition) (d : Ruling) (rest : List Ruling) : ℕ → Type 0 where
   goes_on : joins first d.conditions ≡ true → Enters first d rest 0
   begins : (n : ℕ) → joins first d.conditions ≡ false → RunTakes d.conditions (1 + joined d.conditions rest) n → Enters first d rest n

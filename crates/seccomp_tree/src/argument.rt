@@ -20,7 +20,7 @@ impl Code {
     ///
     /// # Errors
     ///
-    /// `TooLarge` where the code has no room for 13 instructions a step, and `OutOfMemory` if memory runs out.
+    /// `TooLarge` if the code has no room for 13 instructions a step, and `OutOfMemory` if memory runs out.
     pub(crate) fn argument(
         &mut self,
         alloc: Global,

@@ -32,7 +32,7 @@ impl Code {
     ///
     /// # Errors
     ///
-    /// `TooLarge` where the code has no room for the rulings, and `OutOfMemory` if memory runs out.
+    /// `TooLarge` if the code has no room for the rulings, and `OutOfMemory` if memory runs out.
     pub(crate) fn rules(
         &mut self,
         alloc: Global,
@@ -95,7 +95,8 @@ impl Code {
         }
     }
 
-    // Goes on as the ruling says where all its conditions hold: the last of them first, since code is written from its end.
+    // Goes on as the ruling says if all its conditions hold: the last of them first, since code is written from its
+    // end.
     fn conditions(
         &mut self,
         alloc: Global,

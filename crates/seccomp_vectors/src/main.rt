@@ -1,6 +1,6 @@
 // Answers the rows of standard input, which tools/driver_rows.py describes: writes each question again with its
-// answer, and any other line as it is. Nothing after ` =>` is read. If memory runs out, a question is asked
-// once more, with the memory that the first try used; if it runs out again, the rows end.
+// answer, and any other line as it is. Nothing after ` =>` is read. If memory runs out, a question is asked once
+// more, about what was borrowed the first time; if it runs out again, the rows end.
 #![tactic(auto)]
 
 mod codes;

@@ -12,7 +12,7 @@ use std::alloc::Global;
 use std::collections::BTreeMap;
 use std::io::Read;
 
-// Adds what stands between the brackets of a text such as `<3 x {"syscall":"read"}>`, with commas between.
+// Adds what is between the brackets of a text such as `<3 x {"syscall":"read"}>`, with commas between.
 fn push_repeated(text: &mut String, part: &str) -> Result<(), Fault> {
     let (count, part) = part.split_once(" x ").ok_or(Fault::Row)?;
     for place in 0..number(count).ok_or(Fault::Row)? {

@@ -137,7 +137,7 @@ abbrev pub asked_of : JsonFilter → List Warning
 asked_of j = map (about (subject.MismatchAction j.mismatch_action)) mismatch_codes ++ calls_asked all_unlisted
     ++ map (about (subject.MatchAction j.match_action)) match_codes ++ entries_asked 0 j.rules
 
--- Of the first list exactly those of which P holds, in their order.
+-- Of the first list exactly those for which P holds, in their order.
 abbrev pub ArePicked : (Warning → Type 0) → List Warning → List Warning → Type 0
 ArePicked P [] picked = picked ≡ []
 ArePicked P (w ∷ asked) picked = ((rest : List Warning) × P w × (picked ≡ w ∷ rest) × ArePicked P asked rest)

@@ -33,9 +33,9 @@ OfFilter arch known name P =
 abbrev pub IsListing : List ℕ → Option (List ℕ) → List ℕ → Type 0
 IsListing arch known text = IsFaultless arch known (λ target d. Listed target d text)
 
--- The answer of a listing. The first fault is told: of the architecture's name and of the policy's text; and then that
--- writing fails. It is Ok only if nothing is at fault, and the listing is written. Lack of memory may come in place
--- of all.
+-- The answer of a listing. The first fault is reported: of the architecture's name and of the policy's text; and then
+-- that writing fails. It is Ok only if nothing is at fault, and the listing is written. Lack of memory may come in
+-- place of all.
 abbrev pub AnswersList : List ℕ → Option (List ℕ) → Result ⊤ ToolError → (old new : Option (List ℕ)) → Type 0
 AnswersList arch known = Answers (IsListing arch known) (IsRefusedPolicy arch known)
 

@@ -45,7 +45,7 @@ pub record IsBlock (p : List sock_filter) (m : ℕ) : Type 0 where
 abbrev pub ReturnsBy : List sock_filter → ℕ → ℕ → List ℕ → ℕ → Type 0 → Type 0
 ReturnsBy code matched mismatch r a fact = (fact × Returns code r 0 a matched) ⊎ ((fact → ⊥) × Returns code r 0 a mismatch)
 
--- Entered at its first place the code returns the word where the fact holds, and leaves at its end where it does not; one of
+-- Entered at its first place the code returns the word if the fact holds, and leaves at its end if it does not; one of
 -- the two is so.
 abbrev pub ReturnsOrLeaves : List sock_filter → ℕ → List ℕ → ℕ → Type 0 → Type 0
 ReturnsOrLeaves code w r a fact = (fact × Returns code r 0 a w) ⊎ ((fact → ⊥) × Leads code r 0 a (length code))

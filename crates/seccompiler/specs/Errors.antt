@@ -39,7 +39,7 @@ error_text (whole.ThreadSync thread) =
 error_text (whole.JsonFrontend e) = option_map (λ text. codes "Json Frontend error: " ++ text) (json_text e)
 error_text whole.OutOfMemory = Some (codes "Out of memory.")
 
--- The text is that of the error; where it ends in serde_json's own words, it is known how it begins.
+-- The text is that of the error; if it ends in serde_json's own words, it is known how it begins.
 abbrev pub IsErrorText : Error → List ℕ → Type 0
 IsErrorText (whole.JsonFrontend e) text = (inner : List ℕ) × IsJsonText e inner × (text ≡ codes "Json Frontend error: " ++ inner)
 IsErrorText e text = error_text e ≡ Some text

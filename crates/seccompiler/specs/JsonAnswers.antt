@@ -24,7 +24,7 @@ pub record IsValueOf (text : List ℕ) (d : Data) : Type 0 where
   pub is_read : IsReadAs text d
   pub no_repeat : Repeats text d → ⊥
 
--- The text is of a value of which P holds.
+-- The text is of a value for which P holds.
 abbrev pub OfValue : List ℕ → (Data → Type 0) → Type 0
 OfValue text P = (d : Data) × IsValueOf text d × P d
 
@@ -46,7 +46,7 @@ abbrev pub IsLeastRefused : TargetArch → Fault → Data → Type 0
 IsLeastRefused arch fault d = AreAll IsSomeFilter d × (name : List ℕ)
     × IsLeast (λ value. (f : JsonFilter) × IsFilter value f × IsFirstFault arch f fault) (HasSomePolicy arch) d name
 
--- The error tells what is at fault in the text, and nothing that comes earlier in the order of faults is: the bytes
+-- The error reports what is at fault in the text, and nothing that comes earlier in the order of faults is: the bytes
 -- are no JSON; they have more colons than names; the top is no object; a filter has a wrong shape; a filter is refused. The least
 -- name's fault comes first. A failed read tells nothing of the text, and lack of memory may come in place of all.
 abbrev pub TellsFrontendFault : TargetArch → List ℕ → JsonFrontendError → Type 0

@@ -30,14 +30,15 @@ IsLeastTooLarge arch n d = AreAll (HasSomePolicy arch) d × (name : List ℕ)
     × IsLeast (λ value. (policy : Filter) × HasPolicy arch value policy × IsTooLarge policy n)
     (λ value. (policy : Filter) × HasPolicy arch value policy × IsCompilable policy) d name
 
--- The backend's error tells that. Lack of memory may come in its place, and no other error comes.
+-- The backend's error reports that. Lack of memory may come in its place, and no other error comes.
 abbrev pub TellsTooLarge : TargetArch → Data → BackendError → Type 0
 TellsTooLarge arch d (FilterTooLarge n) = IsLeastTooLarge arch n d
 TellsTooLarge arch d NoMemory = ⊤
 TellsTooLarge arch d e = ⊥
 
--- The error tells what is at fault in the text, and nothing that comes earlier in the order of faults is: all faults of
--- the front end, and then the least name's policy that is too large. Lack of memory may come in place of all.
+-- The error reports what is at fault in the text, and nothing that comes earlier in the order of faults is: all
+-- faults of the front end, and then the least name's policy that is too large. Lack of memory may come in place of
+-- all.
 abbrev pub TellsFirstFault : TargetArch → List ℕ → Error → Type 0
 TellsFirstFault arch text (whole.JsonFrontend cause) = TellsFrontendFault arch text cause
 TellsFirstFault arch text (whole.Backend (FilterTooLarge n)) = OfValue text (IsLeastTooLarge arch n)

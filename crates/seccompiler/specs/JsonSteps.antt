@@ -43,7 +43,7 @@ abbrev pub IsConditionOf : JsonCondition → Result Condition JsonFrontendError 
 IsConditionOf c (Ok made) = (c.arg_index ≤ 5) × (made ≡ condition_of c)
 IsConditionOf c (Err e) = (5 < c.arg_index) × (e ≡ Backend InvalidArgumentNumber)
 
--- An error tells a fault of which P holds, and no lack of memory is in it. Lack of memory may come in place of the
+-- An error reports a fault for which P holds, and no lack of memory is in it. Lack of memory may come in place of the
 -- fault, and no other error comes.
 abbrev pub Tells : (Fault → Type 0) → JsonFrontendError → Type 0
 Tells P (Backend cause) = P (refused cause) × (cause ≢ of_backend.OutOfMemory)
@@ -51,7 +51,7 @@ Tells P (SyscallName name arch) = P (unknown_call (string_bytes name) arch)
 Tells P OutOfMemory = ⊤
 Tells P _ = ⊥
 
--- Why a JSON filter has no policy, as an error tells it: its first fault.
+-- Why a JSON filter has no policy, as an error reports it: its first fault.
 abbrev pub IsPolicyRefusal : TargetArch → JsonFilter → JsonFrontendError → Type 0
 IsPolicyRefusal arch j = Tells (IsFirstFault arch j)
 

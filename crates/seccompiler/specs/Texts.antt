@@ -43,7 +43,7 @@ abbrev pub IsJsonText : JsonFrontendError → List ℕ → Type 0
 IsJsonText (frontend.SerdeJson e) text = (words : List ℕ) × (text ≡ codes "Error parsing Json: " ++ words)
 IsJsonText e text = json_text e ≡ Some text
 
--- If Ok is answered to a formatter without options, it then has written a text of which P holds, and nothing else.
+-- If Ok is answered to a formatter without options, it then has written a text for which P holds, and nothing else.
 abbrev pub WritesOne : {W : Type 0} → (W → List ℕ → W → Type 0) → (List ℕ → Type 0) → Formatter W → Result ⊤ fmt.Error
     → Formatter W → Type 0
 WritesOne took P before answer after =

@@ -125,7 +125,7 @@ impl SeccompRule {
     ///
     /// They are the two jumps in front, those of the conditions, and three for each relay: the
     /// conditions, in order, fall into groups that close as soon as they take 248 instructions or
-    /// more, and a relay stands between each two. Takes no memory.
+    /// more, and there is a relay between each two. Takes no memory.
     pub fn code_len(&self) -> usize
         ensures length { result ≡ min (rule_length self.now) usize.MAX }
         ensures groups { IsOnlyCut self.now (groups_of self.now) }

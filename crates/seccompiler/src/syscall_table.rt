@@ -79,7 +79,7 @@ impl SyscallTable {
 
     /// Looks the system call with exactly this name up, case included, by halving the table.
     ///
-    /// `number` is `None` where the table has no such name, and otherwise lies within 0 to 462.
+    /// `number` is `None` if the table has no such name, and otherwise lies within 0 to 462.
     /// `compared` is how many names are compared if the table is halved at its middle name, and
     /// then the half on whose side the asked name stands: 1 to 9, and 8 or 9 if the table has no
     /// such name. It takes no memory.
@@ -119,7 +119,7 @@ impl SyscallTable {
 
     /// Gives the number of the system call with exactly this name, case included.
     ///
-    /// It is `None` where the table has no such name, and otherwise lies within 0 to 462. It takes
+    /// It is `None` if the table has no such name, and otherwise lies within 0 to 462. It takes
     /// no memory. `SyscallTable::new(TargetArch::aarch64).get_syscall_nr("close")` is `Some(57)`.
     ///
     /// ```

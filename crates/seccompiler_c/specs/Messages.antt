@@ -59,15 +59,15 @@ abbrev pub fault_cause : TargetArch → Fault → Option Cause
 fault_cause target (Text e) = frontend_cause target e
 fault_cause target fault = None
 
--- The sentence tells the fault by its place: the fault is of a kind that has one, and the sentence is the text of a fault
--- of this kind that the policy's value has, with the path that leads to it in front.
+-- The sentence reports the fault by its place: the fault is of a kind that has one, and the sentence is the text of a
+-- fault of this kind that the policy's value has, with the path that leads to it in front.
 pub record IsPlaced (target : TargetArch) (text : List ℕ) (fault : Fault) (said : List ℕ) : Type 0 where
   pub cause : Cause
   pub kind : fault_cause target fault ≡ Some cause
   pub placed : (d : Data) → IsReadAs text d → TellsFaultOf cause d said
 
--- The sentence tells the fault of a policy's text: by its place, on an architecture of which P holds; or else as any fault
--- is reported.
+-- The sentence reports the fault of a policy's text: by its place, on an architecture for which P holds; or else as
+-- any fault is reported.
 pub data IsToldOf (P : TargetArch → Type 0) (text : List ℕ) (fault : Fault) (said : List ℕ) : Type 0 where
   by_place : (target : TargetArch) → P target → IsPlaced target text fault said → IsToldOf P text fault said
   without_place : IsTold fault said → IsToldOf P text fault said

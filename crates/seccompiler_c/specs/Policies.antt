@@ -36,7 +36,7 @@ NamesPolicy target text name P =
 abbrev pub NamesNone : TargetArch → List ℕ → List ℕ → Type 0
 NamesNone target text name = OfPolicies target text (λ d. Lacks d name)
 
--- The error tells the text's first fault: no lack of memory, and no reader's.
+-- The error reports the text's first fault: no lack of memory, and no reader's.
 abbrev pub TellsTextFault : TargetArch → List ℕ → JsonFrontendError → Type 0
 TellsTextFault target text frontend.OutOfMemory = ⊥
 TellsTextFault target text (frontend.Read e) = ⊥

@@ -24,19 +24,19 @@ pub record Request : Type 0 where
   pub layout : ℕ
   pub capacity : ℕ
 
--- The error tells that the policy's program would be too long in this layout.
+-- The error reports that the policy's program would be too long in this layout.
 abbrev pub IsTooLargeIn : Layout → Filter → FilterError → Type 0
 IsTooLargeIn layout policy (FilterTooLarge n) = IsRefusalIn layout policy (FilterTooLarge n)
 IsTooLargeIn layout policy TreeTooLarge = IsRefusalIn layout policy TreeTooLarge
 IsTooLargeIn layout policy e = ⊥
 
--- Why the policy has no program in this layout: it would be too long, or memory is wanted.
+-- Why the policy has no program in this layout: it would be too long, or memory runs out.
 abbrev pub IsUncompiledIn : Layout → Filter → Fault → Type 0
 IsUncompiledIn layout policy OutOfMemory = ⊤
 IsUncompiledIn layout policy (TooLarge e) = IsTooLargeIn layout policy e
 IsUncompiledIn layout policy f = ⊥
 
--- The words name an architecture and a layout, of which P holds.
+-- The words name an architecture and a layout, for which P holds.
 abbrev pub OfWords : Request → (TargetArch → Layout → Type 0) → Type 0
 OfWords r P = OfArchitecture r.architecture (λ target. OfLayout r.layout (λ layout. P target layout))
 
@@ -44,7 +44,7 @@ OfWords r P = OfArchitecture r.architecture (λ target. OfLayout r.layout (λ la
 abbrev pub OfPolicy : Request → (Layout → Filter → Type 0) → Type 0
 OfPolicy r P = OfWords r (λ target layout. NamesPolicy target r.text r.name (P layout))
 
--- The filter of the name has a program in the layout, of which P holds.
+-- The filter of the name has a program in the layout, for which P holds.
 abbrev pub OfProgram : Request → (List sock_filter → Type 0) → Type 0
 OfProgram r P = OfPolicy r (λ layout policy. (program : List sock_filter) × IsCompiledIn layout policy program × P program)
 
@@ -68,7 +68,7 @@ pub record Holds (old new : List sock_filter) (answer : ℤ) (program : List soc
 
 -- What seccompiler_compile answers, what the array then holds, and what the message: the program, and an empty
 -- sentence; or what the array held before, if the request is refused; the answer is the refusal's code, and the
--- sentence tells it, by its place on the architecture that was asked for or without one.
+-- sentence reports it, by its place on the architecture that was asked for or without one.
 pub data AnswersCompile (r : Request) (old new : List sock_filter) (answer : ℤ) (message_old message_new : List ℕ) : Type 0 where
   compiled : OfProgram r (Holds old new answer) → HoldsMessage [] message_old message_new
       → AnswersCompile r old new answer message_old message_new

@@ -26,7 +26,7 @@ pub(crate) fn write_message(text: &str, message: &mut [u8])
     message[count] = 0;
 }
 
-// Writes a text likewise, and tells how many bytes all of it has.
+// Writes a text likewise, and gives how many bytes all of it has.
 pub(crate) fn write_text(text: &str, buffer: &mut [u8]) -> i64
     ensures holds { HoldsMessage text.now buffer.old buffer.new }
     ensures told { result ≡ pos (length text.now) }

@@ -26,7 +26,7 @@ all_compiled target text find value =
     (value.0, value.1, all_values _ find value.0 value.2 Compiled (λ v program is. (program.items, is)))
 
 module _ (target : TargetArch) (text : List ℕ) where
-  -- A text of which a fault of the front end with a place is told has a value.
+  -- A text of which a fault of the front end with a place is reported has a value.
   pub has_frontend_value : (e : JsonFrontendError) (cause : Cause) → TellsFrontendFault target text e → frontend_cause target e ≡ Some cause
       → (d : Data) × IsValueOf text d
   has_frontend_value json.NotAnObject cause first is = (first.0, first.1)
@@ -35,7 +35,7 @@ module _ (target : TargetArch) (text : List ℕ) where
   has_frontend_value (json.Backend e) cause first is = (first.0, first.1)
   has_frontend_value _ cause first is = cc
 
-  -- A text of which a fault with a place is told has a value.
+  -- A text of which a fault with a place is reported has a value.
   has_value : (e : Error) (cause : Cause) → TellsFirstFault target text e → cause_told target e ≡ Some cause → (d : Data) × IsValueOf text d
   has_value (library.JsonFrontend e) cause first is = has_frontend_value e cause first is
   has_value (library.Backend (backend.FilterTooLarge n)) cause first is = (first.0, first.1)
@@ -49,7 +49,7 @@ module _ (target : TargetArch) (text : List ℕ) where
       let value = has_value e cause first is in
       record { refusal = e; first = first; cause = cause; kind = is; placed = (value.0, value.1, found value.0 value.1.is_read) }
 
-  -- The first fault as the library tells it.
+  -- The first fault as the library reports it.
   pub is_plain : (e : Error) → IsNoMemoryInside e → TellsFirstFault target text e → IsRejection target text (from_library e)
   is_plain library.OutOfMemory memory first = tt
   is_plain e memory first = ((λ same. cc), memory, first)

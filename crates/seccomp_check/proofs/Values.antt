@@ -20,7 +20,7 @@ use Rattle.seccompiler.specs.declared.backend.SeccompAction.{SeccompAction}
 use Rattle.seccompiler.specs.JsonShape.{IsOneAction}
 use Rattle.seccomp_check.specs.Faults.{count_of}
 
--- A name is among some where a look through them finds it.
+-- A name is among some if a look through them finds it.
 pub among : (name : List ℕ) (names : List (List ℕ)) → IsTrue (list_any (bytes_eq name) names) ↔ Contains names name
 among name names = (
   λ found. Contains-from_any {eq = bytes_eq} (λ x y. (bytes_eq-Decides x y).0) name names found,
@@ -32,13 +32,13 @@ pub counted : (vs : List Value) → count_of (items_view vs) ≡ length vs
 counted [] = refl
 counted (v ∷ vs) = ap suc (counted vs)
 
--- An array is the empty one where its length is 0.
+-- An array is the empty one if its length is 0.
 pub emptied : (vs : List Value) (n : ℕ) (r : Bool) → n ≡ length vs → r ≡ (n == 0)
     → (IsTrue r → array (items_view vs) ≡ array no_items) × (array (items_view vs) ≡ array no_items → IsTrue r)
 emptied [] n r same is = (λ yes. refl, λ e. rw (is, same) refl)
 emptied (v ∷ vs) n r same is = (λ yes. absurd (grind (arith, nat_tests, same, is, yes)), λ e. cc)
 
--- The action that is found stands in the values that are looked at.
+-- The action that is found is in the values that are looked at.
 pub actions_are : (o p x y : Option Data) (r : Option SeccompAction) (a : SeccompAction) → IfSome r (IsOneAction o p) → r ≡ Some a → o ≡ x
     → p ≡ y → IsOneAction x y a
 actions_are o p x y r a found is one two = rw (← one, ← two) (rw is at found)
@@ -48,7 +48,7 @@ below_middle : (first : Entry) (es : List Entry) (e : Entry) (more : List Entry)
 below_middle first [] e more h = h.0
 below_middle first (x ∷ es) e more h = below_middle first es e more h.1
 
--- Each member of an object, whose names ascend, is what stands under its name.
+-- Each member of an object, whose names ascend, is what is under its name.
 pub member_there : (done : List Entry) (e : Entry) (more : List Entry) → IsStrictlySortedBy string_cmp (keys_of (done ++ e ∷ more))
     → get_member (string_bytes e.0) (members_view (done ++ e ∷ more)) ≡ Some (view e.1)
 unfolding IsStrictlySortedBy
@@ -67,7 +67,7 @@ pub found_value : (o : Option (Bor Value)) (r : Bor Value) (found : Option Data)
     → found ≡ Some (view r.now)
 found_value o r found is some = sym is ∙ ap (option_map (λ v. view v.now)) some
 
--- Where nothing is found by reference, nothing is there.
+-- If nothing is found by reference, nothing is there.
 pub lacks_value : (o : Option (Bor Value)) (found : Option Data) → option_map (λ v. view v.now) o ≡ found → o ≡ None → found ≡ None
 lacks_value o found is none = sym is ∙ ap (option_map (λ v. view v.now)) none
 

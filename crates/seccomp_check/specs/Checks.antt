@@ -1,4 +1,4 @@
--- What `check` answers of a policy's text: the first fault, with its place where it has one.
+-- What `check` answers of a policy's text: the first fault, with its place if it has one.
 use Rattle.std.specs.Prelude.{◌≡◌, ◌≢◌, ℕ, List, Option, Some, None, string_bytes, ⊤}
 use Rattle.serde_json.specs.Data.{Data}
 use Rattle.seccompiler.specs.declared.backend.BackendError.TheVariants as backend
@@ -20,7 +20,7 @@ use Rattle.seccomp_check.specs.declared.rejection.Rejection.TheVariants.{Library
 use Rattle.seccomp_check.specs.Faults.{IsFaultIn}
 use Rattle.seccomp_check.specs.Texts.{fault_text}
 
--- The kind of fault that the front end's refusal of a policy tells, where it has a place in the policy.
+-- The kind of fault that the front end's refusal of a policy reports, if it has a place in the policy.
 abbrev pub frontend_cause : TargetArch → JsonFrontendError → Option Cause
 frontend_cause target frontend.NotAnObject = Some cause.Top
 frontend_cause target (frontend.Shape name) = Some cause.Shape
@@ -53,7 +53,7 @@ pub record IsPlaced (target : TargetArch) (text told : List ℕ) : Type 0 where
 abbrev pub AreAllCompiled : TargetArch → Data → Type 0
 AreAllCompiled target d = AreAll (λ value. (program : List sock_filter) × IsProgramOf target value program) d
 
--- The first fault is told: with its place, or as the library tells it. Want of memory may come in place of both.
+-- The first fault is reported: with its place, or as the library reports it. Lack of memory may come in place of both.
 abbrev pub IsRejection : TargetArch → List ℕ → Rejection → Type 0
 IsRejection target text (Library e) = (e ≢ library.OutOfMemory) × IsNoMemoryInside e × TellsFirstFault target text e
 IsRejection target text (Placed told) = IsPlaced target text (string_bytes told)

@@ -71,7 +71,7 @@ array_text n =
     else if n == 1 then codes "an array of 1 value"
     else codes "an array of " ++ decimal n ++ codes " values"
 
--- The text is JSON of the value: the one that serde_json writes, where no number is a float.
+-- The text is JSON of the value: the one that serde_json writes, if no number is a float.
 pub record IsWritten (d : Data) (text : List ℕ) : Type 0 where
   pub exact : has_float d ≡ false → text ≡ compact_text d
   pub reads_back : read text ≡ Some d
@@ -87,20 +87,20 @@ abbrev pub HasActions : Data → SeccompAction → SeccompAction → Type 0
 HasActions d a b = IsOneAction (get (codes "mismatch_action") d) (get (codes "default_action") d) a
     × IsOneAction (get (codes "match_action") d) (get (codes "filter_action") d) b
 
--- The part is an object of a kind of which P holds.
+-- The part is an object of a kind for which P holds.
 abbrev pub OfObject : Part → (Kind → Type 0) → Type 0
 OfObject (parts.Object kind) P = P kind
 OfObject part P = ⊥
 
--- In the tree layout a program of this many instructions is compiled for the filter; or, where no number is given, it is too
--- large for one.
+-- In the tree layout a program of this many instructions is compiled for the filter; or, if no number is given, it is
+-- too large for one.
 abbrev pub FitsAsTree : Filter → Option ℕ → Type 0
 FitsAsTree f (Some n) = (p : List sock_filter) × IsTreeCompiled f p × (length p ≡ n)
 FitsAsTree f None = IsTreeTooLarge f
 
--- The problem is there, and it is one of the part that stands there: what may stand there is what this part has to be,
--- and the names that are told are those that this part may have, has to have, or has to have one of. A name that is
--- suggested may stand there.
+-- The problem is at its place, and is one of the part there. What is expected is what the part has to be, and
+-- the names reported are those that the part may have, has to have, or has to have one of. A suggested name is
+-- one that may stand there.
 abbrev pub IsBroken : Part → Data → Problem → Type 0
 IsBroken part d (problem.Stands text e near) = (part_of e ≡ part) × IsShown d (string_bytes text) × (IsAllowed e d → ⊥)
     × IfSome near (λ name. IsAllowed e (string name.now))
@@ -131,7 +131,7 @@ cause_of (problem.TooLong n tree target) = cause.Length target
 cause_of p = cause.Shape
 
 -- The fault's path leads from the value of a part to one where the problem is there, which is of this kind, and one of
--- the part that stands behind the path.
+-- the part that comes after the path.
 pub record IsFaultBehind (cause : Cause) (outer : Part) (d : Data) (fault : Fault) : Type 0 where
   pub value : Data
   pub leads : follow fault.path.items d ≡ Some value
@@ -144,7 +144,7 @@ pub record IsFaultBehind (cause : Cause) (outer : Part) (d : Data) (fault : Faul
 abbrev pub IsFaultIn : Cause → Data → Fault → Type 0
 IsFaultIn cause d fault = IsFaultBehind cause parts.Policy d fault
 
--- What is found is a fault of this kind in the value of a part. Want of memory may come in place of it.
+-- What is found is a fault of this kind in the value of a part. Lack of memory may come in place of it.
 abbrev pub Tells : Cause → Part → Data → Finding → Type 0
 Tells cause outer d (finding.Fault fault) = IsFaultBehind cause outer d fault
 Tells cause outer d finding.OutOfMemory = ⊤

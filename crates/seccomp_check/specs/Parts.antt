@@ -1,5 +1,5 @@
--- What the parts of a policy are, what stands under a name or at a place of each, and how a value has to be made that is
--- one. docs/JSON.md has the format.
+-- The parts of a policy, what each may contain under a name or at a place, and the form of a value that is one.
+-- docs/JSON.md has the format.
 use Rattle.std.specs.Prelude.{◌≡◌, ◌≢◌, ℕ, ◌^◌, ◌-◌, ◌⊎◌, List, [], ◌∷◌, Option, Some, None, option_and_then, codes, string_bytes}
 use Rattle.std.specs.Map.{keys_of, lookup}
 use Rattle.std.specs.Str.{bytes_eq}
@@ -21,7 +21,7 @@ use Rattle.seccomp_check.specs.declared.fault.Step.TheVariants as step
 
 -- ---- what stands where
 
--- The names that an object of this kind may have, and the part that stands under each.
+-- The names that an object of this kind may have, and the part that is under each.
 abbrev pub parts_of : Kind → List (List ℕ × Part)
 parts_of Filter = (codes "mismatch_action", Action) ∷ (codes "default_action", Action) ∷ (codes "match_action", Action)
     ∷ (codes "filter_action", Action) ∷ (codes "filter", Entries) ∷ []
@@ -44,7 +44,7 @@ abbrev pub pairs_of : Kind → List (List ℕ × List ℕ)
 pairs_of Filter = (codes "mismatch_action", codes "default_action") ∷ (codes "match_action", codes "filter_action") ∷ []
 pairs_of kind = []
 
--- The part that stands under a name of a part, if one does: of a policy a filter, whatever the name; of an action or an
+-- The part that is under a name of a part, if there is one: of a policy a filter, whatever the name; of an action or an
 -- operator its number.
 abbrev pub part_under : Part → List ℕ → Option Part
 part_under Policy name = Some (Object Filter)
@@ -53,7 +53,7 @@ part_under Action name = lookup (bytes_eq name) ((codes "errno", ActionNumber) �
 part_under Operator name = lookup (bytes_eq name) ((codes "masked_eq", Number) ∷ [])
 part_under part name = None
 
--- The part that stands at each place of a part, if one does.
+-- The part that is at each place of a part, if there is one.
 abbrev pub part_in : Part → Option Part
 part_in Entries = Some (Object Entry)
 part_in Conditions = Some (Object Condition)
@@ -64,7 +64,7 @@ abbrev pub part_behind : Step → Part → Option Part
 part_behind (step.Key key) part = part_under part (string_bytes key)
 part_behind (step.Item i) part = part_in part
 
--- The part that stands behind steps from a part, one after the other, if there is one.
+-- The part that comes after steps from a part, one after the other, if there is one.
 abbrev pub part_at : List Step → Part → Option Part
 part_at [] part = Some part
 part_at (first ∷ path) part = option_and_then (part_at path) (part_behind first part)

@@ -15,7 +15,7 @@ use Rattle.seccomp_check.specs.declared.part.Part.TheVariants as parts
 use Rattle.seccomp_check.specs.declared.fault.Step.{Step}
 use Rattle.seccomp_check.specs.declared.fault.Step.TheVariants as step
 
--- A step behind the first: a name behind a dot, and a place in brackets.
+-- A step after the first: a name after a dot, and a place in brackets.
 abbrev pub step_text : Step → List ℕ
 step_text (step.Key key) = codes "." ++ readable (string_bytes key)
 step_text (step.Item i) = codes "[" ++ decimal i ++ codes "]"
@@ -69,7 +69,7 @@ keys_text kind.Filter = codes "mismatch_action, default_action, match_action, fi
 keys_text kind.Entry = codes "syscall, args or comment"
 keys_text kind.Condition = codes "index, type, op, val or comment"
 
--- How long the program is in the tree layout, where it fits.
+-- How long the program is in the tree layout, if it fits.
 abbrev pub tree_text : Option ℕ → List ℕ
 tree_text None = []
 tree_text (Some n) = codes "; " ++ decimal n ++ codes " in the tree layout"

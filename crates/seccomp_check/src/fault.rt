@@ -16,7 +16,7 @@ use std::alloc::{AllocError, AllocFailed, Global};
 /// A step from a value to one inside it.
 #[derive(Drop)]
 pub enum Step {
-    /// To what stands under this name of an object.
+    /// To what is under this name of an object.
     Key(String),
     /// To the value at this place of an array, from 0.
     Item(usize),
@@ -51,7 +51,7 @@ pub enum Problem {
     /// It is a filter of two equal actions.
     SameActions,
     /// It is a filter whose program would have this many instructions in the linear layout on this
-    /// architecture; in the tree layout it has so many, where they fit.
+    /// architecture; in the tree layout it has so many, if they fit.
     TooLong(usize, Option<usize>, TargetArch),
 }
 
@@ -81,7 +81,7 @@ pub struct Fault {
     pub problem: Problem,
 }
 
-/// What a search ends with where it does not end well.
+/// What a search ends with if it does not end well.
 #[derive(Drop)]
 pub enum Finding {
     /// This is the first fault.
@@ -123,7 +123,7 @@ pub(crate) fn refuse(alloc: Global, problem: Problem) -> Result<(), Finding>
     }))
 }
 
-// The answer on what stands under a name, as one on the object.
+// The answer on what is under a name, as one on the object.
 pub(crate) fn under_key(
     alloc: Global,
     key: &str,

@@ -18,7 +18,7 @@ use serde_json::Value;
 use serde_json::value::Map;
 use std::alloc::Global;
 
-// The length of the policy's program in the tree layout, where it fits.
+// The length of the policy's program in the tree layout, if it fits.
 fn tree_length(alloc: Global, policy: &SeccompFilter) -> Result<Option<usize>, FilterError>
     ensures { IfOk result (λ tree. FitsAsTree policy.now tree) }
 {

@@ -1,9 +1,9 @@
 //! The place at which a policy is rejected.
 //!
-//! The library's errors say what is wrong with a policy, and this crate finds where: [`check`] reads a
-//! policy's text, and reports the first fault by the path of its place, what stands there and what may, as
+//! The library's errors say what is wrong with a policy, and this crate finds where: [`check`] reads a policy's
+//! text, and reports the first fault by its path, what is there and what may, as
 //! `main_thread.filter[1].syscall: unknown system call "fnctl" on x86_64; did you mean "fcntl"?`.
-//! [`place`] finds the place for an error that the library gave before.
+//! [`place`] finds the place of an error that the library already gave.
 //!
 //! ```
 //! use seccomp_check::{Rejection, check};
@@ -48,26 +48,25 @@ use std::alloc::{AllocError, Global};
 
 /// Looks for the first fault of a policy's text, and reports its place.
 ///
-/// It is Ok only where `compile_from_json` compiles all filters.
+/// It is Ok only if `compile_from_json` compiles all filters.
 ///
-/// A fault's text is a path, a colon, a space and what is wrong there, on one line. The path is the
-/// filter's name, then `.` and a name for what stands under a name, and `[` PLACE `]` for what stands at
-/// a place of an array, from 0; `the policy` stands for the empty path. In names the control characters,
-/// those from U+0080 to U+009F too, and the backslash are written as `\x` and two lower-case hexadecimal
-/// digits for each of their bytes. A value that may not stand there is shown as JSON, an array by its
-/// length, and an object as `an object`; behind a call's name that the architecture hasn't may come a like
-/// one that it has. Where an action or an operator is an object of one name, `errno`, `trace` or
-/// `masked_eq`, the path leads to its number.
+/// A fault's text is one line: a path, a colon, a space and what is wrong there. The path is the filter's name,
+/// then `.` and a name for each member of an object, and `[` PLACE `]` for each element of an array, counted
+/// from 0; the empty path is written `the policy`. In names each byte of the control characters (U+0080 to
+/// U+009F too) and of the backslash is written as `\x` and two lower-case hexadecimal digits. A value that may
+/// not stand there is shown as JSON, an array by its length, and an object as `an object`. An unknown call name
+/// may be followed by a similar name that the architecture has. If an action or an operator is an object of one
+/// name, `errno`, `trace` or `masked_eq`, the path leads to its number.
 ///
 /// # Errors
 ///
-/// `Library` with what `compile_from_json` rejects the policy for, where that has no place: the bytes are no
-/// JSON, or a name is repeated. `Placed` with the text of a fault of the kind that `compile_from_json`
-/// reports, where that has a place. `OutOfMemory` in place of both, where memory runs out.
+/// `Placed` with the text of a fault of the kind that `compile_from_json` reports, if it has a place. `Library`
+/// with the error of `compile_from_json`, if it has no place: the bytes are no JSON, or a name is repeated.
+/// `OutOfMemory` in place of both, if memory runs out.
 ///
-/// Of several faults of that kind it is the first, in the order that docs/CHECKS.md gives. That is tested
-/// and not proved, and so is that a fault with a place is reported by it: by the contract it may be any one
-/// of its kind, and may be reported as `Library`.
+/// The contract promises any one fault of that kind, and lets it be reported as `Library`. That it is the first
+/// in the order of docs/CHECKS.md, and that a fault with a place is reported as `Placed`, is tested and not
+/// proved.
 pub fn check(alloc: Global, target: TargetArch, text: &[u8]) -> Result<(), Rejection>
     ensures compiled { OnOk result (OfValue text.now (AreAllCompiled target)) }
     ensures rejected { IfErr result (IsRejection target text.now) }
@@ -80,12 +79,12 @@ pub fn check(alloc: Global, target: TargetArch, text: &[u8]) -> Result<(), Rejec
 
 /// Finds the first fault of a kind in a policy's text, and reports its place as [`check`] does.
 ///
-/// The kind is that of an error that the library gave of the same text, by [`cause_of`] or
-/// [`cause_of_frontend`]. It is None where the text has no such fault.
+/// [`cause_of`] or [`cause_of_frontend`] gives the kind of an error that the library gave for this text. It
+/// is None if the text has no fault of the kind.
 ///
 /// # Errors
 ///
-/// `AllocError` where memory runs out.
+/// `AllocError` if memory runs out.
 pub fn place(alloc: Global, cause: Cause, text: &[u8]) -> Result<Option<String>, AllocError>
     ensures told { (d : Data) → IsReadAs text.now d → IfOk result (λ found. IfSome found (λ told. TellsFaultOf cause d (string_bytes told))) }
 {
@@ -96,7 +95,7 @@ pub fn place(alloc: Global, cause: Cause, text: &[u8]) -> Result<Option<String>,
     }
 }
 
-/// The kind of fault that an error of the front end reports, where it has a place in the policy.
+/// The kind of fault that an error of the front end reports, if it has a place in the policy.
 pub fn cause_of_frontend(target: TargetArch, refusal: &JsonFrontendError) -> Option<Cause>
     ensures { result ≡ frontend_cause target refusal.now }
 {
@@ -111,7 +110,7 @@ pub fn cause_of_frontend(target: TargetArch, refusal: &JsonFrontendError) -> Opt
     }
 }
 
-/// The kind of fault that an error of the library reports, where it has a place in the policy.
+/// The kind of fault that an error of the library reports, if it has a place in the policy.
 pub fn cause_of(target: TargetArch, refusal: &Error) -> Option<Cause>
     ensures { result ≡ cause_told target refusal.now }
 {
@@ -122,7 +121,7 @@ pub fn cause_of(target: TargetArch, refusal: &Error) -> Option<Cause>
     }
 }
 
-// The refusal with its place, or as it is where none is found.
+// The refusal with its place, or as it is if none is found.
 fn placed(alloc: Global, target: TargetArch, text: &[u8], refusal: Error) -> Rejection
     ensures { IsNoMemoryInside refusal → TellsFirstFault target text.now refusal → IsRejection target text.now result }
 {

@@ -29,8 +29,8 @@ pub(crate) fn near(
     }
 }
 
-// The first of the calls' names that take the fewest edits, if that is at most one, or one for each three bytes:
-// a character that is put in, left out or replaced, or two neighbours exchanged.
+// The first of the nearest call names, if it is at most one edit away, or at most one for every three bytes. An
+// edit inserts, removes or replaces a character, or swaps two neighbours.
 fn near_call(
     alloc: Global,
     target: TargetArch,

@@ -9,7 +9,7 @@ use std::alloc::AllocError;
 pub enum Rejection {
     /// The library rejects the policy, and the fault has no place: the text is no JSON, or repeats a name.
     Library(seccompiler::Error),
-    /// The policy has a fault that has a place; the text names the place, what stands there and what may.
+    /// The policy has a fault that has a place; the text names the place, what is there and what may.
     Placed(String),
     /// Memory ran out.
     OutOfMemory,

@@ -45,7 +45,7 @@ fn push_first(text: &mut Vec<u8>, alloc: Global, step: &Step) -> Result<(), Allo
     }
 }
 
-// Adds a step of a path behind the first.
+// Adds a step of a path after the first.
 fn push_step(text: &mut Vec<u8>, alloc: Global, step: &Step) -> Result<(), AllocError>
     ensures { OnOk result (text.new.items ≡ text.old.items ++ spec.step_text step.now) }
 {
@@ -58,7 +58,7 @@ fn push_step(text: &mut Vec<u8>, alloc: Global, step: &Step) -> Result<(), Alloc
     }
 }
 
-// Adds the steps of a path behind the first.
+// Adds the steps of a path after the first.
 fn push_steps(text: &mut Vec<u8>, alloc: Global, path: &[Step]) -> Result<(), AllocError>
     ensures { OnOk result (text.new.items ≡ text.old.items ++ concat (map spec.step_text path.now)) }
 {
@@ -217,7 +217,7 @@ fn push_too_long(text: &mut Vec<u8>, alloc: Global, length: usize) -> Result<(),
     text.extend_from_slice(b" instructions in the linear layout; 4096 fit")
 }
 
-// Adds how long a program is in the tree layout, where it fits.
+// Adds how long a program is in the tree layout, if it fits.
 fn push_tree(text: &mut Vec<u8>, alloc: Global, tree: Option<usize>) -> Result<(), AllocError>
     ensures { OnOk result (text.new.items ≡ text.old.items ++ spec.tree_text tree) }
 {

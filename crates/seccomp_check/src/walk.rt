@@ -60,7 +60,7 @@ fn check(alloc: Global, expected: Expected, value: &Value) -> Result<(), Finding
     refuse(alloc, Problem::Stands(shown(alloc, value)?, expected, near))
 }
 
-// That what stands under the name, if anything, may stand there.
+// That what is under the name, if anything, may stand there.
 fn check_key(alloc: Global, key: &str, expected: Expected, value: &Value) -> Result<(), Finding>
     ensures found { (outer : Part) → part_under outer key.now ≡ Some (part_of expected) → IfErr result (Tells (cause_of_expected expected) outer (view value.now)) }
 {
@@ -94,7 +94,7 @@ fn check_form(alloc: Global, part: Part, value: &Value) -> Result<(), Finding>
     check(alloc, Expected::Form(part), value)
 }
 
-// That what stands under the name, if anything, is of the part's form.
+// That what is under the name, if anything, is of the part's form.
 fn check_inner(alloc: Global, key: &str, part: Part, value: &Value) -> Result<(), Finding>
     ensures found { (outer : Part) → part_under outer key.now ≡ Some part → IfErr result (Tells (cause_of_expected (Form part)) outer (view value.now)) }
 {
@@ -114,7 +114,7 @@ fn check_there(alloc: Global, key: &'static str, value: &Value) -> Result<(), Fi
     }
 }
 
-// That the object has this name, and that what stands there is of the part's form.
+// That the object has this name, and that what is there is of the part's form.
 fn check_part(alloc: Global, key: &'static str, part: Part, value: &Value) -> Result<(), Finding>
     ensures found { (kind : Kind) → Contains (required_of kind) key.now → part_under (parts.Object kind) key.now ≡ Some part → cause_of_expected (Form part) ≡ cause.Shape → IsObject (view value.now) → IfErr result (Tells cause.Shape (parts.Object kind) (view value.now)) }
 {

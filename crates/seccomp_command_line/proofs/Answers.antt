@@ -39,7 +39,7 @@ module _ (IsReady : Type 0) (IsTextOf : List (List ℕ) → List ℕ → Type 0)
   refused_before short unread unwritten (tool.Write e) old new refused = absurd (unwritten e refused)
   refused_before short unread unwritten _ old new refused = refused
 
-  -- What telling of the records answers, where all is ready.
+  -- What telling of the records answers, if all is ready.
   pub told_of_records : IsReady → IsRefused tool.OutOfMemory → (IsToldOf : List (List ℕ) → List ℕ → Type 0)
       → ((calls : List (List ℕ)) (text : List ℕ) → IsToldOf calls text → IsTextOf calls text)
       → (r : Result ⊤ ToolError) (old new : Option (List ℕ))

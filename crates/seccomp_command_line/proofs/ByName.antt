@@ -1,4 +1,4 @@
--- Look-ups by name in lists of values in order of their names: what is found, the names themselves, and what stands in
+-- Look-ups by name in lists of values in order of their names: what is found, the names themselves, and what is in
 -- front of a name.
 use Rattle.std.proofs.Common.{◌≡◌, ℕ, suc, List, [], ◌∷◌, ◌++◌, cond, Some, None, String, Global, Less, All, Contains, string_bytes}
 use Rattle.std.proofs.Common.{string_cmp, string_eq, nat_cmp, bytes_eq, map, IfSome, refl, sym, ap, ◌∙◌, subst, inl, inr, arith}
@@ -25,7 +25,7 @@ module _ {X : Type 0} where
   by_text q [] = refl
   by_text q (e ∷ entries) = rw (is_eq-slice_cmp q (string_bytes e.0), by_text q entries) refl
 
-  -- In order, no name stands twice.
+  -- In order, no name comes twice.
   once : (entries : List (String Global × X)) → IsStrictlySortedBy string_cmp (keys_of entries) → IsDistinct string_eq (keys_of entries)
   once entries order = subst (λ e. IsDistinct e (keys_of entries)) (λ i x y. is_eq-slice_cmp (string_bytes x) (string_bytes y) i)
       (IsDistinct-from_sorted string_cmp (keys_of entries) order)
@@ -68,13 +68,13 @@ module _ {X : Type 0} where
 
   -- ---- in front of a name
 
-  -- What is found stands under a key of that name.
+  -- What is found is under a key of that name.
   key_of : (q : List ℕ) (entries : List (String Global × X)) (x : X) → lookup (is_text q) entries ≡ Some x
       → (key : String Global) × (string_bytes key ≡ q)
   key_of q entries x there = let place = place_from_lookup (is_text q) entries x there in
       (place.1, sym ((bytes_eq-Decides q (string_bytes place.1)).0 place.3))
 
-  -- What is not found behind others is found in front of them.
+  -- What is not found after others is found in front of them.
   in_front : (q : List ℕ) (front back : List (String Global × X)) → lookup (is_text q) back ≡ None
       → lookup (is_text q) (front ++ back) ≡ lookup (is_text q) front
   in_front q [] back none = none
@@ -85,7 +85,7 @@ module _ {X : Type 0} where
   behind [] back order = order
   behind (e ∷ front) back order = behind front back (sorted_tail string_cmp e.0 (keys_of (front ++ back)) order)
 
-  -- In order, what is found under a name below another stands in front of that one, and is as all are there.
+  -- In order, what is found under a name below another comes in front of that one, and is as all are there.
   pub holds_below : (P : X → Type 0) (front : List (String Global × X)) (e : String Global × X) (back : List (String Global × X))
       → IsStrictlySortedBy string_cmp (keys_of (front ++ e ∷ back))
       → All (λ f. P f.1) front → (q : List ℕ) (x : X) → lookup (is_text q) (front ++ e ∷ back) ≡ Some x

@@ -26,7 +26,7 @@ module _ {X : Type 0} (P : Data → X → Type 0) (find : List ℕ → Option X)
             let same : own.found ≡ x = let e : Some own.found ≡ Some x = sym own.there ∙ is in cc in
             (value, has, subst (P value) same own.own)
 
-    -- Where nothing is found, the name is not there.
+    -- If nothing is found, the name is not there.
     pub nowhere : find name ≡ None → Lacks d name
     nowhere is = by (get name d) refl
       where
@@ -54,7 +54,7 @@ module _ {X : Type 0} (P : Data → X → Type 0) (find : List ℕ → Option X)
         → Contains (map (λ (e : String Global × X). string_bytes e.0) entries) name
     complete name value has = let own = found.each name value has in found_name name own.found entries (sym (listed name) ∙ own.there)
 
-    -- What follows for what is found, where Q holds of all in the list, holds of each value.
+    -- What follows for what is found, if Q holds of all in the list, holds of each value.
     pub all_listed : (Q : X → Type 0) (R : Data → Type 0) → All (λ (e : String Global × X). Q e.1) entries
         → ((value : Data) (x : X) → P value x → Q x → R value) → AreAll R d
     all_listed Q R all shows = record {

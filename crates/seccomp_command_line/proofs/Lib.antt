@@ -1,5 +1,5 @@
 -- Lemmas for `hexadecimal`, for texts that are made piece by piece, as `push_escaped` does, and for the programs: what
--- stands under names, what is read of a policy and refused of it, records, and answers.
+-- is under names, what is read of a policy and refused of it, records, and answers.
 pub mod ByName
 pub mod Digits
 pub mod Joined

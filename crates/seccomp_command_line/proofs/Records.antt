@@ -14,7 +14,7 @@ use Rattle.seccomp_command_line.specs.declared.error.ToolError.{ToolError}
 use Rattle.seccomp_command_line.specs.declared.error.ToolError.TheVariants as tool
 use Rattle.seccomp_command_line.proofs.Readings.{reads_some}
 
--- The chunks of so many bytes and what is left behind them are the bytes.
+-- The chunks of so many bytes and what is left after them are the bytes.
 pub chunks_joined : (n k : ℕ) (bytes : List ℕ) → concat (first_chunks n k bytes) ++ drop (k * n) bytes ≡ bytes
 chunks_joined n zero bytes = let none : zero * n ≡ zero = omega arith in ap (λ m. drop m bytes) none
 chunks_joined n (suc k) bytes =
@@ -56,7 +56,7 @@ lines_sent IsTextOf items slice tail text sent records rest old new same chunks 
   appends = subst (Appends old new) is appends;
 }
 
--- Where a text of records is one in other words too, what is written of them is.
+-- If a text of records is one in other words too, what is written of them is.
 pub retold : (IsTextOf IsOther : List (List ℕ) → List ℕ → Type 0)
     → ((records : List (List ℕ)) (text : List ℕ) → IsTextOf records text → IsOther records text)
     → (bytes : List ℕ) (rest : ℕ) (old new : Option (List ℕ)) → WritesLines IsTextOf bytes rest old new
@@ -71,13 +71,13 @@ retold IsTextOf IsOther tells bytes rest old new w = record {
   appends = w.appends;
 }
 
--- An error that tells of no rest of a record says nothing of the records.
+-- An error that reports no rest of a record says nothing of the records.
 pub answers_none : (IsTextOf : List (List ℕ) → List ℕ → Type 0) (e : ToolError) → ((rest : ℕ) → e ≡ tool.ShortRecord rest → ⊥)
     → (bytes : List ℕ) (old new : Option (List ℕ)) → AnswersRecords IsTextOf bytes (Err e) old new
 answers_none IsTextOf (tool.ShortRecord rest) none bytes old new = absurd (none rest refl)
 answers_none IsTextOf _ none bytes old new = tt
 
--- Where reading fails, nothing is said of the records.
+-- If reading fails, nothing is said of the records.
 pub unread : (IsTextOf : List (List ℕ) → List ℕ → Type 0) (known : Option (List ℕ)) (e : ToolError) (old new : Option (List ℕ))
     → IsReadError e
     → Reads known (λ bytes. AnswersRecords IsTextOf bytes (Err e) old new)

@@ -7,7 +7,7 @@ use Rattle.seccomp_command_line.specs.Records.{WritesLines}
 use Rattle.seccomp_command_line.specs.declared.error.ToolError.{ToolError}
 use Rattle.seccomp_command_line.specs.declared.error.ToolError.TheVariants.{ShortRecord, Read, Write}
 
--- The answer of an engine that writes one text at once: it is Ok only where there is a text that is as IsText says, and
+-- The answer of an engine that writes one text at once: it is Ok only if there is a text that is as IsText says, and
 -- that is written. Of a failed write there is such a text too. Any other error is as IsRefused says.
 abbrev pub Answers : (IsText : List ℕ → Type 0) → (IsRefused : ToolError → Type 0) → Result ⊤ ToolError → (old new : Option (List ℕ))
     → Type 0
@@ -15,9 +15,10 @@ Answers IsText IsRefused (Ok done) old new = (text : List ℕ) × IsText text ×
 Answers IsText IsRefused (Err (Write e)) old new = (text : List ℕ) × IsText text
 Answers IsText IsRefused (Err e) old new = IsRefused e
 
--- The answer of an engine that tells of records: it is Ok only where the text of all records is written. Where bytes are
--- left behind the last whole record, their number is told, and the text of the whole ones is written. Reading the
--- records, or writing, fails only where all is ready for it. Any other error is as IsRefused says.
+-- The answer of an engine that reports on records: it is Ok only if the text of all records is written. If
+-- bytes are left after the last whole record, it reports their number, and the text of the whole records is
+-- written. Reading the records, or writing, fails only if all is ready for it. IsRefused defines any other
+-- error.
 abbrev pub AnswersOnRecords : (IsReady : Type 0) → (IsTextOf : List (List ℕ) → List ℕ → Type 0) → (IsRefused : ToolError → Type 0)
     → (records : Option (List ℕ)) → Result ⊤ ToolError → (old new : Option (List ℕ)) → Type 0
 AnswersOnRecords IsReady IsTextOf IsRefused records (Ok done) old new = Reads records (λ bytes. WritesLines IsTextOf bytes 0 old new)

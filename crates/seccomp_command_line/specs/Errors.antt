@@ -9,12 +9,12 @@ use Rattle.seccompiler.specs.Errors.{error_text}
 use Rattle.seccomp_command_line.specs.declared.error.ToolError.{ToolError}
 use Rattle.seccomp_command_line.specs.declared.error.ToolError.TheVariants.{Library, NoFilter, ShortRecord, Read, Write, OutOfMemory}
 
--- A refusal of the library; want of memory stays want of memory.
+-- A refusal of the library; lack of memory stays lack of memory.
 abbrev pub from_library : LibraryError → ToolError
 from_library library.OutOfMemory = OutOfMemory
 from_library refusal = Library refusal
 
--- The text of an error, where it is known.
+-- The text of an error, if it is known.
 abbrev pub tool_text : ToolError → Option (List ℕ)
 tool_text (Library e) = error_text e
 tool_text (NoFilter name) = Some (codes "No filter has this name: " ++ string_bytes name ++ codes ".")
@@ -23,7 +23,7 @@ tool_text (Read e) = Some (codes "Error reading input.")
 tool_text (Write e) = Some (codes "Error writing output.")
 tool_text OutOfMemory = Some (codes "Out of memory.")
 
--- A reader's fault of another kind than want of memory.
+-- A reader's fault of another kind than lack of memory.
 abbrev pub IsReadFault : Error → Type 0
 IsReadFault e = error_kind e ≢ kind.OutOfMemory
 
@@ -46,7 +46,7 @@ IsRecordsError (Write e) = ⊤
 IsRecordsError OutOfMemory = ⊤
 IsRecordsError e = ⊥
 
--- What is written is as it was, where the error comes before the writing.
+-- What is written is as it was, if the error comes before the writing.
 abbrev pub KeepsOutput : {W : Type 0} → ToolError → W → W → Type 0
 KeepsOutput (ShortRecord rest) old new = ⊤
 KeepsOutput (Write e) old new = ⊤

@@ -1,5 +1,5 @@
 -- The definitions that the contracts cite, and those that the programs' definitions are built of: names, programs and numbers
--- as they are written; what goes wrong; what is told of records, and what of a policy; and what an engine answers.
+-- as they are written; what goes wrong; what is reported of records, and what of a policy; and what an engine answers.
 pub mod Hexadecimal
 pub mod Names
 pub mod Listing

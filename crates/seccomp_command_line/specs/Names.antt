@@ -21,8 +21,8 @@ escaped_byte byte = if is_escaped byte then byte_number byte else byte ∷ []
 abbrev pub escaped : List ℕ → List ℕ
 escaped name = concat (map escaped_byte name)
 
--- The characters that people are told by the numbers of their bytes: the control characters, which are U+0000 to U+001F
--- and U+007F to U+009F, and the backslash.
+-- The characters that people are shown by the numbers of their bytes: the control characters, which are U+0000 to
+-- U+001F and U+007F to U+009F, and the backslash.
 abbrev pub is_numbered : ℕ → Bool
 is_numbered c = is_control c || (c == 92)
 

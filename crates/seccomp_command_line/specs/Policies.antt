@@ -27,7 +27,7 @@ NamesArchitecture text = (target : TargetArch) × IsNameOf text target
 abbrev pub OfPolicy : List ℕ → Option (List ℕ) → (TargetArch → Data → Type 0) → Type 0
 OfPolicy arch known P = (target : TargetArch) × IsNameOf arch target × Reads known (λ text. OfValue text (P target))
 
--- The text names no architecture, and the error tells it as it was given.
+-- The text names no architecture, and the error reports it as it was given.
 pub record IsNoArchitecture (arch : List ℕ) (e : Error) : Type 0 where
   pub text : String Global
   pub unnamed : (target : TargetArch) → IsNameOf arch target → ⊥
@@ -35,19 +35,19 @@ pub record IsNoArchitecture (arch : List ℕ) (e : Error) : Type 0 where
   pub told : e ≡ library.Backend (InvalidTargetArch text)
 
 -- The first of these that is so: the text names no architecture; the policy's text has a fault, and this is its first.
--- Want of memory is no fault.
+-- Lack of memory is no fault.
 pub data IsPolicyFault (arch : List ℕ) (known : Option (List ℕ)) (e : Error) : Type 0 where
   no_architecture : IsNoArchitecture arch e → IsPolicyFault arch known e
   of_policy : (target : TargetArch) → IsNameOf arch target → e ≢ library.OutOfMemory → IsNoMemoryInside e
       → Reads known (λ text. TellsFirstFault target text e) → IsPolicyFault arch known e
 
--- The error is that of a name that is no architecture's, or want of memory.
+-- The error is that of a name that is no architecture's, or lack of memory.
 abbrev pub IsRefusedName : List ℕ → ToolError → Type 0
 IsRefusedName arch (Library e) = IsNoArchitecture arch e
 IsRefusedName arch OutOfMemory = ⊤
 IsRefusedName arch e = ⊥
 
--- The error is the first fault, the programs' among them, or want of memory.
+-- The error is the first fault, the programs' among them, or lack of memory.
 abbrev pub IsRefusedPolicy : List ℕ → Option (List ℕ) → ToolError → Type 0
 IsRefusedPolicy arch known (Library e) = IsPolicyFault arch known e
 IsRefusedPolicy arch known OutOfMemory = ⊤

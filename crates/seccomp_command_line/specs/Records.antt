@@ -11,7 +11,7 @@ pub record IsCutIntoRecords (bytes : List ℕ) (records : List (List ℕ)) (rest
   pub whole : All (λ call. length call ≡ 64) records
   pub short : length rest < 64
 
--- What is written grew by the text of the whole records of these bytes, and so many bytes are left behind them.
+-- What is written grew by the text of the whole records of these bytes, and so many bytes are left after them.
 pub record WritesLines (IsTextOf : List (List ℕ) → List ℕ → Type 0) (bytes : List ℕ) (rest : ℕ) (old new : Option (List ℕ)) : Type 0 where
   pub records : List (List ℕ)
   pub tail : List ℕ
@@ -21,8 +21,8 @@ pub record WritesLines (IsTextOf : List (List ℕ) → List ℕ → Type 0) (byt
   pub told : IsTextOf records text
   pub appends : Appends old new text
 
--- The answer on these bytes: the text of all records is written where no byte is left, and that of the whole ones, with
--- the number of bytes that are left, where some are.
+-- The answer on these bytes: the text of all records is written if no byte is left, and that of the whole ones, with
+-- the number of bytes that are left, if some are.
 abbrev pub AnswersRecords : (List (List ℕ) → List ℕ → Type 0) → List ℕ → Result ⊤ ToolError → Option (List ℕ) → Option (List ℕ) → Type 0
 AnswersRecords IsTextOf bytes (Ok done) old new = WritesLines IsTextOf bytes 0 old new
 AnswersRecords IsTextOf bytes (Err (ShortRecord rest)) old new = (0 < rest) × WritesLines IsTextOf bytes rest old new

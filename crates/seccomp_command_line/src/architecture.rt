@@ -11,8 +11,8 @@ use std::alloc::Global;
 ///
 /// # Errors
 ///
-/// `Library` with `InvalidTargetArch` and the name as it was given where no architecture has it, or
-/// `OutOfMemory` where memory runs out.
+/// `Library` with `InvalidTargetArch` and the name as it was given if no architecture has it, or
+/// `OutOfMemory` if memory runs out.
 pub fn architecture_of(alloc: Global, name: &str) -> Result<TargetArch, ToolError>
     ensures named { IfOk result (IsNameOf name.now) }
     ensures refused { IfErr result (IsRefusedName name.now) }

@@ -1,4 +1,4 @@
-// The words that stand behind the program's name.
+// The words that stand after the program's name.
 
 use std::alloc::Global;
 use std::env::FillError;
@@ -26,14 +26,14 @@ impl<R: Env> Env for BehindTheName<'_, R> {
     }
 }
 
-/// The arguments behind the program's name, in order.
+/// The arguments after the program's name, in order.
 ///
 /// `env::args` of the kit has no contract, so this has none: that the arguments are the process's own is
 /// tested on the built programs.
 ///
 /// # Errors
 ///
-/// Of the kind `OutOfMemory` where memory runs out; of another where one of the arguments is no text.
+/// Of the kind `OutOfMemory` if memory runs out; of another if one of the arguments is no text.
 pub fn behind_the_name(rt: &(impl Env + AllocGlobal)) -> io::Result<Vec<String>> {
     let alloc = rt.alloc();
     Ok(env::args(&(BehindTheName(rt), alloc))?.collect(alloc)?)

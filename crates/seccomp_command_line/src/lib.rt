@@ -1,8 +1,8 @@
-//! What the programs at the command line have in common: the arguments that they are called with and the
-//! architecture that one names; names of filters and numbers as they are written; what is read to its end,
-//! written at once and said of records; and the errors of all this.
+//! What the command-line programs share: their arguments and the architecture that one of them names; how names
+//! of filters and numbers are written; reading a whole input, writing an output at once, and the texts about
+//! records; and the errors of all this.
 //!
-//! What an engine answers, and which fault of a policy it reports, stands in `specs/`.
+//! `specs/` defines what an engine answers, and which fault of a policy it reports.
 #![tactic(auto)]
 
 pub mod architecture;

@@ -15,16 +15,15 @@ pub const HEADER: usize = 13;
 /// The bytes of an instruction's line.
 pub const LINE: usize = 20;
 
-/// Adds the listing of a program to a text: a line `filter LENGTH NAME` and a line for each
-/// instruction.
+/// Adds the listing of a program to a text: a line `filter LENGTH NAME` and a line for each instruction.
 ///
-/// An instruction's line has code in 4, jt in 2, jf in 2 and k in 8 lower-case hexadecimal digits,
-/// separated by one space. In the name the bytes 00 to 1f, 7f and the backslash are written as `\x`
-/// and two lower-case hexadecimal digits, all others as they are.
+/// An instruction's line is code in 4, jt in 2, jf in 2 and k in 8 lower-case hexadecimal digits, separated by
+/// one space. In the name the bytes 00 to 1f, 7f and the backslash are written as `\x` and two lower-case
+/// hexadecimal digits, all others as they are.
 ///
 /// # Errors
 ///
-/// `AllocError` where memory runs out; the text may then have grown by a front of this.
+/// `AllocError` if memory runs out; the beginning of the listing may then be in the text.
 pub fn push_listing(
     text: &mut Vec<u8>,
     name: &str,

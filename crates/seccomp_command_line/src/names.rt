@@ -7,14 +7,14 @@ ghost use Rattle.seccomp_command_line.specs.Names.{is_escaped, byte_number, esca
 use crate::hexadecimal::two_digits;
 use std::alloc::AllocError;
 
-/// Adds a name to a text in the form of a listing: the bytes 00 to 1f, 7f and the backslash as `\x` and
-/// two lower-case hexadecimal digits, all others as they are. So no two names are written alike. The
-/// control characters U+0080 to U+009F stay as they are, and some terminals heed them: in what people
-/// read, [`push_readable`] writes names.
+/// Adds a name to a text in the form of a listing: the bytes 00 to 1f, 7f and the backslash as `\x` and two
+/// lower-case hexadecimal digits, all others as they are. No two names are written alike. The control
+/// characters U+0080 to U+009F stay as they are, and some terminals obey them; [`push_readable`] writes names
+/// for people.
 ///
 /// # Errors
 ///
-/// `AllocError` where memory runs out; the text may then have grown by a front of this.
+/// `AllocError` if memory runs out; the beginning of the name may then be in the text.
 pub fn push_escaped(text: &mut Vec<u8>, name: &[u8]) -> Result<(), AllocError>
     ensures { OnOk result (text.new.items ≡ text.old.items ++ escaped name.now) }
 {
@@ -24,13 +24,13 @@ pub fn push_escaped(text: &mut Vec<u8>, name: &[u8]) -> Result<(), AllocError>
     Ok(())
 }
 
-/// Adds a name to a text for people: the control characters, those from U+0080 to U+009F too, and the
-/// backslash as `\x` and two lower-case hexadecimal digits for each of their bytes, all others as they
-/// are. So no name steers a terminal, and no two names are written alike.
+/// Adds a name to a text for people: each byte of the control characters (U+0080 to U+009F too) and of the
+/// backslash as `\x` and two lower-case hexadecimal digits, all others as they are. No name steers a terminal,
+/// and no two names are written alike.
 ///
 /// # Errors
 ///
-/// `AllocError` where memory runs out; the text may then have grown by a front of this.
+/// `AllocError` if memory runs out; the beginning of the name may then be in the text.
 pub fn push_readable(text: &mut Vec<u8>, name: &str) -> Result<(), AllocError>
     ensures { OnOk result (text.new.items ≡ text.old.items ++ readable name.now) }
 {
@@ -58,7 +58,7 @@ fn push_byte(text: &mut Vec<u8>, byte: u8) -> Result<(), AllocError>
     }
 }
 
-// Whether people are told a character by the numbers of its bytes.
+// Whether people are shown a character by the numbers of its bytes.
 fn is_numbered(character: char) -> bool
     ensures { result ≡ is_numbered character }
 {

@@ -4,7 +4,7 @@ ghost use Rattle.std.specs.Prelude.{◌≡◌, ℕ, ◌^◌, ◌<◌, ◌≤◌,
 ghost use Rattle.std.specs.Str.Parse.{IsNumeral, digits_value};
 ghost use Rattle.seccomp_command_line.specs.Numbers.{IsWritten};
 
-/// The number that the digits of a text write, where 64 bits hold it; `None` where the text is not one
+/// The number that the digits of a text write, if 64 bits hold it; `None` if the text is not one
 /// digit of this radix or more, and nothing else. Above 9 digits are letters of either case.
 pub fn read_digits(text: &str, radix: u32) -> Option<u64>
     requires some { 2 ≤ radix }

@@ -21,7 +21,7 @@ pub trait TellsRecords {
     ///
     /// # Errors
     ///
-    /// `AllocError` where memory runs out.
+    /// `AllocError` if memory runs out.
     fn text_of(&self, alloc: Global, records: &[[u8; 64]]) -> Result<Vec<u8>, AllocError>
         requires { can_tell self.now }
         ensures { IfOk result (λ text. is_text_of self.now records.now text.items) };
@@ -33,10 +33,9 @@ pub trait TellsRecords {
 ///
 /// # Errors
 ///
-/// The first of these: `Read` where the reader fails; `Write` where the writer does; `ShortRecord` where
-/// 1 to 63 bytes are left, after the text of the whole records is written. `OutOfMemory` comes in place of
-/// any of these where memory runs out, in the reader too. On any error but
-/// `Write` and `ShortRecord` nothing is written.
+/// The first of these: `Read` if the reader fails; `Write` if the writer does; `ShortRecord` if 1 to 63 bytes
+/// are left, after the text of the whole records is written. `OutOfMemory` comes in place of any of these if
+/// memory runs out, in the reader too. On any error but `Write` and `ShortRecord` nothing is written.
 pub fn tell_records<T: TellsRecords, R: Read + Drop, W: Write>(
     alloc: Global,
     teller: &T,

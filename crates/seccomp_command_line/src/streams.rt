@@ -12,7 +12,7 @@ use std::io::{ErrorKind, Read, Write};
 ///
 /// # Errors
 ///
-/// `Read` where the reader fails, and `OutOfMemory` where it fails because memory runs out.
+/// `Read` if the reader fails, and `OutOfMemory` if it fails because memory runs out.
 pub fn read_whole<R: Read + Drop>(alloc: Global, mut reader: R) -> Result<Vec<u8>, ToolError>
     ensures bytes { IfOk result (λ bytes. IfSome (R.remaining reader) (λ known. bytes.items ≡ known)) }
     ensures cause { IfErr result IsReadError }
@@ -29,7 +29,7 @@ pub fn read_whole<R: Read + Drop>(alloc: Global, mut reader: R) -> Result<Vec<u8
 ///
 /// # Errors
 ///
-/// `Write` where the writer fails; how much of them went out is then not known.
+/// `Write` if the writer fails; how much of them went out is then not known.
 pub fn send<W: Write>(out: &mut W, bytes: &[u8]) -> Result<(), ToolError>
     ensures sent { OnOk result (Appends (W.contents out.old) (W.contents out.new) bytes.now) }
     ensures cause { IfErr result IsWriteError }

@@ -17,7 +17,7 @@ use Rattle.seccomp_compare.specs.declared.values.Values.{Values}
 use Rattle.seccomp_compare.specs.WordSets.{HasValue, IsTight}
 use Rattle.seccomp_compare.specs.RecordSets.{IsIn, AreTight, Reaches}
 
--- what stands in a list after a write: the new value at its place, the old ones elsewhere
+-- what is in a list after a write: the new value at its place, the old ones elsewhere
 pub set_found : (part : List Values) (w : ℕ) (v : Values) (j : ℕ) (s : Values) → slice_get (slice_set part w v) j ≡ Some s
     → ((j ≡ w) × (v ≡ s)) ⊎ (slice_get part j ≡ Some s)
 set_found part w v j s found =
@@ -51,7 +51,7 @@ set_kept part w v j s found =
     (λ other. inr (slice_get-get_or (slice_set part w v) j s in_new ∙ ap (λ t. Some t) (get_or-set_other part w j v s other ∙ is)))
     (cases_eq j w)
 
--- what was written stands there
+-- what was written is there
 pub set_here : (part : List Values) (w : ℕ) (v : Values) → w < length part → slice_get (slice_set part w v) w ≡ Some v
 set_here part w v within =
     let long = length-set part w v in
@@ -101,7 +101,7 @@ tight_narrowed part w v tight new_tight = record {
       (set_found part w v j s found);
 }
 
--- where a program comes to a return, its run ends
+-- if a program comes to a return, its run ends
 pub ends_at : (p : List sock_filter) (r : List ℕ) (at : At) (i : sock_filter) (before : Reaches p r at) → slice_get p at.place ≡ Some i
     → i.code ≡ 0x06 → Ends p r (before.steps + 1) i.k
 ends_at p r at i before here code = before.ends 1 i.k (returns i here code)

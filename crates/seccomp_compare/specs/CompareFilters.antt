@@ -66,8 +66,8 @@ pub record IsCompilableInSome (f : Filter) : Type 0 where
   pub program : List sock_filter
   pub fitting : IsFitting f program
 
--- Why two filters aren't compared: the refusal of the first; else, where that may be compiled, the refusal of the second;
--- else, where both may be, want of memory.
+-- Why two filters aren't compared: the refusal of the first; else, if that may be compiled, the refusal of the second;
+-- else, if both may be, lack of memory.
 pub data IsComparisonRefusal (f g : Filter) (e : BackendError) : Type 0 where
   of_first : IsFittingRefusal f e → IsComparisonRefusal f g e
   of_second : IsCompilableInSome f → IsFittingRefusal g e → IsComparisonRefusal f g e

@@ -9,9 +9,10 @@ use crate::values::{ALL, Values, between};
 use seccompiler::backend::TargetArch;
 use std::marker::Model;
 
-/// A set of calls: all, those of an architecture or of several, or those of one or more call numbers of one.
+/// A set of calls: all, those of one or several architectures, or those of one architecture with one or more
+/// call numbers.
 ///
-/// Whatever the set, their instruction pointers and arguments are any.
+/// Their instruction pointers and arguments may have any value.
 ///
 /// ```
 /// // x86_64 has no name for these numbers.
@@ -53,7 +54,7 @@ impl Calls {
     }
 
     /// The calls whose `AUDIT_ARCH_*` values lie from `least` to `greatest`, both included, with any
-    /// numbers; none where `greatest` is less. So those of all architectures but one are two such sets.
+    /// numbers; none if `greatest` is less. So those of all architectures but one are two such sets.
     pub fn of_arch_words(least: u32, greatest: u32) -> Self
         ensures { (r : List ℕ) → (IsCallOf result r
             ↔ (IsRecord r × (least ≤ word_at r 4) × (word_at r 4 ≤ greatest))) }
@@ -83,7 +84,7 @@ impl Calls {
     }
 
     /// The calls of the numbers from `least` to `greatest` of an architecture, both included; none
-    /// where `greatest` is less.
+    /// if `greatest` is less.
     pub fn of_numbers(arch: TargetArch, least: u32, greatest: u32) -> Self
         ensures { (r : List ℕ) → (IsCallOf result r
             ↔ (IsRecord r × (word_at r 4 ≡ audit_word arch) × (least ≤ word_at r 0) × (word_at r 0 ≤ greatest))) }

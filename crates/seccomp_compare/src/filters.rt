@@ -13,20 +13,19 @@ use std::alloc::Global;
 
 /// Compares what two filters decide, for each call of a set.
 ///
-/// `Holds` says that on every call of the set the values that [`decide`](SeccompFilter::decide)
-/// gives are related, that of `filter` first; `Fails` has a call of the set on which they aren't.
-/// Whether a new policy permits nothing that the old one doesn't is `AtMostAsPermissive` of the
-/// new one, with the old one as `other`.
+/// `Holds` says that on every call of the set the value that [`decide`](SeccompFilter::decide) gives for
+/// `filter` is related to the one it gives for `other`; `Fails` has a call of the set on which it isn't. To ask
+/// whether a new policy permits nothing that the old one doesn't, give the new one as `filter`, the old one as
+/// `other`, and `AtMostAsPermissive`.
 ///
-/// It compares programs as [`compare`](crate::compare) does, those of
-/// [`fitting_bpf`](seccomp_tree::fitting_bpf): trees where they fit, else linear programs. It looks at
-/// `most` sets of records at most.
+/// It compares the programs of [`fitting_bpf`](seccomp_tree::fitting_bpf) as [`compare`](crate::compare) does:
+/// trees if they fit, else linear programs. It looks at no more than `most` sets of records.
 ///
 /// # Errors
 ///
-/// Those of `filter`, then those of `other`: `InvalidSyscallNumber` with the least key that lies
-/// outside 0 to 4294967295; `FilterTooLarge` with `program_len` where neither layout fits 4096
-/// instructions. `OutOfMemory` where memory runs out.
+/// Those of `filter`, then those of `other`: `InvalidSyscallNumber` with the least key that lies outside 0 to
+/// 4294967295; `FilterTooLarge` with `program_len` if neither layout fits 4096 instructions. `OutOfMemory` if
+/// memory runs out.
 ///
 /// # Examples
 ///
@@ -56,19 +55,18 @@ pub fn compare_filters(
 
 /// Compares what a program returns with what the filter decides, for each call of a set.
 ///
-/// `Holds` says that on every call of the set the value that the program returns and the one that
-/// [`decide`](SeccompFilter::decide) gives are related, the program's first; `Fails` has a call of
-/// the set on which they aren't. The program must pass
-/// [`machine::check`](crate::machine::check), and may be of any compiler. Whether it permits
-/// nothing that the policy doesn't is `AtMostAsPermissive`.
+/// `Holds` says that on every call of the set the value that the program returns is related to the one that
+/// [`decide`](SeccompFilter::decide) gives; `Fails` has a call of the set on which it isn't. The program must
+/// pass [`machine::check`](crate::machine::check), and may be of any compiler. `AtMostAsPermissive` asks
+/// whether it permits nothing that the policy doesn't.
 ///
-/// The filter's own program is made as [`compare_filters`] makes it, and `most` sets of records are
-/// looked at at most.
+/// The filter's own program is made as [`compare_filters`] makes it, and the comparison looks at no more than
+/// `most` sets of records.
 ///
 /// # Errors
 ///
-/// `InvalidSyscallNumber` with the least key that lies outside 0 to 4294967295; `FilterTooLarge`
-/// with `program_len` where neither layout fits 4096 instructions. `OutOfMemory` where memory runs out.
+/// `InvalidSyscallNumber` with the least key that lies outside 0 to 4294967295; `FilterTooLarge` with
+/// `program_len` if neither layout fits 4096 instructions. `OutOfMemory` if memory runs out.
 pub fn compare_program(
     alloc: Global,
     program: BpfProgramRef<'_>,

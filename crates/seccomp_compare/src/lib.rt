@@ -1,10 +1,9 @@
 //! Comparisons of seccomp programs, and of the filters that programs are made of: every function proved.
 //!
 //! - [`compare`] says whether two programs answer alike, or the first permits no more than the second
-//!   ([`Relation`]), on every call of a set ([`Calls`]). Where that isn't so it gives a call that shows it
+//!   ([`Relation`]), on every call of a set ([`Calls`]). If not, it gives a call that shows it
 //!   ([`Comparison`]).
-//! - [`compare_filters`] says the same of what two filters decide, and [`compare_program`] of a program and
-//!   a filter.
+//! - [`compare_filters`] compares what two filters decide, and [`compare_program`] a program with a filter.
 //! - [`rank`] says how much the action of a return value permits.
 //!
 //! A program may be of any compiler, as long as [`machine::check`] passes it.
@@ -93,17 +92,16 @@ pub enum Comparison {
 
 /// Compares the answers of two programs for each call of a set.
 ///
-/// The programs must pass [`machine::check`], and may be of any compiler. The comparison splits the calls by the tests of both programs, into sets of which it knows what the
-/// programs return, and looks at `most` such sets at most. Most pairs of programs take a few sets for
-/// each test, some microseconds in all; tests under masks of several arguments in one rule may take
-/// many. A million sets take some tenths of a second.
+/// The programs must pass [`machine::check`], and may be of any compiler. The comparison splits the calls by
+/// the tests of both programs, into sets for which it knows what the programs return, and looks at no more than
+/// `most` such sets. Most pairs of programs take a few sets for each test, some microseconds in all; tests
+/// under masks of several arguments in one rule may take many. A million sets take some tenths of a second.
 ///
-/// The sets that are left stand in memory, some 370 bytes each; the stack that it takes doesn't
-/// depend on the programs.
+/// The sets that are left take memory, some 370 bytes each; the use of stack doesn't depend on the programs.
 ///
 /// # Errors
 ///
-/// `OutOfMemory` where memory runs out.
+/// `OutOfMemory` if memory runs out.
 ///
 /// # Examples
 ///

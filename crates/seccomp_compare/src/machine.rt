@@ -14,16 +14,16 @@ use seccompiler::machine::Outcome;
 /// A jump that tests whether the accumulator has one of the bits of the operand.
 pub const BPF_JSET: u16 = 0x40;
 
-/// The code that jumps over `jt` instructions where the accumulator has one of the bits of `k`, else over `jf`.
+/// The code that jumps over `jt` instructions if the accumulator has one of the bits of `k`, else over `jf`.
 pub const JUMP_IF_SET: u16 = BPF_JMP | BPF_JSET | BPF_K;
 
 const _: () = prove!(JUMP_IF_SET == 0x45);
 
 /// Says whether a program may be run.
 ///
-/// A program passes as it passes [`check`](seccompiler::machine::check) of `seccompiler`, except that its
-/// instructions may also be `BPF_JMP | BPF_JSET | BPF_K`, which jumps where the accumulator has one of the
-/// bits of `k`. So the programs of runc, minijail and Chromium pass.
+/// A program passes as it passes [`check`](seccompiler::machine::check) of `seccompiler`, except that it may
+/// also contain `BPF_JMP | BPF_JSET | BPF_K`, which jumps if the accumulator has one of the bits of `k`. So the
+/// programs of runc, minijail and Chromium pass.
 ///
 /// ```
 /// // Allows a call unless its number has the bit of x32.
@@ -38,7 +38,7 @@ const _: () = prove!(JUMP_IF_SET == 0x45);
 pub fn check(prog: BpfProgramRef<'_>) -> bool
     ensures checked { IsTrue result ↔ IsChecked prog.now }
 
-    // A program without JSET passes where that of `seccompiler` takes it.
+    // A program without JSET passes if that of `seccompiler` takes it.
     ensures of_seven { All (λ i. i.code ≢ 0x45) prog.now → (IsTrue result ↔ of_seven.IsChecked prog.now) }
 {
     first_unfit(prog).is_none()
@@ -46,8 +46,8 @@ pub fn check(prog: BpfProgramRef<'_>) -> bool
 
 /// Gives the first place of a program that keeps [`check`] from passing it, if there is one.
 ///
-/// That is the place of the first instruction that may not stand where it does; or 4096, where there are
-/// more and those before may; or the last place, where all may and the last instruction doesn't return.
+/// That is the place of the first instruction that may not stand where it does; or 4096, if there are
+/// more and those before may; or the last place, if all may and the last instruction doesn't return.
 /// Of no instructions it is 0.
 pub fn first_unfit(prog: BpfProgramRef<'_>) -> Option<usize>
     ensures unfit { IfSome result (IsFirstUnfit prog.now) }

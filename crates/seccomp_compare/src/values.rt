@@ -145,7 +145,7 @@ pub(crate) fn outcome(values: Values, mask: u32, test: sock_filter) -> Option<bo
     }
 }
 
-// Those of which this bit is 0, and those of which it is 1, where it isn't known.
+// Those of which this bit is 0, and those of which it is 1, if it isn't known.
 fn by_bit(values: Values, place: u32) -> (Values, Values)
     requires place { place < 32 }
     requires kept { KeepsKnown values }
@@ -182,7 +182,7 @@ fn by_order(values: Values, last: u32) -> (Values, Values)
 }
 
 // A greater number that none of those is below which have these bits, given one which has one of them wrong: they lie
-// behind the next number in which the highest such bit is right.
+// after the next number in which the highest such bit is right.
 fn raised(known: u32, value: u32, least: u32) -> Option<u32>
     requires kept { bit_and value known ≡ value }
     requires wrong { bit_and least known ≢ value }
@@ -197,7 +197,7 @@ fn raised(known: u32, value: u32, least: u32) -> Option<u32>
 }
 
 // The same words from this one on, which none of them is below under the mask and which agrees with the known bits; the
-// mask's bits are known where the bounds leave one word.
+// mask's bits are known if the bounds leave one word.
 fn from(values: Values, least: u32) -> Values
     requires kept { KeepsKnown values }
     requires within { bit_and least values.mask ≡ least }
@@ -218,7 +218,7 @@ fn from(values: Values, least: u32) -> Values
     Values { least, ..values }
 }
 
-// The same words, of which the least bound with the known bits is one; or, where there are none, with bounds that leave
+// The same words, of which the least bound with the known bits is one; or, if there are none, with bounds that leave
 // none.
 fn tightened(values: Values) -> Values
     requires { KeepsKnown values }
@@ -268,7 +268,7 @@ fn compared(mask: u32, test: sock_filter) -> (u32, sock_filter) {
     }
 }
 
-// The same words, with bounds under this mask where their own bounds say no more than the known bits, and more than one
+// The same words, with bounds under this mask if their own bounds say no more than the known bits, and more than one
 // bit under the mask is unknown.
 fn bounded(values: Values, mask: u32) -> Values
     requires { KeepsKnown values }

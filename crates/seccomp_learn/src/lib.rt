@@ -1,6 +1,6 @@
-//! From the calls that a program made to a policy that allows these.
+//! Makes a policy that allows the calls that a program made.
 //!
-//! [`read_trace`] reads what `strace`, the kernel's log or the audit system says of a program's calls, [`learn`] makes a
+//! [`read_trace`] reads a program's calls from `strace`, the kernel's log or the audit system, [`learn`] makes a
 //! policy of them, and [`policy_text`] writes it as JSON. `docs/LEARNING.md` goes through this step by step.
 //!
 //! ```

@@ -7,12 +7,12 @@ ghost use Rattle.seccomp_learn.specs.Observed.{HasMoreValues, IsSeenApart, value
 use crate::observation::{Kept, Observation, seen_part};
 use std::alloc::{AllocError, Global};
 
-/// The kept arguments without those of calls that were observed with more than `limit` different values, so that such a
-/// call is allowed whatever its arguments are.
+/// The kept arguments, except those of calls that were observed with more than `limit` different values. Such a
+/// call is allowed with any arguments.
 ///
 /// # Errors
 ///
-/// An error comes where memory runs out.
+/// `AllocError` if memory runs out.
 pub fn within(
     alloc: Global,
     kept: &[Kept],

@@ -1,7 +1,8 @@
 // Numbers as strace and the audit system write them.
 
-/// The number that an argument of strace is, if it is one: decimal, hexadecimal behind `0x`, octal behind `0`; a
-/// negative one in two's complement. What strace writes behind a number, its name or what a descriptor is, is passed over.
+/// The number that an argument of strace is, if it is one: decimal, hexadecimal after `0x`, octal after `0`; a
+/// negative one in two's complement. What strace writes after a number, a name or what a descriptor is, is
+/// skipped.
 pub(crate) fn number_in(argument: &[u8]) -> Option<u64> {
     let text = str::from_utf8(argument).ok()?;
     let text = before(before(text, "/*"), "<").trim();

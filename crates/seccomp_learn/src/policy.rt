@@ -22,8 +22,8 @@ pub struct Learned {
 
 /// Makes a policy that matches what an old policy matches, and each call as it was observed.
 ///
-/// Of an observed call the values of those arguments that are kept, and known, have to be the same. An
-/// observed number that no call of the architecture has is passed over. The old policy's actions stay.
+/// A call matches an observed one if the arguments that are kept and known have the same values. An observed
+/// number that the architecture has no call for is skipped. The old policy's actions stay.
 ///
 /// # Errors
 ///

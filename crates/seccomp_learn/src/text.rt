@@ -8,13 +8,14 @@ use seccompiler::{
 };
 use std::alloc::{AllocError, Global};
 
-/// The text of a policy, as `docs/JSON.md` has it: an entry a line, filters in byte order of their names.
+/// The text of a policy, in the format of `docs/JSON.md`: one entry a line, filters in byte order of their
+/// names.
 ///
-/// It has printed ASCII and line feeds alone. Any other character of a name is written by its number.
+/// It consists of printable ASCII and line feeds. Any other character of a name is written by its number.
 ///
 /// # Errors
 ///
-/// An error comes where memory runs out.
+/// `AllocError` if memory runs out.
 pub fn policy_text(alloc: Global, filters: &JsonFilterMap) -> Result<Vec<u8>, AllocError> {
     let mut text = Vec::new(alloc);
     text.extend_from_slice(b"{")?;

@@ -23,12 +23,12 @@ pub struct Trace {
     pub first_strange: Option<usize>,
 }
 
-/// Reads a trace: lines of `strace`, of the kernel's log or of the audit system, in any mixture; or call records, if
-/// there is a byte 0.
+/// Reads a trace: lines of `strace`, of the kernel's log or of the audit system, in any mixture; or call
+/// records, if there is a byte 0.
 ///
 /// # Errors
 ///
-/// An error comes where memory runs out.
+/// `AllocError` if memory runs out.
 pub fn read_trace(alloc: Global, arch: TargetArch, text: &[u8]) -> Result<Trace, AllocError> {
     let mut trace = Trace {
         observed: Vec::new(alloc),

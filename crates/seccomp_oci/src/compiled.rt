@@ -41,24 +41,24 @@ pub enum CompileError {
     OutOfMemory,
 }
 
-/// Compiles the profile of a text, on an architecture and in a container, into one program, which returns what the profile
-/// decides of every call.
+/// Compiles the profile of a text, on an architecture and in a container, into one program, which returns what
+/// the profile decides of every call.
 ///
-/// It is the program of [`decisions_of_profile`](crate::decisions_of_profile). Entries that don't apply to the container,
-/// `architectures`, `archMap` and `flags` leave nothing in it. Nor do the names of calls that the architecture hasn't:
-/// `left_out` lists them, as [`unknown_names`](crate::unknown_names) does. Where `strict` is set, they are an error. `flags`
-/// are listed too, and are no error.
+/// It is the program of [`decisions_of_profile`](crate::decisions_of_profile). Entries that don't apply to the
+/// container, `architectures`, `archMap`, `flags`, and names of calls that the architecture doesn't have add
+/// nothing to it. `left_out` lists those names, as [`unknown_names`](crate::unknown_names) does; if `strict` is
+/// set, they are an error. `flags` are listed too, and are no error.
 ///
 /// # Errors
 ///
-/// The first of these that is there:
+/// The first of these:
 ///
-/// - `Profile` with the error of [`profile_of`](crate::profile_of), where the text is no profile;
-/// - `UnknownNames` with the names that would be left out, where there are some and `strict` is set;
-/// - `TooLarge` where the program would have more than 4096 instructions.
+/// - `Profile` with the error of [`profile_of`](crate::profile_of), if the text is no profile;
+/// - `UnknownNames` with the names that would be left out, if there are any and `strict` is set;
+/// - `TooLarge` if the program would have more than 4096 instructions.
 ///
-/// `OutOfMemory` may come in place of any answer, where memory runs out. No other error comes, and `Profile` has
-/// no `OutOfMemory` in it.
+/// `OutOfMemory` may come in place of any answer, if memory runs out. No other error comes, and `Profile` never
+/// contains `OutOfMemory`.
 pub fn compile_profile(
     alloc: Global,
     arch: TargetArch,

@@ -35,21 +35,23 @@ pub(crate) struct Found {
 
 /// What a profile decides of a call, in a container on this architecture.
 ///
-/// An entry *concerns* a call where it [`applies`](crate::applies) to the container, one of its names is that of the call, and
-/// its action isn't the default one: a runtime passes over an entry that says what holds without it. The first entry without
-/// conditions that concerns the call settles it, whatever stands beside it. Else the entries decide whose conditions are met.
-/// Where they name several actions, the profile leaves the answer open, and it is the strictest, of equally strict ones the
-/// first entry's. Where there are none, it is the default action; but on `x86_64` a number of x32 kills the thread, and
-/// [runc](crate::Runtime::Runc) answers numbers above all that the profile names with `ENOSYS`.
+/// An entry *concerns* a call if it [`applies`](crate::applies) to the container, one of its names is that of
+/// the call, and its action isn't the default one: a runtime skips entries with the default action. The first
+/// entry without conditions that concerns the call decides it, whatever other entries there are. Without such
+/// an entry, those whose conditions are met decide. If they name several actions, the profile leaves the answer
+/// open, and it is the strictest, of equally strict ones the first entry's. If there are none, it is the
+/// default action; but on `x86_64` a number of x32 kills the thread, and [runc](crate::Runtime::Runc) answers
+/// numbers above all that the profile names with `ENOSYS`.
 ///
-/// The conditions of an entry are met where all of them are; but where two of them are on one argument, it is enough that one
-/// of them is, since runtimes take them for alternatives. A condition compares all 64 bits of its argument.
+/// The conditions of an entry are met if all of them are; but if two of them are on one argument, it is enough
+/// that one condition is met, since runtimes take them for alternatives. A condition compares all 64 bits of
+/// its argument.
 ///
-/// `call` is the record of a call, a `struct seccomp_data`, of which the number and the arguments are looked at. Its
-/// `AUDIT_ARCH_*` value isn't: a record of another architecture is taken for one of this.
+/// `call` is the record of a call, a `struct seccomp_data`. Only its number and its arguments are read: a
+/// record of another architecture is decided as one of this.
 ///
-/// Each condition is on an argument from 0 to 5, as those of every profile are that [`profile_of`](crate::profile_of) gives.
-/// It takes no memory.
+/// Each condition is on an argument from 0 to 5, as in every profile that [`profile_of`](crate::profile_of)
+/// gives. It takes no memory.
 pub fn decision_of_profile(
     arch: TargetArch,
     container: &Container,

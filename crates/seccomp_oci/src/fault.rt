@@ -49,17 +49,18 @@ enum Items {
     Conditions,
 }
 
-/// The text of the first fault of a value that is no profile: the way to its place, a colon, a space, and what is wrong
-/// there, as `syscalls[3].args[0].index: expected 0 to 5, found 6`.
+/// The text of the first fault of a value that is no profile: the path to its place, a colon, a space, and what
+/// is wrong there, as `syscalls[3].args[0].index: expected 0 to 5, found 6`.
 ///
-/// The way is that of names and of places in brackets, from 0; `the profile` stands for that to the value itself. A value that
-/// may not stand at its place is shown as JSON, an object as `an object` and an array as `an array`. Inside an object the order
-/// is: a name that isn't known; the comment; the action and what stands beside it; and then the other parts. These words, and
-/// that they are there for each value that is no profile, are tested and not proved.
+/// The path consists of names, and of places in brackets, from 0; the path to the value itself is `the
+/// profile`. A value that may not stand at its place is shown as JSON, an object as `an object` and an array as
+/// `an array`. The order inside an object is: unknown names; the comment; the action and what stands beside it;
+/// then the other parts. These words, and that each value that is no profile has them, are tested and not
+/// proved.
 ///
 /// # Errors
 ///
-/// An error comes where memory runs out.
+/// `AllocError` if memory runs out.
 pub(crate) fn fault_of(alloc: Global, value: &Value) -> Result<String, AllocError> {
     match in_profile(alloc, value) {
         Err(Finding::OutOfMemory) => Err(AllocError),

@@ -8,18 +8,18 @@ use seccompiler::{
 };
 use std::alloc::{AllocError, Global};
 
-/// The filters of a profile, that the warnings of `check` are about. They are no program of the profile:
+/// The filters of a profile that `check` warns about. They are no program of the profile:
 /// [`decisions_of_profile`](crate::decisions_of_profile) gives what it decides.
 ///
-/// The entries that say something and don't allow have a filter for each action, which allows all else; entries of an
-/// action share one where none of another such action stands between them. Behind these comes, where the default action isn't
-/// to allow, a filter that allows what any entry that says something is for, and has the default action for all else. An entry
-/// says something where it applies to the container, and its action isn't the default one. Calls that the architecture hasn't
-/// are left out.
+/// An entry is *effective* if it applies to the container and its action isn't the default one. Effective
+/// entries that don't allow have a filter for each action, which allows all else; entries of one action share a
+/// filter if no entry of another such action stands between them. If the default action isn't to allow, a last
+/// filter allows what any effective entry is for, and has the default action for all else. Calls that the
+/// architecture doesn't have are left out.
 ///
 /// # Errors
 ///
-/// An error comes where memory runs out.
+/// `AllocError` if memory runs out.
 pub fn json_filters_of(
     alloc: Global,
     arch: TargetArch,

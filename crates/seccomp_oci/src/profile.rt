@@ -64,19 +64,19 @@ fn read_profile(alloc: Global, value: &Value) -> Result<Option<Profile>, AllocEr
     }))
 }
 
-/// The profile that a JSON text is.
+/// Reads a profile from a JSON text.
 ///
-/// The text is what stands under `linux.seccomp` in the OCI runtime specification, or a profile of Docker or Podman. Its value is
-/// no profile where an entry or a part of one has a name that isn't known, or where there is an action, operator or flag that
-/// can't be carried. Podman names an errno beside its number, as `"errno": "EPERM"`: the name wins. Each condition of a
-/// profile is on an argument from 0 to 5.
+/// The text is the value of `linux.seccomp` in the OCI runtime specification, or a profile of Docker or Podman.
+/// It is no profile if an entry or a part of one has an unknown name, or if an action, operator or flag can't
+/// be carried. Podman names an errno beside its number, as `"errno": "EPERM"`: the name wins. Each condition of
+/// a profile is on an argument from 0 to 5.
 ///
 /// # Errors
 ///
-/// `Json` where the bytes are no JSON text in UTF-8. `NotAProfile` where the text's value is no profile, with the text of
-/// its first fault: the way to its place, a colon, a space, and what is wrong there, as
-/// `syscalls[3].args[0].index: expected 0 to 5, found 6`. `OutOfMemory` may come in place of any answer, where memory runs
-/// out. No other error comes.
+/// `Json` if the bytes are no JSON text in UTF-8. `NotAProfile` if the text's value is no profile, with the
+/// text of its first fault: the path to its place, a colon, a space, and what is wrong there, as
+/// `syscalls[3].args[0].index: expected 0 to 5, found 6`. `OutOfMemory` may come in place of any answer, if
+/// memory runs out. No other error comes.
 pub fn profile_of(alloc: Global, text: &[u8]) -> Result<Profile, ProfileError>
     ensures read { IfOk result (IsProfileText text.now) }
     ensures fault { IfErr result (IsProfileFault text.now) }

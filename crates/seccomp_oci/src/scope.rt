@@ -132,11 +132,11 @@ fn are_five(first: bool, second: bool, third: bool, fourth: bool, fifth: bool) -
 
 /// Whether an entry of a profile applies to a container on this architecture.
 ///
-/// All capabilities that it includes have to be there, and none that it excludes. The architecture has
-/// to be one of those that it includes, if it includes any, and none that it excludes; architectures are
-/// named as Go names them: `amd64`, `arm64` and `riscv64`. The kernel has to be the one that it includes or
-/// a newer one, and older than the one that it excludes, where it has such. Where the container has no
-/// kernel given, it counts as newer than each. It takes no memory.
+/// The container has to have all capabilities that the entry includes, and none that it excludes. The
+/// architecture has to be one that the entry includes, if it includes any, and none that it excludes;
+/// architectures have Go's names: `amd64`, `arm64` and `riscv64`. The kernel has to be at least the version
+/// that the entry includes, and older than the one that it excludes, if the entry gives them. A container
+/// without a kernel version counts as newer than all. It takes no memory.
 pub fn applies(arch: TargetArch, container: &Container, entry: &Entry) -> bool
     ensures { IsTrue result ↔ Applies arch container.now entry.now }
 {

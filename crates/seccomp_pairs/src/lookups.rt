@@ -4,8 +4,8 @@ use crate::files::file_of;
 use crate::reading::{assert_of, pair_of, walked};
 use seccompiler::{SyscallTable, TargetArch};
 
-// Texts that name no call on any architecture: before all names and behind them, and one byte, one
-// letter's case or the length away from a name.
+// Texts that name no call on any architecture: before all names and after them, and one byte, the case of one
+// letter or the length away from a name.
 const ABSENT: [&str; 16] = [
     "", "zz", "closd", "closf", "blose", "close1", "clos", "lose", " close", "close ", "close\0",
     "Close", "closE", "CLOSE", "_sysctk", "writew",

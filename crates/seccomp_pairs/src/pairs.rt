@@ -23,7 +23,7 @@ fn no_name_stands_twice(rt: HostRuntime) {
     }
 }
 
-// Since the pairs of the files are found, and no name stands twice, there is no room for another.
+// Since the pairs of the files are found, and no name comes twice, there is no room for another.
 #[test]
 fn the_tables_are_as_long_as_the_files(rt: HostRuntime) {
     for arch in TargetArch::all() {

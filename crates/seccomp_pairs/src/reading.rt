@@ -49,7 +49,7 @@ pub(crate) fn stands_once(file: &str, name: &str) -> bool {
     seen
 }
 
-// Asserts what is so of a line or a name of the architecture, and names both where it isn't.
+// Asserts a property of a line or a name of the architecture, and names both if it fails.
 pub(crate) fn assert_of(rt: &impl Abort, arch: TargetArch, line: &str, is_so: bool) {
     assert!(rt; is_so, "`{line}` on {arch}");
 }

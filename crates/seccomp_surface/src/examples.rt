@@ -1,5 +1,5 @@
-// The examples of the pages and of the library's documentation. tools/check-documents compares them:
-// each stands in one of these files, as it is there, or indented as part of a test.
+// The examples of the pages and of the library's documentation, each in one of these files as it is there, or
+// indented as part of a test. tools/check-documents compares them.
 
 mod comparisons;
 mod depending;

@@ -1,5 +1,5 @@
-// JSON filters and conditions as values: what a text says that no program shows, and which condition
-// stands for a JSON condition.
+// JSON filters and conditions as values: what a text says that no program shows, and the condition that a JSON
+// condition becomes.
 
 use seccompiler::backend::SeccompAction::{Errno, Trace};
 use seccompiler::backend::SeccompCmpArgLen::{Dword, Qword};

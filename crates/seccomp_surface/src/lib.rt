@@ -1,5 +1,6 @@
-// Tests of what needs the language of the library's users: the examples of its pages, each public item by its path and its
-// traits, and JSON filters as values. What calls answer stands in rows, of crates/seccomp_vectors and of tools/rows.
+// Tests of what needs the library's own language: the examples of its pages, the path and the traits of each
+// public item, and JSON filters as values. The answers of calls are rows, in crates/seccomp_vectors and
+// tools/rows.
 #![tactic(auto)]
 
 #[cfg(test)]

@@ -1,5 +1,5 @@
-// The public surface: every item of the root by its root path, and the readers of policies by their module's, which is
-// so if this is built; the constants with their numbers, the layout of an instruction, and the errors as errors of any
+// The public surface: if this builds, every item of the root has its root path, and the readers of policies
+// their module's. Also the constants' numbers, the layout of an instruction, and the errors as errors of any
 // program.
 
 use seccompiler::bpf::{

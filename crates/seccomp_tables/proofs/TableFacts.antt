@@ -15,7 +15,7 @@ use Rattle.std.proofs.lemmas.List.Sums.{AllPass-from_list_all}
 use Rattle.seccomp_tables.specs.Tables.{Pair, greatest_number, IsTableNumber, IsCallTable, StandsBefore, x86_64_pairs, aarch64_pairs}
 use Rattle.seccomp_tables.specs.Tables.{riscv64_pairs}
 
--- a test of two parts passes only where both do
+-- a test of two parts passes only if both do
 both : (a b : Bool) → (a && b) ≡ true → (a ≡ true) × (b ≡ true)
 both true b passed = (refl, passed)
 both false b passed = cc
@@ -26,13 +26,13 @@ less_of Less passed = refl
 less_of Equal passed = cc
 less_of Greater passed = cc
 
--- whether each name stands before the next
+-- whether each name comes before the next
 abbrev is_ascending : List Pair → Bool
 is_ascending [] = true
 is_ascending (first ∷ []) = true
 is_ascending (first ∷ second ∷ rest) = is_lt (slice_cmp nat_cmp first.0 second.0) && is_ascending (second ∷ rest)
 
--- names each of which stands before the next stand before all later ones
+-- names each of which comes before the next stand before all later ones
 all_before : (first : Pair) (rest : List Pair) → is_ascending (first ∷ rest) ≡ true
     → All (StandsBefore first) rest × AllPairs StandsBefore (first ∷ rest)
 all_before first [] passed = (
@@ -52,7 +52,7 @@ ascending : (table : List Pair) → is_ascending table ≡ true → AllPairs Sta
 ascending [] passed = λ i j d i<j short. absurd (omega arith)
 ascending (first ∷ rest) passed = (all_before first rest passed).1
 
--- no name stands before itself
+-- no name comes before itself
 differs : (first second : Pair) → StandsBefore first second → first.0 ≢ second.0
 differs first second before same =
     let itself : slice_cmp nat_cmp first.0 first.0 ≡ Less = ap (slice_cmp nat_cmp first.0) same ∙ before in

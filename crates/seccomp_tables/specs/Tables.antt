@@ -40,7 +40,7 @@ greatest_number = pos 462
 abbrev pub IsTableNumber : ℤ → Type 0
 IsTableNumber number = (pos 0 ≤ℤ number) × (number ≤ℤ greatest_number)
 
--- What every table is: of 255 to 511 names, each of ASCII, in byte order of names, with no name twice, and with no number out of range.
+-- Every table has 255 to 511 names, all ASCII, in byte order, no name twice, and no number out of range.
 pub record IsCallTable (table : List Pair) : Type 0 where
   pub long : 255 ≤ length table
   pub short : length table < 512

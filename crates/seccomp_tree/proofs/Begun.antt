@@ -300,7 +300,7 @@ module _ (old others : List Step) (first last base : ℕ) (are : AreSteps (2 ^ 6
         few = omega (arith, pushed.few);
       }
 
-  -- the next of the others starts behind what is pushed, and within the part
+  -- the next of the others starts after what is pushed, and within the part
   pub part_room : (i : ℕ) (d : Step) (new : List Step) → i < begun others (last + 1) → PartOn old others first last base i new
       → (base ≤ (get_or others i d).start) × AreSteps ((get_or others i d).start - base) new
   part_room i d new lt h =

@@ -36,7 +36,7 @@ answer_none code default fits = record {
   own = λ none. absurd (cc);
 }
 
--- with default values behind them the steps answer all numbers below their end
+-- with default values after them the steps answer all numbers below their end
 pub answers_range : (d : DecisionSet) (code : List sock_filter) (old new : List Step) (start end : ℕ)
     → AreAnswers d start code old → HaveNone d start end → AreDefaultsPushed old d.defaults start end new → AreAnswers d end code new
 answers_range d code old new start end h none pushed = record {

@@ -46,7 +46,7 @@ above_alike Le a b v plain la lb h = absurd (omega arith)
 above_alike Lt a b v plain la lb h = absurd (omega arith)
 above_alike (MaskedEq m) a b v plain la lb h = absurd (cc)
 
--- what is chosen where two statements are one
+-- what is chosen if two statements are one
 pub chosen_alike : (Is Too : Type 0) (fit unfit t : Target) → (Is → Too) → (Too → Is) → IsChosen Too fit unfit t → IsChosen Is fit unfit t
 chosen_alike Is Too fit unfit t to back h = record { met = λ x. h.met (to x); unmet = λ not. h.unmet (λ y. not (back y)) }
 

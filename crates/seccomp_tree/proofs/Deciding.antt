@@ -18,7 +18,7 @@ use Rattle.seccomp_tree.specs.Decided.{DecisionSet, default_for, calls_of, rulin
 
 -- ---- lists that a loop goes down
 
--- at an element there is it, and what is behind
+-- at an element there is it, and what is after
 pub drop_at : {A : Type 0} (l : List A) (i : ℕ) (x : A) → i < length l → x ≡ get_or l i x → drop i l ≡ x ∷ drop (i + 1) l
 drop_at l i x lt is = drop_more l i x lt ∙ ap (λ y. y ∷ drop (i + 1) l) (sym is)
 

@@ -65,9 +65,9 @@ calls_ascend w entries calls h =
     subst (IsStrictlySortedBy nat_cmp) (sym (keys_are w entries))
     (numbers_ascend (keys_of entries) (subst (All IsCallNumber) (numbers_are entries) calls) h)
 
--- ---- each goes behind those so far
+-- ---- each goes after those so far
 
--- what stands behind others that are all above a number is above it
+-- what comes after others that are all above a number is above it
 above_middle : (n : ℕ) (front : List (ℕ × List Ruling)) (e : ℕ × List Ruling) (back : List (ℕ × List Ruling))
     → AllByRecursion (λ m. nat_cmp n m ≡ Less) (keys_of (front ++ e ∷ back)) → nat_cmp n e.0 ≡ Less
 above_middle n [] e back all = all.0
@@ -86,7 +86,7 @@ insert_last (x ∷ so_far) n q back ascends =
     rw higher (ap (λ calls. (x.0, x.1.items) ∷ calls)
     (insert_last so_far n q back (sorted_tail nat_cmp x.0 (keys_of rest) ascends)))
 
--- the next chain of a map, as a call behind those so far
+-- the next chain of a map, as a call after those so far
 pub calls_next : (w n : ℕ) (z : ℤ) (chain : Vec Rule Global) (q : Vec Ruling Global)
     (entries left back : List (ℤ × Vec Rule Global)) (so_far : List (ℕ × Vec Ruling Global))
     → AreCallNumbers (numbers_of (chains_of entries))
@@ -127,7 +127,7 @@ module _ (r : List ℕ) (default w : ℕ) where
   hold_none : Hold [] → ⊥
   hold_none (k, y, within, is, has) = omega arith
 
-  -- where a rule holds, the word is the first's
+  -- if a rule holds, the word is the first's
   first_held : (chain : Chain) → Hold chain → First default r (rulings chain) w
   first_held [] some = absurd (hold_none some)
   first_held (q ∷ chain) some = elim (rule_or_not q r) [
@@ -138,7 +138,7 @@ module _ (r : List ℕ) (default w : ℕ) where
     ]
   ]
 
-  -- where none does, it is the default
+  -- if none does, it is the default
   first_unheld : (chain : Chain) → (Hold chain → ⊥) → First default r (rulings chain) default
   first_unheld [] none = nothing
   first_unheld (q ∷ chain) none =
@@ -155,7 +155,7 @@ module _ (r : List ℕ) (default w : ℕ) where
     | inr h ↦ inr (λ some. elim (hold_cases q chain some) [ inl holds ↦ not holds | inr rest ↦ h.0 rest ], h.1)
   ]
 
-  -- the same of a chain, which matches where it has no rules
+  -- so for a chain, which matches if it has no rules
   chain_held : (chain : Chain) → ChainMatches chain r → First default r (rulings_of w chain) w
   chain_held [] matches = here (record { conditions = []; value = w }) [] (All-nil (λ (c : Condition). Holds c r))
   chain_held (q ∷ chain) (inl none) = cc

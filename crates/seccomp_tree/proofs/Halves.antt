@@ -17,7 +17,7 @@ use Rattle.seccomp_tree.proofs.Begun.{steps_more, begun_some, found_in_code}
 
 -- ---- one high half
 
--- where numbers have their low halves alone
+-- if numbers have their low halves alone
 pub half_in : (code : List sock_filter) (steps lows : List Step) (high : ℕ) → AreSteps (2 ^ 64) steps → AreIn code steps
     → IsPartPushed [] steps (high * 2 ^ 32) (high * 2 ^ 32 + 0xffffffff) (high * 2 ^ 32) lows → AreSteps (2 ^ 32) lows × AreIn code lows
 half_in code steps lows high whole inside h =

@@ -139,7 +139,7 @@ met_by_steps old new c fit unfit t steps h part =
           (part.leads r rec w n 2 (omega (arith, h.few, few)) (subst (λ u. LeadsAlways old r u w n) same lead));
     }
 
--- where both targets are one, it is met at once
+-- if both targets are one, it is met at once
 pub met_alike : (old : List sock_filter) (c : Condition) (fit unfit : Target) → fit ≡ unfit → IsIn old fit → IsConditionMet old c fit unfit
     fit old
 met_alike old c fit unfit same inside = record {
@@ -225,7 +225,7 @@ masked_dword old new c m fit unfit t short is h =
     } in
     with_parts old new c m fit unfit t Dword short is base
 
--- numbers agree under a mask where their halves do
+-- numbers agree under a mask if their halves do
 mask_parts : (x v m : ℕ) → bit_and x m ≡ bit_and v m
     → (bit_and (x / 2 ^ 32) (m / 2 ^ 32) ≡ bit_and (v / 2 ^ 32) (m / 2 ^ 32)) × (bit_and (x % 2 ^ 32) (m % 2 ^ 32) ≡ bit_and (v % 2 ^ 32)
     (m % 2 ^ 32))

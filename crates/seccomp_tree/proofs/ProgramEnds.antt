@@ -80,7 +80,7 @@ program_ends p r w n h =
     let end = ends_from p r p 0 0 0 w n refl stays (omega arith) h in
     record { steps = end.steps; few = omega (arith, end.few); short = omega (arith, end.short); ends = end.ends }
 
--- an instruction is as fine where one more stands in front
+-- an instruction is as fine if one more comes in front
 fine_behind : (i : sock_filter) (place n : ℕ) → IsFine i place n → IsFine i (suc place) (suc n)
 fine_behind i place n (fine_load c m k) = fine_load c m k
 fine_behind i place n (fine_mask c) = fine_mask c

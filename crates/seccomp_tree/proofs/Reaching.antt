@@ -28,7 +28,7 @@ does_return code place v i rest inside here is word = record {
   leads = λ r a w n small h. subst (λ l. Returns r l a w n) (sym here) (gives_word r i rest code v a w n is word h);
 }
 
--- the same of code as it was written
+-- so for code as it was written
 pub written_return : (back code : List sock_filter) (place v : ℕ) (t : Target) (i : sock_filter) → reverse back ≡ code
     → place < length code → i ≡ get_or back place i → t ≡ Give v → i.code ≡ 0x06 → i.k ≡ v → DoesAs code t place code
 written_return back code place v t i view inside here is_give is word =

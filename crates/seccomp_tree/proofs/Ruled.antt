@@ -1,4 +1,4 @@
--- Rulings as a target, from the last to the first: each is put in front of what there is behind it.
+-- Rulings as a target, from the last to the first: each is put in front of what comes after it.
 use Rattle.std.proofs.Common.{◌≡◌, ℕ, zero, suc, ◌+◌, ◌*◌, ◌<◌, ◌≤◌, ◌^◌, List, [], ◌∷◌, length, drop, true, false, refl, sym, ap, ◌∙◌}
 use Rattle.std.proofs.Common.{subst, inl, inr, Option, Some, None, arith}
 use Rattle.std.specs.Prelude.{Bool, nat_eq, if◌then◌else◌}
@@ -177,7 +177,7 @@ takes_fresh r p (d ∷ rest) n apart (stops q e l m holds enters) = stops [] d r
 takes_fresh r p (d ∷ rest) n apart (passes q e l m k not enters takes) =
     passes [] d rest m k not (begins m refl (enters_first p d rest m apart enters)) takes
 
--- ---- what there is behind
+-- ---- what comes after
 
 -- Steps over what a condition compares, the only one of the first of the rulings, whose run is still to be entered.
 pub record ArePending (old : List sock_filter) (default : ℕ) (c : Condition) (d : Ruling) (rest : List Ruling) (steps : List Step)
@@ -231,7 +231,7 @@ run_room Qword n j le = omega arith
 
 module _ (old code : List sock_filter) (default : ℕ) (c : Condition) (d : Ruling) (own : only d.conditions ≡ Some c)
     (fits : d.value < 2 ^ 32) where
-  -- what is chosen where the ruling holds, and where it doesn't
+  -- what is chosen if the ruling holds, and if it doesn't
   laid_leads : (others laid : List Step) (r : List ℕ) (w n : ℕ) → IsRecord r → AreLaid c (Give d.value) others laid
       → (RuleHolds d.conditions r → w ≡ d.value)
       → ((RuleHolds d.conditions r → ⊥) → LeadsAlways code r (found_in others (part_of c.arg_len (argument_at r c.arg_index))) w (n + 1))
@@ -346,7 +346,7 @@ rules_alone old mid new default d rest t u none x h = record {
         (h.leads r rec t (chosen_no (RuleHolds d.conditions r) (Give d.value) t not) w (m + 1)
         (x.leads r rec w m (first_behind d rest not first) (takes_fresh r d.conditions rest m apart takes)) a small)
 
--- ---- what there is behind, as a target
+-- ---- what comes after, as a target
 
 rules_settled : (old code new : List sock_filter) (default : ℕ) (c : Condition) (d : Ruling) (rest : List Ruling) (steps : List Step)
     (t : Target) → ArePending old default c d rest steps code → IsPart code c.arg_len c.arg_index steps t new

@@ -82,7 +82,7 @@ are_in_grown old new most steps g h = λ k d lt. is_in_grown old new most _ g (h
 pub last_in : (code : List sock_filter) (t : Target) → t ≡ At (length code - 1) → 1 ≤ length code → IsIn code t
 last_in code t is some = subst (IsIn code) (sym is) (omega arith)
 
--- a run of at most n steps is one of at most m, where that is more
+-- a run of at most n steps is one of at most m, if that is more
 pub returns_more : {r : List ℕ} {code : List sock_filter} {a w n : ℕ} (m : ℕ) → n ≤ m → Returns r code a w n → Returns r code a w m
 returns_more zero le (gives i rest a w n c k) = absurd (omega arith)
 returns_more (suc m) le (gives i rest a w n c k) = gives i rest a w m c k

@@ -86,7 +86,7 @@ calls_full d old mid steps e h full = λ is starts ranges.
     let more = full is in
     omega (arith, long.1, few, some, more)
 
--- behind the load of the number stands what answers all calls
+-- after the load of the number stands what answers all calls
 pub calls_target : (d : DecisionSet) (old mid new : List sock_filter) (steps : List Step) (t : Target) → AreCallSteps old d steps mid
     → IsWord mid 0 steps t new → IsCallsTarget old d t new
 calls_target d old mid new steps t h word =
@@ -166,7 +166,7 @@ takes_some r first (d ∷ rest) =
 
 -- ---- the whole
 
--- behind the load of the architecture's word
+-- after the load of the architecture's word
 loaded : (r : List ℕ) (tested : List sock_filter) (t : Target) (w m : ℕ) → IsRecord r → t ≡ At (length tested - 1) → 1 ≤ length tested
     → Starts tested r t (word_at r 4) w m → Returns r (load 4 ∷ tested) 0 w (suc m)
 loaded r tested t w m rec last some start =

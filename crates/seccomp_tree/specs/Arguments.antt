@@ -18,7 +18,8 @@ pub record IsHalf (old : List sock_filter) (index : ℕ) (steps : List Step) (hi
   pub leads : (r : List ℕ) → IsRecord r → (w n k : ℕ) → length steps ≤ 2 ^ k
       → LeadsAlways old r (found_in steps (high * 2 ^ 32 + word_at r (16 + 8 * index))) w n → StartsAlways new r t w (n + 1 + 2 * k)
 
--- A further high half, up to which the steps have the same by low halves; more of them start in front of it, or behind that.
+-- A further high half, up to which the steps have the same by low halves; more of them start in front of it, or after
+-- that.
 pub record IsNext (steps : List Step) (high next : ℕ) : Type 0 where
   pub above : high < next
   pub within : next ≤ 2 ^ 32

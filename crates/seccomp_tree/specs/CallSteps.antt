@@ -17,7 +17,8 @@ use Rattle.seccomp_tree.specs.declared.code.Test.TheVariants.{Equal}
 use Rattle.seccomp_tree.specs.declared.error.TreeError.{TreeError}
 use Rattle.seccomp_tree.specs.declared.error.TreeError.TheVariants.{TooLarge}
 
--- The target answers calls as their rulings do, whatever the accumulator holds; where one value answers them, it returns that.
+-- The target answers calls as their rulings do, whatever the accumulator holds; if one value answers them, it returns
+-- that.
 pub record IsAnswer (code : List sock_filter) (default : ℕ) (rulings : List Ruling) (t : Target) : Type 0 where
   pub inside : IsIn code t
   pub one : (v : ℕ) → one_value default rulings ≡ Some v → t ≡ Give v
@@ -29,7 +30,7 @@ pub record IsAnswered (old : List sock_filter) (default : ℕ) (rulings : List R
   pub grows : Grows old (rules_length rulings) new
   pub answer : IsAnswer new default rulings t
 
--- A number behind this one, up to which the default is the same.
+-- A number after this one, up to which the default is the same.
 pub record IsNextDefault (defaults : List DefaultValue) (number next : ℕ) : Type 0 where
   pub above : number < next
   pub same : (n : ℕ) → number ≤ n → n < next → default_for defaults n ≡ default_for defaults number
@@ -76,7 +77,7 @@ pub record IsCallsTarget (old : List sock_filter) (d : DecisionSet) (t : Target)
       → First (default_for d.defaults (word_at r 0)) r (rulings_for d.calls (word_at r 0)) w → TakesOwn d r n
       → IsEntered new r t w (n + 2 + 2 * k)
 
--- Behind a load of the architecture's word and a test of it there is what answers calls.
+-- After a load of the architecture's word and a test of it there is what answers calls.
 pub record IsWritten (old : List sock_filter) (d : DecisionSet) (new : List sock_filter) : Type 0 where
   pub calls : Target
   pub behind : List sock_filter
@@ -86,7 +87,7 @@ pub record IsWritten (old : List sock_filter) (d : DecisionSet) (new : List sock
   pub tests : IsTested behind Equal (audit_word d.target_arch) calls (Give 0x80000000) test tested
   pub whole : new ≡ load 4 ∷ tested
 
--- The code doesn't take what answers all calls, and so many more: this comes only where that is so, or of memory.
+-- The code doesn't take what answers all calls, and so many more: this comes only if that is so, or of memory.
 abbrev pub IsTooFull : DecisionSet → List sock_filter → ℕ → TreeError → Type 0
 IsTooFull d code most e = e ≡ TooLarge → (starts : List ℕ) → AreRanges d starts
     → greatest_length + 2 < length code + calls_length d.calls + 3 * length starts + most

@@ -15,7 +15,7 @@ use Rattle.seccomp_tree.specs.declared.code.Test.TheVariants.{Equal, AtLeast}
 use Rattle.seccomp_tree.specs.Steps.{found_in}
 use Rattle.seccomp_tree.specs.Rows.{row}
 
--- Each instruction is one of the seven, within its fields' ranges, and its jumps lead to instructions behind it.
+-- Each instruction is one of the seven, within its fields' ranges, and its jumps lead to instructions after it.
 abbrev pub AreFine : List sock_filter → Type 0
 AreFine [] = ⊤
 AreFine (i ∷ rest) = IsFine i 0 (length rest + 1) × (IsInRange i × AreFine rest)
@@ -69,7 +69,7 @@ pub record Grows (old : List sock_filter) (most : ℕ) (new : List sock_filter) 
   pub whole : new ≡ front ++ old
   pub few : length front ≤ most
 
--- The code doesn't take so many more: this comes only where that is so, or of memory.
+-- The code doesn't take so many more: this comes only if that is so, or of memory.
 abbrev pub IsFullBy : List sock_filter → ℕ → TreeError → Type 0
 IsFullBy code most e = e ≡ TooLarge → greatest_length < length code + most
 
@@ -108,7 +108,7 @@ pub record IsTested (old : List sock_filter) (test : Test) (k : ℕ) (yes no t :
 abbrev pub GoesOn : List sock_filter → List Step → ℕ → Target → List sock_filter → Type 0
 GoesOn old steps m t new = (r : List ℕ) (a w n : ℕ) → a < 2 ^ 32 → Leads old r (found_in steps a) a w n → Starts new r t a w (n + m)
 
--- It takes two steps for each halving; as many as it has tests where it is a row of few.
+-- It takes two steps for each halving; as many as it has tests if it is a row of few.
 pub record IsTree (old : List sock_filter) (steps : List Step) (t : Target) (new : List sock_filter) : Type 0 where
   pub grows : Grows old (3 * (length steps - 1)) new
   pub inside : IsIn new t

@@ -1,4 +1,4 @@
--- Conditions as targets: where one holds, the one target; else the other.
+-- Conditions as targets: if one holds, the one target; else the other.
 use Rattle.std.specs.Prelude.{◌≡◌, ℕ, ◌+◌, ◌-◌, ◌*◌, ◌≤◌, ◌^◌, List, length, bit_and, if◌then◌else◌}
 use Rattle.seccompiler.specs.declared.bpf.sock_filter.{sock_filter}
 use Rattle.seccompiler.specs.declared.backend.SeccompCmpArgLen.{SeccompCmpArgLen}
@@ -50,7 +50,7 @@ pub record IsPart (old : List sock_filter) (l : SeccompCmpArgLen) (index : ℕ) 
   pub leads : (r : List ℕ) → IsRecord r → (w n k : ℕ) → length steps ≤ 2 ^ k
       → LeadsAlways old r (found_in steps (part_of l (argument_at r index))) w n → StartsAlways new r t w (n + part_steps l k)
 
--- The target goes on as the first where the record's word at this byte has the bits of the value under the mask, and else
+-- The target goes on as the first if the record's word at this byte has the bits of the value under the mask, and else
 -- as the second.
 pub record IsMasked (old : List sock_filter) (byte mask value : ℕ) (yes no t : Target) (new : List sock_filter) : Type 0 where
   pub grows : Grows old 5 new
@@ -58,7 +58,7 @@ pub record IsMasked (old : List sock_filter) (byte mask value : ℕ) (yes no t :
   pub leads : (r : List ℕ) → IsRecord r → (u : Target) → IsChosen (bit_and (word_at r byte) mask ≡ bit_and value mask) yes no u → (w n : ℕ)
       → LeadsAlways old r u w n → StartsAlways new r t w (n + 3)
 
--- The target goes on as the first where the condition holds, and else as the second, whatever the accumulator holds.
+-- The target goes on as the first if the condition holds, and else as the second, whatever the accumulator holds.
 pub record IsConditionMet (old : List sock_filter) (c : Condition) (yes no t : Target) (new : List sock_filter) : Type 0 where
   pub grows : Grows old (condition_length c.arg_len c.operator) new
   pub inside : IsIn new t

@@ -27,7 +27,7 @@ abbrev pub AscendFromZero : List DefaultValue → Type 0
 AscendFromZero [] = ⊥
 AscendFromZero (x ∷ defaults) = (x.start ≡ 0) × StartAbove x.start defaults
 
--- The value of the last default that starts at or below the number, or this one where none does.
+-- The value of the last default that starts at or below the number, or this one if none does.
 abbrev pub default_from : ℕ → List DefaultValue → ℕ → ℕ
 default_from value [] number = value
 default_from value (x ∷ defaults) number = default_from (if nat_le x.start number then x.value else value) defaults number

@@ -7,7 +7,7 @@ use Rattle.seccompiler.specs.Policy.{Condition, RuleHolds}
 use Rattle.seccomp_tree.specs.Intervals.{is_plain}
 use Rattle.seccomp_tree.specs.Conditions.{part_steps, condition_length, condition_steps}
 
--- Conditions, and the word that is returned where they all hold.
+-- Conditions, and the word that is returned if they all hold.
 pub record Ruling : Type 0 where
   pub conditions : List Condition
   pub value : ℕ
@@ -19,7 +19,7 @@ pub data First (default : ℕ) (r : List ℕ) : List Ruling → ℕ → Type 0 w
       w
   nothing : First default r [] default
 
--- ---- runs: rulings that compare one argument, one behind the other
+-- ---- runs: rulings that compare one argument, one after the other
 
 -- The condition of a ruling that has one, without a mask.
 abbrev pub only : List Condition → Option Condition
@@ -56,7 +56,7 @@ abbrev pub conditions_length : List Condition → ℕ
 conditions_length [] = 0
 conditions_length (c ∷ conditions) = condition_length c.arg_len c.operator + conditions_length conditions
 
--- The steps of conditions by themselves, a jump behind each.
+-- The steps of conditions by themselves, a jump after each.
 abbrev pub conditions_steps : List Condition → ℕ
 conditions_steps [] = 0
 conditions_steps (c ∷ conditions) = condition_steps c.arg_len c.operator + 1 + conditions_steps conditions
@@ -66,17 +66,17 @@ abbrev pub rules_length : List Ruling → ℕ
 rules_length [] = 0
 rules_length (d ∷ rest) = conditions_length d.conditions + rules_length rest
 
--- How many steps a run takes at most, a jump behind it: with n rulings it has at most 2 * n + 1 steps over numbers.
+-- How many steps a run takes at most, a jump after it: with n rulings it has at most 2 * n + 1 steps over numbers.
 pub data RunTakes (conditions : List Condition) (n : ℕ) : ℕ → Type 0 where
   by_steps : (c : Condition) (k : ℕ) → only conditions ≡ Some c → 2 * n + 1 ≤ 2 ^ k → RunTakes conditions n (part_steps c.arg_len k + 1)
   by_conditions : only conditions ≡ None → RunTakes conditions n (conditions_steps conditions)
 
--- How many steps it takes to enter a ruling: those of its run, where it begins one.
+-- How many steps it takes to enter a ruling: those of its run, if it begins one.
 pub data Enters (first : List Condition) (d : Ruling) (rest : List Ruling) : ℕ → Type 0 where
   goes_on : joins first d.conditions ≡ true → Enters first d rest 0
   begins : (n : ℕ) → joins first d.conditions ≡ false → RunTakes d.conditions (1 + joined d.conditions rest) n → Enters first d rest n
 
--- How many steps rulings take at most that stand behind one with these conditions, up to the first that holds.
+-- How many steps rulings take at most that stand after one with these conditions, up to the first that holds.
 pub data Takes (r : List ℕ) : List Condition → List Ruling → ℕ → Type 0 where
   stops : (first : List Condition) (d : Ruling) (rest : List Ruling) (n : ℕ) → RuleHolds d.conditions r → Enters first d rest n
       → Takes r first (d ∷ rest) n

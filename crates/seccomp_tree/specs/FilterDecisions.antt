@@ -7,7 +7,7 @@ use Rattle.seccomp_tree.specs.declared.error.FilterError.TheVariants.{InvalidSys
 use Rattle.seccomp_tree.specs.Decisions.{Ruling}
 use Rattle.seccomp_tree.specs.Decided.{DecisionSet, IsDecided}
 
--- The rulings of a chain: each of its rules, or no condition where it has none, names the word.
+-- The rulings of a chain: each of its rules, or no condition if it has none, names the word.
 abbrev pub rulings_of : ℕ → Chain → List Ruling
 rulings_of w [] = record { conditions = []; value = w } ∷ []
 rulings_of w (q ∷ chain) = map (λ rule. record { conditions = rule; value = w }) (q ∷ chain)
@@ -28,7 +28,7 @@ decisions_of f = record {
 abbrev pub DecideAs : Filter → DecisionSet → Type 0
 DecideAs f d = (r : List ℕ) (w : ℕ) → IsDecided d r w ↔ IsDecision f r w
 
--- Why a filter gives no decisions: the least number that is no call number; else want of memory.
+-- Why a filter gives no decisions: the least number that is no call number; else lack of memory.
 abbrev pub IsUndecidable : Filter → FilterError → Type 0
 IsUndecidable f (InvalidSyscallNumber n) = IsLeastUnfit (numbers_of f.chains) n
 IsUndecidable f OutOfMemory = AreCallNumbers (numbers_of f.chains)

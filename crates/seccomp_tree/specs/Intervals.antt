@@ -19,7 +19,7 @@ abbrev pub is_plain : SeccompCmpOp → Bool
 is_plain (MaskedEq m) = false
 is_plain _ = true
 
--- Of two targets the first where something is so, and else the second.
+-- Of two targets the first if something is so, and else the second.
 pub record IsChosen (Is : Type 0) (yes no t : Target) : Type 0 where
   pub met : Is → t ≡ yes
   pub unmet : (Is → ⊥) → t ≡ no
@@ -41,8 +41,8 @@ pub record IsOverPushed (old others : List Step) (first last : ℕ) (target : Op
   pub below : (a : ℕ) → a < first → found_in new a ≡ found_in old a
   pub few : length new + begun others (first + 1) ≤ length old + 1 + begun others (last + 1)
 
--- For the numbers below the size the steps have the target where the condition's comparison holds, and else what others have;
--- there are at most so many more.
+-- For the numbers below the size the steps have the target if the condition's comparison holds, and else what others
+-- have; there are at most so many more.
 pub record AreLaidTo (c : Condition) (target : Target) (others : List Step) (size more : ℕ) (steps : List Step) : Type 0 where
   pub are : AreSteps size steps
   pub each : (a : ℕ) → a < size → IsChosen (Compares c.operator a (part_of c.arg_len c.value)) target (found_in others a) (found_in steps a)

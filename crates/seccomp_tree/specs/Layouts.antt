@@ -31,8 +31,8 @@ pub record IsTreeTooLarge (f : Filter) : Type 0 where
   pub numbers : AreCallNumbers (numbers_of f.chains)
   pub large : IsTooLargeFor (decisions_of f) TooLarge
 
--- The refusal of a filter in the layout comes of its own cause alone: of the least number that is no call number; else of
--- the length; and want of memory comes only where the filter may be compiled, or of a tree where all are call numbers.
+-- Each refusal of a filter in the layout has its own cause: the least number that is no call number; else the
+-- length. OutOfMemory comes only if the filter may be compiled, or for a tree if all are call numbers.
 abbrev pub IsRefusalIn : Layout → Filter → FilterError → Type 0
 IsRefusalIn layout f (InvalidSyscallNumber n) = IsLeastUnfit (numbers_of f.chains) n
 IsRefusalIn Linear f (FilterTooLarge n) = IsTooLarge f n
@@ -54,13 +54,13 @@ pub record AnswerAlike (p q : List sock_filter) (r : List ℕ) : Type 0 where
 abbrev pub AgreesInAll : Filter → List sock_filter → Type 0
 AgreesInAll f p = (layout : Layout) (q : List sock_filter) → IsCompiledIn layout f q → (r : List ℕ) → IsRecord r → AnswerAlike p q r
 
--- The program is the filter's tree, or, where that is too large, its linear program.
+-- The program is the filter's tree, or, if that is too large, its linear program.
 pub data IsFitting (f : Filter) (p : List sock_filter) : Type 0 where
   as_tree : IsTreeCompiled f p → IsFitting f p
   as_linear : IsTreeTooLarge f → IsCompiled f p → IsFitting f p
 
 -- Why neither layout gives a program: the least number that is no call number; else that the tree is too large, and the
--- linear program of n instructions too; and want of memory comes only where all numbers are call numbers.
+-- linear program of n instructions too; and lack of memory comes only if all numbers are call numbers.
 abbrev pub IsFittingRefusal : Filter → BackendError → Type 0
 IsFittingRefusal f (backend.FilterTooLarge n) = IsTreeTooLarge f × IsTooLarge f n
 IsFittingRefusal f (backend.InvalidSyscallNumber n) = IsLeastUnfit (numbers_of f.chains) n

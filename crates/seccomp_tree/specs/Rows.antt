@@ -20,7 +20,7 @@ abbrev pub settled : List Step → ℕ
 settled steps = if second_stands_out steps then 2 else 1
 
 -- How many tests tell steps apart: each settles a step that stands out, and the one in front of it is answered as the one
--- behind it; or else it settles the first step.
+-- after it; or else it settles the first step.
 abbrev pub row : List Step → ℕ
 row [] = 0
 row (x ∷ []) = 0

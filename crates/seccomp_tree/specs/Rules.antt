@@ -1,4 +1,4 @@
--- Rulings as a target: what the first that holds says, or what there is behind them.
+-- Rulings as a target: what the first that holds says, or what comes after them.
 use Rattle.std.specs.Prelude.{◌≡◌, ℕ, ◌+◌, ◌<◌, ◌^◌, List, [], Option, Some, None, true, false}
 use Rattle.seccompiler.specs.declared.bpf.sock_filter.{sock_filter}
 use Rattle.seccompiler.specs.Machine.{IsRecord}
@@ -12,7 +12,8 @@ use Rattle.seccomp_tree.specs.Code.{IsIn, AreIn, Grows, LeadsAlways}
 use Rattle.seccomp_tree.specs.Conditions.{part_length, IsPart}
 use Rattle.seccomp_tree.specs.Decisions.{Ruling, First, Takes, alike, only, rules_length, conditions_length, conditions_steps}
 
--- The target returns the value where all the conditions hold, and else goes on as there is behind; whatever the accumulator holds.
+-- The target returns the value if all the conditions hold, and else goes on as what comes after; whatever the
+-- accumulator holds.
 pub record IsRulingMet (old : List sock_filter) (conditions : List Condition) (value : ℕ) (after t : Target) (new : List sock_filter) :
     Type 0 where
   pub grows : Grows old (conditions_length conditions) new
@@ -26,7 +27,7 @@ pub record AreRules (old : List sock_filter) (rulings : List Ruling) (default : 
   pub inside : IsIn new t
   pub leads : (r : List ℕ) → IsRecord r → (w n : ℕ) → First default r rulings w → Takes r [] rulings n → LeadsAlways new r t w (n + 1)
 
--- What there is behind rulings: steps over what a condition compares, or one target where there is no condition.
+-- What comes after rulings: steps over what a condition compares, or one target if there is no condition.
 abbrev pub AreFit : List sock_filter → Option Condition → List Step → Type 0
 AreFit code None steps = (t : Target) × (steps ≡ single t) × IsIn code t
 AreFit code (Some c) steps = AreSteps (numbers_of c.arg_len) steps × AreIn code steps
@@ -41,7 +42,7 @@ abbrev pub IsSettled : List sock_filter → Option Condition → List Step → T
 IsSettled old None steps t new = (steps ≡ single t) × (new ≡ old)
 IsSettled old (Some c) steps t new = IsPart old c.arg_len c.arg_index steps t new
 
--- A ruling was put in front: laid over the steps where it compares what they do, or over one target; or by its conditions.
+-- A ruling was put in front: laid over the steps if it compares what they do, or over one target; or by its conditions.
 pub data IsInFront (old : List sock_filter) (d : Ruling) (like : Option Condition) (steps : List Step) (new_like : Option Condition)
     (laid : List Step) (new : List sock_filter) : Type 0 where
   along : (c : Condition) → only d.conditions ≡ Some c → alike (Some c) like ≡ true → d.value < 2 ^ 32

@@ -4,12 +4,12 @@ use Rattle.seccomp_tree.specs.declared.steps.Target.{Target}
 use Rattle.seccomp_tree.specs.declared.steps.Target.TheVariants.{Give}
 use Rattle.seccomp_tree.specs.declared.steps.Step.{Step}
 
--- The target for a number: that of the last step that starts at or below it, or this one where none does.
+-- The target for a number: that of the last step that starts at or below it, or this one if none does.
 abbrev pub found_from : Target → List Step → ℕ → Target
 found_from found [] a = found
 found_from found (x ∷ steps) a = if nat_le x.start a then found_from x.target steps a else found
 
--- The target that steps have for a number, which is that of the first where the number is below all starts.
+-- The target that steps have for a number, which is that of the first if the number is below all starts.
 abbrev pub found_in : List Step → ℕ → Target
 found_in [] a = Give 0
 found_in (x ∷ steps) a = found_from x.target steps a
@@ -37,7 +37,7 @@ abbrev pub AreTight : List Step → Type 0
 AreTight [] = ⊤
 AreTight (x ∷ steps) = TightFrom x.target steps
 
--- Steps over all numbers below the size, none where it is 0; no two neighbours have one target.
+-- Steps over all numbers below the size, none if it is 0; no two neighbours have one target.
 pub record AreSteps (size : ℕ) (steps : List Step) : Type 0 where
   pub first : 0 < size → StartsAtZero steps
   pub ascend : AscendFrom size 0 steps

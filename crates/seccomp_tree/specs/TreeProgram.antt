@@ -10,7 +10,8 @@ use Rattle.seccomp_tree.specs.declared.error.TreeError.TheVariants.{TooLarge}
 use Rattle.seccomp_tree.specs.Decisions.{Ruling, Takes, rules_length}
 use Rattle.seccomp_tree.specs.Decided.{DecisionSet, default_for, rulings_for, IsDecided}
 
--- The value that alone answers a call, if one does: the default where there is no ruling, or that of a first without conditions.
+-- The value that alone answers a call, if one does: the default if there is no ruling, or that of a first without
+-- conditions.
 abbrev pub one_value : ℕ → List Ruling → Option ℕ
 one_value default [] = Some default
 one_value default (d ∷ rulings) = if nat_eq (length d.conditions) 0 then Some d.value else None
@@ -34,7 +35,7 @@ calls_length (e ∷ calls) = rules_length e.1 + calls_length calls
 abbrev pub length_by : DecisionSet → ℕ → ℕ
 length_by d ranges = 3 * ranges + 3 + calls_length d.calls
 
--- How many steps a record takes of its own: none where one value answers it, else those of its number's rulings.
+-- How many steps a record takes of its own: none if one value answers it, else those of its number's rulings.
 pub data TakesOwn (d : DecisionSet) (r : List ℕ) : ℕ → Type 0 where
   other : word_at r 4 ≢ audit_word d.target_arch → TakesOwn d r 0
   one : (v : ℕ) → value_for d (word_at r 0) ≡ Some v → TakesOwn d r 0
@@ -52,7 +53,8 @@ pub record EndsAsDecided (d : DecisionSet) (p : List sock_filter) (r : List ℕ)
   pub decided : IsDecided d r word
   pub ends : EndsWithin p r word (length p)
 
--- The program of decisions: it may be run, decides every record, is soon done where the ranges are at most 2 ^ k, and is short.
+-- The program of decisions: it may be run, decides every record, is soon done if the ranges are at most 2 ^ k, and is
+-- short.
 pub record IsTreeProgram (d : DecisionSet) (p : List sock_filter) : Type 0 where
   pub checked : IsChecked p
   pub decides : (r : List ℕ) → IsRecord r → EndsAsDecided d p r
@@ -60,6 +62,6 @@ pub record IsTreeProgram (d : DecisionSet) (p : List sock_filter) : Type 0 where
       → length starts ≤ 2 ^ k → EndsWithin p r w (4 + 2 * k + n)
   pub short : (starts : List ℕ) → AreRanges d starts → length p ≤ length_by d (length starts)
 
--- There is no room for a program: this comes only where its length could exceed the greatest, or of memory.
+-- There is no room for a program: this comes only if its length could exceed the greatest, or of memory.
 abbrev pub IsTooLargeFor : DecisionSet → TreeError → Type 0
 IsTooLargeFor d e = e ≡ TooLarge → (starts : List ℕ) → AreRanges d starts → greatest_length < length_by d (length starts)

@@ -20,7 +20,7 @@ impl Code {
     ///
     /// # Errors
     ///
-    /// `TooLarge` where the code has no room for 13 instructions a step, and `OutOfMemory` where memory runs out.
+    /// `TooLarge` if the code has no room for 13 instructions a step, and `OutOfMemory` if memory runs out.
     pub(crate) fn argument(
         &mut self,
         alloc: Global,
@@ -82,8 +82,8 @@ impl Code {
     }
 }
 
-// The next high half that may go on otherwise than this one: behind this one where a step starts inside it, or else that of the
-// next step; 2^32 where there is none.
+// The next high half that may go on otherwise than this one: after this one if a step starts inside it, or else that
+// of the next step; 2^32 if there is none.
 fn next_half(steps: &[Step], high: u64) -> u64
     requires high { high < 2 ^ 32 }
     requires are { AreSteps (2 ^ 64) steps.now }

@@ -15,7 +15,7 @@ use seccompiler::bpf::{
 use std::alloc::Global;
 use std::marker::Model;
 
-// How many instructions a jump may pass over where one more may still come between: 8 bits hold 255.
+// How many instructions a jump may pass over if one more may still come between: 8 bits hold 255.
 const REACH: usize = 254;
 
 /// How a test compares the accumulator with its operand.
@@ -137,7 +137,7 @@ impl Code {
         Ok(self.len() - 1)
     }
 
-    /// A near place that does what the target says: its own, or that of a return or a jump, which is written where none
+    /// A near place that does what the target says: its own, or that of a return or a jump, which is written if none
     /// is near.
     pub(crate) fn reach(&mut self, target: Target) -> Result<usize, TreeError>
         requires { IsIn self.old target }
@@ -156,7 +156,7 @@ impl Code {
         }
     }
 
-    /// Where the accumulator compares with `k`, goes on as the one target says, and else as the other.
+    /// If the accumulator compares with `k`, goes on as the one target says, and else as the other.
     pub(crate) fn test(
         &mut self,
         test: Test,

@@ -1,4 +1,4 @@
-// Conditions as targets: where one holds, the one target; else the other.
+// Conditions as targets: if one holds, the one target; else the other.
 
 ghost use Rattle.std.specs.Prelude.{◌≡◌, ◌≤◌, ◌%◌, IfOk, IfErr, length};
 ghost use Rattle.seccompiler.specs.declared.backend.SeccompCmpOp.TheVariants.{MaskedEq};
@@ -19,11 +19,11 @@ use std::alloc::Global;
 const HALVES: u64 = 0x1_0000_0000;
 
 impl Code {
-    /// Goes on as the one target says where the condition holds, and else as the other, whatever the accumulator holds.
+    /// Goes on as the one target says if the condition holds, and else as the other, whatever the accumulator holds.
     ///
     /// # Errors
     ///
-    /// `TooLarge` where the code has no room for the condition, and `OutOfMemory` where memory runs out.
+    /// `TooLarge` if the code has no room for the condition, and `OutOfMemory` if memory runs out.
     pub(crate) fn condition(
         &mut self,
         alloc: Global,
@@ -51,7 +51,7 @@ impl Code {
     ///
     /// # Errors
     ///
-    /// `TooLarge` where the code has no room for the steps, and `OutOfMemory` where memory runs out.
+    /// `TooLarge` if the code has no room for the steps, and `OutOfMemory` if memory runs out.
     pub(crate) fn part(
         &mut self,
         alloc: Global,
@@ -100,7 +100,7 @@ impl Code {
         }
     }
 
-    // Goes on as the one target says where the record's word at this byte has the value's bits under the mask.
+    // Goes on as the one target says if the record's word at this byte has the value's bits under the mask.
     fn masked(
         &mut self,
         byte: u8,

@@ -13,7 +13,7 @@ use std::marker::Model;
 // What a record of another architecture is answered with: SECCOMP_RET_KILL_PROCESS of linux/seccomp.h.
 pub(crate) const KILL_PROCESS: u32 = 0x8000_0000;
 
-/// Conditions, and the value that a program returns where they all hold. They always hold where there are none.
+/// Conditions, and the value that a program returns if they all hold. They always hold if there are none.
 #[derive(Debug, Drop)]
 pub struct Decision {
     /// The conditions, joined by and.
@@ -43,7 +43,7 @@ pub struct DefaultValue {
 }
 
 /// What each call is answered with: for each of some call numbers its decisions, of which the first that holds counts;
-/// where none does, the default value of the number. A call of another architecture kills the process.
+/// if none does, the default value of the number. A call of another architecture kills the process.
 #[derive(Debug, Drop)]
 pub struct Decisions {
     pub(crate) target_arch: TargetArch,
@@ -67,7 +67,7 @@ impl Decisions {
 
     /// Makes decisions: `defaults` begin at the number 0, each above the one before it.
     ///
-    /// Gives none where they don't.
+    /// Gives none if they don't.
     pub fn new(
         target_arch: TargetArch,
         defaults: Vec<DefaultValue>,

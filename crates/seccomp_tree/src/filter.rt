@@ -16,13 +16,13 @@ use std::collections::BTreeMap;
 impl Decisions {
     ghost use Rattle.seccomp_tree.specs.FilterDecisions.{DecideAs, IsUndecidable, decisions_of};
 
-    /// A filter as decisions: each rule of a chain, or the chain where it has none, names the return value of
-    /// the match action; that of the mismatch action is the default.
+    /// A filter as decisions: each rule of a chain, or a chain without rules, gives the return value of the
+    /// match action; the default is that of the mismatch action.
     ///
     /// # Errors
     ///
-    /// `InvalidSyscallNumber` with the least key that lies outside 0 to 4294967295, where there is one, which
-    /// takes no memory; else `OutOfMemory` where memory runs out.
+    /// `InvalidSyscallNumber` with the least key that lies outside 0 to 4294967295, if there is one, which
+    /// takes no memory; else `OutOfMemory` if memory runs out.
     pub fn of_filter(alloc: Global, filter: &SeccompFilter) -> Result<Decisions, FilterError>
         ensures made { IfOk result (λ d. d ≡ decisions_of filter.now) }
         ensures alike { IfOk result (λ d. DecideAs filter.now d) }

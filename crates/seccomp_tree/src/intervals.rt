@@ -11,11 +11,11 @@ use crate::steps::{Step, Target, push_part, push_step};
 use seccompiler::{SeccompCmpArgLen, SeccompCmpOp, SeccompCondition};
 use std::alloc::Global;
 
-/// Steps that have the target where the condition's comparison holds, and else what others have.
+/// Steps that have the target if the condition's comparison holds, and else what others have.
 ///
 /// # Errors
 ///
-/// `OutOfMemory` where memory runs out.
+/// `OutOfMemory` if memory runs out.
 pub(crate) fn laid(
     alloc: Global,
     condition: &SeccompCondition,
@@ -96,7 +96,7 @@ fn compares(operator: SeccompCmpOp, number: u64, value: u64) -> bool
     }
 }
 
-// Gives the numbers from `first` to `last` this target, or what others have where there is none.
+// Gives the numbers from `first` to `last` this target, or what others have if there is none.
 fn push_over(
     steps: &mut Vec<Step>,
     others: &[Step],

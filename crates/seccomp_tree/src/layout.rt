@@ -20,19 +20,19 @@ pub enum Layout {
     /// out. A call's number is compared with each number in front of its own.
     Linear,
     /// A tree of tests over ranges of call numbers. A call's number is found by halving, and so is an
-    /// argument where neighbouring rules compare it alone.
+    /// argument if neighbouring rules compare it alone.
     Tree,
 }
 
 /// The filter's program in a layout: that of [`to_bpf`](seccompiler::SeccompFilter::to_bpf), or that of
 /// [`to_tree_bpf`].
 ///
-/// Whatever the two layouts give for a filter, the programs return the same value for every call record.
+/// The programs of the two layouts return the same value for every call record.
 ///
 /// # Errors
 ///
-/// Those of the layout's own call, in the same order: `FilterTooLarge` with `program_len` is the linear
-/// layout's, `TreeTooLarge` the tree's.
+/// Those of the layout's own call, in the same order. `FilterTooLarge` with `program_len` comes from the linear
+/// layout, `TreeTooLarge` from the tree.
 ///
 /// # Examples
 ///
@@ -75,16 +75,16 @@ fn to_linear_bpf(alloc: Global, filter: &SeccompFilter) -> Result<BpfProgram, Fi
 
 /// The filter's program as one tree of tests: that of its [decisions](Decisions::of_filter).
 ///
-/// It passes `machine::check`, and returns for every call record, within as many steps as it has
-/// instructions, the value that [`decide`](seccompiler::SeccompFilter::decide) gives. A call that has no
-/// rules of its own, or is of another architecture, is answered within `4 + 2 * k` steps, where `2^k` is at
-/// least the number of ranges of call numbers that are answered alike.
+/// It passes `machine::check`, and returns for every call record, within as many steps as it has instructions,
+/// the value that [`decide`](seccompiler::SeccompFilter::decide) gives. A call that has no rules of its own, or
+/// is of another architecture, is answered within `4 + 2 * k` steps, if `2^k` is at least the number of ranges
+/// of call numbers that are answered alike.
 ///
 /// # Errors
 ///
-/// `InvalidSyscallNumber` with the least key that lies outside 0 to 4294967295, where there is one, which
-/// takes no memory; `TreeTooLarge` where the program would have more than 4096 instructions, and only where
-/// the bound on its length is more than that too; `OutOfMemory` where memory runs out.
+/// `InvalidSyscallNumber` with the least key that lies outside 0 to 4294967295, if there is one, which takes no
+/// memory; `TreeTooLarge` if the program would have more than 4096 instructions, and only if the bound on its
+/// length is more than that too; `OutOfMemory` if memory runs out.
 ///
 /// # Examples
 ///
@@ -105,13 +105,13 @@ pub fn to_tree_bpf(alloc: Global, filter: &SeccompFilter) -> Result<BpfProgram, 
     }
 }
 
-/// The filter's program as a [tree](to_tree_bpf) where that fits, else in the
+/// The filter's program as a [tree](to_tree_bpf) if that fits, else in the
 /// [linear layout](seccompiler::SeccompFilter::to_bpf).
 ///
 /// # Errors
 ///
-/// `InvalidSyscallNumber` with the least key that lies outside 0 to 4294967295, where there is one;
-/// `FilterTooLarge` with `program_len` where neither layout fits; `OutOfMemory` where memory runs out.
+/// `InvalidSyscallNumber` with the least key that lies outside 0 to 4294967295, if there is one;
+/// `FilterTooLarge` with `program_len` if neither layout fits; `OutOfMemory` if memory runs out.
 pub fn fitting_bpf(alloc: Global, filter: &SeccompFilter) -> Result<BpfProgram, BackendError>
     ensures fitting { IfOk result (λ program. IsFitting filter.now program.items) }
     ensures numbers { OnOk result (AreCallNumbers (numbers_of filter.now.chains)) }

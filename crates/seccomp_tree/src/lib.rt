@@ -16,9 +16,9 @@
 //! let program = decisions.to_bpf(alloc)?;
 //! ```
 //!
-//! A filter is such decisions too ([`Decisions::of_filter`]). [`to_tree_bpf`] gives their program,
-//! [`to_bpf_in`] that or the linear one ([`Layout`]), and [`fitting_bpf`] the tree where it fits, else the
-//! linear program.
+//! A filter makes such decisions too ([`Decisions::of_filter`]). [`to_tree_bpf`] gives their program,
+//! [`to_bpf_in`] the program in a given [`Layout`], and [`fitting_bpf`] the tree if it fits, else the linear
+//! program.
 #![tactic(auto)]
 
 mod argument;

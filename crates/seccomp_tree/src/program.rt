@@ -26,11 +26,11 @@ impl Decisions {
     ghost use Rattle.seccomp_tree.specs.TreeProgram.{IsTreeProgram, IsTooLargeFor, calls_length};
     ghost use Rattle.seccomp_tree.specs.CallSteps.{AreAnswers, AreCallSteps, AreDefaultsPushed, HaveNone, IsCallPushed, IsCallsTarget, IsTooFull, IsWritten};
 
-    /// The program of these decisions: one tree of tests over call numbers, and behind it the tests of their arguments.
+    /// The program of these decisions: one tree of tests over call numbers, and after it the tests of their arguments.
     ///
     /// # Errors
     ///
-    /// `TooLarge` where the program would have more than 4096 instructions, and `OutOfMemory` where memory runs out.
+    /// `TooLarge` if the program would have more than 4096 instructions, and `OutOfMemory` if memory runs out.
     pub fn to_bpf(&self, alloc: Global) -> Result<BpfProgram, TreeError>
         ensures program { IfOk result (λ p. IsTreeProgram self.now p.items) }
         ensures large { IfErr result (IsTooLargeFor self.now) }
@@ -76,7 +76,7 @@ impl Decisions {
         Ok(steps)
     }
 
-    // Puts one more call number behind the steps, and in front of it the defaults of those that have no rulings.
+    // Puts one more call number after the steps, and in front of it the defaults of those that have no rulings.
     fn push_call(
         &self,
         alloc: Global,
@@ -151,7 +151,7 @@ fn one_value(rulings: &[Decision], default: u32) -> Option<u32>
     None
 }
 
-// The number of the next default behind this number, or 2^32.
+// The number of the next default after this number, or 2^32.
 fn next_default(defaults: &[DefaultValue], number: u32) -> u64
     requires { AscendFromZero defaults.now }
     ensures { IsNextDefault defaults.now number result }

@@ -19,7 +19,8 @@ use seccompiler::bpf::BPF_MAX_LEN;
 use seccompiler::{SeccompCmpArgLen, SeccompCmpOp, SeccompCondition};
 use std::alloc::Global;
 
-/// What there is behind some rulings: steps over what a condition compares, or one target for all records, where there is none.
+/// What comes after some rulings: steps over what a condition compares, or one target for all records, if there is
+/// none.
 #[derive(Drop)]
 struct Rest {
     like: Option<SeccompCondition>,
@@ -31,7 +32,7 @@ impl Code {
     ///
     /// # Errors
     ///
-    /// `TooLarge` where the code has no room for the rulings, and `OutOfMemory` where memory runs out.
+    /// `TooLarge` if the code has no room for the rulings, and `OutOfMemory` if memory runs out.
     pub(crate) fn rules(
         &mut self,
         alloc: Global,
@@ -94,7 +95,8 @@ impl Code {
         }
     }
 
-    // Goes on as the ruling says where all its conditions hold: the last of them first, since code is written from its end.
+    // Goes on as the ruling says if all its conditions hold: the last of them first, since code is written from its
+    // end.
     fn conditions(
         &mut self,
         alloc: Global,
@@ -115,7 +117,8 @@ impl Code {
     }
 }
 
-// The condition laid over steps, which return its value where it holds. (A program has fewer tests than so many steps need.)
+// The condition laid over steps, which return its value if it holds. (A program has fewer tests than so many steps
+// need.)
 fn laid_rest(
     alloc: Global,
     condition: SeccompCondition,
@@ -161,7 +164,7 @@ fn is_same_length(first: SeccompCmpArgLen, second: SeccompCmpArgLen) -> bool
     }
 }
 
-// The condition, where there is one without a mask.
+// The condition, if there is one without a mask.
 fn only(conditions: &[SeccompCondition]) -> Option<SeccompCondition>
     ensures { result ≡ only conditions.now }
 {

@@ -40,7 +40,7 @@ pub(crate) struct Step {
 ///
 /// # Errors
 ///
-/// `OutOfMemory` where memory runs out.
+/// `OutOfMemory` if memory runs out.
 pub(crate) fn one(alloc: Global, target: Target) -> Result<Vec<Step>, TreeError>
     ensures ok { IfOk result (λ steps. steps.items ≡ single target) }
     ensures memory { IsOkUnless result OutOfMemory }
@@ -52,7 +52,7 @@ pub(crate) fn one(alloc: Global, target: Target) -> Result<Vec<Step>, TreeError>
 ///
 /// # Errors
 ///
-/// `OutOfMemory` where memory runs out.
+/// `OutOfMemory` if memory runs out.
 pub(crate) fn push_step(steps: &mut Vec<Step>, start: u64, target: Target) -> Result<(), TreeError>
     requires below { AreSteps start steps.old.items }
     ensures pushed { IfOk result (λ _. IsPushed steps.old.items start target steps.new.items) }
@@ -70,7 +70,7 @@ pub(crate) fn push_step(steps: &mut Vec<Step>, start: u64, target: Target) -> Re
 ///
 /// # Errors
 ///
-/// `OutOfMemory` where memory runs out.
+/// `OutOfMemory` if memory runs out.
 pub(crate) fn push_part(
     steps: &mut Vec<Step>,
     others: &[Step],

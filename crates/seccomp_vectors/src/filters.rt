@@ -11,7 +11,7 @@ use std::collections::BTreeMap;
 // The chains of a filter that is being made.
 type Chains = BTreeMap<i64, Vec<SeccompRule>>;
 
-// A chain, such as `813 times 0 dword eq 1 | 1 dword eq 2 & 2 dword eq 3`; an empty one if the text is.
+// A chain, such as `813 times 0 dword eq 1 | 1 dword eq 2 & 2 dword eq 3`; an empty text is an empty chain.
 fn chain(alloc: Global, text: &str) -> Result<Vec<SeccompRule>, Fault> {
     let mut rules = Vec::new(alloc);
     if text.trim().is_empty() {

@@ -15,8 +15,8 @@ struct ScriptedKernel<'a> {
     program: BpfProgramRef<'a>,
     no_new_privs: (i32, i32),
     mode_filter: (i64, i32),
-    // How often each is called. A filter counts if `no_new_privs` was set once before, and the flags and the program
-    // are those above.
+    // How often each is called. A filter counts only if `no_new_privs` was set once before, and the flags and
+    // the program are those above.
     privileges: u32,
     filters: u32,
 }

@@ -1,6 +1,6 @@
-// Answers rows of standard input, which tools/driver_rows.py describes: each question is written again with its answer, and any
-// other line as it is. Nothing is read behind ` =>`. Where memory runs out a question is asked once more, of what was
-// borrowed the first time; where it runs out again the rows end.
+// Answers the rows of standard input, which tools/driver_rows.py describes: writes each question again with its
+// answer, and any other line as it is. Nothing after ` =>` is read. If memory runs out, a question is asked once
+// more, about what was borrowed the first time; if it runs out again, the rows end.
 #![tactic(auto)]
 
 mod codes;
@@ -45,7 +45,7 @@ fn answer_text(rt: &(impl Print + AllocGlobal), text: &str) -> Result<(), Ending
     answer_lines(rt, lines.as_slice())
 }
 
-// Writes each line, with its answer where it is a question.
+// Writes each line, with its answer if it is a question.
 fn answer_lines(rt: &(impl Print + AllocGlobal), lines: &[&str]) -> Result<(), Ending> {
     // Where the statements begin, and where those that are kept begin and end.
     let (mut start, mut from, mut to) = (0, 0, 0);
@@ -86,7 +86,7 @@ fn ask(rt: &(impl Print + AllocGlobal), row: Row) -> Result<bool, Ending> {
     }
 }
 
-// Asks about a subject, and once more where memory ran out; whether it did again.
+// Asks about a subject, and once more if memory ran out; whether it did again.
 fn ask_about(
     rt: &(impl Print + AllocGlobal),
     made: &Subject,

@@ -3,8 +3,8 @@
 use std::io;
 use std::io::{ErrorKind, Read};
 
-/// Gives its bytes, one a call. The call behind the first `before` bytes fails by the fault, if there
-/// is one; later calls go on.
+/// Gives its bytes, one a call. The call after the first `before` bytes fails with the fault, if there is one;
+/// later calls go on.
 #[derive(Drop)]
 pub(crate) struct ScriptedReader<'a> {
     pub(crate) bytes: &'a [u8],

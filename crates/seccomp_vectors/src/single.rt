@@ -12,7 +12,7 @@ use seccompiler::{
 };
 use std::alloc::Global;
 
-// What stands in a buffer before anything is written: this, twice in front of the part and three times behind it.
+// What is in a buffer before anything is written: this, twice in front of the part and three times after it.
 const BLANK: u32 = 7;
 
 // A condition and an offset, such as `1 dword eq 5 @ 3`.
@@ -27,7 +27,7 @@ fn buffer(alloc: Global, length: usize) -> Result<Vec<sock_filter>, Fault> {
     Ok(vec![in alloc; bpf_stmt(RETURN, BLANK); length.saturating_add(5)]?)
 }
 
-// The code of a condition by itself, or the buffer behind its `write` into the part.
+// The code of a condition by itself, or the buffer after its `write` into the part.
 fn of_condition(alloc: Global, text: &str, is_part: bool) -> Result<BpfProgram, Fault> {
     let (condition, offset) = condition_at(text)?;
     if offset < 1 || 248 < offset {
@@ -44,7 +44,7 @@ fn of_condition(alloc: Global, text: &str, is_part: bool) -> Result<BpfProgram, 
     Ok(buffer)
 }
 
-// The buffer behind a rule's `write` into its part.
+// The buffer after a rule's `write` into its part.
 fn with_rule(alloc: Global, rule: &SeccompRule) -> Result<BpfProgram, Fault> {
     let length = rule.code_len();
     let mut buffer = buffer(alloc, length)?;

@@ -1,4 +1,4 @@
-// What questions are about: it is lent to the call, and again where memory ran out.
+// What questions are about: it is lent to the call, and again if memory ran out.
 
 use crate::codes::of_code;
 use crate::comparisons::{of_filters, of_own_program};
@@ -51,7 +51,7 @@ fn both_filters(alloc: Global, row: Row) -> Result<Subject, Fault> {
     Ok(Subject::Filters(kept, filter(alloc, row.statements)?))
 }
 
-// A JSON filter, behind an architecture.
+// A JSON filter, after an architecture.
 fn entries(alloc: Global, rest: &str) -> Result<Subject, Fault> {
     let (arch, text) = rest.split_once(' ').ok_or(Fault::Row)?;
     let arch = TargetArch::from_text(alloc, arch)?;

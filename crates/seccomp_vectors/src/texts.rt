@@ -12,7 +12,7 @@ use std::alloc::Global;
 use std::collections::BTreeMap;
 use std::io::Read;
 
-// Adds what stands between the brackets of a text such as `<3 x {"syscall":"read"}>`, with commas between.
+// Adds what is between the brackets of a text such as `<3 x {"syscall":"read"}>`, with commas between.
 fn push_repeated(text: &mut String, part: &str) -> Result<(), Fault> {
     let (count, part) = part.split_once(" x ").ok_or(Fault::Row)?;
     for place in 0..number(count).ok_or(Fault::Row)? {
@@ -115,7 +115,7 @@ fn of_bytes(alloc: Global, call: &str, arch: TargetArch, text: &[u8]) -> Result<
     }
 }
 
-// What a call gives for a reader that gives a byte at a time, and fails so behind each of them: the same each time.
+// What a call gives for a reader that gives one byte at a time and fails after each: the same each time.
 fn failing(
     alloc: Global,
     call: &str,
@@ -139,7 +139,7 @@ fn failing(
     Ok(told)
 }
 
-// The architecture and the text of a question, behind the call's name.
+// The architecture and the text of a question, after the call's name.
 fn arch_and_text(alloc: Global, rest: &str) -> Result<(TargetArch, String), Fault> {
     let (arch, text) = rest.split_once(' ').unwrap_or((rest, ""));
     let arch = TargetArch::from_text(alloc, arch)?;
@@ -156,7 +156,8 @@ pub(crate) fn of_text(alloc: Global, call: &str, rest: &str) -> Result<String, F
     Ok(told)
 }
 
-/// The same of readers that give a byte at a time and fail behind each, by the fault whose name comes first, or `never`.
+/// The answers for readers that give one byte at a time and fail after each, with the fault that
+/// the text names first, or `never`.
 pub(crate) fn of_failing(alloc: Global, rest: &str) -> Result<String, Fault> {
     let (fault, rest) = rest.split_once(' ').ok_or(Fault::Row)?;
     let (call, rest) = rest.split_once(' ').ok_or(Fault::Row)?;

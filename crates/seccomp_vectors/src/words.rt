@@ -8,7 +8,7 @@ use seccompiler::{SeccompAction, SeccompCondition, SeccompRule, TargetArch};
 use std::alloc::Global;
 use std::str::SplitWhitespace;
 
-/// A number, in decimal digits or behind `0x`.
+/// A number, in decimal digits or after `0x`.
 pub(crate) fn number(word: &str) -> Option<u64> {
     match word.strip_prefix("0x") {
         Some(digits) => u64::from_str_radix(digits, 16).ok(),
@@ -42,7 +42,7 @@ pub(crate) fn parts<'a>(text: &'a str, between: &str) -> (&'a str, &'a str) {
     text.split_once(between).unwrap_or((text, ""))
 }
 
-/// How often what stands behind `times` is to be taken, and that.
+/// How often what comes after `times` is to be taken, and that.
 pub(crate) fn repeated<'a>(text: &'a str, times: &str) -> Option<(u64, &'a str)> {
     match text.split_once(times) {
         Some((count, part)) => Some((number(count.trim())?, part)),

@@ -31,7 +31,7 @@ module _ (name : List ℕ) where
   others_more codes at default room other so_far = subst (All (λ c. code_text c ≢ name)) (sym (take_more codes at default room))
       (All-push (λ c. code_text c ≢ name) (take at codes) (get_or codes at default) so_far other)
 
-  -- Where all have other names, every code has.
+  -- If all have other names, every code has.
   pub no_code : (codes : List Code) → codes ≡ all_codes → All (λ c. code_text c ≢ name) codes → (c : Code) → code_text c ≢ name
   no_code codes whole others c =
       All-contains (λ k. code_text k ≢ name) all_codes c (subst (All (λ c. code_text c ≢ name)) whole others) (each_code c)

@@ -67,7 +67,7 @@ cut_twice : (length : SeccompCmpArgLen) (n : ℕ) → part_of length (part_of le
 cut_twice Dword n = omega arith
 cut_twice Qword n = refl
 
--- `MaskedEq` fails for the mask where the value has no bit under it, and for 0 where it has some.
+-- `MaskedEq` fails for the mask if the value has no bit under it, and for 0 if it has some.
 pub masked_eq_fails : (c : Condition) (m : ℕ) → part_of c.arg_len m < 2 ^ 64 → part_of c.arg_len m ≢ 0
     → c.operator ≡ MaskedEq m → FailsForSome c
 masked_eq_fails c m small some e =

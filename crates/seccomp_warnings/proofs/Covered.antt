@@ -31,7 +31,7 @@ under n chain =
     let same : int_cmp (pos n) (pos n) ≡ Equal = sym (int_cmp_is (pos n) (pos n) Equal refl) in
     ap (λ o. cond (is_eq o) (Some chain) None) same
 
--- The filter of one chain matches a record of its number where the chain does, and only there.
+-- The filter of one chain matches a record of its number if the chain does, and only then.
 matches_one : (arch : TargetArch) (n : ℕ) (chain : Chain) (r : List ℕ) → word_at r 0 ≡ n → ChainMatches chain r
     → Matches (filter_with arch ((pos n, chain) ∷ [])) r
 matches_one arch n chain r is matches = record {
@@ -48,7 +48,7 @@ one_matches arch n chain r is m =
     let same : m.chain ≡ chain = cc in
     subst (λ (k : Chain). ChainMatches k r) same m.matches
 
--- The chain of some conditions matches where they hold, and only there.
+-- The chain of some conditions matches if they hold, and only then.
 own_matches : (own : List Condition) (r : List ℕ) → RuleHolds own r → ChainMatches (chain_of own) r
 own_matches [] r holds = inl refl
 own_matches (c ∷ own) r holds = inr (any_head (λ q. RuleHolds q r) (c ∷ own) [] holds)
@@ -58,7 +58,7 @@ own_holds [] r matches = All-nil (λ c. Holds c r)
 own_holds (c ∷ own) r (inl none) = absurd (let never : ⊥ = cc in never)
 own_holds (c ∷ own) r (inr any) = (any_one (λ q. RuleHolds q r) (c ∷ own)).0 any
 
--- The filter of rules matches where one of them holds, and only there.
+-- The filter of rules matches if one of them holds, and only then.
 rules_match : (arch : TargetArch) (n : ℕ) (rules : List Rule) (r : List ℕ) → word_at r 0 ≡ n
     → Any (λ q. RuleHolds q r) rules → Matches (filter_of arch n rules) r
 rules_match arch n [] r is any = absurd (any_nil (λ q. RuleHolds q r) any)
@@ -125,7 +125,7 @@ answers arch n own rules calls comparison.Undecided of compared = tt
 -- ---- entries
 
 module _ (n : ℕ) (own : List Condition) (r : List ℕ) (is : word_at r 0 ≡ n) where
-  -- The rule beside an entry holds where the entry is met.
+  -- The rule beside an entry holds if the entry is met.
   beside_one : (number : Option ℤ) (conditions : List Condition)
       → Any (λ q. RuleHolds q r) (if is_number (pos n) number then (conditions ++ own) ∷ [] else [])
       → (number ≡ Some (pos (word_at r 0))) × RuleHolds conditions r

@@ -19,7 +19,7 @@ each_push P [] v here before (suc k) w got = absurd (let never : ⊥ = cc in nev
 each_push P (x ∷ vs) v here before zero w got = before 0 w got
 each_push P (x ∷ vs) v here before (suc k) w got = each_push (λ m. P (suc m)) vs v here (λ m. before (suc m)) k w got
 
--- The verdict of the entry at a place is that of the entry beside those in front of it and behind it.
+-- The verdict of the entry at a place is that of the entry beside those before it and after it.
 pub verdict_here : (arch : TargetArch) (entries : List Entry) (place : ℕ) (own : Entry) (v : Verdict) → place < length entries
     → own ≡ get_or entries place own
     → IsVerdict arch own (take place entries ++ take (length entries - (place + 1)) (drop (place + 1) entries)) v

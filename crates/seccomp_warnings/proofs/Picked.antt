@@ -16,7 +16,7 @@ use Rattle.seccomp_warnings.specs.declared.code.Code.{Code}
 
 -- ---- what is picked of more
 
--- Those of two lists, one behind the other.
+-- Those of two lists, one after the other.
 picked_append : (P : Warning → Type 0) (xs ys ps qs : List Warning) → ArePicked P xs ps → ArePicked P ys qs
     → ArePicked P (xs ++ ys) (ps ++ qs)
 picked_append P [] ys ps qs none own = subst (λ (l : List Warning). ArePicked P ys (l ++ qs)) (sym none) own
@@ -29,7 +29,7 @@ module _ (allowed : List Code) (verdicts : List Verdict) (j : JsonFilter) where
   pub adds_none : (old new : List Warning) → new ≡ old → AddsPicked allowed verdicts j [] old new
   adds_none old new same = record { picked = []; are = refl; added = same ∙ sym (append-nil old) }
 
-  -- One list of what is asked behind the other.
+  -- One list of what is asked after the other.
   pub adds_more : (xs ys begun old new : List Warning) → AddsPicked allowed verdicts j xs begun old
       → AddsPicked allowed verdicts j ys old new
       → AddsPicked allowed verdicts j (xs ++ ys) begun new
@@ -68,7 +68,7 @@ module _ (allowed : List Code) (verdicts : List Verdict) (j : JsonFilter) where
       → AddsPicked allowed verdicts j (map (about part) found) old new → AddsPicked allowed verdicts j (map (about part) codes) old new
   of_codes part found codes old new same adds = subst (λ ks. AddsPicked allowed verdicts j (map (about part) ks) old new) same adds
 
-  -- All that is asked of a filter, where there was nothing before.
+  -- All that is asked of a filter, if there was nothing before.
   pub all_picked : (asked ws : List Warning) → AddsPicked allowed verdicts j asked [] ws → ArePicked (IsGiven allowed verdicts j) asked ws
   all_picked asked ws adds = subst (ArePicked (IsGiven allowed verdicts j) asked) (sym adds.added) adds.are
 

@@ -23,12 +23,12 @@ abbrev MeetsRule : TargetArch → List ℕ → JsonRule → Type 0
 MeetsRule arch r q = Meets r (entry_of arch q)
 
 module _ (arch : TargetArch) (law : PoliciesMatchEntries arch) (r : List ℕ) where
-  -- The conditions of an entry hold where all that it has do.
+  -- The conditions of an entry hold if all that it has do.
   conditions_hold : (o : Option (List JsonCondition)) → ConditionsHold r o ↔ RuleHolds (conditions_in o) r
   conditions_hold None = (λ h. All-nil (λ c. Holds c r), λ h. tt)
   conditions_hold (Some conditions) = (λ h. h, λ h. h)
 
-  -- The policy of a JSON filter matches where an entry of the filter is met.
+  -- The policy of a JSON filter matches if an entry of the filter is met.
   policy_match : (j : JsonFilter) (f : Filter) → IsPolicyOf arch j f → Matches f r ↔ Any (MeetsRule arch r) j.rules
   policy_match j f is = (
     λ m. any_weaker (MeetsEntry arch r) (MeetsRule arch r) j.rules
@@ -49,7 +49,7 @@ module _ (arch : TargetArch) (law : PoliciesMatchEntries arch) (r : List ℕ) wh
     decided w (policy_differs same none is_word) =
         inr (λ any. none ((policy_match j f is).1 any), is_word ∙ ap word_of is.mismatch_action)
 
--- A record meets entries of a filter where it meets them on the architecture.
+-- A record meets entries of a filter if it meets them on the architecture.
 on_arch : (arch : TargetArch) (r : List ℕ) (qs : List JsonRule) → Any (MeetsRule arch r) qs → Any (Meets r) (map (entry_of arch) qs)
 on_arch arch r [] any = absurd (any_nil (MeetsRule arch r) any)
 on_arch arch r (q ∷ qs) any = elim (any_cases (MeetsRule arch r) q qs any) [
@@ -137,7 +137,7 @@ module _ (arch : TargetArch) (law : PoliciesMatchEntries arch) (j : JsonFilter) 
   from_others r any = of_arch arch r (without place j.rules)
       (subst (λ (es : List Entry). Any (Meets r) es) (sym (map_without arch j.rules place)) any)
 
-  -- Where each call that meets the entry meets another one, the policies with and without it decide alike.
+  -- If each call that meets the entry meets another one, the policies with and without it decide alike.
   alike : (own : Entry) → slice_get entries place ≡ Some own
       → ((r : List ℕ) → IsRecord r × (word_at r 4 ≡ audit_word arch) → Meets r own → Any (Meets r) (without place entries))
       → DecideAlike arch j (filter_without place j)

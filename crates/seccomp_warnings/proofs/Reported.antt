@@ -72,7 +72,7 @@ report_more arch allowed_for front done named name old new before count after is
           ∙ sym (sum_by_push (λ (o : FilterWarnings). length o.warnings) so_far.all own);
     }
 
--- Where the codes of one name are those of the others, each name has them.
+-- If the codes of one name are those of the others, each name has them.
 one_for_all : (own : List ℕ) (allowed : List Code) (name : List ℕ) → codes_for own allowed allowed name ≡ allowed
 one_for_all own allowed name = by (bytes_eq name own)
   where

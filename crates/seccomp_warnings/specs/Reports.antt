@@ -19,7 +19,7 @@ pub record FilterWarnings : Type 0 where
   pub name : List ℕ
   pub warnings : List Warning
 
--- The lines of its warnings, each behind a front.
+-- The lines of its warnings, each after a prefix.
 abbrev pub filter_lines : List ℕ → FilterWarnings → List ℕ
 filter_lines front own = lines_in front own.name own.warnings
 
@@ -47,7 +47,7 @@ pub record AreWarningsOf (arch : TargetArch) (allowed_for : List ℕ → List Co
   pub name : own.name ≡ string_bytes named.0
   pub warnings : AreTrueWarnings arch (allowed_for own.name) named.1 own.warnings
 
--- The text is the lines of the warnings of the filters, in their order, each behind this front, and there are so many.
+-- The text is the lines of the warnings of the filters, in their order, each after this prefix, and there are so many.
 pub record IsReportOf (arch : TargetArch) (allowed_for : List ℕ → List Code) (front : List ℕ) (filters : NamedFilters) (text : List ℕ)
     (count : ℕ) : Type 0 where
   pub all : List FilterWarnings
@@ -60,7 +60,7 @@ abbrev pub AreFaultless : TargetArch → NamedFilters → Type 0
 AreFaultless arch filters = All (λ named. IsFaultless arch named.1) filters
 
 -- Why there is no report: the first of the filters, in their order, that has no policy on the architecture, and its first
--- fault. Want of memory may come in place of it.
+-- fault. Lack of memory may come in place of it.
 pub record IsReportRefusal (arch : TargetArch) (filters : NamedFilters) (e : JsonFrontendError) : Type 0 where
   pub done : NamedFilters
   pub named : String Global × JsonFilter

@@ -88,7 +88,7 @@ mark_of kind = codes ": warning [" ++ code_text kind ++ codes "]: "
 abbrev pub line_of : List ℕ → Warning → List ℕ
 line_of name w = place_of name w ++ mark_of w.code ++ said_text w.code ++ codes "\n"
 
--- The line of a warning behind a front, which names the policy.
+-- The line of a warning after a prefix, which names the policy.
 abbrev pub line_in : (front name : List ℕ) → Warning → List ℕ
 line_in front name w = front ++ line_of name w
 

@@ -26,14 +26,14 @@ IsAmong entry entries = (r : List ℕ) → Meets r entry → Any (Meets r) entri
 abbrev pub AreAmong : List Entry → List Entry → Type 0
 AreAmong some entries = (r : List ℕ) → Any (Meets r) some → Any (Meets r) entries
 
--- The rule of the conditions of an entry and some others, where it is one of the call of this number.
+-- The rule of the conditions of an entry and some others, if it is one of the call of this number.
 abbrev pub rule_beside : ℕ → List Condition → Entry → List Rule
 rule_beside number own entry = if is_number (pos number) entry.number then (entry.conditions ++ own) ∷ [] else []
 
 abbrev pub rules_beside : ℕ → List Condition → List Entry → List Rule
 rules_beside number own entries = flat_map (rule_beside number own) entries
 
--- The chain that matches where the conditions hold.
+-- The chain that matches if the conditions hold.
 abbrev pub chain_of : List Condition → Chain
 chain_of [] = []
 chain_of (c ∷ conditions) = (c ∷ conditions) ∷ []
@@ -42,12 +42,12 @@ chain_of (c ∷ conditions) = (c ∷ conditions) ∷ []
 abbrev pub filter_with : TargetArch → List (ℤ × Chain) → Filter
 filter_with arch chains = record { chains = chains; mismatch_action = KillProcess; match_action = Allow; target_arch = arch }
 
--- The chains of rules of one number: none where there is no rule.
+-- The chains of rules of one number: none if there is no rule.
 abbrev pub chains_with : ℕ → List Rule → List (ℤ × Chain)
 chains_with number [] = []
 chains_with number (rule ∷ rules) = (pos number, rule ∷ rules) ∷ []
 
--- The filter of rules of one number, which matches nothing where there is none.
+-- The filter of rules of one number, which matches nothing if there is none.
 abbrev pub filter_of : TargetArch → ℕ → List Rule → Filter
 filter_of arch number rules = filter_with arch (chains_with number rules)
 

@@ -19,7 +19,7 @@ pub record Entry : Type 0 where
   pub number : Option ℤ
   pub conditions : List Condition
 
--- The conditions of an entry, none where it has no list of them.
+-- The conditions of an entry, none if it has no list of them.
 abbrev pub conditions_in : Option (List JsonCondition) → List Condition
 conditions_in None = []
 conditions_in (Some conditions) = map condition_of conditions

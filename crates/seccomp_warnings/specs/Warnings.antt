@@ -30,7 +30,7 @@ condition_in c = record { arg_index = 0; arg_len = c.arg_len; operator = c.opera
 abbrev pub HasIgnoredHalf : Comparison → Type 0
 HasIgnoredHalf c = (c.arg_len ≡ Dword) × (2 ^ 32 ≤ c.value)
 
--- The value has bits that the mask, as far as it is compared, hasn't.
+-- The value has bits that the mask, as far as it is compared, doesn't have.
 abbrev pub IsOutside : SeccompCmpArgLen → SeccompCmpOp → ℕ → Type 0
 IsOutside length (MaskedEq mask) value = bit_and value (part_of length mask) ≢ value
 IsOutside length operator value = ⊥
@@ -66,7 +66,7 @@ IsSoOfCondition other actions c = ⊥
 abbrev pub actions_of : JsonFilter → Actions
 actions_of j = record { mismatch = j.mismatch_action; matching = j.match_action }
 
--- What a code says of a part of a filter is so, where these are the verdicts of its entries.
+-- What a code says of a part of a filter is so, if these are the verdicts of its entries.
 abbrev pub IsSoOf : List Verdict → JsonFilter → Code → Subject → Type 0
 IsSoOf verdicts j kind (subject.MismatchAction action) = IsSoOfAction kind action
 IsSoOf verdicts j kind (subject.MismatchCall call) = IsSoOfUnlisted kind j call
@@ -137,7 +137,7 @@ abbrev pub asked_of : JsonFilter → List Warning
 asked_of j = map (about (subject.MismatchAction j.mismatch_action)) mismatch_codes ++ calls_asked all_unlisted
     ++ map (about (subject.MatchAction j.match_action)) match_codes ++ entries_asked 0 j.rules
 
--- Of the first list exactly those of which P holds, in their order.
+-- Of the first list exactly those for which P holds, in their order.
 abbrev pub ArePicked : (Warning → Type 0) → List Warning → List Warning → Type 0
 ArePicked P [] picked = picked ≡ []
 ArePicked P (w ∷ asked) picked = ((rest : List Warning) × P w × (picked ≡ w ∷ rest) × ArePicked P asked rest)

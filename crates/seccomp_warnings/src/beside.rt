@@ -13,7 +13,7 @@ use std::alloc::Global;
 // How many times an entry is compared with few of the others.
 const MOST_TRIES: usize = 16;
 
-// What comparisons of the entry's calls with those of the others say: with those of few of them, and where that doesn't
+// What comparisons of the entry's calls with those of the others say: with those of few of them, and if that doesn't
 // do, with those of all.
 pub(crate) fn compared(
     alloc: Global,
@@ -34,7 +34,7 @@ pub(crate) fn compared(
 }
 
 // What comparisons with few of the others say. The first one is with none of them, and finds a call that meets the entry.
-// Where that meets another one too, the next comparison is with that one as well, and so on.
+// If that meets another one too, the next comparison is with that one as well, and so on.
 fn compared_with_few(
     alloc: Global,
     arch: TargetArch,

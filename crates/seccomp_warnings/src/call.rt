@@ -130,7 +130,7 @@ fn kills_at_exit(filter: &JsonFilter, entry: &JsonRule) -> bool
     kills(filter.match_action) && !has_args(entry) && is_exit(entry.syscall.as_str())
 }
 
-// Whether the entry lets every clone3 through, where the filter doesn't let every clone through.
+// Whether the entry lets every clone3 through, if the filter doesn't let every clone through.
 fn lets_clone3_through(filter: &JsonFilter, entry: &JsonRule) -> bool
     ensures { IsTrue result ↔ LetsClone3Through filter.now entry.now }
 {

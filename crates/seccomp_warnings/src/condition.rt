@@ -23,7 +23,7 @@ fn has_ignored_half(comparison: Comparison) -> bool
     }
 }
 
-// Whether the value has bits that what is compared of the mask hasn't.
+// Whether the value has bits that what is compared of the mask doesn't have.
 fn has_value_outside(comparison: Comparison) -> bool
     ensures { IsTrue result ↔ HasValueOutside comparison }
 {

@@ -24,8 +24,8 @@ fn joined(
     SeccompRule::new(conditions)
 }
 
-// Adds a rule for each of the entries of this call: the entry's conditions and these. A program tests the conditions of a
-// rule from the last one on. So on calls at which these don't hold, each rule is left before it splits them any further.
+// Adds a rule for each of the entries of this call: the entry's conditions and these. A program tests a rule's
+// conditions from the last one on, so it leaves each rule early on calls at which these don't hold.
 pub(crate) fn push_rules(
     rules: &mut Vec<SeccompRule>,
     alloc: Global,
@@ -43,7 +43,7 @@ pub(crate) fn push_rules(
     Ok(())
 }
 
-// The chain of these conditions, which matches where they hold.
+// The chain of these conditions, which matches if they hold.
 fn chain_of(
     alloc: Global,
     conditions: &[SeccompCondition],
@@ -89,7 +89,7 @@ fn filter_without(alloc: Global, arch: TargetArch) -> Result<SeccompFilter, Back
     )
 }
 
-// The filter of rules, of which there may be none.
+// The filter of rules, perhaps of none.
 fn filter_of(
     alloc: Global,
     arch: TargetArch,

@@ -55,7 +55,7 @@ fn conditions_of(
     Ok(made)
 }
 
-// The conditions of an entry, none where it has no list of them.
+// The conditions of an entry, none if it has no list of them.
 fn conditions_in(alloc: Global, rule: &JsonRule) -> Result<Vec<SeccompCondition>, AllocError>
     requires { IfSome rule.now.conditions AreFineArgs }
     ensures { IfOk result (λ made. made.items ≡ spec.conditions_in rule.now.conditions) }

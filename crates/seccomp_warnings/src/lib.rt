@@ -1,9 +1,10 @@
 //! Warnings of a policy: places at which it may not say what its author means.
 //!
-//! A policy with a warning is no wrong policy. [`verdicts_of`] says which entries of a filter are needed,
-//! [`warnings_of`] gives the filter's warnings, each with its [`Code`] and what it is about, [`push_lines`]
-//! writes their lines, and [`report_of`] does all this for all filters of a policy; [`report_by_name`] leaves other codes out
-//! of one filter than of the others. `docs/CHECKS.md` has a section for each code.
+//! A policy with a warning is valid. [`verdicts_of`] says which entries of a filter are needed, [`warnings_of`]
+//! gives the filter's warnings, each with its [`Code`] and what it is about, and [`push_lines`] writes their
+//! lines.
+//! [`report_of`] does all this for all filters of a policy; [`report_by_name`] allows one filter other codes than the
+//! rest. `docs/CHECKS.md` has a section for each code.
 //!
 //! ```
 //! use seccomp_warnings::{Code, Report, report_of};

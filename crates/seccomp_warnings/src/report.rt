@@ -16,22 +16,22 @@ use std::alloc::Global;
 /// The warnings of a policy, as lines.
 #[derive(Drop)]
 pub struct Report {
-    /// The lines, each with a line feed; empty where there is no warning.
+    /// The lines, each with a line feed; empty if there is no warning.
     pub text: Vec<u8>,
     /// How many there are.
     pub count: usize,
 }
 
-/// The warnings of all filters of a policy, all but those of the allowed codes.
+/// The warnings of all filters of a policy, except those of the allowed codes.
 ///
-/// The filters come in byte order of their names, and the warnings of each as [`warnings_of`] gives
-/// them by the verdicts of [`verdicts_of`] on this architecture, with lines as [`push_lines`] writes them,
-/// each behind this front, which names the policy.
+/// The filters come in byte order of their names. [`warnings_of`] gives the warnings of each by the verdicts of
+/// [`verdicts_of`] on this architecture, and [`push_lines`] writes their lines, each after this prefix, which names the
+/// policy.
 ///
 /// # Errors
 ///
-/// What `JsonCompiler::make_seccomp_filter` rejects the first filter for that has no policy on the architecture.
-/// `OutOfMemory` where memory runs out, which may come in place of it.
+/// What `JsonCompiler::make_seccomp_filter` rejects the first filter for that has no policy on the
+/// architecture. `OutOfMemory` if memory runs out, which may come in place of it.
 pub fn report_of(
     alloc: Global,
     arch: TargetArch,

@@ -36,18 +36,19 @@ pub enum Verdict {
 
 /// A verdict for each entry of a filter, in their order; each is true.
 ///
-/// Without an entry that is redundant or unreachable, the filter's policy decides every call alike; without one that is
-/// needed, it decides some call otherwise, unless its two actions return the same value.
+/// Without a redundant or unreachable entry, the filter's policy decides every call alike; without a needed
+/// one, it decides some call differently, unless its two actions return the same value.
 ///
-/// For an entry the calls of its number are compared that meet its conditions, with those that meet another entry too: first
-/// of up to 15 entries that such calls were found to meet, and where that doesn't do, of all. Of 300000 sets of calls, or
-/// fewer, each entry has the same share, one at least, for each comparison. Where that doesn't do, and where all entries of
-/// the call take a program of more than 4096 instructions, the verdict is [`Verdict::Undecided`].
+/// For each entry, the calls that meet its conditions are compared with those that meet another entry too:
+/// first with up to 15 entries that such calls were found to meet, and if that isn't enough, with all. Each
+/// entry has an equal share, at least one, of 300000 sets of calls for each comparison. If that isn't enough
+/// either, and if all entries of the call take a program of more than 4096 instructions, the verdict is
+/// [`Verdict::Undecided`].
 ///
 /// # Errors
 ///
-/// What [`JsonCompiler::make_seccomp_filter`] rejects the filter for; `OutOfMemory` where memory runs out, which may come
-/// in place of it.
+/// What [`JsonCompiler::make_seccomp_filter`] rejects the filter for; `OutOfMemory` if memory runs out, which
+/// may come in place of it.
 pub fn verdicts_of(
     alloc: Global,
     arch: TargetArch,
@@ -123,7 +124,7 @@ fn verdict_at(
     Ok(verdict)
 }
 
-// The verdict of an entry beside others: those in front of it, and those behind it.
+// The verdict of an entry beside others: those before it, and those after it.
 fn verdict_of(
     alloc: Global,
     arch: TargetArch,

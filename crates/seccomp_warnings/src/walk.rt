@@ -17,16 +17,15 @@ use std::alloc::{AllocError, Global};
 
 /// The warnings of a filter: exactly those that are true of it and whose codes aren't allowed.
 ///
-/// What entries are needed for goes by the verdicts, which are those that
-/// [`verdicts_of`](crate::verdict::verdicts_of) gives.
+/// The verdicts, those of [`verdicts_of`](crate::verdict::verdicts_of), say which entries are needed.
 ///
-/// They come in the order of the policy's text: those of the mismatch action, there too at the calls that
-/// no entry names, those of the match action, and then entry by entry those of the entry and of its
-/// conditions. Those of one place are in the order of `Code::all`.
+/// Warnings come in the order of the policy's text: those of the mismatch action, with its calls that no entry
+/// names; those of the match action; then, entry by entry, those of the entry and of its conditions. Those of
+/// one place are in the order of `Code::all`.
 ///
 /// # Errors
 ///
-/// `AllocError` where memory runs out.
+/// `AllocError` if memory runs out.
 pub fn warnings_of(
     alloc: Global,
     filter: &JsonFilter,

@@ -40,7 +40,7 @@ names_of entries = map-map (λ (p : NamedProgram). p.0) named_program entries
 
 module _ (arch : List ℕ) (known : Option (List ℕ)) (find : List ℕ → Option (Vec sock_filter Global))
     (h : OfPolicy arch known (λ target. AreProgramsOf target find)) where
-  -- Nothing is at fault where the programs are there, and P holds too.
+  -- Nothing is at fault if the programs are there, and P holds too.
   faultless : (P : TargetArch → Data → Type 0) → ((target : TargetArch) (d : Data) → AreProgramsOf target find d → P target d)
       → IsFaultless arch known P
   faultless P shows =
@@ -51,7 +51,7 @@ module _ (arch : List ℕ) (known : Option (List ℕ)) (find : List ℕ → Opti
             d are,
       )) h
 
-  -- Where nothing is found under a name, no filter has it.
+  -- If nothing is found under a name, no filter has it.
   pub no_filter_named : (name : List ℕ) → find name ≡ None → IsFaultless arch known (λ target d. Lacks d name)
   no_filter_named name none = faultless (λ target d. Lacks d name) (λ target d are. nowhere (IsOf target) find d are name none)
 
@@ -63,7 +63,7 @@ module _ (arch : List ℕ) (known : Option (List ℕ)) (find : List ℕ → Opti
       let value = there (IsOf target) find d are name program found in
       (value.0, value.1, (value.2.policy, value.2.is_policy, shows value.2.policy value.2.compiled)))
 
-  -- The listing of programs in order is the policy's, where the same is found under their names.
+  -- The listing of programs in order is the policy's, if the same is found under their names.
   pub listed : (entries : List Entry) (text : List ℕ) → ((name : List ℕ) → find name ≡ lookup (is_text name) entries)
       → IsStrictlySortedBy string_cmp (keys_of entries) → text ≡ concat (map listing_of (map named_program entries))
       → IsListing arch known text

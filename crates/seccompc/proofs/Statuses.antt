@@ -7,7 +7,7 @@ use Rattle.seccomp_command_line.specs.declared.error.ToolError.{ToolError}
 use Rattle.seccompc.specs.declared.words.Command.{Command}
 use Rattle.seccompc.specs.declared.words.Command.TheVariants.{Probe, List as Listing, Run}
 
--- The answer that ends with 0 tells no error.
+-- The answer that ends with 0 reports no error.
 pub performed : (command : Command) (file input : Option (List ℕ)) (r : Result ⊤ ToolError) (old new : Option (List ℕ)) (status : ℕ)
     → AnswersCommand command file input r old new → OnErr r (status ≡ 1) → status ≡ 0 → IsPerformed command
 performed command file input (Ok tt) old new status answers failed zero =

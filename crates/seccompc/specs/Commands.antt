@@ -6,9 +6,9 @@ use Rattle.seccomp_command_line.specs.declared.error.ToolError.{ToolError}
 use Rattle.seccompc.specs.declared.words.Command.{Command}
 use Rattle.seccompc.specs.declared.words.Command.TheVariants.{Probe, List as Listing, Run}
 
--- The answer of a command, where FILE has these bytes and standard input those: a probe's is of its own words and the
--- records of the input, a listing's of the policy of the input, a run's of FILE's policy, its filter of this name and
--- the records of the input.
+-- The answer of a command, if FILE and standard input have these bytes. `probe` answers from its own words and
+-- the records of the input, `list` from the policy of the input, and `run` from FILE's policy, the filter of
+-- this name and the records of the input.
 abbrev pub AnswersCommand : Command → (file input : Option (List ℕ)) → Result ⊤ ToolError → (old new : Option (List ℕ)) → Type 0
 AnswersCommand (Probe arch nr index value) file input answer old new = AnswersProbe arch.now nr index value input answer old new
 AnswersCommand (Listing arch) file input answer old new = AnswersList arch.now input answer old new

@@ -1,8 +1,8 @@
 -- The definitions that the contracts cite.
 
--- What is promised, in reading order: which words are which command, and what each engine answers and writes: lines of
--- runs, listings, and the first fault of a policy; which of these a command is; and what the statuses tell. What goes
--- wrong, and what both programs read and answer, stands in seccomp_command_line.
+-- What is promised, in reading order: the words of each command; what each engine answers and writes: lines of
+-- runs, listings, and the first fault of a policy; which of these a command is; and the meaning of the exit
+-- statuses. What goes wrong, and what both programs read and answer, is in seccomp_command_line.
 pub mod Words
 pub mod Lines
 pub mod Probe

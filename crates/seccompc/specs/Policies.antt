@@ -33,21 +33,21 @@ OfFilter arch known name P =
 abbrev pub IsListing : List ℕ → Option (List ℕ) → List ℕ → Type 0
 IsListing arch known text = IsFaultless arch known (λ target d. Listed target d text)
 
--- The answer of a listing. The first fault is told: of the architecture's name and of the policy's text; and then that
--- writing fails. It is Ok only where nothing is at fault, and the listing is written. Want of memory may come in place
--- of all.
+-- The answer of a listing. The first fault is reported: of the architecture's name and of the policy's text; and then
+-- that writing fails. It is Ok only if nothing is at fault, and the listing is written. Lack of memory may come in
+-- place of all.
 abbrev pub AnswersList : List ℕ → Option (List ℕ) → Result ⊤ ToolError → (old new : Option (List ℕ)) → Type 0
 AnswersList arch known = Answers (IsListing arch known) (IsRefusedPolicy arch known)
 
 -- Why the records are not read: the first fault of the architecture's name and of the policy's text; then that no filter
--- has the name. Want of memory may come in place of both.
+-- has the name. Lack of memory may come in place of both.
 abbrev pub IsRefusedRun : List ℕ → Option (List ℕ) → List ℕ → ToolError → Type 0
 IsRefusedRun arch known name (Library e) = IsPolicyFault arch known e
 IsRefusedRun arch known name (NoFilter text) = (string_bytes text ≡ name) × IsFaultless arch known (λ target d. Lacks d name)
 IsRefusedRun arch known name OutOfMemory = ⊤
 IsRefusedRun arch known name e = ⊥
 
--- The filter's lines on records can be told: nothing is at fault, and there is such a filter.
+-- The filter's lines on records can be reported: nothing is at fault, and there is such a filter.
 abbrev pub IsRunnable : List ℕ → Option (List ℕ) → List ℕ → Type 0
 IsRunnable arch known name = OfFilter arch known name (λ policy. ⊤)
 
@@ -55,7 +55,7 @@ IsRunnable arch known name = OfFilter arch known name (λ policy. ⊤)
 abbrev pub IsRun : List ℕ → Option (List ℕ) → List ℕ → (records : List (List ℕ)) → List ℕ → Type 0
 IsRun arch known name records text = OfFilter arch known name (λ policy. Traced policy records text)
 
--- The answer of a run of the filter of this name on records: that, or, where there is such a filter, what telling its
+-- The answer of a run of the filter of this name on records: that, or, if there is such a filter, what telling its
 -- lines on the records answers.
 abbrev pub AnswersRun : List ℕ → Option (List ℕ) → List ℕ → (records : Option (List ℕ)) → Result ⊤ ToolError → (old new : Option (List ℕ))
     → Type 0

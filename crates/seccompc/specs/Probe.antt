@@ -14,7 +14,7 @@ use Rattle.seccomp_command_line.specs.declared.error.ToolError.{ToolError}
 use Rattle.seccomp_command_line.specs.declared.error.ToolError.TheVariants.{Library, OutOfMemory}
 use Rattle.seccompc.specs.Lines.{Traced}
 
--- The filter that allows a call of this number where all 8 bytes of the argument equal the value, and else kills the
+-- The filter that allows a call of this number if all 8 bytes of the argument equal the value, and else kills the
 -- process.
 abbrev pub probe_filter : TargetArch → ℤ → ℕ → ℕ → Filter
 probe_filter target nr index value = record {
@@ -39,7 +39,7 @@ pub data IsProbeFault (arch : List ℕ) (nr : ℤ) (index : ℕ) (e : Error) : T
   no_call_number : (target : TargetArch) → IsNameOf arch target → index ≤ 5 → (IsCallNumber nr → ⊥)
       → e ≡ Backend (InvalidSyscallNumber nr) → IsProbeFault arch nr index e
 
--- Why the records are not read: the first fault. Want of memory may come in place of it.
+-- Why the records are not read: the first fault. Lack of memory may come in place of it.
 abbrev pub IsRefusedProbe : List ℕ → ℤ → ℕ → ToolError → Type 0
 IsRefusedProbe arch nr index (Library e) = IsProbeFault arch nr index e
 IsRefusedProbe arch nr index OutOfMemory = ⊤
@@ -50,7 +50,7 @@ pub record IsProbed (arch : List ℕ) (nr : ℤ) (index value : ℕ) (records : 
   pub faultless : IsProbeFaultless arch nr index
   pub traced : Traced (probe_filter faultless.target nr index value) records text
 
--- The answer of a probe: the words' first fault, or, where they have none, what telling their filter's lines on the
+-- The answer of a probe: the words' first fault, or, if they have none, what telling their filter's lines on the
 -- records answers.
 abbrev pub AnswersProbe : List ℕ → ℤ → ℕ → ℕ → (records : Option (List ℕ)) → Result ⊤ ToolError → (old new : Option (List ℕ)) → Type 0
 AnswersProbe arch nr index value =

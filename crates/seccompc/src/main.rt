@@ -35,7 +35,7 @@ fn main(rt: HostRuntime) -> ExitCode {
     }
 }
 
-// Carries out a command, from standard input to standard output; where there is none, says how the
+// Carries out a command, from standard input to standard output; if there is none, says how the
 // program is called.
 fn carry_out(
     rt: &(impl Files + Input + Print + Eprint + AllocGlobal),
@@ -44,7 +44,7 @@ fn carry_out(
     ensures no_command { IfNone command.entry (exit_status result ≡ 2) }
     ensures carried_out { IfSome command.entry (λ asked. exit_status result ≤ 1) }
 
-    // Status 0 comes only where the command is carried out without a fault, and then its own words have none.
+    // Status 0 comes only if the command is carried out without a fault, and then its own words have none.
     ensures performed { IfSome command.entry (λ asked. exit_status result ≡ 0 → IsPerformed asked) }
     ensures faultless { IfSome command.entry (λ asked. exit_status result ≡ 0 → HasNoFault asked) }
 {
@@ -68,7 +68,7 @@ fn carry_out(
     }
 }
 
-// Status 0, or status 1 where a command failed, with the error's text on standard error.
+// Status 0, or status 1 if a command failed, with the error's text on standard error.
 fn answered(rt: &impl Eprint, answer: Result<(), ToolError>) -> ExitCode
     ensures done { OnOk answer (exit_status result ≡ 0) }
     ensures failed { OnErr answer (exit_status result ≡ 1) }
@@ -82,7 +82,7 @@ fn answered(rt: &impl Eprint, answer: Result<(), ToolError>) -> ExitCode
     }
 }
 
-// Status 1, where the policy's file can't be opened.
+// Status 1, if the policy's file can't be opened.
 fn unopened(rt: &impl Eprint) -> ExitCode
     ensures { exit_status result ≡ 1 }
 {

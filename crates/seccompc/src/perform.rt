@@ -15,7 +15,7 @@ use std::io::{Read, Write};
 /// Carries out a command: `probe` and `list` on the input, `run` on the policy of the file and on the
 /// records of the input.
 ///
-/// The file is not read where the command names none.
+/// The file is not read if the command names none.
 ///
 /// # Errors
 ///

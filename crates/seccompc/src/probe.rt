@@ -17,26 +17,25 @@ use std::alloc::Global;
 use std::collections::BTreeMap;
 use std::io::{Read, Write};
 
-/// Shows what a program that is compiled for a filter of one condition does with records: for each
-/// whole record of 64 bytes the line of the value that the program returns and the steps that it takes.
+/// Runs the program of a filter of one condition on records: for each whole record of 64 bytes it writes a line
+/// with the value that the program returns and the steps that it takes.
 ///
-/// The filter allows call `nr` where all 8 bytes of argument `index`, numbered from 0, equal
-/// `value`, and kills the process at any other call and on any other architecture than `arch`. A
-/// line is the value in 8 lower-case hexadecimal digits, a space, the steps in decimal, a line feed.
-/// All records are read before the first line is written, and all lines are written at once.
+/// The filter allows call `nr` if all 8 bytes of argument `index`, numbered from 0, equal `value`, and kills
+/// the process at any other call and on any other architecture than `arch`. A line is the value in 8 lower-case
+/// hexadecimal digits, a space, the steps in decimal, a line feed. All records are read before the first line
+/// is written, and all lines are written at once.
 ///
-/// The records are what their reader gives; of a reader whose type doesn't say what it reads, as that of
-/// standard input, the contract says that there are such bytes.
+/// The records are what their reader gives. If the reader's type doesn't say what it reads, as standard
+/// input's, the contract says that there are such bytes.
 ///
 /// # Errors
 ///
-/// The first of these: `Library` with `InvalidTargetArch` and the text as it was given where `arch`
-/// is no architecture's name, ASCII case aside; `Library` with `InvalidArgumentNumber` where `index`
-/// is above 5; `Library` with `InvalidSyscallNumber` where `nr` lies outside 0 to 4294967295; `Read`
-/// where the reader fails; `Write` where the writer does; `ShortRecord` where 1 to 63 bytes are
-/// left, after the lines of the whole records are written. `OutOfMemory` comes in place of any of
-/// these where memory runs out, in the reader too. On any error but
-/// `Write` and `ShortRecord` nothing is written.
+/// The first of these: `Library` with `InvalidTargetArch` and the text as it was given if `arch` is no
+/// architecture's name, ASCII case aside; `Library` with `InvalidArgumentNumber` if `index` is above 5;
+/// `Library` with `InvalidSyscallNumber` if `nr` lies outside 0 to 4294967295; `Read` if the reader fails;
+/// `Write` if the writer does; `ShortRecord` if 1 to 63 bytes are left, after the lines of the whole records
+/// are written. `OutOfMemory` comes in place of any of these if memory runs out, in the reader too. On any
+/// error but `Write` and `ShortRecord` nothing is written.
 pub fn probe<R: Read + Drop, W: Write>(
     alloc: Global,
     arch: &str,
@@ -68,7 +67,7 @@ pub(crate) fn program_of(
     Ok(probe_filter(alloc, arch, nr, index, value)?.to_bpf(alloc)?)
 }
 
-// The filter that lets call `nr` pass where argument `index` equals `value`.
+// The filter that lets call `nr` pass if argument `index` equals `value`.
 fn probe_filter(
     alloc: Global,
     arch: &str,

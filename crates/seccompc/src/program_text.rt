@@ -26,7 +26,7 @@ pub(crate) fn listing(
     Ok(text)
 }
 
-// The bytes that the listings take where no byte of a name is written by its number.
+// The bytes that the listings take if no byte of a name is written by its number.
 fn room(programs: &BTreeMap<String, BpfProgram>) -> usize
     // As each walk over a map tells.
     ensures ordered { tree.IsOrdered string_cmp programs.now }

@@ -11,25 +11,24 @@ use seccomp_command_line::record_texts::tell_records;
 use std::alloc::Global;
 use std::io::{Read, Write};
 
-/// Shows what a program that is compiled for a policy's filter does with records: for each whole record
-/// of 64 bytes the line of the value that the program returns and the steps that it takes.
+/// Runs the program of a policy's filter on records: for each whole record of 64 bytes it writes a line with
+/// the value that the program returns and the steps that it takes.
 ///
-/// A line is the value in 8 lower-case hexadecimal digits, a space, the steps in decimal, a line feed.
-/// The policy is read to its end and compiled, and its filter under `name` looked up, before the records
-/// are read; all records are read before the first line is written, and all lines are written at once.
+/// A line is the value in 8 lower-case hexadecimal digits, a space, the steps in decimal, a line feed. The
+/// policy is read to its end and compiled, and its filter `name` looked up, before the records are read; all
+/// records are read before the first line is written, and all lines are written at once.
 ///
-/// The policy's text and the records are what their readers give; of a reader whose type doesn't say what it
-/// reads, as a file's, the contract says that there are such bytes.
+/// The policy's text and the records are what their readers give. If a reader's type doesn't say what it reads,
+/// as a file's, the contract says that there are such bytes.
 ///
 /// # Errors
 ///
-/// The first of these: `Library` with `InvalidTargetArch` and the text as it was given where `arch` is
-/// no architecture's name, ASCII case aside; `Library` with what `compile_from_json` rejects the policy for,
-/// `JsonFrontend(Read)` among it where its reader fails; `NoFilter` with the name where no filter of the
-/// policy has it; `Read` where the reader of the records fails; `Write` where the writer does; `ShortRecord`
-/// where 1 to 63 bytes are left, after the lines of the whole records are written. `OutOfMemory` comes in
-/// place of any of these where memory runs out, in a reader too. On any error but `Write` and `ShortRecord`
-/// nothing is written.
+/// The first of these: `Library` with `InvalidTargetArch` and the text as it was given if `arch` is no
+/// architecture's name, ASCII case aside; `Library` with what `compile_from_json` rejects the policy for,
+/// `JsonFrontend(Read)` among it if its reader fails; `NoFilter` with the name if no filter of the policy has
+/// it; `Read` if the reader of the records fails; `Write` if the writer does; `ShortRecord` if 1 to 63 bytes
+/// are left, after the lines of the whole records are written. `OutOfMemory` comes in place of any of these if
+/// memory runs out, in a reader too. On any error but `Write` and `ShortRecord` nothing is written.
 pub fn run_policy<P: Read + Drop, R: Read + Drop, W: Write>(
     alloc: Global,
     arch: &str,

@@ -36,12 +36,11 @@ pub enum Command<'a> {
     },
 }
 
-/// Reads the arguments that follow the program's name: exactly the command that they are, or `None`
-/// where they are none. Takes no memory.
+/// Reads the arguments after the program's name as a command, or `None` if they are none. Takes no memory.
 ///
-/// The commands are `probe ARCH NR INDEX VALUE`, `list ARCH` and `run ARCH FILE NAME`. ARCH, FILE and
-/// NAME are any texts. NR, INDEX and VALUE are one or more ASCII digits, NR with at most one `-` in
-/// front, and fit `i64`, `u8` and `u64`.
+/// The commands are `probe ARCH NR INDEX VALUE`, `list ARCH` and `run ARCH FILE NAME`. ARCH, FILE and NAME are
+/// any texts. NR, INDEX and VALUE are one or more ASCII digits, NR with at most one `-` in front, and fit
+/// `i64`, `u8` and `u64`.
 pub fn read_words(words: &[String]) -> Option<Command<'_>>
     ensures read { IfSome result (IsCommand (map string_bytes words.now)) }
     ensures unread { IfNone result ((command : Command) → IsCommand (map string_bytes words.now) command → ⊥) }
@@ -55,7 +54,7 @@ pub fn read_words(words: &[String]) -> Option<Command<'_>>
     }
 }
 
-// The probe that the words behind `probe` ask for.
+// The probe that the words after `probe` ask for.
 fn read_probe(words: &[String]) -> Option<Command<'_>>
     ensures read { IfSome result (IsCommand (codes "probe" ∷ map string_bytes words.now)) }
     ensures unread { IfNone result ((command : Command) → IsCommand (codes "probe" ∷ map string_bytes words.now) command → ⊥) }
@@ -71,7 +70,7 @@ fn read_probe(words: &[String]) -> Option<Command<'_>>
     }
 }
 
-// The listing that the words behind `list` ask for.
+// The listing that the words after `list` ask for.
 fn read_list(words: &[String]) -> Option<Command<'_>>
     ensures read { IfSome result (IsCommand (codes "list" ∷ map string_bytes words.now)) }
     ensures unread { IfNone result ((command : Command) → IsCommand (codes "list" ∷ map string_bytes words.now) command → ⊥) }
@@ -84,7 +83,7 @@ fn read_list(words: &[String]) -> Option<Command<'_>>
     }
 }
 
-// The run that the words behind `run` ask for.
+// The run that the words after `run` ask for.
 fn read_run(words: &[String]) -> Option<Command<'_>>
     ensures read { IfSome result (IsCommand (codes "run" ∷ map string_bytes words.now)) }
     ensures unread { IfNone result ((command : Command) → IsCommand (codes "run" ∷ map string_bytes words.now) command → ⊥) }
@@ -112,7 +111,7 @@ fn probe_of<'a>(arch: &'a str, nr: &str, index: &str, value: &str) -> Option<Com
     })
 }
 
-// The number that a text of decimal digits writes, a `-` in front or not, where 64 bits hold it.
+// The number that a text of decimal digits writes, a `-` in front or not, if 64 bits hold it.
 fn read_signed(text: &str) -> Option<i64>
     ensures read { IfSome result (IsSignedText text.now) }
     ensures unread { IfNone result ((z : ℤ) → IsSigned64 z → IsSignedText text.now z → ⊥) }

@@ -10,7 +10,7 @@ use Rattle.seccompiler.specs.Policy.{Chain, RuleHolds, ChainMatches, chain_under
 use Rattle.seccompiler.specs.Layout.{greatest_offset, rule_steps, chain_length, chain_steps, chains_length, chains_steps}
 use Rattle.seccompiler.specs.Layout.{rules_length}
 
--- The three jumps of a relay in front of code whose failure exit is o places behind them.
+-- The three jumps of a relay in front of code whose failure exit is o places after them.
 abbrev pub relay_code : ℕ → List sock_filter
 relay_code o = jump 2 ∷ jump (o + 1) ∷ jump (o + 1) ∷ []
 
@@ -18,7 +18,7 @@ relay_code o = jump 2 ∷ jump (o + 1) ∷ jump (o + 1) ∷ []
 abbrev pub relay_front : ℕ → List sock_filter
 relay_front o = if nat_lt greatest_offset o then relay_code o else []
 
--- The offset behind which the further condition then stands.
+-- The offset after which the further condition then stands.
 abbrev pub offset_behind : ℕ → ℕ
 offset_behind o = if nat_lt greatest_offset o then 1 else o
 
@@ -40,18 +40,18 @@ Returns p r place a w = (count : ℕ) × ReturnsAfter p r place a count w
 pub record IsBlock (p : List sock_filter) (m : ℕ) : Type 0 where
   pub each : (place : ℕ) (i : sock_filter) → slice_get p place ≡ Some i → (IsInside i place m) ⊎ (i.code ≡ 0x06)
 
--- Entered at its first place the code returns the first word where the fact holds, and the second where it does not; one of
+-- Entered at its first place the code returns the first word if the fact holds, and the second if it does not; one of
 -- the two is so.
 abbrev pub ReturnsBy : List sock_filter → ℕ → ℕ → List ℕ → ℕ → Type 0 → Type 0
 ReturnsBy code matched mismatch r a fact = (fact × Returns code r 0 a matched) ⊎ ((fact → ⊥) × Returns code r 0 a mismatch)
 
--- Entered at its first place the code returns the word where the fact holds, and leaves at its end where it does not; one of
+-- Entered at its first place the code returns the word if the fact holds, and leaves at its end if it does not; one of
 -- the two is so.
 abbrev pub ReturnsOrLeaves : List sock_filter → ℕ → List ℕ → ℕ → Type 0 → Type 0
 ReturnsOrLeaves code w r a fact = (fact × Returns code r 0 a w) ⊎ ((fact → ⊥) × Leads code r 0 a (length code))
 
--- The code of rules, each with its return: entered at its first place it returns where some rule holds, and leaves at
--- its end where none does; entered at its second place it leaves one place behind its end, with the accumulator kept.
+-- The code of rules, each with its return: entered at its first place it returns if some rule holds, and leaves at
+-- its end if none does; entered at its second place it leaves one place after its end, with the accumulator kept.
 pub record IsRulesCode (chain : Chain) (w : ℕ) (code : List sock_filter) : Type 0 where
   pub long : length code ≡ rules_length chain
   pub ranges : AreInRange code
@@ -68,7 +68,7 @@ pub record IsChainCode (number : ℕ) (chain : Chain) (mismatch matched : ℕ) (
   pub enters : (r : List ℕ) → IsRecord r → ReturnsBy code matched mismatch r number (ChainMatches chain r)
   pub passes : (r : List ℕ) (a : ℕ) → a < 2 ^ 32 → a ≢ number → Goes code r 0 a (chain_steps chain) (length code) a
 
--- What the code of chains does with a call number: it returns a word where there is a chain, and leaves at its end where
+-- What the code of chains does with a call number: it returns a word if there is a chain, and leaves at its end if
 -- there is none.
 pub data Dispatches (chains : List (ℤ × Chain)) (mismatch matched : ℕ) (code : List sock_filter) (r : List ℕ) (a : ℕ) : Type 0 where
   in_chain : (chain : Chain) → chain_under chains a ≡ Some chain → ReturnsBy code matched mismatch r a (ChainMatches chain r)

@@ -14,15 +14,15 @@ mask k = record { code = 0x54; jt = 0; jf = 0; k = k }
 abbrev pub jump : ℕ → sock_filter
 jump k = record { code = 0x05; jt = 0; jf = 0; k = k }
 
--- Jump over jt instructions where the accumulator equals k, else over jf.
+-- Jump over jt instructions if the accumulator equals k, else over jf.
 abbrev pub jump_equal : ℕ → ℕ → ℕ → sock_filter
 jump_equal k jt jf = record { code = 0x15; jt = jt; jf = jf; k = k }
 
--- Jump over jt instructions where the accumulator is greater than k, else over jf.
+-- Jump over jt instructions if the accumulator is greater than k, else over jf.
 abbrev pub jump_greater : ℕ → ℕ → ℕ → sock_filter
 jump_greater k jt jf = record { code = 0x25; jt = jt; jf = jf; k = k }
 
--- Jump over jt instructions where the accumulator is at least k, else over jf.
+-- Jump over jt instructions if the accumulator is at least k, else over jf.
 abbrev pub jump_at_least : ℕ → ℕ → ℕ → sock_filter
 jump_at_least k jt jf = record { code = 0x35; jt = jt; jf = jf; k = k }
 
@@ -30,6 +30,6 @@ jump_at_least k jt jf = record { code = 0x35; jt = jt; jf = jf; k = k }
 abbrev pub give : ℕ → sock_filter
 give k = record { code = 0x06; jt = 0; jf = 0; k = k }
 
--- The guard in front of a program: it kills the process where the record's architecture word is another (seccomp(2)).
+-- The guard in front of a program: it kills the process if the record's architecture word is another (seccomp(2)).
 abbrev pub guard_code : ℕ → List sock_filter
 guard_code arch_word = load 4 ∷ jump_equal arch_word 1 0 ∷ give 0x80000000 ∷ []

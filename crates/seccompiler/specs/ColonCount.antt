@@ -1,7 +1,7 @@
 -- Colons outside strings, counted byte by byte from the front. It ties the parts of the count, and no public contract names it.
 use Rattle.std.specs.Prelude.{ℕ, ◌+◌, ◌==◌, List, [], ◌∷◌, cond, if◌then◌else◌}
 
--- So many colons, and those that stand outside strings: counted from outside, in a string, and from behind a backslash.
+-- So many colons, and those that stand outside strings: counted from outside, in a string, and after a backslash.
 abbrev mutual
   pub from_outside : ℕ → List ℕ → ℕ
   from_outside n [] = n

@@ -18,7 +18,7 @@ pub record EndsAtDecision (f : Filter) (p : List sock_filter) (r : List ℕ) : T
   pub few : steps ≤ length p
   pub decision : IsDecision f r word
 
--- Where the filter has chains, a record of its architecture whose call number has none is passed in exactly the passing
+-- If the filter has chains, a record of its architecture whose call number has none is passed in exactly the passing
 -- steps, at the mismatch word.
 pub record Passes (f : Filter) (p : List sock_filter) : Type 0 where
   pub passes : f.chains ≢ [] → (r : List ℕ) → IsRecord r → word_at r 4 ≡ audit_word f.target_arch
@@ -53,7 +53,7 @@ pub record IsCompilable (f : Filter) : Type 0 where
   pub numbers : AreCallNumbers (numbers_of f.chains)
   pub short : counted_length f ≤ greatest_length
 
--- All its numbers are call numbers, but its counted length, which is n where a machine's number can hold it, is more
+-- All its numbers are call numbers, but its counted length, which is n if a machine's number can hold it, is more
 -- than the greatest length.
 pub record IsTooLarge (f : Filter) (n : ℕ) : Type 0 where
   pub numbers : AreCallNumbers (numbers_of f.chains)
@@ -61,7 +61,7 @@ pub record IsTooLarge (f : Filter) (n : ℕ) : Type 0 where
   pub length : n ≡ min (counted_length f) (2 ^ 64 - 1)
 
 -- The refusal of a filter comes of its own cause alone: of the least number that is no call number; else of the
--- length; and want of memory comes only where the filter may be compiled.
+-- length; and lack of memory comes only if the filter may be compiled.
 abbrev pub IsRefusal : Filter → BackendError → Type 0
 IsRefusal f (FilterTooLarge n) = IsTooLarge f n
 IsRefusal f (InvalidSyscallNumber n) = IsLeastUnfit (numbers_of f.chains) n

@@ -8,8 +8,8 @@ use Rattle.seccompiler.specs.declared.backend.SeccompCmpArgLen.TheVariants.{Dwor
 use Rattle.seccompiler.specs.Code.{load, mask, jump_equal, jump_greater, jump_at_least}
 use Rattle.seccompiler.specs.Policy.{Condition}
 
--- The code of a comparison with v of the argument whose low half stands at byte `low` of the record, its high half
--- 4 bytes behind; where it fails it leaves d places behind its end.
+-- The code of a comparison with v of the argument whose low half is at byte `low` of the record, its high half
+-- 4 bytes later; if it fails it leaves d places after its end.
 abbrev pub comparison_code : SeccompCmpArgLen → SeccompCmpOp → ℕ → ℕ → ℕ → List sock_filter
 comparison_code Dword Eq low v d = load low ∷ jump_equal (v % 2 ^ 32) 0 d ∷ []
 comparison_code Dword Ne low v d = load low ∷ jump_equal (v % 2 ^ 32) d 0 ∷ []
@@ -35,6 +35,6 @@ comparison_code Qword (MaskedEq m) low v d =
     load (low + 4) ∷ mask (m / 2 ^ 32) ∷ jump_equal (bit_and (v / 2 ^ 32) (m / 2 ^ 32)) 0 (d + 3)
     ∷ load low ∷ mask (m % 2 ^ 32) ∷ jump_equal (bit_and (v % 2 ^ 32) (m % 2 ^ 32)) 0 d ∷ []
 
--- The code of a condition that leaves d places behind its end where it fails.
+-- The code of a condition that leaves d places after its end if it fails.
 abbrev pub condition_code : Condition → ℕ → List sock_filter
 condition_code c d = comparison_code c.arg_len c.operator (16 + 8 * c.arg_index) c.value d

@@ -1,4 +1,5 @@
--- The errors: how a refusal of one module becomes one of another, the text of the crate's, and where want of memory stands.
+-- The errors: how a refusal of one module becomes one of another, the text of the crate's, and where lack of memory
+-- stands.
 use Rattle.std.specs.Prelude.{◌≡◌, ◌≢◌, ℕ, List, ◌++◌, Option, Some, option_map, codes, ⊤}
 use Rattle.std.specs.Fmt.{signed_decimal}
 use Rattle.std.specs.IoError.{error_kind}
@@ -12,22 +13,22 @@ use Rattle.seccompiler.specs.declared.backend.BackendError.TheVariants as backen
 use Rattle.seccompiler.specs.declared.error.Error.TheVariants as whole
 use Rattle.seccompiler.specs.declared.json.error.JsonFrontendError.TheVariants as frontend
 
--- A refusal of the backend as one of the front end; want of memory stays want of memory.
+-- A refusal of the backend as one of the front end; lack of memory stays lack of memory.
 abbrev pub frontend_refusal : BackendError → JsonFrontendError
 frontend_refusal backend.OutOfMemory = frontend.OutOfMemory
 frontend_refusal refusal = frontend.Backend refusal
 
--- A refusal of the backend; want of memory stays want of memory.
+-- A refusal of the backend; lack of memory stays lack of memory.
 abbrev pub from_backend : BackendError → Error
 from_backend backend.OutOfMemory = whole.OutOfMemory
 from_backend refusal = whole.Backend refusal
 
--- A refusal of the front end; want of memory stays want of memory.
+-- A refusal of the front end; lack of memory stays lack of memory.
 abbrev pub from_frontend : JsonFrontendError → Error
 from_frontend frontend.OutOfMemory = whole.OutOfMemory
 from_frontend refusal = whole.JsonFrontend refusal
 
--- The text of an error, where all of it is known: that of JSON that can't be read ends in serde_json's own words.
+-- The text of an error, if all of it is known: that of JSON that can't be read ends in serde_json's own words.
 abbrev pub error_text : Error → Option (List ℕ)
 error_text (whole.Backend e) = Some (codes "Backend error: " ++ backend_text e)
 error_text whole.EmptyFilter = Some (codes "Cannot install empty filter.")
@@ -38,12 +39,12 @@ error_text (whole.ThreadSync thread) =
 error_text (whole.JsonFrontend e) = option_map (λ text. codes "Json Frontend error: " ++ text) (json_text e)
 error_text whole.OutOfMemory = Some (codes "Out of memory.")
 
--- The text is that of the error; where it ends in serde_json's own words, it is known how it begins.
+-- The text is that of the error; if it ends in serde_json's own words, it is known how it begins.
 abbrev pub IsErrorText : Error → List ℕ → Type 0
 IsErrorText (whole.JsonFrontend e) text = (inner : List ℕ) × IsJsonText e inner × (text ≡ codes "Json Frontend error: " ++ inner)
 IsErrorText e text = error_text e ≡ Some text
 
--- Want of memory stands in the front end's error itself, if it is at fault, and nowhere inside.
+-- Lack of memory is in the front end's error itself, if it is at fault, and nowhere inside.
 abbrev pub IsNoMemoryInFrontend : JsonFrontendError → Type 0
 IsNoMemoryInFrontend (frontend.Backend e) = e ≢ backend.OutOfMemory
 IsNoMemoryInFrontend (frontend.SerdeJson e) = ¬ IsMemory e

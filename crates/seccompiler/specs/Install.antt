@@ -14,7 +14,7 @@ pub data AnswersCode (code number : ℤ) (answer : Result ⊤ Error) : Type 0 wh
 
 -- What installing a program with these flags does and answers, for a kernel whose two calls are these relations: between
 -- the kernel before, what is passed, the code and the error number that come back, and the kernel after. An empty program
--- is refused without a call. Else no_new_privs is set; where that fails, nothing further is called. Else the filter is
+-- is refused without a call. Else no_new_privs is set; if that fails, nothing further is called. Else the filter is
 -- asked for, once, and the code of that call tells the answer.
 pub data Applied {K : Type 0} (no_new_privs : K → ℤ → ℤ → K → Type 0) (mode_filter : K → ℕ → List sock_filter → ℤ → ℤ → K → Type 0)
     (before : K) (flags : ℕ) (program : List sock_filter) (after : K) (answer : Result ⊤ Error) : Type 0 where

@@ -1,4 +1,4 @@
--- What the policies of a JSON text are, and which of its faults is told.
+-- What the policies of a JSON text are, and which of its faults is reported.
 use Rattle.std.specs.Prelude.{◌≡◌, ℕ, List, Option, Some, string_bytes, ⊤}
 use Rattle.std.specs.Str.{IsUtf8}
 use Rattle.serde_json.specs.Data.{Data}
@@ -24,7 +24,7 @@ pub record IsValueOf (text : List ℕ) (d : Data) : Type 0 where
   pub is_read : IsReadAs text d
   pub no_repeat : Repeats text d → ⊥
 
--- The text is of a value of which P holds.
+-- The text is of a value for which P holds.
 abbrev pub OfValue : List ℕ → (Data → Type 0) → Type 0
 OfValue text P = (d : Data) × IsValueOf text d × P d
 
@@ -46,9 +46,9 @@ abbrev pub IsLeastRefused : TargetArch → Fault → Data → Type 0
 IsLeastRefused arch fault d = AreAll IsSomeFilter d × (name : List ℕ)
     × IsLeast (λ value. (f : JsonFilter) × IsFilter value f × IsFirstFault arch f fault) (HasSomePolicy arch) d name
 
--- The error tells what is at fault in the text, and nothing that comes earlier in the order of faults is: the bytes
+-- The error reports what is at fault in the text, and nothing that comes earlier in the order of faults is: the bytes
 -- are no JSON; they have more colons than names; the top is no object; a filter has a wrong shape; a filter is refused. The least
--- name's fault comes first. A failed read tells nothing of the text, and want of memory may come in place of all.
+-- name's fault comes first. A failed read tells nothing of the text, and lack of memory may come in place of all.
 abbrev pub TellsFrontendFault : TargetArch → List ℕ → JsonFrontendError → Type 0
 TellsFrontendFault arch text (Backend cause) = OfValue text (IsLeastRefused arch (refused cause))
 TellsFrontendFault arch text (SerdeJson cause) = (d : Data) → IsReadAs text d → ⊥

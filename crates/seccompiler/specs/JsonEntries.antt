@@ -7,7 +7,7 @@ use Rattle.seccompiler.specs.JsonTypes.{JsonFilter, JsonRule}
 use Rattle.seccompiler.specs.Machine.{word_at}
 use Rattle.seccompiler.specs.Policy.{Filter, Matches, RuleHolds}
 
--- The conditions hold on a record: all of them, where there is a list of them.
+-- The conditions hold on a record: all of them, if there is a list of them.
 abbrev pub ConditionsHold : List ℕ → Option (List JsonCondition) → Type 0
 ConditionsHold r None = ⊤
 ConditionsHold r (Some conditions) = RuleHolds (map condition_of conditions) r

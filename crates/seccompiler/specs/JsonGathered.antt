@@ -36,7 +36,7 @@ pub record AreGathered (arch : TargetArch) (entries : List JsonRule) (gathered :
   pub always : (number : ℤ) → is_always_at gathered number ≡ list_any (is_always arch number) entries
   pub ordered : IsOrdered int_cmp gathered.rules
 
--- The chain of a number: the empty one where some entry with this number has no conditions; else the rules that were
+-- The chain of a number: the empty one if some entry with this number has no conditions; else the rules that were
 -- gathered under it, if there are any.
 abbrev pub chain_of : Bool → Option Chain → Option Chain
 chain_of true found = Some []

@@ -21,7 +21,8 @@ use Rattle.seccompiler.specs.declared.backend.BackendError.{BackendError}
 abbrev pub condition_of : JsonCondition → Condition
 condition_of c = record { arg_index = c.arg_index; arg_len = c.arg_len; operator = c.operator; value = c.value }
 
--- The rules that an entry's conditions stand for: one that has them all, in order, or no rule where there is no list of them.
+-- The rules that an entry's conditions stand for: one that has them all, in order, or no rule if there is no list of
+-- them.
 abbrev pub rules_of : Option (List JsonCondition) → List Rule
 rules_of None = []
 rules_of (Some conditions) = map condition_of conditions ∷ []
@@ -79,7 +80,7 @@ pub record IsMadeOf (meant : ℤ → Chain) (arch : TargetArch) (j : JsonFilter)
 abbrev pub all_rules : TargetArch → List JsonRule → ℤ → Chain
 all_rules arch entries number = flat_map (rules_for arch number) entries
 
--- The chain of a number: the empty one where some entry with this number has no conditions, else the rules of the number.
+-- The chain of a number: the empty one if some entry with this number has no conditions, else the rules of the number.
 abbrev pub chain_for : TargetArch → List JsonRule → ℤ → Chain
 chain_for arch entries number = if list_any (is_always arch number) entries then [] else all_rules arch entries number
 
@@ -105,7 +106,7 @@ pub data IsFaultOf (arch : TargetArch) (entry : JsonRule) (fault : Fault) : Type
   wrong_args : (number : ℤ) (conditions : List JsonCondition) → IsFor arch number entry → entry.conditions ≡ Some conditions
       → IsFaultIn conditions fault → IsFaultOf arch entry fault
 
--- The first fault of some entries: that of an entry, where nothing is wrong with those in front of it.
+-- The first fault of some entries: that of an entry, if nothing is wrong with those in front of it.
 pub record IsFirstOf (arch : TargetArch) (entries : List JsonRule) (fault : Fault) : Type 0 where
   pub front : List JsonRule
   pub entry : JsonRule
@@ -114,7 +115,7 @@ pub record IsFirstOf (arch : TargetArch) (entries : List JsonRule) (fault : Faul
   pub fine : All (IsFineEntry arch) front
   pub wrong : IsFaultOf arch entry fault
 
--- The first fault of a JSON filter on an architecture: that of its entries; or, where nothing is wrong with any entry,
+-- The first fault of a JSON filter on an architecture: that of its entries; or, if nothing is wrong with any entry,
 -- that its two actions are equal.
 pub data IsFirstFault (arch : TargetArch) (j : JsonFilter) (fault : Fault) : Type 0 where
   in_entries : IsFirstOf arch j.rules fault → IsFirstFault arch j fault

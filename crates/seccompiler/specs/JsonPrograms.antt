@@ -1,4 +1,4 @@
--- What the programs of a JSON text are, and which of its faults is told.
+-- What the programs of a JSON text are, and which of its faults is reported.
 use Rattle.std.specs.Prelude.{ℕ, List, Option, Vec, ⊤}
 use Rattle.std.specs.declared.alloc.Global.{Global}
 use Rattle.serde_json.specs.Data.{Data}
@@ -30,14 +30,15 @@ IsLeastTooLarge arch n d = AreAll (HasSomePolicy arch) d × (name : List ℕ)
     × IsLeast (λ value. (policy : Filter) × HasPolicy arch value policy × IsTooLarge policy n)
     (λ value. (policy : Filter) × HasPolicy arch value policy × IsCompilable policy) d name
 
--- The backend's error tells that. Want of memory may come in its place, and no other error comes.
+-- The backend's error reports that. Lack of memory may come in its place, and no other error comes.
 abbrev pub TellsTooLarge : TargetArch → Data → BackendError → Type 0
 TellsTooLarge arch d (FilterTooLarge n) = IsLeastTooLarge arch n d
 TellsTooLarge arch d NoMemory = ⊤
 TellsTooLarge arch d e = ⊥
 
--- The error tells what is at fault in the text, and nothing that comes earlier in the order of faults is: all faults of
--- the front end, and then the least name's policy that is too large. Want of memory may come in place of all.
+-- The error reports what is at fault in the text, and nothing that comes earlier in the order of faults is: all
+-- faults of the front end, and then the least name's policy that is too large. Lack of memory may come in place of
+-- all.
 abbrev pub TellsFirstFault : TargetArch → List ℕ → Error → Type 0
 TellsFirstFault arch text (whole.JsonFrontend cause) = TellsFrontendFault arch text cause
 TellsFirstFault arch text (whole.Backend (FilterTooLarge n)) = OfValue text (IsLeastTooLarge arch n)

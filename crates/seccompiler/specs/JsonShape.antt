@@ -67,7 +67,7 @@ abbrev pub IsArgLen : Data → SeccompCmpArgLen → Type 0
 IsArgLen d Dword = d ≡ string (codes "dword")
 IsArgLen d Qword = d ≡ string (codes "qword")
 
--- What stands under `comment`, if anything, is null or a text.
+-- What is under `comment`, if anything, is null or a text.
 abbrev pub IsComment : Option Data → Type 0
 IsComment None = ⊤
 IsComment (Some null) = ⊤
@@ -98,7 +98,7 @@ abbrev pub IsListOf : {X : Type 0} → (Data → X → Type 0) → Data → List
 IsListOf P (array items) xs = OneByOne P items xs
 IsListOf P _ xs = ⊥
 
--- What stands under `args`, if anything, is these conditions: none where it is nothing, or null; else those that it lists.
+-- What is under `args`, if anything, is these conditions: none if it is nothing, or null; else those that it lists.
 abbrev pub IsArgs : Option Data → Option (List JsonCondition) → Type 0
 IsArgs None conditions = conditions ≡ None
 IsArgs (Some null) conditions = conditions ≡ None

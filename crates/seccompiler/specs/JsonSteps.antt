@@ -20,7 +20,7 @@ abbrev pub AreFilters : Data → JsonFilterMap → Type 0
 AreFilters d filters = AreFound IsFilter (get_by_text filters.0) d
 
 -- Why the value is refused: it is no object, or this is its least name whose value is no filter.
--- Want of memory may come in place of both, and no other error comes.
+-- Lack of memory may come in place of both, and no other error comes.
 abbrev pub IsShapeRefusal : Data → JsonFrontendError → Type 0
 IsShapeRefusal d NotAnObject = IsObject d → ⊥
 IsShapeRefusal d (Shape name) = IsLeastFault d (string_bytes name)
@@ -38,12 +38,12 @@ abbrev pub IsNoFailedRead : JsonFrontendError → Type 0
 IsNoFailedRead (Read cause) = ⊥
 IsNoFailedRead e = ⊤
 
--- A conversion gives the condition of the same four parts where the index is at most 5, and is refused where it is above.
+-- A conversion gives the condition of the same four parts if the index is at most 5, and is refused if it is above.
 abbrev pub IsConditionOf : JsonCondition → Result Condition JsonFrontendError → Type 0
 IsConditionOf c (Ok made) = (c.arg_index ≤ 5) × (made ≡ condition_of c)
 IsConditionOf c (Err e) = (5 < c.arg_index) × (e ≡ Backend InvalidArgumentNumber)
 
--- An error tells a fault of which P holds, and no want of memory stands in it. Want of memory may come in place of the
+-- An error reports a fault for which P holds, and no lack of memory is in it. Lack of memory may come in place of the
 -- fault, and no other error comes.
 abbrev pub Tells : (Fault → Type 0) → JsonFrontendError → Type 0
 Tells P (Backend cause) = P (refused cause) × (cause ≢ of_backend.OutOfMemory)
@@ -51,7 +51,7 @@ Tells P (SyscallName name arch) = P (unknown_call (string_bytes name) arch)
 Tells P OutOfMemory = ⊤
 Tells P _ = ⊥
 
--- Why a JSON filter has no policy, as an error tells it: its first fault.
+-- Why a JSON filter has no policy, as an error reports it: its first fault.
 abbrev pub IsPolicyRefusal : TargetArch → JsonFilter → JsonFrontendError → Type 0
 IsPolicyRefusal arch j = Tells (IsFirstFault arch j)
 

@@ -3,7 +3,7 @@ use Rattle.std.specs.Prelude.{ℕ, List, Option}
 use Rattle.seccompiler.specs.declared.backend.SeccompAction.{SeccompAction}
 use Rattle.seccompiler.specs.declared.json.types.JsonCondition.{JsonCondition}
 
--- An entry of a filter: the bytes of its call's name, and its conditions in order, none where it has no list of them.
+-- An entry of a filter: the bytes of its call's name, and its conditions in order, none if it has no list of them.
 pub record JsonRule : Type 0 where
   pub syscall : List ℕ
   pub conditions : Option (List JsonCondition)

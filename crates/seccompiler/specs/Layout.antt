@@ -27,7 +27,7 @@ pub record IsCutIntoGroups (q : List Condition) (groups : List (List Condition))
   pub full : (front back : List (List Condition)) (group next : List Condition) → groups ≡ front ++ group ∷ next ∷ back
       → greatest_offset ≤ total_size group
 
--- The groups of a group that is begun and the conditions behind it.
+-- The groups of a group that is begun and the conditions after it.
 abbrev pub groups_from : List Condition → List Condition → List (List Condition)
 groups_from group [] = group ∷ []
 groups_from group (c ∷ q) =
@@ -68,7 +68,7 @@ abbrev pub chains_length : List (ℤ × Chain) → ℕ
 chains_length chains = sum_by (λ (e : ℤ × Chain). chain_length e.1) chains
 
 -- The counted length of a filter: how many instructions its program has, which are the three of the guard, which kill the
--- process on another architecture, and the last return; and where it has chains, theirs and the load of the call number.
+-- process on another architecture, and the last return; and if it has chains, theirs and the load of the call number.
 -- It has no limit.
 abbrev pub counted_length_of : List (ℤ × Chain) → ℕ
 counted_length_of [] = 4

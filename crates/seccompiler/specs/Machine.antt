@@ -15,7 +15,7 @@ abbrev pub number_at : List ℕ → ℕ → ℕ → ℕ
 number_at r k zero = 0
 number_at r k (suc n) = slice_index r k + 256 * number_at r (k + 1) n
 
--- The 32-bit word of bytes k to k + 3. The call number stands at 0, the architecture word at 4 (linux/seccomp.h).
+-- The 32-bit word of bytes k to k + 3. The call number is at 0, the architecture word at 4 (linux/seccomp.h).
 abbrev pub word_at : List ℕ → ℕ → ℕ
 word_at r k = number_at r k 4
 

@@ -24,7 +24,7 @@ pub record Leads (piece : List sock_filter) (r : List ℕ) (place a place' : ℕ
   pub accumulator : ℕ
   pub goes : Goes piece r place a count place' accumulator
 
--- Entered at its first place, the piece leaves at its end where the fact holds, and d places further where it
+-- Entered at its first place, the piece leaves at its end if the fact holds, and d places further if it
 -- does not; one of the two is so.
 abbrev pub Exits : List sock_filter → ℕ → List ℕ → ℕ → Type 0 → Type 0
 Exits piece d r a fact = (fact × Leads piece r 0 a (length piece)) ⊎ ((fact → ⊥) × Leads piece r 0 a (length piece + d))
@@ -36,8 +36,8 @@ pub record IsConditionCode (c : Condition) (d : ℕ) (code : List sock_filter) :
   pub closed : IsClosed code (length code + d)
   pub enters : (r : List ℕ) → IsRecord r → (a : ℕ) → a < 2 ^ 32 → Exits code d r a (Holds c r)
 
--- The code of a rule without its return. Entered at its first place it leaves at its end where the rule holds, and one
--- place further where not; entered at its second place it leaves two places behind its end, with the accumulator kept.
+-- The code of a rule without its return. Entered at its first place it leaves at its end if the rule holds, and one
+-- place further if not; entered at its second place it leaves two places after its end, with the accumulator kept.
 pub record IsRuleCode (q : Rule) (code : List sock_filter) : Type 0 where
   pub long : length code ≡ rule_length q
   pub ranges : AreInRange code

@@ -82,7 +82,7 @@ Rule = List Condition
 abbrev pub Chain : Type 0
 Chain = List Rule
 
--- A filter: a chain for each of some call numbers, the action where no chain matches, the action where one does,
+-- A filter: a chain for each of some call numbers, the action if no chain matches, the action if one does,
 -- and the architecture.
 pub record Filter : Type 0 where
   pub chains : List (ℤ × Chain)
@@ -117,7 +117,7 @@ pub record Matches (f : Filter) (r : List ℕ) : Type 0 where
   pub matches : ChainMatches chain r
 
 -- The word that the policy names for a record: that of killing the process on another architecture, else that of
--- the match action where the policy matches, else that of the mismatch action.
+-- the match action if the policy matches, else that of the mismatch action.
 pub data IsDecision (f : Filter) (r : List ℕ) (w : ℕ) : Type 0 where
   other_architecture : word_at r 4 ≢ audit_word f.target_arch → w ≡ 0x80000000 → IsDecision f r w
   policy_matches : word_at r 4 ≡ audit_word f.target_arch → Matches f r → w ≡ word_of f.match_action → IsDecision f r w

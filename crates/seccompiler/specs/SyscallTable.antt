@@ -22,13 +22,13 @@ pub record IsFirstNumber (table : List Pair) (name : List ℕ) (number : ℤ) : 
 abbrev pub ComesBefore : List ℕ → List ℕ → Type 0
 ComesBefore first second = slice_cmp nat_cmp first second ≡ Less
 
--- The pair in the middle of a part of a table: as many pairs stand in front of it as behind it, or one more.
+-- The pair in the middle of a part of a table: as many pairs stand in front of it as after it, or one more.
 pub record IsMiddle (part front : List Pair) (middle : Pair) (back : List Pair) : Type 0 where
   pub whole : part ≡ front ++ middle ∷ back
   pub halves : (length front ≡ length back) ⊎ (length front ≡ length back + 1)
 
--- A look-up by halving compares the asked name with so many names of a part of a table: with none where the part is empty;
--- else with the middle one, and, where that is another, with those of the half on whose side the asked name stands.
+-- A look-up by halving compares the asked name with so many names of a part of a table: with none if the part is empty;
+-- else with the middle one, and, if that is another, with those of the half on whose side the asked name stands.
 pub data HalvingCompares (name : List ℕ) : List Pair → ℕ → Type 0 where
   none_left : HalvingCompares name [] 0
   at_middle : {part front back : List Pair} {middle : Pair} → IsMiddle part front middle back → name ≡ middle.0

@@ -1,8 +1,8 @@
 -- A text as a sequence of pieces: bytes, and strings in quotes. It needs not be JSON.
 use Rattle.std.specs.Prelude.{◌≡◌, ◌≢◌, ℕ, ◌==◌, List, [], ◌∷◌, ◌++◌, Bool, false, flat_map}
 
--- What stands in a string: a byte other than a quote (34) or a backslash (92), or a backslash with
--- the byte behind it, whichever that is.
+-- What is in a string: a byte other than a quote (34) or a backslash (92), or a backslash with
+-- the byte after it, whichever that is.
 pub data StringItem : Type 0 where
   plain : (b : ℕ) → b ≢ 34 → b ≢ 92 → StringItem
   escaped : ℕ → StringItem
@@ -26,8 +26,8 @@ abbrev pub piece_bytes : Piece → List ℕ
 piece_bytes (byte b no_quote) = b ∷ []
 piece_bytes (quoted items) = 34 ∷ (items_bytes items ++ 34 ∷ [])
 
--- How a text ends: behind a whole piece, or in a string that is not closed, whose last byte may be
--- a backslash with nothing behind it.
+-- How a text ends: after a whole piece, or in a string that is not closed, whose last byte may be
+-- a backslash with nothing after it.
 pub data Ending : Type 0 where
   closed : Ending
   unclosed : List StringItem → Ending
@@ -39,7 +39,7 @@ ending_bytes closed = []
 ending_bytes (unclosed items) = 34 ∷ items_bytes items
 ending_bytes (unclosed_backslash items) = 34 ∷ (items_bytes items ++ 92 ∷ [])
 
--- The text is these pieces and this ending, one behind the other.
+-- The text is these pieces and this ending, one after the other.
 abbrev pub IsCutIntoPieces : List ℕ → List Piece → Ending → Type 0
 IsCutIntoPieces text pieces ending = text ≡ flat_map piece_bytes pieces ++ ending_bytes ending
 

@@ -26,7 +26,7 @@ abbrev pub IsInvalidArch : BackendError → List ℕ → Type 0
 IsInvalidArch (InvalidTargetArch t) text = string_bytes t ≡ text
 IsInvalidArch _ text = ⊥
 
--- The text of an error of the front end, where all of it is known: that of `SerdeJson` ends in serde_json's own words.
+-- The text of an error of the front end, if all of it is known: that of `SerdeJson` ends in serde_json's own words.
 abbrev pub json_text : JsonFrontendError → Option (List ℕ)
 json_text (frontend.Backend e) = Some (backend_text e)
 json_text (frontend.SerdeJson e) = None
@@ -43,7 +43,7 @@ abbrev pub IsJsonText : JsonFrontendError → List ℕ → Type 0
 IsJsonText (frontend.SerdeJson e) text = (words : List ℕ) × (text ≡ codes "Error parsing Json: " ++ words)
 IsJsonText e text = json_text e ≡ Some text
 
--- Where Ok is answered to a formatter without options, it then has written a text of which P holds, and nothing else.
+-- If Ok is answered to a formatter without options, it then has written a text for which P holds, and nothing else.
 abbrev pub WritesOne : {W : Type 0} → (W → List ℕ → W → Type 0) → (List ℕ → Type 0) → Formatter W → Result ⊤ fmt.Error
     → Formatter W → Type 0
 WritesOne took P before answer after =

@@ -66,12 +66,12 @@ impl TargetArch {
 
     /// Reads an architecture's name, `x86_64`, `aarch64` or `riscv64`, without regard to ASCII case.
     ///
-    /// Takes no memory where it succeeds.
+    /// Takes no memory if it succeeds.
     ///
     /// # Errors
     ///
-    /// `InvalidTargetArch` with the text as it was given where it is none of the three names;
-    /// `OutOfMemory` where there is no memory to keep that text.
+    /// `InvalidTargetArch` with the text as it was given if it is none of the three names;
+    /// `OutOfMemory` if there is no memory to keep that text.
     ///
     /// # Examples
     ///
@@ -325,11 +325,11 @@ ghost use Rattle.seccompiler.specs.Architecture.{audit_word};
 ghost use Rattle.seccompiler.specs.Code.{guard_code};
 
 /// The three instructions that kill the process on a call of another architecture: load the
-/// `AUDIT_ARCH_*` value, skip the return where it is `arch`'s, return `SECCOMP_RET_KILL_PROCESS`.
+/// `AUDIT_ARCH_*` value, skip the return if it is `arch`'s, return `SECCOMP_RET_KILL_PROCESS`.
 ///
 /// # Errors
 ///
-/// `OutOfMemory` where memory runs out.
+/// `OutOfMemory` if memory runs out.
 pub fn build_arch_validation_sequence(
     alloc: Global,
     arch: TargetArch,

@@ -20,9 +20,9 @@ use crate::equality::EqualByParts;
 pub struct sock_filter {
     /// The operation.
     pub code: u16,
-    /// How many instructions a tested jump skips where its test is true.
+    /// How many instructions a tested jump skips if its test is true.
     pub jt: u8,
-    /// How many instructions a tested jump skips where its test is false.
+    /// How many instructions a tested jump skips if its test is false.
     pub jf: u8,
     /// The operand: a byte offset, a mask, a distance, a number to compare with, or a value to return.
     pub k: u32,
@@ -139,13 +139,13 @@ pub const MASK: u16 = BPF_ALU | BPF_AND | BPF_K;
 /// The code that jumps over `k` instructions.
 pub const JUMP: u16 = BPF_JMP | BPF_JA;
 
-/// The code that jumps over `jt` instructions where the accumulator equals `k`, else over `jf`.
+/// The code that jumps over `jt` instructions if the accumulator equals `k`, else over `jf`.
 pub const JUMP_EQUAL: u16 = BPF_JMP | BPF_JEQ | BPF_K;
 
-/// The code that jumps over `jt` instructions where the accumulator is greater than `k`, unsigned, else over `jf`.
+/// The code that jumps over `jt` instructions if the accumulator is greater than `k`, unsigned, else over `jf`.
 pub const JUMP_GREATER: u16 = BPF_JMP | BPF_JGT | BPF_K;
 
-/// The code that jumps over `jt` instructions where the accumulator is at least `k`, unsigned, else over `jf`.
+/// The code that jumps over `jt` instructions if the accumulator is at least `k`, unsigned, else over `jf`.
 pub const JUMP_AT_LEAST: u16 = BPF_JMP | BPF_JGE | BPF_K;
 
 /// The code that ends the program, and returns `k`.
@@ -213,7 +213,7 @@ pub(crate) fn jump_over(k: u32) -> sock_filter
     bpf_stmt(JUMP, k)
 }
 
-/// Jumps over `jt` instructions where the accumulator equals `k`, else over `jf`.
+/// Jumps over `jt` instructions if the accumulator equals `k`, else over `jf`.
 pub(crate) fn jump_if_equal(k: u32, jt: u8, jf: u8) -> sock_filter
     ensures instruction { result ≡ jump_equal k jt jf }
     ensures range { IsInRange result }
@@ -221,7 +221,7 @@ pub(crate) fn jump_if_equal(k: u32, jt: u8, jf: u8) -> sock_filter
     bpf_jump(JUMP_EQUAL, k, jt, jf)
 }
 
-/// Jumps over `jt` instructions where the accumulator is greater than `k`, else over `jf`.
+/// Jumps over `jt` instructions if the accumulator is greater than `k`, else over `jf`.
 pub(crate) fn jump_if_greater(k: u32, jt: u8, jf: u8) -> sock_filter
     ensures instruction { result ≡ jump_greater k jt jf }
     ensures range { IsInRange result }
@@ -229,7 +229,7 @@ pub(crate) fn jump_if_greater(k: u32, jt: u8, jf: u8) -> sock_filter
     bpf_jump(JUMP_GREATER, k, jt, jf)
 }
 
-/// Jumps over `jt` instructions where the accumulator is at least `k`, else over `jf`.
+/// Jumps over `jt` instructions if the accumulator is at least `k`, else over `jf`.
 pub(crate) fn jump_if_at_least(k: u32, jt: u8, jf: u8) -> sock_filter
     ensures instruction { result ≡ jump_at_least k jt jf }
     ensures range { IsInRange result }

@@ -1,6 +1,6 @@
 // What `==` tells of the values of this crate's types.
 
-/// A type whose `==` compares values part by part: it answers yes exactly where two values have the
+/// A type whose `==` compares values part by part: it answers yes exactly if two values have the
 /// same parts, texts by their bytes.
 ///
 /// Each type of this crate with `PartialEq` is one, so that code over such a type, generic code too,
@@ -8,7 +8,7 @@
 pub trait EqualByParts: PartialEq {
     ghost use Rattle.std.specs.Prelude.{◌↔◌, IsTrue};
 
-    // When two values have the same parts: where they are one value, or differ in no more than the
+    // When two values have the same parts: if they are one value, or differ in no more than the
     // room that their texts and maps take.
     ghost has_same_parts: { Self → Self → Type 0 };
 

@@ -10,10 +10,10 @@ use std::alloc::Global;
 use std::collections::BTreeMap;
 use std::marker::Model;
 
-/// A policy on system calls: a chain of rules for each of some call numbers, what to answer where
-/// a chain matches and where none does, and the architecture that the numbers are of.
+/// A policy on system calls: a chain of rules for each of some call numbers, what to answer if
+/// a chain matches and if none does, and the architecture that the numbers are of.
 ///
-/// A chain matches a call of its number where it has no rule, or where one of its rules holds.
+/// A chain matches a call of its number if it has no rule, or if one of its rules holds.
 #[derive(Debug, Drop)]
 pub struct SeccompFilter {
     pub(crate) rules: BTreeMap<i64, Vec<SeccompRule>>,
@@ -43,7 +43,7 @@ impl SeccompFilter {
     ///
     /// # Errors
     ///
-    /// `IdenticalActions` where the two actions are equal, as values.
+    /// `IdenticalActions` if the two actions are equal, as values.
     ///
     /// # Examples
     ///
@@ -83,14 +83,14 @@ impl SeccompFilter {
         &self.rules
     }
 
-    /// The action where no chain matches.
+    /// The action if no chain matches.
     pub fn mismatch_action(&self) -> SeccompAction
         ensures { result ≡ self.now.mismatch_action }
     {
         self.mismatch_action
     }
 
-    /// The action where a chain matches.
+    /// The action if a chain matches.
     pub fn match_action(&self) -> SeccompAction
         ensures { result ≡ self.now.match_action }
     {
@@ -108,7 +108,7 @@ impl SeccompFilter {
     ///
     /// # Errors
     ///
-    /// `OutOfMemory` where memory runs out.
+    /// `OutOfMemory` if memory runs out.
     pub fn clone(&self, alloc: Global) -> Result<Self, BackendError>
         ensures same { IfOk result (λ f. f ≡ self.now) }
         ensures memory { IsOkUnless result OutOfMemory }
@@ -125,8 +125,8 @@ impl SeccompFilter {
         })
     }
 
-    /// The return value that the policy names for the call of this record: `SECCOMP_RET_KILL_PROCESS` where
-    /// the record is of another architecture, else that of the match action where the policy matches, else
+    /// The return value that the policy names for the call of this record: `SECCOMP_RET_KILL_PROCESS` if
+    /// the record is of another architecture, else that of the match action if the policy matches, else
     /// that of the mismatch action.
     ///
     /// It depends on neither the order of rules in a chain nor that of conditions in a rule, nor on
@@ -166,7 +166,7 @@ impl SeccompFilter {
     }
 }
 
-/// Filters are equal where their chains, their actions and their architectures are.
+/// Filters are equal if their chains, their actions and their architectures are.
 impl PartialEq for SeccompFilter {
     ghost use Rattle.std.specs.Cmp.{decided, partial_equiv_from_equiv};
     ghost use Rattle.seccompiler.specs.Equality.{are_filters_equal, filters_decide};

@@ -14,12 +14,12 @@ const SECCOMP_FILTER_FLAG_TSYNC: u64 = 1;
 
 /// A kernel that programs can be installed in: the two system calls that installing takes.
 ///
-/// This crate makes no system call itself. Whoever installs a program hands in a value that does,
-/// or one that stands in for a kernel, as in a test.
+/// This crate makes no system call itself. The caller hands in a value that does, or a stand-in for a kernel,
+/// as in a test.
 ///
 /// Each call answers a code and an errno, as `prctl(2)` and `seccomp(2)` return a code and set `errno`. For
-/// each call the trait names a relation between the kernel before it, its arguments, its answer and the
-/// kernel after it; what installing does is said in terms of these two alone.
+/// each call the trait names a relation between the kernel before it, its arguments, its answer and the kernel
+/// after it; these two relations define what installing does.
 ///
 /// ```
 /// /// A kernel whose calls all succeed, and of whose calls no more is known.
@@ -55,14 +55,14 @@ pub trait Kernel {
 
     /// Sets the calling thread's `no_new_privs`, as `prctl(PR_SET_NO_NEW_PRIVS, 1, 0, 0, 0)`.
     ///
-    /// The code is 0 where the call succeeded; else the errno says why it failed.
+    /// The code is 0 if the call succeeded; else the errno says why it failed.
     fn set_no_new_privs(&mut self) -> (i32, i32)
         ensures { no_new_privs self.old result.0 result.1 self.new };
 
     /// Installs a filter, as `seccomp(SECCOMP_SET_MODE_FILTER, flags, program)`.
     ///
-    /// The code is 0 where the filter is installed. It is negative where the call failed, and the
-    /// errno then says why. It is positive where `flags` asked for all threads and some
+    /// The code is 0 if the filter is installed. It is negative if the call failed, and the
+    /// errno then says why. It is positive if `flags` asked for all threads and some
     /// thread could not take the filter: that thread's id.
     ///
     /// The program has at most 65535 instructions, so that its length fits the 16 bits of
@@ -81,10 +81,9 @@ pub trait Kernel {
 ///
 /// # Errors
 ///
-/// `EmptyFilter` where the program has no instruction, and then no call is made. `Prctl` with the
-/// errno where setting `no_new_privs` answers another code than 0, and then the filter is not asked for. Else
-/// as the code for the filter says: `Seccomp` with the errno where it is
-/// negative, `ThreadSync` with the code where it is positive.
+/// `EmptyFilter` if the program has no instruction, and then no call is made. `Prctl` with the errno if setting
+/// `no_new_privs` answers another code than 0, and then the filter is not installed. Else `Seccomp` with the
+/// errno if installing the filter answers a negative code, and `ThreadSync` with the code if it is positive.
 ///
 /// # Examples
 ///
@@ -104,7 +103,7 @@ pub fn apply_filter<K: Kernel>(kernel: &mut K, prog: BpfProgramRef<'_>) -> Resul
 
 /// Installs a program for all threads of the process.
 ///
-/// As [`apply_filter`], with the flag `SECCOMP_FILTER_FLAG_TSYNC` of `seccomp(2)`. Where some thread
+/// As [`apply_filter`], with the flag `SECCOMP_FILTER_FLAG_TSYNC` of `seccomp(2)`. If some thread
 /// cannot take the filter, no thread has it, and `ThreadSync` holds that thread's id.
 ///
 /// ```

@@ -3,9 +3,9 @@
 //! - A *policy* says which system calls a process may make. As JSON text it has *filters* by name.
 //! - A *filter* ([`SeccompFilter`]) is the policy of one thread: a chain for each of some call
 //!   numbers, an action for calls that match and one for all others, and an architecture.
-//! - A *chain* holds the rules of a call number. It matches where one of its rules holds, or where it
+//! - A *chain* holds the rules of a call number. It matches if one of its rules holds, or if it
 //!   has none.
-//! - A *rule* ([`SeccompRule`]) is one condition or more. It holds where all of them hold.
+//! - A *rule* ([`SeccompRule`]) is one condition or more. It holds if all of them hold.
 //! - A *condition* ([`SeccompCondition`]) compares one argument of a call, its low half or all of it,
 //!   with a value.
 //! - An *action* ([`SeccompAction`]) is what a kernel does with a call: allow it, log it, deny it with an

@@ -19,13 +19,13 @@ use crate::rule::SeccompRule;
 use std::alloc::Global;
 use std::collections::BTreeMap;
 
-// The load of the call number behind the guard, and the return at the end.
+// The load of the call number after the guard, and the return at the end.
 const PROGRAM_ENDS: usize = 2;
 
 // The instructions of a chain without rules.
 const EMPTY_CHAIN_LEN: usize = 5;
 
-// The test in front of a chain's rules, and the return behind them.
+// The test in front of a chain's rules, and the return after them.
 const CHAIN_ENDS: usize = 2;
 
 impl SeccompFilter {
@@ -38,16 +38,15 @@ impl SeccompFilter {
 
     /// The filter's program.
     ///
-    /// It has `program_len` instructions, passes `machine::check`, and returns for every call
-    /// record, within as many steps as it has instructions, the value that `decide` gives. A call of
-    /// the filter's architecture without a chain is answered in a number of steps that the
-    /// filter's map alone determines.
+    /// It has `program_len` instructions, passes `machine::check`, and returns for every call record, within as
+    /// many steps as it has instructions, the value that `decide` gives. For a call of the filter's
+    /// architecture without a chain, the filter's map alone determines the number of steps.
     ///
     /// # Errors
     ///
-    /// `InvalidSyscallNumber` with the least key that lies outside 0 to 4294967295, where there is
-    /// one; else `FilterTooLarge` with `program_len` where that is more than 4096; both take
-    /// no memory. `OutOfMemory` where memory for the program runs out.
+    /// `InvalidSyscallNumber` with the least key that lies outside 0 to 4294967295, if there is one; else
+    /// `FilterTooLarge` with `program_len` if that is more than 4096; both take no memory. `OutOfMemory` if
+    /// memory for the program runs out.
     ///
     /// # Examples
     ///
@@ -91,7 +90,7 @@ impl SeccompFilter {
     /// # Errors
     ///
     /// Those of `to_bpf` but for `OutOfMemory`: `InvalidSyscallNumber` with the least key that lies
-    /// outside 0 to 4294967295, where there is one; else `FilterTooLarge` with `program_len` where
+    /// outside 0 to 4294967295, if there is one; else `FilterTooLarge` with `program_len` if
     /// that is more than 4096.
     pub fn compiled_len(&self) -> Result<usize, BackendError>
         ensures length { IfOk result (λ n. n ≡ counted_length self.now) }

@@ -32,12 +32,12 @@ impl EqualByParts for Outcome {
 
 /// Says whether a program may be run.
 ///
-/// A program passes if it has 1 to 4096 instructions, each instruction is one of the seven that
-/// [`run`] knows, each load is of 32 bits of the record at a multiple of 4, both targets of each
-/// jump are places of the program, and the last instruction returns.
+/// A program passes if it has 1 to 4096 instructions, each instruction is one of the seven that [`run`] knows,
+/// each load reads 32 bits of the record at a multiple of 4, both targets of each jump are places of the
+/// program, and the last instruction returns.
 ///
-/// Fields that an instruction ignores may hold any number. A kernel also takes programs of other
-/// instructions than these seven, which don't pass here.
+/// Fields that an instruction ignores may hold any number. A kernel also takes programs with other instructions
+/// than these seven, which don't pass here.
 ///
 /// ```
 /// let program = [
@@ -55,8 +55,8 @@ pub fn check(prog: BpfProgramRef<'_>) -> bool
 
 /// Gives the first place of a program that keeps [`check`] from passing it, if there is one.
 ///
-/// That is the place of the first instruction that may not stand where it does; or 4096, where there are
-/// more and those before may; or the last place, where all may and the last instruction doesn't return.
+/// That is the place of the first instruction that may not stand where it does; or 4096, if there are
+/// more and those before may; or the last place, if all may and the last instruction doesn't return.
 /// Of no instructions it is 0.
 ///
 /// ```

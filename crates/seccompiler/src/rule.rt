@@ -41,7 +41,7 @@ impl SeccompRule {
     ///
     /// # Errors
     ///
-    /// `EmptyRule` where there is no condition.
+    /// `EmptyRule` if there is no condition.
     ///
     /// # Examples
     ///
@@ -69,7 +69,7 @@ impl SeccompRule {
     ///
     /// # Errors
     ///
-    /// `OutOfMemory` where memory runs out.
+    /// `OutOfMemory` if memory runs out.
     pub fn clone(&self, alloc: Global) -> Result<Self, BackendError>
         ensures same { IfOk result (λ rule. rule ≡ self.now) }
         ensures memory { IsOkUnless result OutOfMemory }
@@ -97,15 +97,15 @@ impl SeccompRule {
         true
     }
 
-    /// The rule's code, without the return behind it.
+    /// The rule's code, without the return after it.
     ///
-    /// Run from its first instruction it leaves at its end where the rule holds, and one
-    /// instruction further where it does not. Run from its second instruction, as for another
-    /// call number, it leaves two instructions behind its end.
+    /// Run from its first instruction it leaves at its end if the rule holds, and one
+    /// instruction further if it does not. Run from its second instruction, as for another
+    /// call number, it leaves two instructions after its end.
     ///
     /// # Errors
     ///
-    /// `OutOfMemory` where memory runs out.
+    /// `OutOfMemory` if memory runs out.
     pub fn to_bpf(&self, alloc: Global) -> Result<BpfProgram, BackendError>
         ensures code { IfOk result (λ code. IsRuleCode self.now code.items) }
         ensures groups { IsOnlyCut self.now (groups_of self.now) }
@@ -125,7 +125,7 @@ impl SeccompRule {
     ///
     /// They are the two jumps in front, those of the conditions, and three for each relay: the
     /// conditions, in order, fall into groups that close as soon as they take 248 instructions or
-    /// more, and a relay stands between each two. Takes no memory.
+    /// more, and there is a relay between each two. Takes no memory.
     pub fn code_len(&self) -> usize
         ensures length { result ≡ min (rule_length self.now) usize.MAX }
         ensures groups { IsOnlyCut self.now (groups_of self.now) }
@@ -145,7 +145,7 @@ impl SeccompRule {
         length
     }
 
-    /// Fills the part with the rule's code, without the return behind it: the code that
+    /// Fills the part with the rule's code, without the return after it: the code that
     /// [`to_bpf`](Self::to_bpf) gives.
     ///
     /// The part is a caller's own, of [`code_len`](Self::code_len) instructions; whatever stood in
@@ -178,7 +178,7 @@ impl SeccompRule {
     }
 }
 
-/// Rules are equal where their conditions are, in their order.
+/// Rules are equal if their conditions are, in their order.
 impl PartialEq for SeccompRule {
     ghost use Rattle.std.specs.Cmp.Lexicographic.{lists_per};
     ghost use Rattle.seccompiler.specs.Equality.{are_rules_equal};
@@ -212,8 +212,8 @@ impl EqualByParts for SeccompRule {
 ghost use Rattle.std.specs.Prelude.{◌≡◌, ◌≤◌, ◌+◌, ◌++◌, length, drop};
 ghost use Rattle.seccompiler.specs.ChainCode.{relay_front, offset_behind};
 
-// Puts a relay in front of what is written from `end` on, where the offset is too far for a further
-// condition: on to the conditions behind it, to the failure exit, and past the rule. Gives where the code
+// Puts a relay in front of what is written from `end` on, if the offset is too far for a further
+// condition: on to the conditions after it, to the failure exit, and past the rule. Gives where the code
 // begins then, and the offset there.
 fn relay_if_far(part: &mut [sock_filter], end: usize, offset: u8) -> (usize, u8)
     requires within { end ≤ length part.old }

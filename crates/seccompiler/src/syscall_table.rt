@@ -66,7 +66,7 @@ impl SyscallTable {
 
     /// Gives the name and the number of each system call, in byte order of names.
     ///
-    /// No name stands twice. It takes no memory.
+    /// No name comes twice. It takes no memory.
     pub fn pairs(&self) -> &'static [(&'static str, i64)]
         ensures { pairs_of result.now ≡ table_of self.now }
     {
@@ -79,9 +79,9 @@ impl SyscallTable {
 
     /// Looks the system call with exactly this name up, case included, by halving the table.
     ///
-    /// `number` is `None` where the table has no such name, and otherwise lies within 0 to 462.
-    /// `compared` is how many names are compared where the table is halved at its middle name, and
-    /// then the half on whose side the asked name stands: 1 to 9, and 8 or 9 where the table has no
+    /// `number` is `None` if the table has no such name, and otherwise lies within 0 to 462.
+    /// `compared` is how many names are compared if the table is halved at its middle name, and
+    /// then the half on whose side the asked name stands: 1 to 9, and 8 or 9 if the table has no
     /// such name. It takes no memory.
     /// `SyscallTable::new(TargetArch::aarch64).lookup("close").number` is `Some(57)`.
     pub fn lookup(&self, name: &str) -> Lookup
@@ -119,7 +119,7 @@ impl SyscallTable {
 
     /// Gives the number of the system call with exactly this name, case included.
     ///
-    /// It is `None` where the table has no such name, and otherwise lies within 0 to 462. It takes
+    /// It is `None` if the table has no such name, and otherwise lies within 0 to 462. It takes
     /// no memory. `SyscallTable::new(TargetArch::aarch64).get_syscall_nr("close")` is `Some(57)`.
     ///
     /// ```

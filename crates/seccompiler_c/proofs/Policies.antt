@@ -19,7 +19,7 @@ use Rattle.seccompiler.specs.declared.json.error.JsonFrontendError.{JsonFrontend
 use Rattle.seccompiler.specs.declared.json.error.JsonFrontendError.TheVariants as frontend
 use Rattle.seccompiler_c.specs.Policies.{NamesPolicy, NamesNone, IsPolicyFault, from_frontend}
 
--- What the front end refuses of a text in memory is its first fault, or want of memory.
+-- What the front end refuses of a text in memory is its first fault, or lack of memory.
 pub text_refused : (target : TargetArch) (text name : List ℕ) (e : JsonFrontendError) → TellsFrontendFault target text e → IsNoFailedRead e
     → IsPolicyFault target text name (from_frontend e)
 text_refused target text name (frontend.Read cause) tells none = absurd none
@@ -44,7 +44,7 @@ module _ (target : TargetArch) (find : Find) (d : Data) (are : ArePoliciesOf tar
       let same : own.found ≡ policy = let e : Some own.found ≡ Some policy = sym own.there ∙ found in cc in
       (value, has, (own.found, own.own, same))
 
-  -- Where no policy is found, the name is not there.
+  -- If no policy is found, the name is not there.
   found_nowhere : (name : List ℕ) → ((policy : Filter) → find name ≡ Some policy → ⊥) → (o : Option Data) → get name d ≡ o → Lacks d name
   found_nowhere name none None lacks = lacks
   found_nowhere name none (Some value) has = let own = are.each name value has in absurd (none own.found own.there)
@@ -55,7 +55,7 @@ pub names_policy : (target : TargetArch) (text name : List ℕ) (find : Find) (p
 names_policy target text name find policy (d, is, are) found =
     (d, is, (all_policies target find d are, found_value target find d are name policy found (get name d) refl))
 
--- Where none is found, the text has no filter of the name.
+-- If none is found, the text has no filter of the name.
 pub names_none : (target : TargetArch) (text name : List ℕ) (find : Find) → OfValue text (ArePoliciesOf target find)
     → ((policy : Filter) → find name ≡ Some policy → ⊥) → NamesNone target text name
 names_none target text name find (d, is, are) none =

@@ -23,7 +23,8 @@ table_number_fits : (z : ℤ) → IsTableNumber z → IsCallNumber z
 table_number_fits (pos n) h = (n, refl, grind (arith, ints, h.1))
 table_number_fits (negsuc n) h = absurd (grind (arith, ints, h.0))
 
--- What holds of want of memory and of a length holds of all that a filter is refused for whose numbers are call numbers.
+-- What holds of lack of memory and of a length holds of all that a filter is refused for whose numbers are call
+-- numbers.
 pub of_refusal : (layout : Layout) (f : Filter) (P : FilterError → Type 0) → AreCallNumbers (numbers_of f.chains)
     → P filter.OutOfMemory
     → ((n : ℕ) → IsRefusalIn layout f (filter.FilterTooLarge n) → P (filter.FilterTooLarge n))
@@ -35,7 +36,7 @@ of_refusal layout f P numbers memory long tree filter.TreeTooLarge why = tree wh
 of_refusal layout f P numbers memory long tree (filter.InvalidSyscallNumber n) why =
     absurd (why.unfit (All-contains IsCallNumber (numbers_of f.chains) n numbers why.among))
 
--- A filter whose numbers are those of a table is refused for its length, or for want of memory.
+-- A filter whose numbers are those of a table is refused for its length, or for lack of memory.
 pub uncompiled : (layout : Layout) (f : Filter) → All IsTableNumber (numbers_of f.chains) → (e : FilterError) → IsRefusalIn layout f e
     → IsUncompiledIn layout f (from_filter e)
 uncompiled layout f numbers = of_refusal layout f (λ e. IsUncompiledIn layout f (from_filter e))

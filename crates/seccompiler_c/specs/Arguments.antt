@@ -13,7 +13,7 @@ IsArchitecture word target = word ≡ audit_word target
 abbrev pub IsNoArchitecture : ℕ → Type 0
 IsNoArchitecture word = (target : TargetArch) → IsArchitecture word target → ⊥
 
--- The word is that of an architecture, of which P holds.
+-- The word is that of an architecture, for which P holds.
 abbrev pub OfArchitecture : ℕ → (TargetArch → Type 0) → Type 0
 OfArchitecture word P = (target : TargetArch) × IsArchitecture word target × P target
 
@@ -30,6 +30,6 @@ IsLayout number layout = number ≡ layout_number layout
 abbrev pub IsNoLayout : ℕ → Type 0
 IsNoLayout number = (layout : Layout) → IsLayout number layout → ⊥
 
--- The number is that of a layout, of which P holds.
+-- The number is that of a layout, for which P holds.
 abbrev pub OfLayout : ℕ → (Layout → Type 0) → Type 0
 OfLayout number P = (layout : Layout) × IsLayout number layout × P layout

@@ -63,13 +63,13 @@ kind_of Log = 0x7ffc0000
 kind_of (Trace x) = 0x7ff00000
 kind_of Trap = 0x00030000
 
--- The number is the action's, where it has one.
+-- The number is the action's, if it has one.
 abbrev pub HasData : SeccompAction → ℕ → Type 0
 HasData (Errno x) n = x ≡ n
 HasData (Trace x) n = x ≡ n
 HasData action n = ⊤
 
--- The action has this kind, and this number where it has one.
+-- The action has this kind, and this number if it has one.
 abbrev pub IsAction : ℕ → ℕ → SeccompAction → Type 0
 IsAction kind number action = (kind ≡ kind_of action) × HasData action number
 

@@ -17,7 +17,7 @@ abbrev pub IsLengthIn : Layout → Filter → ℕ → Type 0
 IsLengthIn Linear f n = n ≡ counted_length f
 IsLengthIn Tree f n = (p : List sock_filter) × IsTreeCompiled f p × (length p ≡ n)
 
--- Why no length of a filter's program in a layout is told: it is too large for a tree, or memory is wanted.
+-- Why no length of a filter's program in a layout is reported: it is too large for a tree, or memory runs out.
 abbrev pub IsUnmeasured : Layout → Filter → ArraysFault → Type 0
 IsUnmeasured layout f OutOfMemory = ⊤
 IsUnmeasured Tree f TooLarge = IsTreeTooLarge f

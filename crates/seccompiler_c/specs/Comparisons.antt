@@ -44,7 +44,7 @@ abbrev pub OfRelation : Compared → (Relation → Type 0) → Type 0
 OfRelation c P = (AreNoCalls c.calls → ⊥) × (compared.IsChecked c.program × compared.IsChecked c.other)
     × ((relation : Relation) × (c.relation ≡ relation_number relation) × P relation)
 
--- Why nothing is compared, or no answer is found: for the first of these that is so. Want of memory and too few sets of
+-- Why nothing is compared, or no answer is found: for the first of these that is so. Lack of memory and too few sets of
 -- calls may come in place of an answer.
 abbrev pub IsUncompared : Compared → Code → Type 0
 IsUncompared c UnknownArchitecture = AreNoCalls c.calls
@@ -55,8 +55,8 @@ IsUncompared c OutOfMemory = OfRelation c (λ relation. Unit {0})
 IsUncompared c Undecided = OfRelation c (λ relation. Unit {0})
 IsUncompared c f = ⊥
 
--- What seccompiler_compare answers, and what the record then is: 1 where the relation holds for each call; 0 where it
--- doesn't for that of the record that is written; or a code. Where nothing else is said the record is as it was.
+-- What seccompiler_compare answers, and what the record then is: 1 if the relation holds for each call; 0 if it
+-- doesn't for that of the record that is written; or a code. If nothing else is said the record is as it was.
 pub data AnswersCompare (c : Compared) (old new : List ℕ) (answer : ℤ) : Type 0 where
   holds : OfRelation c (λ relation. (r : List ℕ) → IsAsked c.calls r → AnswersRelated relation c.program c.other r)
       → answer ≡ pos 1 → new ≡ old → AnswersCompare c old new answer
@@ -64,7 +64,7 @@ pub data AnswersCompare (c : Compared) (old new : List ℕ) (answer : ℤ) : Typ
       → answer ≡ pos 0 → AnswersCompare c old new answer
   uncompared : (code : Code) → IsUncompared c code → answer ≡ code_number code → new ≡ old → AnswersCompare c old new answer
 
--- What seccompiler_check_at answers, and what the place then is: 1 where the program may be run, and the place is as it
+-- What seccompiler_check_at answers, and what the place then is: 1 if the program may be run, and the place is as it
 -- was; or 0, and the first place that isn't taken.
 pub data AnswersCheckAt (program : List sock_filter) (old new : ℕ) (answer : ℤ) : Type 0 where
   checked : IsChecked program → answer ≡ pos 1 → new ≡ old → AnswersCheckAt program old new answer

@@ -25,7 +25,7 @@ pub data AnswersRun (program : List sock_filter) (call : List ℕ) (answer : ℤ
   not_checked : (IsChecked program → ⊥) → answer ≡ code_number NotChecked → AnswersRun program call answer
   returned : (word : ℕ) → IsChecked program → Returns program call word → answer ≡ pos word → AnswersRun program call answer
 
--- The policy names this word for the record, and no other; it names it as well where the rules of a chain or the
+-- The policy names this word for the record, and no other; it names it as well if the rules of a chain or the
 -- conditions of a rule stand in another order, and for every record that differs in the instruction pointer alone.
 pub record Decides (call : List ℕ) (answer : ℤ) (policy : Filter) : Type 0 where
   pub word : ℕ
@@ -34,7 +34,7 @@ pub record Decides (call : List ℕ) (answer : ℤ) (policy : Filter) : Type 0 w
   pub only : (w : ℕ) → IsDecision policy call w → w ≡ word
   pub order : (g : Filter) (s : List ℕ) → IsReordered policy g → IsSameCall call s → IsDecision g s word
 
--- Why there is no decision: for the first of these that is so. Want of memory may come in place of all but the first.
+-- Why there is no decision: for the first of these that is so. Lack of memory may come in place of all but the first.
 abbrev pub IsUndecided : List ℕ → ℕ → List ℕ → Fault → Type 0
 IsUndecided text architecture name OutOfMemory = OfArchitecture architecture (λ target. ⊤)
 IsUndecided text architecture name UnknownArchitecture = IsNoArchitecture architecture

@@ -26,15 +26,15 @@ pub record AreNames (d : Data) (names : List (List ℕ)) : Type 0 where
 abbrev pub OfNames : List ℕ → (List (List ℕ) → Type 0) → Type 0
 OfNames text P = OfValue text (λ d. (names : List (List ℕ)) × AreNames d names × P names)
 
--- The error tells why a text is none of filters: on whichever architecture, since none plays a part. It is no want of
+-- The error reports why a text is none of filters: on whichever architecture, since none plays a part. It is no lack of
 -- memory, and no reader's.
 abbrev pub TellsShapeFault : List ℕ → JsonFrontendError → Type 0
 TellsShapeFault text frontend.OutOfMemory = ⊥
 TellsShapeFault text (frontend.Read e) = ⊥
 TellsShapeFault text e = IsBeforePolicies e × ((target : TargetArch) → TellsFrontendFault target text e)
 
--- Why no name is told: the text is none of filters; or it has no more filters than the index. Want of memory may come in
--- place of both.
+-- Why no name is reported: the text is none of filters; or it has no more filters than the index. Lack of memory may
+-- come in place of both.
 abbrev pub IsUnnamed : List ℕ → ℕ → Fault → Type 0
 IsUnnamed text index OutOfMemory = ⊤
 IsUnnamed text index (Text e) = TellsShapeFault text e

@@ -36,13 +36,13 @@ NamesPolicy target text name P =
 abbrev pub NamesNone : TargetArch → List ℕ → List ℕ → Type 0
 NamesNone target text name = OfPolicies target text (λ d. Lacks d name)
 
--- The error tells the text's first fault: no want of memory, and no reader's.
+-- The error reports the text's first fault: no lack of memory, and no reader's.
 abbrev pub TellsTextFault : TargetArch → List ℕ → JsonFrontendError → Type 0
 TellsTextFault target text frontend.OutOfMemory = ⊥
 TellsTextFault target text (frontend.Read e) = ⊥
 TellsTextFault target text e = TellsFrontendFault target text e
 
--- Why there is no policy: the text's first fault; else that no filter has the name. Want of memory may come in place
+-- Why there is no policy: the text's first fault; else that no filter has the name. Lack of memory may come in place
 -- of both.
 abbrev pub IsPolicyFault : TargetArch → List ℕ → List ℕ → Fault → Type 0
 IsPolicyFault target text name fault.OutOfMemory = ⊤

@@ -18,7 +18,7 @@ module _ (conditions : List seccompiler_condition) where
     pub operators : All HasOperator conditions
     pub some : 1 ≤ length conditions
 
-  -- Why they are no rule's: the first demand that isn't met. Want of memory may come in place of a rule alone.
+  -- Why they are no rule's: the first demand that isn't met. Lack of memory may come in place of a rule alone.
   abbrev pub AreOfNoRule : ArraysFault → Type 0
   AreOfNoRule OutOfMemory = AreOfRule
   AreOfNoRule Argument = All HasArgument conditions → ⊥
@@ -29,7 +29,7 @@ module _ (conditions : List seccompiler_condition) where
   AreOfNoRule f = ⊥
 
   -- What seccompiler_compile_rule answers, and what the array then holds: the code of the rule of these conditions, and
-  -- behind it what it held; or what it held before, where they are no rule's or the code has no room, and the answer
+  -- after it what it held; or what it held before, if they are no rule's or the code has no room, and the answer
   -- is the code of the cause.
   pub data AnswersCompileRule (old new : List sock_filter) (answer : ℤ) : Type 0 where
     compiled : AreOfRule → (code : List sock_filter) → IsRuleCode (map condition_of conditions) code → Holds old new answer code

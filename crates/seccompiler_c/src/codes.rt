@@ -1,4 +1,4 @@
-// What the exported functions answer where they have no other answer.
+// What the exported functions answer if they have no other answer.
 
 /// Memory ran out. Each function says in place of which answers it may come.
 pub const SECCOMPILER_OUT_OF_MEMORY: i64 = -1;

@@ -53,7 +53,7 @@ impl Fault {
     }
 }
 
-/// The fault's text: the library's own where the library rejects it.
+/// The fault's text: the library's own if the library rejects it.
 impl fmt::Display for Fault {
     ghost use Rattle.std.specs.Fmt.{DisplaysOnOk};
     ghost use Rattle.seccompiler.specs.Texts.{WritesOne};

@@ -12,7 +12,7 @@ use seccompiler::JsonFilterMap;
 use seccompiler::json::filters_of;
 use std::alloc::Global;
 
-// Writes the name of this index among the text's filters, and tells its length.
+// Writes the name of this index among the text's filters, and gives its length.
 pub(crate) fn name_of(
     alloc: Global,
     text: &[u8],
@@ -30,7 +30,7 @@ pub(crate) fn name_of(
     }
 }
 
-// Writes the key of this index, and tells its length.
+// Writes the key of this index, and gives its length.
 fn write_key(filters: &JsonFilterMap, index: usize, name: &mut [u8]) -> Option<i64>
     ensures found { IfSome result (λ answer. (said : List ℕ) × (slice_get (map string_bytes (keys_of filters.now.0.entries)) index ≡ Some said) × (answer ≡ pos (length said)) × HoldsMessage said name.old name.new) }
     ensures none { IfNone result (length (keys_of filters.now.0.entries) ≤ index) }

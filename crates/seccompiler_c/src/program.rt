@@ -14,7 +14,7 @@ use seccompiler::{BpfProgram, SeccompFilter};
 use std::alloc::Global;
 
 // The program of the filter of a name in a text, for the architecture of a word, in the layout of a
-// number, where it has at most so many instructions.
+// number, if it has at most so many instructions.
 pub(crate) fn program_of(
     alloc: Global,
     text: &[u8],

@@ -10,7 +10,7 @@ use crate::demands::{have_arguments, have_lengths, have_operators};
 use seccompiler::SeccompRule;
 use std::alloc::Global;
 
-// The rule of these conditions, where they are those of one.
+// The rule of these conditions, if they are those of one.
 pub(crate) fn rule_in(
     alloc: Global,
     conditions: &[seccompiler_condition],

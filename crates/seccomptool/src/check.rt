@@ -16,21 +16,21 @@ use seccompiler::TargetArch;
 use seccompiler::json::filters_of;
 use std::alloc::Global;
 
-/// The warnings of a policy's text, all but those of the allowed codes, each in a line behind this front.
+/// The warnings of a policy's text, except those of the allowed codes, each in a line after this prefix.
 ///
-/// For each filter, in byte order of names, comes a line for each warning: those of its two actions
-/// first, and then those of its entries, condition by condition. A line is the front, the
-/// place, `: warning [`, the warning's code, `]: `, what is so, and what to write instead. The place begins with the filter's name.
+/// The filters come in byte order of names. Each has a line for each warning: first those of its two actions,
+/// then those of its entries, condition by condition. A line is the prefix, the place, `: warning [`, the
+/// warning's code, `]: `, the problem, and what to write instead. The place begins with the filter's name.
 ///
 /// # Errors
 ///
-/// `Library` with what `compile_from_json` rejects the policy for, where that has no place: the bytes are no JSON, or a name is
-/// repeated; `Fault` with the text of a fault of the kind that `compile_from_json` reports, where that has a place. `OutOfMemory`
-/// comes in place of any of these where memory runs out.
+/// `Fault` with the text of a fault of the kind that `compile_from_json` reports, if it has a place. `Library`
+/// with the error of `compile_from_json`, if it has no place: the bytes are no JSON, or a name is repeated.
+/// `OutOfMemory` comes in place of any of these if memory runs out.
 ///
-/// Of several faults of that kind it is the first, in the order that docs/CHECKS.md gives. That is tested
-/// and not proved, and so is that a fault with a place is reported by it: by the contract it may be any one
-/// of its kind, and may be reported as `Library`.
+/// The contract promises any one fault of that kind, and lets it be reported as `Library`. That it is the first
+/// in the order of docs/CHECKS.md, and that a fault with a place is reported as `Fault`, is tested and not
+/// proved.
 pub fn checked(
     alloc: Global,
     target: TargetArch,

@@ -69,19 +69,20 @@ pub struct Explanation {
 
 /// Explains what a filter of a policy decides, the one that is asked for or the only one.
 ///
-/// A filter's reason is the first of these that is so:
+/// A filter's reason is the first of these:
 ///
 /// - the record is of another architecture;
 /// - no entry of the filter is for the record's call;
-/// - entries are for it, and an entry matches by itself: the first of these is the reason. An entry matches by itself where it has
-///   no conditions, or where each of them holds;
-/// - entries are for it, and none of them matches. In each of them a condition is the first that does not hold; of these the nearest
-///   miss is the one that stands furthest behind in its entry, and of several the first.
+/// - entries are for it, and an entry matches by itself, without conditions or with conditions that all hold:
+///   the first such entry is the reason;
+/// - entries are for it, and none of them matches. Each of them has a first condition that does not hold; the
+///   nearest miss is the one that comes latest in its entry, and of several the first.
 ///
 /// # Errors
 ///
-/// `Library` with what `compile_from_json` rejects the policy for, whichever filter has the fault; `Unchosen` where no filter is
-/// asked for and the policy hasn't exactly one; `NoFilter` with the name where no filter has it. `OutOfMemory` where memory runs out.
+/// `Library` with what `compile_from_json` rejects the policy for, whichever filter has the fault; `Unchosen`
+/// if no filter is asked for and the policy doesn't have exactly one; `NoFilter` with the name if no filter has
+/// it. `OutOfMemory` if memory runs out.
 pub fn explain_policy(
     alloc: Global,
     target: TargetArch,

@@ -14,12 +14,12 @@ use mir.Syntax.{w64}
 numerals : IsNumeralModel (AllDigits 10) (digits_value 10)
 numerals = record { to = λ ds all. all; from = λ ds all. all; same = λ ds all. refl }
 
--- The number of the text, where it is one of 64 bits with its sign, and else none.
+-- The number of the text, if it is one of 64 bits with its sign, and else none.
 pub record IsSignedRead (text : List ℕ) (r : Option ℤ) : Type 0 where
   pub read : IfSome r (IsSignedText text)
   pub unread : IfNone r ((z : ℤ) → IsSigned64 z → IsSignedText text z → ⊥)
 
--- Where no sign stands in front.
+-- If no sign comes in front.
 unsigned_cases : {E : Type 0} (text : List ℕ) (r : Result ℤ E) → slice_index text 0 ≢ 45
     → OkIff r (AllDigits 10 text × (0 < length text) × (digits_value 10 text < 2 ^ 63)) (pos (digits_value 10 text))
     → IsSignedRead text (result_ok r)
@@ -35,7 +35,7 @@ unsigned_cases text (Err e) differs h = record {
   ];
 }
 
--- Where a minus does.
+-- If a minus does.
 minus_cases : {E : Type 0} (digits : List ℕ) (r : Result ℤ E)
     → OkIff r (AllDigits 10 digits × (0 < length digits) × (digits_value 10 digits ≤ 2 ^ 63)) (neg_ℤ (pos (digits_value 10 digits)))
     → IsSignedRead (45 ∷ digits) (result_ok r)

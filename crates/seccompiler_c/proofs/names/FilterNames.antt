@@ -41,7 +41,7 @@ module _ {X : Type 0} where
     | inr f ↦ let behind = found_name q x entries (rw f at there) in (suc behind.0, omega (arith, behind.1), behind.2)
   ]
 
-  -- What is found behind an entry of another name is found.
+  -- What is found after an entry of another name is found.
   found_behind : (q : List ℕ) (e : String Global × X) (entries : List (String Global × X)) → bytes_eq q (string_bytes e.0) ≡ false
       → (x : X) × (lookup (is_text q) entries ≡ Some x) → (x : X) × (lookup (is_text q) (e ∷ entries) ≡ Some x)
   found_behind q e entries f (x, found) = (x, rw f found)
@@ -70,7 +70,7 @@ names_ordered [] order = tt
 names_ordered (k ∷ keys) order = (above_all k keys order.0, names_ordered keys order.1)
 
 module _ (d : Data) (filters : JsonFilterMap) (are : AreFilters d filters) where
-  -- What stands under a name of the map has a value there.
+  -- What is under a name of the map has a value there.
   has_value : (name : List ℕ) → Contains (names_of filters.0.entries) name → (o : Option Data) → get name d ≡ o
       → (value : Data) × Has d name value
   has_value name there None lacks =
@@ -90,7 +90,7 @@ module _ (d : Data) (filters : JsonFilterMap) (are : AreFilters d filters) where
     );
   }
 
--- What the front end refuses of a text before it looks for policies is that it is none of filters, or want of memory.
+-- What the front end refuses of a text before it looks for policies is that it is none of filters, or lack of memory.
 pub shape_refused : (text : List ℕ) (index : ℕ) (e : JsonFrontendError) → ((target : TargetArch) → TellsFrontendFault target text e)
     → IsBeforePolicies e → IsNoFailedRead e → IsUnnamed text index (from_frontend e)
 shape_refused text index (frontend.Read cause) tells before none = absurd none

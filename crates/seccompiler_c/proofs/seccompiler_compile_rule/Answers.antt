@@ -15,7 +15,7 @@ returns-then-count-code c =
       answers = without_room rule.0 (subst (λ q. length c.args.code.now < rule_length q) rule.1 long) c.number.ensures refl;
     })
 
--- The code stands in the front of the array.
+-- The code is in the front of the array.
 pub returns-else-count-code : goal.returns-else-count-code
 returns-else-count-code c =
     let old = c.args.code.now in

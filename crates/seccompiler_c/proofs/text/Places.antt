@@ -21,7 +21,7 @@ module _ (text : List ℕ) (fault : Fault) (old new : List ℕ) where
       → HoldsMessage said old new → TellsPolicyFault (λ t. t ≡ target) text fault old new
   told_there target said utf8 placed holds = record { said = said; utf8 = utf8; told = by_place target refl placed; holds = holds }
 
-  -- What is told on one architecture is told on those of which P holds, if it does of that one.
+  -- What is reported on one architecture is reported on those for which P holds, if it does of that one.
   pub told_on : (P : TargetArch → Type 0) (target : TargetArch) → P target → TellsPolicyFault (λ t. t ≡ target) text fault old new
       → TellsPolicyFault P text fault old new
   told_on P target holds tells = record { said = tells.said; utf8 = tells.utf8; told = by tells.told; holds = tells.holds }

@@ -9,15 +9,15 @@ use std::alloc::{AllocError, Global};
 
 /// The notes on the profile of a path.
 ///
-/// The names that are left out are noted in a line: `seccomptool: `, the profile's file, `: names of no system call of ARCH, left
-/// out (N): `, and then the names, N in number, in the profile's order, separated by `, `. The file is `path`, or `standard
-/// input` where that is `-`. In it and in the names the control characters, those from U+0080 to U+009F
-/// too, and the backslash are written as `\x` and two lower-case hexadecimal digits for each of their bytes. There is no
-/// such line where no name is left out.
+/// One line notes the names that are left out: `seccomptool: `, the profile's file, `: names of no system call
+/// of ARCH, left out (N): `, and then the N names, in the profile's order, separated by `, `. The file is
+/// `path`, or `standard input` if that is `-`. In it and in the names each byte of the control characters
+/// (U+0080 to U+009F too) and of the backslash is written as `\x` and two lower-case hexadecimal digits. If no
+/// name is left out, the line is missing.
 ///
-/// A second line notes the profile's flags: the same front, `flags, which no filter has, left to whoever installs it (N): `,
-/// and then the names of the flags, N in number, in the profile's order, separated by `, `. There is no such line where the
-/// profile has no flags.
+/// A second line notes the profile's flags: the same prefix, `flags, which no filter has, left to whoever
+/// installs it (N): `, and then the N flags, in the profile's order, separated by `, `. If the profile has no
+/// flags, the line is missing.
 pub(crate) fn profile_notes(
     alloc: Global,
     arch: TargetArch,

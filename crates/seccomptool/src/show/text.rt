@@ -11,18 +11,17 @@ use std::alloc::{AllocError, Global};
 
 /// The text of the programs of a policy's filters.
 ///
-/// For each filter come a line `filter LENGTH NAME` and a line for each instruction. In NAME the control
-/// characters, those from U+0080 to U+009F too, and the backslash are written as `\x` and two lower-case
-/// hexadecimal digits for each of their bytes. An instruction's line has its
-/// place in decimal, filled with spaces in front up to 4 bytes; two spaces; and the instruction as `bpf_asm`
-/// has it, in which jumps name the places that they lead to. Where a note stands beside it, the instruction
-/// is filled with spaces up to 28 bytes, and `; ` stands in front of the note. The notes are read off the
-/// program: what a load gets of the record, which call, calls, architecture or half of an argument a test is
-/// about, and which action a returned value stands for.
+/// Each filter has a line `filter LENGTH NAME` and a line for each instruction. In NAME each byte of the
+/// control characters (U+0080 to U+009F too) and of the backslash is written as `\x` and two lower-case
+/// hexadecimal digits. An instruction's line is its place in decimal, padded on the left to 4 bytes; two
+/// spaces; and the instruction in `bpf_asm` syntax, in which jumps name the places that they lead to. If it has
+/// a note, the instruction is padded on the right to 28 bytes, and `; ` and the note follow. The notes are read
+/// from the program: what a load gets of the record, which call, calls, architecture or half of an argument is
+/// tested, and which action a returned value is.
 ///
 /// # Errors
 ///
-/// `NoFilter` with the name that is asked for, where none of the filters has it; `OutOfMemory` where memory runs out.
+/// `NoFilter` with the name that is asked for, if no filter has it; `OutOfMemory` if memory runs out.
 pub(crate) fn programs_text(
     alloc: Global,
     asked: Option<&str>,

@@ -6,7 +6,7 @@ use crate::stats::{FilterStats, Measure};
 use seccomp_command_line::names::push_readable;
 use std::alloc::{AllocError, Global};
 
-/// The lines of filters' numbers. For each filter come three lines:
+/// The lines of filters' numbers, three for each filter:
 ///
 /// ```text
 /// filter NAME
@@ -14,18 +14,16 @@ use std::alloc::{AllocError, Global};
 /// tree: LENGTH instructions, at most MOST steps, PASSING passing
 /// ```
 ///
-/// In NAME the control characters, those from U+0080 to U+009F too, and the backslash are written as
-/// `\x` and two lower-case hexadecimal digits for each of their bytes, all others as they are. The
-/// numbers are decimal. MOST is the greatest number of instructions on a way through the program from
-/// its first instruction to a return, whatever its tests would say: no record takes more steps, and it
-/// isn't asked whether one takes as many. PASSING is the number of steps on the record of call
-/// 4294967295, which no architecture has, with arguments that are 0. In the linear layout each call that
-/// the filter doesn't list takes exactly as many, if it lists any; in the tree another one may take more
-/// or fewer.
+/// In NAME each byte of the control characters (U+0080 to U+009F too) and of the backslash is written as `\x`
+/// and two lower-case hexadecimal digits, all others as they are. The numbers are decimal. MOST is the length
+/// of the longest path through the program from its first instruction to a return; no record takes more steps,
+/// and perhaps none takes as many. PASSING is the number of steps on the record of call 4294967295, which no
+/// architecture has, with arguments that are 0. In the linear layout each call that the filter doesn't list
+/// takes exactly as many, if it lists any; in the tree another one may take more or fewer.
 ///
 /// # Errors
 ///
-/// `NoFilter` with the name that is asked for, where none of the filters has it; `OutOfMemory` where memory runs out.
+/// `NoFilter` with the name that is asked for, if no filter has it; `OutOfMemory` if memory runs out.
 pub(crate) fn filters_text(
     alloc: Global,
     asked: Option<&str>,

@@ -7,7 +7,7 @@ use Rattle.seccomp_compare.specs.Machine.{IsChecked}
 use Rattle.seccomp_compare.proofs.OfSeven.{checked_of_seven, seven_checked}
 use Rattle.seccomp_compare.proofs.machine.check.Goals as goal
 
--- each instruction that is found is none of JSET, where none is
+-- each instruction that is found is none of JSET, if none is
 is_other : (p : List sock_filter) → All (λ i. i.code ≢ 0x45) p → (place : ℕ) (i : sock_filter) → slice_get p place ≡ Some i → i.code ≢ 0x45
 is_other p others place i found =
     subst (λ (j : sock_filter). j.code ≢ 0x45) (get_or_from_slice_get p place i i found)

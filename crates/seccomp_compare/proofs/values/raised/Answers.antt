@@ -19,7 +19,7 @@ above : (least sum : ℕ) (o : Option ℕ) → SomeIff o (sum < 2 ^ 32) sum → 
 above least sum None made more = tt
 above least sum (Some next) made more = omega (arith, more, made.1)
 
--- the number behind, by the place of its bit
+-- the number after, by the place of its bit
 behind : (k v least j : ℕ) → bit_and k (2 ^ j) ≡ 2 ^ j → (bit_and least (2 ^ j) ≡ bit_and v (2 ^ j) → ⊥)
     → (u : ℕ) → bit_and u k ≡ v → least ≤ u → least - least % 2 ^ j + 2 ^ j ≤ u
 behind k v least j known other u has le = raise_past u least j le (λ e. other (sym e ∙ known_bit u k v (2 ^ j) has known))

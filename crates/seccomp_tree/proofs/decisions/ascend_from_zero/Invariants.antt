@@ -2,6 +2,6 @@ use Rattle.std.proofs.Common.{◌↔◌, drop}
 use Rattle.seccomp_tree.specs.Decided.{StartAbove}
 use Rattle.seccomp_tree.proofs.decisions.ascend_from_zero.Given as goal
 
--- all defaults are above the first exactly where those that are left are above the last one
+-- all defaults are above the first exactly if those that are left are above the last one
 abbrev pub invariant-loop-next : goal.invariant-loop-next
 invariant-loop-next l = StartAbove 0 (drop 1 l.defaults) ↔ StartAbove l.last (drop l.next-index l.next-items)

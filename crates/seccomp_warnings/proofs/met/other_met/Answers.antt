@@ -12,7 +12,7 @@ returns-in-None-clause-among c =
     IfSome_then c.first_met-in-None.result c.first_met-in-None.ensures.among
     (λ entry. among_back c.args.front.now c.args.back.now entry.now)
 
--- What follows where there is nothing.
+-- What follows if there is nothing.
 IfNone_then : {X : Type 0} (o : Option X) {P Q : Type 0} → IfNone o P → (P → Q) → IfNone o Q
 IfNone_then None holds gives = gives holds
 IfNone_then (Some x) holds gives = tt

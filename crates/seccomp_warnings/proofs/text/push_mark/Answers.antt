@@ -2,7 +2,7 @@ use Rattle.std.proofs.Common.{◌≡◌, ◌++◌, codes, List, ℕ, ap, ◌∙�
 use Rattle.seccomp_warnings.specs.Codes.{code_text}
 use Rattle.seccomp_warnings.proofs.text.push_mark.Goals as goal
 
--- Three pieces, one behind the other.
+-- Three pieces, one after the other.
 three : (a b d old first second new : List ℕ) → first ≡ old ++ a → second ≡ first ++ b → new ≡ second ++ d → new ≡ old ++ (a ++ (b ++ d))
 three a b d old first second new is_first is_second is_new =
     is_new ∙ ap (λ l. l ++ d) is_second ∙ append_assoc first b d ∙ ap (λ l. l ++ (b ++ d)) is_first ∙ append_assoc old a (b ++ d)

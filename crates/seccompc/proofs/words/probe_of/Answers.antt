@@ -17,7 +17,7 @@ no_call_number arch nr index value none (Probe a n i v) is =
 no_call_number arch nr index value none (Listing a) is = cc
 no_call_number arch nr index value none (Run a f n) is = cc
 
--- What `try_from` gives of a number is that number, where 8 bits hold it.
+-- What `try_from` gives of a number is that number, if 8 bits hold it.
 byte_same : {E : Type 0} (n b : ℕ) (r : Result ℕ E) → OkIff r (n < 2 ^ 8) n → Some b ≡ result_ok r → (b ≡ n) × (n < 2 ^ 8)
 byte_same n b (Ok x) h e = let same : b ≡ x = cc in (same ∙ h.1, h.0)
 byte_same n b (Err x) h e = absurd cc

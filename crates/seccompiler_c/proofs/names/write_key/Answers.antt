@@ -8,7 +8,7 @@ use Rattle.std.proofs.lemmas.Option.{slice_get-map, slice_get_read}
 use Rattle.seccompiler_c.specs.Messages.{HoldsMessage}
 use Rattle.seccompiler_c.proofs.names.write_key.Goals as goal
 
--- The name behind as many as the index says is that of the index.
+-- The name after as many as the index says is that of the index.
 name_at : (keys done left : List (String Global)) (key : String Global) (index : ℕ) → keys ≡ done ++ key ∷ left → length done ≡ index
     → slice_get (map string_bytes keys) index ≡ Some (string_bytes key)
 name_at keys done left key index whole count =

@@ -3,7 +3,7 @@ use Rattle.std.specs.Map.{keys_of}
 use Rattle.std.proofs.Common.{String, Global}
 use Rattle.seccompiler_c.proofs.names.write_key.Given as goal
 
--- as many keys as the place says are before those that are left, and it isn't behind the index
+-- as many keys as the place says are before those that are left, and it isn't after the index
 abbrev pub invariant-loop-key : goal.invariant-loop-key
 invariant-loop-key l = record {
   done : List (String Global);

@@ -5,7 +5,7 @@ use Rattle.std.proofs.lemmas.List.{set-append_right, drop_more}
 use Rattle.seccompiler_c.specs.Messages.{holds}
 use Rattle.seccompiler_c.proofs.text.write_message.Goals as goal
 
--- A byte 0 is put behind the front of a list.
+-- A byte 0 is put after the front of a list.
 ended : (front old : List ℕ) (n : ℕ) → length front ≡ n → n < length old → set (front ++ drop n old) n 0 ≡ front ++ 0 ∷ drop (n + 1) old
 ended front old n long within =
     let none : n - n ≡ 0 = omega arith in

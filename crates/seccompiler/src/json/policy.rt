@@ -119,7 +119,6 @@ fn add_entry(
 }
 
 // What the entries stand for.
-#[tactic(auto, using(crate::proofs::json::policy::EntryFaults::first_wrong))]
 fn gather(
     alloc: Global,
     arch: TargetArch,

@@ -1,6 +1,6 @@
 use Rattle.std.proofs.Common.{ℕ, ◌<◌, ◌≤◌, List, length, get_or, arith}
 use Rattle.std.proofs.lemmas.Option.{slice_get-get_or, slice_get_within}
-use Rattle.seccompiler.specs.FirstUnfit.{IsUnfitAt, none, not_fine, too_many, no_return}
+use Rattle.seccomp_compare.specs.Machine.{IsUnfitAt, none, not_fine, too_many, no_return}
 use Rattle.seccompiler.specs.declared.bpf.sock_filter.{sock_filter}
 use Rattle.seccomptool.proofs.run.unfit.refuse_unfit.Goals as goal
 

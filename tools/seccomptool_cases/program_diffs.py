@@ -111,13 +111,13 @@ CASES = [
     differs("allows-read.json reads-from-5.bpf", DIFFERENT + NO_LONGER_READS[:-1] + " at 0x0\n" + OTHERS_SAME),
     # The high half of an argument that is compared as `dword` doesn't count.
     same("allows-read-of-5.json reads-5.bpf", SAME + OTHERS_SAME),
-    # x32 numbers are among those without a name, whose ranges come behind the calls.
+    # x32 numbers are a range of their own, after the calls and the other numbers without a name.
     differs("allows-read.json reads-x32.bpf",
-            DIFFERENT + "  other calls 463 to 4294967295: log -> trap, less: 1073741824" + NONE + OTHERS_SAME),
+            DIFFERENT + "  x32 calls 1073741824 to 4294967295: log -> trap, less: 1073741824" + NONE + OTHERS_SAME),
     differs("allows-read.json reads-no-x32.bpf",
-            DIFFERENT + "  other calls 463 to 4294967295: log -> trap, less: 1073741824" + NONE + OTHERS_SAME),
+            DIFFERENT + "  x32 calls 1073741824 to 4294967295: log -> trap, less: 1073741824" + NONE + OTHERS_SAME),
     differs("reads-no-x32.bpf reads-x32.bpf",
-            "program: different\n  other calls 463 to 4294967295: log -> trap, less: 2147483648" + NONE + OTHERS_SAME),
+            "program: different\n  x32 calls 1073741824 to 4294967295: log -> trap, less: 2147483648" + NONE + OTHERS_SAME),
     same("reads-no-x32.bpf reads-no-x32.bpf", "program: same\n" + OTHERS_SAME),
     # Other architectures are told, and count with `--all` alone.
     same("allows-read.json reads-kills-thread.bpf", SAME + OTHERS_DIFFER + others("kill_process -> kill_thread, more")),

@@ -1,2 +1,2 @@
 -- Lemmas for the functions of `run::unfit`.
-pub mod Amiss
+pub mod Misplaced

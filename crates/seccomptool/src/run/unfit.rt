@@ -27,6 +27,7 @@ pub(crate) fn refuse_unfit(program: BpfProgramRef<'_>) -> Result<(), ProgramFaul
 }
 
 // Why an instruction may not stand at a place of a program of this length.
+#[tactic(auto, using(crate::proofs::run::unfit::Misplaced::jump_behind, crate::proofs::run::unfit::Misplaced::test_behind, crate::proofs::run::unfit::Misplaced::at_end))]
 fn amiss(instruction: sock_filter, place: usize, length: usize) -> Amiss
     requires { CantStand instruction place length }
     ensures { IsAmiss instruction place length result }

@@ -5,7 +5,7 @@ from program_cases import FRONTEND
 
 from .diff import policy
 from .forms import CLOSED, FOLDER, FULL, LOGS, MISSING, NO_OBJECT, OUTPUT, RESET, TOOL, Case, Failing
-from .programs import ALLOW, ERRNO_1, JUMP_AT_LEAST, JUMP_EQUAL, LOAD, MASK, UNFIT, program, returns
+from .programs import ALLOW, ERRNO_1, JUMP_AT_LEAST, JUMP_EQUAL, JUMP_IF_SET, LOAD, MASK, UNFIT, program, returns
 
 # `AUDIT_ARCH_*` values (linux/audit.h), return values (linux/seccomp.h), and the bit of x32 numbers.
 X86_64, I386, RISCV64 = 0xC000003E, 0x40000003, 0xC00000F3
@@ -27,6 +27,8 @@ PROGRAMS = {
     "reads-by-order.bpf": guarded((JUMP_AT_LEAST, 1, 0, 1), returns(ALLOW), returns(LOG)),
     "writes.bpf": guarded((JUMP_EQUAL, 0, 1, 1), returns(ALLOW), returns(LOG)),
     "reads-x32.bpf": guarded((JUMP_AT_LEAST, 0, 1, X32), returns(TRAP), *READ),
+    # Numbers with the bit of x32 are trapped, by a jump that tests it: those from 0xc0000000 on too.
+    "reads-no-x32.bpf": guarded((JUMP_IF_SET, 0, 1, X32), returns(TRAP), *READ),
     "reads-kills-thread.bpf": guarded(*READ, other=KILL_THREAD),
     "reads-other-kills.bpf": guarded(*READ, other=KILL_PROCESS + 1),
     "reads-anywhere.bpf": program((LOAD, 0, 0, 0), *READ),
@@ -109,9 +111,14 @@ CASES = [
     differs("allows-read.json reads-from-5.bpf", DIFFERENT + NO_LONGER_READS[:-1] + " at 0x0\n" + OTHERS_SAME),
     # The high half of an argument that is compared as `dword` doesn't count.
     same("allows-read-of-5.json reads-5.bpf", SAME + OTHERS_SAME),
-    # x32 numbers are among those without a name, whose ranges come behind the calls.
+    # x32 numbers are a range of their own, after the calls and the other numbers without a name.
     differs("allows-read.json reads-x32.bpf",
-            DIFFERENT + "  other calls 463 to 4294967295: log -> trap, less: 1073741824" + NONE + OTHERS_SAME),
+            DIFFERENT + "  x32 calls 1073741824 to 4294967295: log -> trap, less: 1073741824" + NONE + OTHERS_SAME),
+    differs("allows-read.json reads-no-x32.bpf",
+            DIFFERENT + "  x32 calls 1073741824 to 4294967295: log -> trap, less: 1073741824" + NONE + OTHERS_SAME),
+    differs("reads-no-x32.bpf reads-x32.bpf",
+            "program: different\n  x32 calls 1073741824 to 4294967295: log -> trap, less: 2147483648" + NONE + OTHERS_SAME),
+    same("reads-no-x32.bpf reads-no-x32.bpf", "program: same\n" + OTHERS_SAME),
     # Other architectures are told, and count with `--all` alone.
     same("allows-read.json reads-kills-thread.bpf", SAME + OTHERS_DIFFER + others("kill_process -> kill_thread, more")),
     differs("--all allows-read.json reads-kills-thread.bpf", SAME + OTHERS_DIFFER + others("kill_process -> kill_thread, more")),

@@ -6,7 +6,7 @@ from .forms import CLOSED, FOLDER, FULL, MISSING, OUTPUT, RESET, TOOL, Case, Fai
 from .records import RISCV64, X86_64, record_of
 
 # Codes of instructions (linux/bpf_common.h): a load of a word, jumps, a mask, a return.
-LOAD, JUMP, JUMP_EQUAL, JUMP_GREATER, JUMP_AT_LEAST, MASK, RETURN = 0x20, 0x05, 0x15, 0x25, 0x35, 0x54, 0x06
+LOAD, JUMP, JUMP_EQUAL, JUMP_GREATER, JUMP_AT_LEAST, JUMP_IF_SET, MASK, RETURN = 0x20, 0x05, 0x15, 0x25, 0x35, 0x45, 0x54, 0x06
 ALLOW, ERRNO_1 = 0x7FFF0000, 0x00050001
 
 # Return values and the actions that they are (linux/seccomp.h).
@@ -33,6 +33,9 @@ OF_READ = program((LOAD, 0, 0, 0), (JUMP_EQUAL, 0, 1, 0), returns(ALLOW), return
 # Calls whose argument 1 has bit 1 in its low half are allowed, of whatever architecture.
 OF_BIT = program((LOAD, 0, 0, 24), (MASK, 0, 0, 2), (JUMP_GREATER, 0, 1, 1), returns(ALLOW), returns(ERRNO_1))
 
+# Numbers of calls that have bit 30 fail, and others are allowed: by a jump that tests bits.
+OF_SET = program((LOAD, 0, 0, 0), (JUMP_IF_SET, 0, 1, 0x40000000), returns(ERRNO_1), returns(ALLOW))
+
 LONGEST = program(*[(LOAD, 0, 0, 60)] * 4095, returns(ALLOW))
 
 RECORDS = record_of(0, X86_64) + record_of(1, X86_64) + record_of(0, RISCV64)
@@ -40,6 +43,7 @@ RECORDS = record_of(0, X86_64) + record_of(1, X86_64) + record_of(0, RISCV64)
 FILES = {
     "read.bpf": OF_READ,
     "bit.bpf": OF_BIT,
+    "set.bpf": OF_SET,
     "longest.bpf": LONGEST,
     "calls.bin": RECORDS,
     "cut.bin": RECORDS[:-1],
@@ -62,6 +66,12 @@ UNFIT = [
     (program((JUMP, 0, 0, 2**32 - 1), returns(0)), f"instruction 0: {BEHIND}"),
     (program(returns(0), (JUMP_EQUAL, 1, 0, 0), returns(0)), f"instruction 1: {BEHIND}"),
     (program((JUMP_AT_LEAST, 0, 255, 0), returns(0)), f"instruction 0: {BEHIND}"),
+    (program((JUMP_IF_SET, 1, 0, 1), returns(0)), f"instruction 0: {BEHIND}"),
+    # What a kernel takes and the machine doesn't have: a sum, the index register, scratch memory, a load of the length.
+    (program((0x04, 0, 0, 1), returns(0)), "instruction 0: unknown operation 0x4"),
+    (program((0x07, 0, 0, 0), returns(0)), "instruction 0: unknown operation 0x7"),
+    (program((LOAD, 0, 0, 0), (0x02, 0, 0, 0), returns(0)), "instruction 1: unknown operation 0x2"),
+    (program((0x80, 0, 0, 0), returns(0)), "instruction 0: unknown operation 0x80"),
     (program((LOAD, 0, 0, 0)), "instruction 0: no return at the end"),
     (program(returns(0), (MASK, 0, 0, 1)), "instruction 1: no return at the end"),
 ]
@@ -79,6 +89,9 @@ CASES = [
     writes("explain -a riscv64 read.bpf read", "", "errno 1\n"),
     writes("explain bit.bpf ioctl 0 2", "", "allow\n"),
     writes("explain bit.bpf ioctl 2 0x100000001", "", "errno 1\n"),
+    writes("explain set.bpf read", "", "allow\n"),
+    writes("explain set.bpf 0x40000000", "", "errno 1\n"),
+    writes("explain --format word set.bpf 3221225472", "", "00050001 3\n"),
     writes("explain longest.bpf 0", "", "allow\n"),
     writes("explain - read", OF_READ, "allow\n"),
     writes("explain read.bpf --records calls.bin", "", "allow\nerrno 1\nallow\n"),
@@ -121,9 +134,10 @@ CASES = [
            "{ 0x6, 0, 0, 0x00050001 },\n"),
     # Its length, its longest way, and its steps on a call that it doesn't test for.
     writes("show --stats read.bpf", "", "program: 4 instructions, at most 3 steps, 3 passing\n"),
+    writes("show --stats set.bpf", "", "program: 4 instructions, at most 3 steps, 3 passing\n"),
     writes("show --stats -", LONGEST, "program: 4096 instructions, at most 4096 steps, 4096 passing\n"),
     # `check` takes it, or says why not.
     writes("check read.bpf", "", ""),
-    writes("check --deny-warnings read.bpf longest.bpf", "", ""),
+    writes("check --deny-warnings read.bpf set.bpf longest.bpf", "", ""),
     *[rejects("check -", given, told + "\n") for given, told in UNFIT],
 ]

@@ -32,7 +32,7 @@ def x32_line(olds, news):
     if (olds is PROFILES) == (news is PROFILES):
         return ""
     change = "kill_thread -> log, more" if olds is PROFILES else "log -> kill_thread, less"
-    return f"  other calls 463 to 4294967295: {change}: {2**30}(0x0, 0x0, 0x0, 0x0, 0x0, 0x0)\n"
+    return f"  x32 calls 1073741824 to 4294967295: {change}: {2**30}(0x0, 0x0, 0x0, 0x0, 0x0, 0x0)\n"
 
 
 def compares(olds, news, title):

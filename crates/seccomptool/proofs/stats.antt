@@ -2,3 +2,4 @@
 pub mod TableNumbers
 pub mod PassingRecord
 pub mod FilterNumbers
+pub mod CheckedPrograms

@@ -10,7 +10,7 @@ use Rattle.seccompiler.specs.declared.bpf.sock_filter.{sock_filter}
 use Rattle.seccompiler.specs.declared.machine.Outcome.{Outcome}
 use Rattle.seccomp_tree.specs.declared.layout.Layout.{Layout}
 use Rattle.seccompiler.specs.JsonAnswers.{OfValue}
-use Rattle.seccompiler.specs.Machine.{IsChecked}
+use Rattle.seccomp_compare.specs.Machine.{IsChecked}
 use Rattle.seccomp_oci.specs.declared.compiled.CompiledProfile.{CompiledProfile}
 use Rattle.seccomp_oci.specs.CompiledProfile.{IsCompiledProfile}
 use Rattle.seccomp_oci.specs.Types.{Container}

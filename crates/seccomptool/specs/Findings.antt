@@ -7,7 +7,8 @@ use Rattle.seccomp_compare.specs.declared.Relation.{Relation}
 use Rattle.seccompiler.specs.Architecture.{audit_word, table_of}
 use Rattle.seccompiler.specs.declared.bpf.sock_filter.{sock_filter}
 use Rattle.seccomp_compare.specs.Compare.{Related}
-use Rattle.seccompiler.specs.Machine.{Ends, IsRecord, word_at}
+use Rattle.seccomp_compare.specs.Machine.{Ends}
+use Rattle.seccompiler.specs.Machine.{IsRecord, word_at}
 use Rattle.seccompiler.specs.SyscallTable.{Pair}
 use Rattle.seccomptool.specs.declared.findings.Part.{Part}
 use Rattle.seccomptool.specs.declared.findings.Part.TheVariants.{Named, Unnamed, Elsewhere}
@@ -37,13 +38,13 @@ IsInPart target (Unnamed least greatest) r = IsRecord r × (word_at r 4 ≡ audi
     greatest)
 IsInPart target (Elsewhere least greatest) r = IsRecord r × (least ≤ word_at r 4) × (word_at r 4 ≤ greatest)
 
--- The numbers from the least to the greatest have no name, and are all that there are between two numbers with names, or
--- between such a number and an end of all numbers.
+-- The numbers from the least to the greatest have no name, and are all that there are between two numbers with names, the
+-- number where those of x32 begin (`__X32_SYSCALL_BIT` of asm/unistd.h), or an end of all numbers.
 pub record IsGap (table : List Pair) (least greatest : ℕ) : Type 0 where
   pub some : least ≤ greatest
   pub unnamed : (n : ℕ) → least ≤ n → n ≤ greatest → LacksName table n
-  pub begins : (least ≡ 0) ⊎ HasName table (least - 1)
-  pub ends : (greatest + 1 ≡ 2 ^ 32) ⊎ HasName table (greatest + 1)
+  pub begins : (least ≡ 0) ⊎ (HasName table (least - 1) ⊎ (least ≡ 2 ^ 30))
+  pub ends : (greatest + 1 ≡ 2 ^ 32) ⊎ (HasName table (greatest + 1) ⊎ (greatest + 1 ≡ 2 ^ 30))
 
 -- The parts are those of the numbers below this one, in ascending order: one for each number that has a name, and one for
 -- each range of numbers between these.

@@ -4,8 +4,9 @@ use Rattle.seccompiler.specs.declared.backend.SeccompAction.{SeccompAction}
 use Rattle.seccompiler.specs.declared.backend.TargetArch.{TargetArch}
 use Rattle.seccompiler.specs.declared.bpf.sock_filter.{sock_filter}
 use Rattle.seccompiler.specs.Architecture.{audit_word}
-use Rattle.seccompiler.specs.Machine.{Ends, IsChecked, IsRecord, word_at}
+use Rattle.seccompiler.specs.Machine.{IsRecord, word_at}
 use Rattle.seccompiler.specs.Policy.{Filter, IsDecision, word_of}
+use Rattle.seccomp_compare.specs.Machine.{Ends, IsChecked}
 use Rattle.seccomp_compare.specs.declared.Relation.{Relation}
 use Rattle.seccomp_oci.specs.Decision.{IsProfileDecision}
 use Rattle.seccomp_oci.specs.Types.{Container, Profile}
@@ -26,10 +27,17 @@ Decides target (of_profile container p) r word = word_at r 4 ≡ audit_word targ
     → (action : SeccompAction) × IsProfileDecision target container p r action × (word ≡ word_of action)
 Decides target (of_program p) r word = (steps : ℕ) × Ends p r steps word
 
+-- The program ends on the record with a word that is decided for it.
+pub record EndsAsDecided (target : TargetArch) (ruling : Ruling) (p : List sock_filter) (r : List ℕ) : Type 0 where
+  pub steps : ℕ
+  pub word : ℕ
+  pub ends : Ends p r steps word
+  pub decided : Decides target ruling r word
+
 -- The program may be run, and returns what is decided for each call.
 pub record StandsFor (target : TargetArch) (ruling : Ruling) (p : List sock_filter) : Type 0 where
   pub checked : IsChecked p
-  pub decides : (r : List ℕ) → IsRecord r → (steps word : ℕ) → Ends p r steps word → Decides target ruling r word
+  pub decides : (r : List ℕ) → IsRecord r → EndsAsDecided target ruling p r
 
 -- The words are what the new and the old ruling decide for the record.
 abbrev pub AreDecided : TargetArch → (new old : Ruling) → List ℕ → ℕ → ℕ → Type 0

@@ -3,7 +3,8 @@ use Rattle.std.specs.Prelude.{◌≡◌, ℕ, ◌*◌, ◌%◌, ◌<◌, ◌≤�
 use Rattle.std.specs.List.{AllZip}
 use Rattle.seccompiler.specs.declared.bpf.sock_filter.{sock_filter}
 use Rattle.seccompiler.specs.declared.machine.Outcome.{Outcome}
-use Rattle.seccompiler.specs.Machine.{AreInRange, Ends, greatest_length}
+use Rattle.seccompiler.specs.Machine.{AreInRange, greatest_length}
+use Rattle.seccomp_compare.specs.Machine.{Ends}
 use Rattle.seccomptool.specs.declared.error.ToolError.{ToolError}
 use Rattle.seccomptool.specs.declared.error.ToolError.TheVariants.{Program, OutOfMemory}
 use Rattle.seccomptool.specs.declared.run.fault.ProgramFault.{ProgramFault}

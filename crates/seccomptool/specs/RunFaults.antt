@@ -3,8 +3,7 @@ use Rattle.std.specs.Prelude.{◌≡◌, ◌≢◌, ℕ, ◌+◌, ◌<◌, ◌�
 use Rattle.std.specs.Prelude.{decimal}
 use Rattle.std.specs.Fmt.{digits}
 use Rattle.seccompiler.specs.declared.bpf.sock_filter.{sock_filter}
-use Rattle.seccompiler.specs.FirstUnfit.{IsFirstUnfit}
-use Rattle.seccompiler.specs.Machine.{IsFine}
+use Rattle.seccomp_compare.specs.Machine.{IsFine, IsFirstUnfit}
 use Rattle.seccomptool.specs.declared.run.fault.Amiss.{Amiss}
 use Rattle.seccomptool.specs.declared.run.fault.Amiss.TheVariants.{Operation, Load, Jump, End}
 use Rattle.seccomptool.specs.declared.run.fault.ProgramFault.{ProgramFault}
@@ -14,11 +13,11 @@ use Rattle.seccomptool.specs.declared.run.fault.ProgramFault.TheVariants.{Short,
 
 -- The codes of the instructions that the machine runs.
 abbrev pub known_codes : List ℕ
-known_codes = 0x20 ∷ 0x54 ∷ 0x05 ∷ 0x15 ∷ 0x25 ∷ 0x35 ∷ 0x06 ∷ []
+known_codes = 0x20 ∷ 0x54 ∷ 0x05 ∷ 0x15 ∷ 0x25 ∷ 0x35 ∷ 0x45 ∷ 0x06 ∷ []
 
 -- A jump with a test.
 abbrev pub IsTest : sock_filter → Type 0
-IsTest i = (i.code ≡ 0x15) ⊎ ((i.code ≡ 0x25) ⊎ (i.code ≡ 0x35))
+IsTest i = (i.code ≡ 0x15) ⊎ ((i.code ≡ 0x25) ⊎ ((i.code ≡ 0x35) ⊎ (i.code ≡ 0x45)))
 
 -- The instruction at this place leads to one that lies behind the end of a program of n instructions.
 pub data JumpsBehind (i : sock_filter) (place n : ℕ) : Type 0 where

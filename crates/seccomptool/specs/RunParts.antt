@@ -1,7 +1,7 @@
 -- What the private steps of `run` promise each other.
 use Rattle.std.specs.Prelude.{◌≡◌, ◌≢◌, ℕ, ◌+◌, ◌⊎◌, List}
 use Rattle.seccompiler.specs.declared.bpf.sock_filter.{sock_filter}
-use Rattle.seccompiler.specs.Machine.{IsFine}
+use Rattle.seccomp_compare.specs.Machine.{IsFine}
 use Rattle.seccomptool.specs.declared.run.fault.ProgramFault.{ProgramFault}
 use Rattle.seccomptool.specs.declared.run.fault.ProgramFault.TheVariants as fault
 use Rattle.seccomptool.specs.RunFaults.{IsUnfitAt}

@@ -10,7 +10,8 @@ use Rattle.seccompiler.specs.Architecture.{audit_word}
 use Rattle.seccomp_tree.specs.Layouts.{IsCompiledIn}
 use Rattle.seccompiler.specs.Policy.{word_of, Filter, chain_under}
 use Rattle.seccompiler.specs.JsonAnswers.{HasPolicy}
-use Rattle.seccompiler.specs.Machine.{Ends, IsRecord, word_at}
+use Rattle.seccompiler.specs.Machine.{IsRecord, word_at}
+use Rattle.seccomp_compare.specs.Machine.{Ends}
 use Rattle.seccomp_oci.specs.declared.compiled.CompiledProfile.{CompiledProfile}
 use Rattle.seccomp_oci.specs.CompiledProfile.{IsCompiledProfile}
 use Rattle.seccomp_oci.specs.Types.{Container}

@@ -30,19 +30,13 @@ pub(crate) fn counted(
 
 // How many warnings all filters of a policy's text have: none where something is at fault in it.
 fn count_in(alloc: Global, arch: TargetArch, text: &[u8]) -> Result<usize, AllocError> {
-    let filters = match filters_of(alloc, text) {
-        Ok(filters) => filters,
-        Err(refusal) => return no_count(&refusal),
+    let report = match filters_of(alloc, text) {
+        Ok(filters) => report_of(alloc, arch, b"", &filters, &[]),
+        Err(refusal) => Err(refusal),
     };
-    match report_of(alloc, arch, b"", &filters, &[]) {
+    match report {
         Ok(report) => Ok(report.count),
-        Err(refusal) => no_count(&refusal),
-    }
-}
-
-fn no_count(refusal: &JsonFrontendError) -> Result<usize, AllocError> {
-    match refusal {
-        JsonFrontendError::OutOfMemory => Err(AllocError),
-        _ => Ok(0),
+        Err(JsonFrontendError::OutOfMemory) => Err(AllocError),
+        Err(_) => Ok(0),
     }
 }

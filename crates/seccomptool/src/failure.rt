@@ -1,11 +1,10 @@
 // What the program tells of a failure.
 
 use crate::error::{FaultAt, Place, ToolError};
+use crate::notes::front_of;
 use crate::readable::{LineFeeds, readable};
 use crate::words::{Asked, Inputs};
-use seccomp_command_line::names::push_readable;
 use std::alloc::{AllocError, Global};
-use std::fmt::Display;
 use std::io;
 use std::io::ErrorKind;
 
@@ -35,14 +34,7 @@ pub(crate) fn tell(
     inputs: Inputs<'_>,
     failure: &Failure,
 ) {
-    let alloc = rt.alloc();
-    let path = match place_of(failure) {
-        Place::Nowhere => None,
-        Place::First => Some((inputs.first, "standard input")),
-        Place::Second => Some((inputs.second, "standard input")),
-        Place::Output => Some((asked.output, "standard output")),
-    };
-    let _ = match failure_line(alloc, path, failure) {
+    let _ = match failure_line(rt.alloc(), asked, inputs, failure) {
         Ok(line) => eprintln!(rt; "{line}"),
         Err(_) => eprintln!(rt; "seccomptool: Out of memory."),
     };
@@ -55,56 +47,27 @@ pub(crate) fn note(rt: &(impl Eprint + AllocGlobal), notes: &[u8]) {
     }
 }
 
-// Where a failure is.
-fn place_of(failure: &Failure) -> Place {
-    if is_out_of_memory(failure) {
-        return Place::Nowhere;
-    }
-    match failure {
-        Failure::First(_) => Place::First,
-        Failure::Second(_) => Place::Second,
-        Failure::ShortRecord(_) => Place::Second,
-        Failure::Terminal => Place::Output,
-        Failure::Onto => Place::Output,
-        Failure::Output(_) => Place::Output,
-        Failure::Engine(fault) => fault.place,
-    }
-}
-
-// Whether memory ran out while something was read or written: then that has no part in it.
-fn is_out_of_memory(failure: &Failure) -> bool {
-    match failure {
-        Failure::First(error) => error.kind() == ErrorKind::OutOfMemory,
-        Failure::Second(error) => error.kind() == ErrorKind::OutOfMemory,
-        Failure::Output(error) => error.kind() == ErrorKind::OutOfMemory,
-        _ => false,
-    }
-}
-
 fn failure_line(
     alloc: Global,
-    path: Option<(Option<&str>, &str)>,
+    asked: &Asked<'_>,
+    inputs: Inputs<'_>,
     failure: &Failure,
 ) -> Result<String, AllocError> {
-    let told = told(alloc, failure)?;
-    line_of(alloc, path, told.as_str())
+    let (place, told) = told(alloc, failure)?;
+    let front = match place {
+        Place::Nowhere => Vec::new(alloc),
+        Place::First => front_of(alloc, inputs.first.unwrap_or("-"))?,
+        Place::Second => front_of(alloc, inputs.second.unwrap_or("-"))?,
+        Place::Output => front_of(alloc, asked.output.unwrap_or("standard output"))?,
+    };
+    line_of(alloc, &front, told.as_str())
 }
 
-// The line of a failure: the program, a path with another name where it is `-`, and what is wrong.
-fn line_of(
-    alloc: Global,
-    path: Option<(Option<&str>, &str)>,
-    told: &str,
-) -> Result<String, AllocError> {
+// The line of what is wrong with what `front` names.
+fn line_of(alloc: Global, front: &[u8], told: &str) -> Result<String, AllocError> {
     let mut line = Vec::new(alloc);
     line.extend_from_slice(b"seccomptool: ")?;
-    if let Some((path, standard)) = path {
-        match path {
-            None | Some("-") => line.extend_from_slice(standard.as_bytes())?,
-            Some(path) => push_readable(&mut line, path)?,
-        }
-        line.extend_from_slice(b": ")?;
-    }
+    line.extend_from_slice(front)?;
     line.extend_from_slice(told.as_bytes())?;
     readable(alloc, &line, LineFeeds::Numbered)
 }
@@ -116,39 +79,41 @@ pub(crate) fn rejection(
     error: &ToolError,
 ) -> Result<Vec<u8>, AllocError> {
     let told = format!(in alloc; "{error}")?;
-    let line = line_of(alloc, Some((Some(path), "standard input")), told.as_str())?;
-    let mut bytes = line.into_bytes();
-    bytes.push(b'\n')?;
-    Ok(bytes)
+    let mut line = line_of(alloc, &front_of(alloc, path)?, told.as_str())?.into_bytes();
+    line.push(b'\n')?;
+    Ok(line)
 }
 
-// What is wrong, in the system's words where it is the system that refuses.
-fn told(alloc: Global, failure: &Failure) -> Result<String, AllocError> {
-    match failure {
-        Failure::First(error) => told_by_system(alloc, error),
-        Failure::Second(error) => told_by_system(alloc, error),
-        Failure::Output(error) => told_by_system(alloc, error),
-        Failure::ShortRecord(rest) => {
-            format!(in alloc; "The input ends inside a record, after {rest} bytes of it.")
-        }
-        Failure::Terminal => {
-            String::from_str(
-                alloc,
-                "bytes aren't written to a terminal; give a file or a pipe",
-            )
-        }
-        Failure::Onto => String::from_str(alloc, "the output isn't written onto what is read"),
+// Where a failure is, and what is wrong.
+fn told(alloc: Global, failure: &Failure) -> Result<(Place, String), AllocError> {
+    let told = match failure {
+        Failure::First(error) => return told_by_system(alloc, Place::First, error),
+        Failure::Second(error) => return told_by_system(alloc, Place::Second, error),
+        Failure::Output(error) => return told_by_system(alloc, Place::Output, error),
         Failure::Engine(fault) => {
             let error = &fault.error;
-            format!(in alloc; "{error}")
+            return Ok((fault.place, format!(in alloc; "{error}")?));
         }
-    }
+        Failure::ShortRecord(rest) => {
+            let told = format!(in alloc;
+                "The input ends inside a record, after {rest} bytes of it."
+            )?;
+            return Ok((Place::Second, told));
+        }
+        Failure::Terminal => "bytes aren't written to a terminal; give a file or a pipe",
+        Failure::Onto => "the output isn't written onto what is read",
+    };
+    Ok((Place::Output, String::from_str(alloc, told)?))
 }
 
-// What the system tells.
-fn told_by_system(alloc: Global, error: &io::Error) -> Result<String, AllocError> {
+// What the system tells of a place; that memory ran out meanwhile has no part in it.
+fn told_by_system(
+    alloc: Global,
+    place: Place,
+    error: &io::Error,
+) -> Result<(Place, String), AllocError> {
     if error.kind() == ErrorKind::OutOfMemory {
-        return String::from_str(alloc, "Out of memory.");
+        return Ok((Place::Nowhere, String::from_str(alloc, "Out of memory.")?));
     }
-    format!(in alloc; "{error}")
+    Ok((place, format!(in alloc; "{error}")?))
 }

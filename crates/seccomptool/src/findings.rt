@@ -7,7 +7,7 @@ mod tries;
 
 ghost use Rattle.std.specs.Prelude.{◌≡◌, ℕ, List, ◌↔◌, IfOk};
 ghost use Rattle.seccomp_compare.specs.Compare.{IsCallOf};
-ghost use Rattle.seccompiler.specs.Machine.{IsChecked};
+ghost use Rattle.seccomp_compare.specs.Machine.{IsChecked};
 ghost use Rattle.seccomptool.specs.Findings as spec;
 ghost use Rattle.seccomptool.specs.Findings.{AreFoundOn, AreReturned, IsFound, IsInPart, worse, verdict_of};
 ghost use Rattle.seccomptool.specs.Rulings.{AreFindingsOf, Ruling, StandsFor};
@@ -16,8 +16,8 @@ use crate::error::ToolError;
 use crate::findings::parts::parts;
 use crate::findings::tries::try_comparisons;
 use crate::progress::Progress;
-use seccomp_compare::{Calls, Comparison, Relation};
-use seccompiler::{BpfProgramRef, TargetArch, machine};
+use seccomp_compare::{Calls, Comparison, Relation, machine};
+use seccompiler::{BpfProgramRef, TargetArch};
 use std::alloc::Global;
 
 /// On which terms two sides are compared.

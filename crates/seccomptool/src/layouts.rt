@@ -33,7 +33,10 @@ pub(crate) fn uncompiled(
         FilterError::TreeTooLarge => None,
         cause => return cause.into(),
     };
-    let other = other_layout(layout);
+    let other = match layout {
+        Layout::Linear => Layout::Tree,
+        Layout::Tree => Layout::Linear,
+    };
     let Ok(fits) = length_in(alloc, filter, other) else {
         return ToolError::OutOfMemory;
     };
@@ -53,14 +56,6 @@ fn length_in(
         Ok(program) => Ok(Some(program.len())),
         Err(FilterError::FilterTooLarge(_) | FilterError::TreeTooLarge) => Ok(None),
         Err(error) => Err(error),
-    }
-}
-
-// The layout that isn't this one.
-fn other_layout(layout: Layout) -> Layout {
-    match layout {
-        Layout::Linear => Layout::Tree,
-        Layout::Tree => Layout::Linear,
     }
 }
 

@@ -406,14 +406,11 @@ pub(crate) fn call_made(
     }
     let calls = match arch {
         Some(arch) => known_calls(alloc, &[arch], call.name)?,
-        None => known_calls(alloc, &ALL, call.name)?,
+        None => known_calls(alloc, TargetArch::all(), call.name)?,
     };
     let text = calls_text(alloc, call.name, &calls)?;
     Ok(Made::plain(alloc, text))
 }
-
-// All architectures.
-static ALL: [TargetArch; 3] = [TargetArch::x86_64, TargetArch::aarch64, TargetArch::riscv64];
 
 pub(crate) fn diff_made<G: Progress>(
     alloc: Global,

@@ -3,7 +3,6 @@
 use crate::findings::Part;
 use crate::findings::parts::name_of;
 use seccompiler::TargetArch;
-use std::io;
 use std::time::{Clock, Instant};
 
 // Nothing is shown of a comparison before it took so many seconds.
@@ -78,7 +77,9 @@ impl<R: Eprint + Clock> Progress for Watch<'_, R> {
         self.sets = self.sets.saturating_add(sets);
         if self.is_long() {
             self.written = true;
-            let _ = tell(self.rt, name_in(target, part), self.sets);
+            let (name, sets) = (name_in(target, part), self.sets);
+            // From the line's begin on, and nothing behind it.
+            let _ = eprint!(self.rt; "\rseccomptool: {name}: {sets} sets of calls looked at\x1b[K");
         }
     }
 
@@ -86,18 +87,9 @@ impl<R: Eprint + Clock> Progress for Watch<'_, R> {
         self.start = None;
         if self.written {
             self.written = false;
-            let _ = erase(self.rt);
+            let _ = eprint!(self.rt; "\r\x1b[K");
         }
     }
-}
-
-// Writes the line from its begin on, and nothing behind it.
-fn tell(rt: &impl Eprint, name: &str, sets: usize) -> io::Result<()> {
-    eprint!(rt; "\rseccomptool: {name}: {sets} sets of calls looked at\x1b[K")
-}
-
-fn erase(rt: &impl Eprint) -> io::Result<()> {
-    eprint!(rt; "\r\x1b[K")
 }
 
 // A part by a short name, so that the line fits a terminal.

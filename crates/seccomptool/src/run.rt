@@ -5,19 +5,20 @@ pub(crate) mod program;
 mod unfit;
 
 ghost use Rattle.std.specs.Prelude.{IfOk};
-ghost use Rattle.seccompiler.specs.Machine.{IsChecked};
+ghost use Rattle.seccomp_compare.specs.Machine.{IsChecked};
 ghost use Rattle.seccomptool.specs.Run.{AreReturned};
 
 use crate::explain::format::LineFormat;
 use crate::findings::lines::Word;
+use seccomp_compare::machine;
+use seccompiler::BpfProgramRef;
 use seccompiler::machine::Outcome;
-use seccompiler::{BpfProgramRef, machine};
 use std::alloc::{AllocError, Global};
 
 /// What a program returns for records, one for each, in order.
 ///
-/// The program may be of any compiler, if `machine::check` passes it; that takes fewer instructions than a
-/// kernel does.
+/// The program may be of any compiler, if `machine::check` of `seccomp_compare` passes it; that takes fewer instructions than
+/// a kernel does.
 pub fn returned(
     alloc: Global,
     program: BpfProgramRef<'_>,

@@ -1,19 +1,27 @@
 -- For `findings_of` and `compared`: what is found of two programs is found of whatever they stand for.
-use Rattle.std.proofs.Common.{◌≡◌, ℕ, ◌^◌, List, All, sym, subst}
+use Rattle.std.proofs.Common.{◌≡◌, ℕ, ◌^◌, List, All, refl, sym, subst}
 use Rattle.std.proofs.lemmas.List.Elements.{All-weaker}
 use Rattle.seccompiler.specs.declared.backend.TargetArch.{TargetArch}
 use Rattle.seccompiler.specs.declared.bpf.sock_filter.{sock_filter}
 use Rattle.seccomp_compare.specs.declared.Relation.{Relation}
 use Rattle.seccompiler.specs.Architecture.{table_of}
 use Rattle.seccompiler.specs.Machine.{IsRecord}
+use Rattle.seccomp_compare.specs.Machine.{Ends}
+use Rattle.seccomp_compare.proofs.OneEnd.{ends_only}
 use Rattle.seccomptool.specs.declared.findings.Answer.{Answer}
 use Rattle.seccomptool.specs.declared.findings.Answer.TheVariants.{Holds, Fails, Undecided}
 use Rattle.seccomptool.specs.declared.findings.Finding.{Finding}
 use Rattle.seccomptool.specs.declared.findings.Part.{Part}
 use Rattle.seccomptool.specs.declared.findings.Part.TheVariants.{Named, Unnamed, Elsewhere}
 use Rattle.seccomptool.specs.Findings.{AreFindings, AreFoundOn, ArePartsBelow, AreReturned, IsFound, IsInPart}
-use Rattle.seccomptool.specs.Rulings.{AreDecided, AreFindingsOf, Ruling, StandsFor}
+use Rattle.seccomptool.specs.Rulings.{AreDecided, AreFindingsOf, Decides, EndsAsDecided, Ruling, StandsFor}
 use Rattle.seccomptool.proofs.findings.Covered.{covered}
+
+-- A program that ends as decided ends with no other word.
+decided_word : (target : TargetArch) (ruling : Ruling) (p : List sock_filter) (r : List ℕ) (steps word : ℕ) → Ends p r steps word
+    → EndsAsDecided target ruling p r → Decides target ruling r word
+decided_word target ruling p r steps word ends at =
+    subst (Decides target ruling r) (sym (ends_only p r ends at.ends refl refl).1) at.decided
 
 module _ (target : TargetArch) (relation : Relation) (new old : List sock_filter) (by_new by_old : Ruling)
     (of_new : StandsFor target by_new new) (of_old : StandsFor target by_old old) where
@@ -26,8 +34,8 @@ module _ (target : TargetArch) (relation : Relation) (new old : List sock_filter
   words_decided : (r : List ℕ) → IsRecord r → (new_word old_word : ℕ) → AreReturned new old r new_word old_word
       → AreDecided target by_new by_old r new_word old_word
   words_decided r rec new_word old_word are = (
-    of_new.decides r rec are.new_steps new_word are.new_ends,
-    of_old.decides r rec are.old_steps old_word are.old_ends,
+    decided_word target by_new new r are.new_steps new_word are.new_ends (of_new.decides r rec),
+    decided_word target by_old old r are.old_steps old_word are.old_ends (of_old.decides r rec),
   )
 
   found_decided : (part : Part) (answer : Answer) → IsFound target relation (AreReturned new old) part answer

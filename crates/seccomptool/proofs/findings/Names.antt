@@ -1,6 +1,7 @@
 -- For `next_named` and `parts`: which numbers have names, and the parts that this makes.
 use Rattle.std.proofs.Common.{◌≡◌, ℕ, pos, ◌+◌, ◌-◌, ◌<◌, ◌≤◌, ◌⊎◌, List, [], ◌∷◌, ◌++◌, All, refl, sym, subst, inl, inr, arith, ◌∙◌, ap}
 use Rattle.std.proofs.Common.{append-nil}
+use Rattle.std.specs.Prelude.{◌^◌}
 use Rattle.std.specs.Ordering.{int_eq}
 use Rattle.std.proofs.lemmas.Bool.{cases_Bool, cases_eq}
 use Rattle.std.proofs.lemmas.Bool.Decides.{Decides-int_eq, nat_tests}
@@ -26,7 +27,7 @@ none_above (pair ∷ pairs) all n high = elim (cases_Bool (int_eq pair.1 (pos n)
 
 -- The parts below a number that has a name, and then its own.
 pub parts_more : (table : List Pair) (least number : ℕ) (old middle new : List Part) → ArePartsBelow table old least
-    → (least ≡ 0) ⊎ HasName table (least - 1) → least ≤ number
+    → (least ≡ 0) ⊎ (HasName table (least - 1) ⊎ (least ≡ 2 ^ 30)) → least ≤ number
     → ((n : ℕ) → least ≤ n → n < number → LacksName table n) → HasName table number → middle ≡ old ++ between least number
     → new ≡ middle ++ Named number ∷ []
     → ArePartsBelow table new (number + 1)
@@ -41,8 +42,8 @@ parts_more table least number old middle new below begins low unnamed named in_f
         some = omega arith;
         unnamed = λ n from to. unnamed n from (omega arith);
         begins = begins;
-        ends = inr (subst (HasName table)
-            again named);
+        ends = inr (inl (subst (HasName table)
+            again named));
       })
       (in_front ∙ ap (λ parts. old ++ parts) (some_between other)) again
 ]) named own refl

@@ -5,7 +5,8 @@ use Rattle.seccompiler.specs.declared.backend.TargetArch.{TargetArch}
 use Rattle.seccompiler.specs.Architecture.{audit_word, table_of}
 use Rattle.seccompiler.specs.JsonAnswers.{HasPolicy}
 use Rattle.seccompiler.specs.Layout.{passing_steps}
-use Rattle.seccompiler.specs.Machine.{Ends}
+use Rattle.seccomp_compare.specs.Machine.{Ends}
+use Rattle.seccomp_compare.proofs.OfSeven.{ends_of_seven}
 use Rattle.seccompiler.specs.Policy.{word_of, Filter, chain_under}
 use Rattle.seccompiler.specs.SyscallTable.{IsCallTable}
 use Rattle.seccomptool.specs.Stats.{passing_record, HasStats, IsMeasured}
@@ -26,7 +27,9 @@ has_stats target table e s value is has =
       linear = is.linear;
       tree = is.tree;
       passing = λ some r record_is own lacks.
-          let steps = (is.linear.measure.only (passing_steps e.1) (word_of e.1.mismatch_action)
-          (passes some (passing_record target) (is_record target) (its_word target ∙ arch) none)).0 in
-          subst (λ n. Ends is.linear.program r n (word_of e.1.mismatch_action)) steps (passes some r record_is (own ∙ arch) lacks);
+          let p = is.linear.program in
+          let word = word_of e.1.mismatch_action in
+          let steps = (is.linear.measure.only (passing_steps e.1) word (ends_of_seven p (passing_record target) (passing_steps e.1) word
+          (passes some (passing_record target) (is_record target) (its_word target ∙ arch) none))).0 in
+          subst (λ n. Ends p r n word) steps (ends_of_seven p r (passing_steps e.1) word (passes some r record_is (own ∙ arch) lacks));
     }

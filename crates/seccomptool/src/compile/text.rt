@@ -7,18 +7,12 @@ use seccomp_command_line::listing::push_listing;
 use seccompiler::{BpfProgramRef, sock_filter};
 use std::alloc::{AllocError, Global};
 
-/// A filter's program in this form:
+/// A filter's program in this form.
 ///
-/// - `Raw` is what `struct sock_fprog` of `seccomp(2)` points at, and what bubblewrap's `--seccomp` reads. Each
-///   instruction is a `struct sock_filter` of 8 bytes: code in 2, jt in 1, jf in 1, k in 4. Numbers have the
-///   low byte first, as on each machine that a program can be made for.
-/// - `Listing` is what `seccompc list` writes for a program: a line `filter LENGTH NAME`, and for each
-///   instruction code in 4, jt in 2, jf in 2 and k in 8 lower-case hexadecimal digits, separated by one space.
-///   In NAME the bytes 00 to 1f, 7f and the backslash are written as `\x` and two lower-case hexadecimal
-///   digits, all others as they are.
-/// - `C` is what `tcpdump -dd` writes for a program: for each instruction a line `{ 0xCODE, JT, JF, 0xK },`
-///   with code and k in lower-case hexadecimal digits, k in 8 of them, and jt and jf in decimal. The lines go
-///   between the braces of the initializer of an array of `struct sock_filter`.
+/// `Raw` is what `struct sock_fprog` of `seccomp(2)` points at, and what bubblewrap's `--seccomp` reads: the byte
+/// order is that of each machine that a program can be made for. In the NAME of a `Listing` the bytes 00 to 1f, 7f
+/// and the backslash are written as `\x` and two lower-case hexadecimal digits, all others as they are. `C` is what
+/// `tcpdump -dd` writes: CODE and K in lower-case hexadecimal digits, K in 8 of them, JT and JF in decimal.
 pub(crate) fn program_text(
     alloc: Global,
     format: ProgramFormat,

@@ -1,14 +1,14 @@
 // What is found of a pair of programs, on all calls.
 
 ghost use Rattle.std.specs.Prelude.{◌≡◌, IfOk};
-ghost use Rattle.seccompiler.specs.Machine.{IsChecked};
+ghost use Rattle.seccomp_compare.specs.Machine.{IsChecked};
 ghost use Rattle.seccomptool.specs.Diff.{IsComparison, other_parts};
 ghost use Rattle.seccomptool.specs.Rulings.{Ruling, StandsFor};
 
 use crate::error::ToolError;
 use crate::findings::{Finding, Part, Terms, findings_of, findings_on};
 use crate::progress::Progress;
-use crate::show::instruction::LOAD;
+use seccompiler::bpf::LOAD;
 use seccompiler::{BpfProgramRef, TargetArch};
 use std::alloc::Global;
 

@@ -2,7 +2,7 @@
 
 ghost use Rattle.std.specs.Prelude.{◌≤◌};
 
-use crate::findings::parts::name_of;
+use crate::findings::parts::{X32, name_of};
 use crate::findings::{Answer, Finding, Part, Verdict};
 use seccomp_command_line::names::push_readable;
 use seccomp_compare::{Relation, rank};
@@ -159,7 +159,14 @@ impl fmt::Display for PartName {
                 let name = CallName { target, number };
                 write!(f, "{name}")
             }
-            Part::Unnamed { least, greatest } => write!(f, "other calls {least} to {greatest}"),
+            Part::Unnamed { least, greatest } => {
+                let of = if least == X32 && target == TargetArch::x86_64 {
+                    "x32"
+                } else {
+                    "other"
+                };
+                write!(f, "{of} calls {least} to {greatest}")
+            }
             Part::Elsewhere { least, greatest } => {
                 write!(f, "other architectures 0x{least:x} to 0x{greatest:x}")
             }

@@ -1,5 +1,5 @@
 // The parts of an architecture's calls: one for each number that has a name, and one for each range of numbers
-// between these.
+// between these. x32's numbers are a range of their own.
 
 ghost use Rattle.std.specs.Prelude.{◌≡◌, ℕ, ◌++◌, ◌^◌, ◌<◌, ◌≤◌, IfSome, IfNone, IfOk, OnOk, option_map};
 ghost use Rattle.seccompiler.specs.Architecture.{table_of};
@@ -14,6 +14,9 @@ use std::alloc::{AllocError, Global};
 // More than the greatest number that has a name.
 const END: u32 = 463;
 
+// x32's numbers begin here (`__X32_SYSCALL_BIT` of asm/unistd.h).
+pub(crate) const X32: u32 = 0x4000_0000;
+
 // The parts, in ascending order of their numbers.
 pub(crate) fn parts(alloc: Global, target: TargetArch) -> Result<Vec<Part>, AllocError>
     ensures { IfOk result (λ parts. ArePartsBelow (table_of target) parts.items (2 ^ 32)) }
@@ -27,6 +30,10 @@ pub(crate) fn parts(alloc: Global, target: TargetArch) -> Result<Vec<Part>, Allo
     }
     parts.push(Part::Unnamed {
         least,
+        greatest: X32 - 1,
+    })?;
+    parts.push(Part::Unnamed {
+        least: X32,
         greatest: u32::MAX,
     })?;
     Ok(parts)

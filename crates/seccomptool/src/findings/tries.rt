@@ -2,7 +2,7 @@
 
 ghost use Rattle.std.specs.Prelude.{◌≡◌, ◌<◌, ◌≤◌, IfOk, true};
 ghost use Rattle.seccomp_compare.specs.Compare.{Compares};
-ghost use Rattle.seccompiler.specs.Machine.{IsChecked};
+ghost use Rattle.seccomp_compare.specs.Machine.{IsChecked};
 
 use crate::error::ToolError;
 use crate::findings::{Part, Terms};

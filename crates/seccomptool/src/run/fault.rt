@@ -16,7 +16,7 @@ pub enum ProgramFault {
 /// Why an instruction may not stand where it does.
 #[derive(Clone, Copy)]
 pub enum Amiss {
-    /// Its code is this one, and none of the seven that `machine::run` knows.
+    /// Its code is this one, and none of those that `machine::run` of `seccomp_compare` knows.
     Operation(u16),
     /// It loads from a byte that is no multiple of 4, or lies behind byte 60: none of a record's 16 numbers
     /// of 32 bits.

@@ -2,7 +2,8 @@
 
 ghost use Rattle.std.specs.Prelude.{◌≡◌, ◌≤◌, length, map, All, IfOk, IfErr};
 ghost use Rattle.std.specs.List.{concat};
-ghost use Rattle.seccompiler.specs.Machine.{IsChecked, IsInRange};
+ghost use Rattle.seccompiler.specs.Machine.{IsInRange};
+ghost use Rattle.seccomp_compare.specs.Machine.{IsChecked};
 ghost use Rattle.seccomptool.specs.Compile.{instruction_bytes};
 ghost use Rattle.seccomptool.specs.Run.{IsCutFault, IsProgramOf, IsRefusedProgram};
 

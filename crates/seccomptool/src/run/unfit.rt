@@ -1,13 +1,13 @@
 // The first instruction that keeps a program from being run.
 
 ghost use Rattle.std.specs.Prelude.{◌≤◌, length, IfOk, IfErr};
-ghost use Rattle.seccompiler.specs.Machine.{IsChecked};
+ghost use Rattle.seccomp_compare.specs.Machine.{IsChecked};
 ghost use Rattle.seccomptool.specs.RunFaults.{IsAmiss};
 ghost use Rattle.seccomptool.specs.RunParts.{CantStand, IsUnfit};
 
 use crate::run::fault::{Amiss, ProgramFault};
-use crate::show::instruction::{JUMP, JUMP_AT_LEAST, JUMP_EQUAL, JUMP_GREATER, LOAD, MASK, RETURN};
-use seccompiler::machine::first_unfit;
+use seccomp_compare::machine::{JUMP_IF_SET, first_unfit};
+use seccompiler::bpf::{JUMP, JUMP_AT_LEAST, JUMP_EQUAL, JUMP_GREATER, LOAD, MASK, RETURN};
 use seccompiler::{BpfProgramRef, sock_filter};
 
 // The byte of a record at which its last word begins.
@@ -27,6 +27,7 @@ pub(crate) fn refuse_unfit(program: BpfProgramRef<'_>) -> Result<(), ProgramFaul
 }
 
 // Why an instruction may not stand at a place of a program of this length.
+#[tactic(auto, using(crate::proofs::run::unfit::Misplaced::jump_behind, crate::proofs::run::unfit::Misplaced::test_behind, crate::proofs::run::unfit::Misplaced::at_end))]
 fn amiss(instruction: sock_filter, place: usize, length: usize) -> Amiss
     requires { CantStand instruction place length }
     ensures { IsAmiss instruction place length result }
@@ -40,7 +41,7 @@ fn amiss(instruction: sock_filter, place: usize, length: usize) -> Amiss
     match code {
         LOAD if k % 4 != 0 || k > LAST_WORD => Amiss::Load,
         LOAD | MASK | RETURN => Amiss::End,
-        JUMP | JUMP_EQUAL | JUMP_GREATER | JUMP_AT_LEAST => Amiss::Jump,
+        JUMP | JUMP_EQUAL | JUMP_GREATER | JUMP_AT_LEAST | JUMP_IF_SET => Amiss::Jump,
         _ => Amiss::Operation(code),
     }
 }

@@ -1,26 +1,9 @@
 // An instruction in words, and what a load and a returned value stand for.
 
-use seccompiler::bpf::{
-    BPF_ABS, BPF_ALU, BPF_AND, BPF_JA, BPF_JEQ, BPF_JGE, BPF_JGT, BPF_JMP, BPF_K, BPF_LD, BPF_RET,
-    BPF_W,
-};
+use seccomp_compare::machine::JUMP_IF_SET;
+use seccompiler::bpf::{JUMP, JUMP_AT_LEAST, JUMP_EQUAL, JUMP_GREATER, LOAD, MASK, RETURN};
 use seccompiler::sock_filter;
 use std::alloc::{AllocError, Global};
-
-// The codes of the instructions that compiled programs have.
-pub(crate) const LOAD: u16 = BPF_LD | BPF_W | BPF_ABS;
-
-pub(crate) const MASK: u16 = BPF_ALU | BPF_AND | BPF_K;
-
-pub(crate) const JUMP: u16 = BPF_JMP | BPF_JA;
-
-pub(crate) const JUMP_EQUAL: u16 = BPF_JMP | BPF_JEQ | BPF_K;
-
-pub(crate) const JUMP_GREATER: u16 = BPF_JMP | BPF_JGT | BPF_K;
-
-pub(crate) const JUMP_AT_LEAST: u16 = BPF_JMP | BPF_JGE | BPF_K;
-
-pub(crate) const RETURN: u16 = BPF_RET | BPF_K;
 
 // An instruction that stands at this place, in the words of bpf_asm. Jumps tell the places that they
 // lead to.
@@ -40,6 +23,7 @@ pub(crate) fn words(
         JUMP_EQUAL => test(alloc, "jeq", place, instruction),
         JUMP_GREATER => test(alloc, "jgt", place, instruction),
         JUMP_AT_LEAST => test(alloc, "jge", place, instruction),
+        JUMP_IF_SET => test(alloc, "jset", place, instruction),
         RETURN => format!(in alloc; "ret #0x{k:x}"),
         _ => String::from_str(alloc, "unknown"),
     }

@@ -1,11 +1,16 @@
 // What the instructions of a program are for, read off the program itself, of whichever compiler it is.
 
 use crate::findings::parts::name_of;
-use crate::show::instruction::{
-    JUMP, JUMP_AT_LEAST, JUMP_EQUAL, JUMP_GREATER, LOAD, MASK, RETURN, load_meaning, word_meaning,
+use crate::show::instruction::{load_meaning, word_meaning};
+use seccomp_compare::machine::JUMP_IF_SET;
+use seccompiler::bpf::{
+    AUDIT_ARCH_X86_64, JUMP, JUMP_AT_LEAST, JUMP_EQUAL, JUMP_GREATER, LOAD, MASK, RETURN,
 };
 use seccompiler::{BpfProgramRef, TargetArch, sock_filter};
 use std::alloc::{AllocError, Global};
+
+// The bit that numbers of calls of x32 have, as `asm/unistd.h` has it.
+const X32_BIT: u32 = 0x4000_0000;
 
 // What the accumulator holds: the word of the record that begins at this byte, as far as the mask keeps it.
 #[derive(Clone, Copy, PartialEq, Eq)]
@@ -65,7 +70,7 @@ fn go_on(known: &mut [Option<Known>], place: usize, here: Known, instruction: &s
             lead(known, next, Known { word, ..here });
         }
         JUMP => lead(known, next.saturating_add(k as usize), here),
-        JUMP_EQUAL | JUMP_GREATER | JUMP_AT_LEAST => {
+        JUMP_EQUAL | JUMP_GREATER | JUMP_AT_LEAST | JUMP_IF_SET => {
             let (met, unmet) = tested(here, code, k);
             lead(known, next.saturating_add(jt as usize), met);
             lead(known, next.saturating_add(jf as usize), unmet);
@@ -138,7 +143,7 @@ fn note(alloc: Global, here: Known, instruction: &sock_filter) -> Result<String,
         (LOAD, _) => load_meaning(alloc, k),
         (RETURN, _) => word_meaning(alloc, k),
         (MASK, Some(word)) => part(alloc, word),
-        (JUMP_EQUAL | JUMP_GREATER | JUMP_AT_LEAST, Some(word)) => {
+        (JUMP_EQUAL | JUMP_GREATER | JUMP_AT_LEAST | JUMP_IF_SET, Some(word)) => {
             test_note(alloc, here.arch, word, instruction)
         }
         _ => Ok(String::new(alloc)),
@@ -156,7 +161,17 @@ fn test_note(
     match (word.byte, word.mask, instruction.code) {
         (0, u32::MAX, JUMP_EQUAL) => call(alloc, arch, k),
         (0, u32::MAX, JUMP_AT_LEAST) => format!(in alloc; "calls from {k} on"),
-        (0, u32::MAX, _) => format!(in alloc; "calls above {k}"),
+        (0, u32::MAX, JUMP_GREATER) => format!(in alloc; "calls above {k}"),
+        (0, u32::MAX, _) if k == X32_BIT && arch == Some(AUDIT_ARCH_X86_64) => {
+            String::from_str(alloc, "calls of x32")
+        }
+        (_, mask, JUMP_IF_SET) => part(
+            alloc,
+            Word {
+                byte: word.byte,
+                mask: mask & k,
+            },
+        ),
         (4, u32::MAX, JUMP_EQUAL) => match arch_of(k) {
             Some(target) => target.to_string(alloc),
             None => part(alloc, word),

@@ -1,11 +1,11 @@
 // How long a program is, and how many steps it takes.
 
 ghost use Rattle.std.specs.Prelude.{◌≡◌, IfOk};
-ghost use Rattle.seccompiler.specs.Machine.{IsChecked};
+ghost use Rattle.seccomp_compare.specs.Machine.{IsChecked};
 ghost use Rattle.seccomptool.specs.Stats.{IsMeasureOf, passing_record};
 
 use super::ways::most_steps;
-use seccompiler::machine::run;
+use seccomp_compare::machine::run;
 use seccompiler::{BpfProgramRef, TargetArch};
 use std::alloc::{AllocError, Global};
 

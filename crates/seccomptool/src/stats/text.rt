@@ -35,31 +35,19 @@ pub(crate) fn filters_text(
             text.extend_from_slice(b"filter ")?;
             push_readable(&mut text, filter.name.as_str())?;
             text.push(b'\n')?;
-            push_measure(alloc, &mut text, "linear", filter.linear)?;
-            push_measure(alloc, &mut text, "tree", filter.tree)?;
+            text.extend_from_slice(&measure_text(alloc, "linear", filter.linear)?)?;
+            text.extend_from_slice(&measure_text(alloc, "tree", filter.tree)?)?;
         }
     }
     some_text(alloc, asked, text)
 }
 
-/// The line of the numbers of one program.
+/// The line of the numbers of one program, behind a name.
 pub(crate) fn measure_text(
     alloc: Global,
     front: &str,
     measure: Measure,
 ) -> Result<Vec<u8>, AllocError> {
-    let mut text = Vec::new(alloc);
-    push_measure(alloc, &mut text, front, measure)?;
-    Ok(text)
-}
-
-// Adds the line of a program's numbers, behind a name.
-fn push_measure(
-    alloc: Global,
-    text: &mut Vec<u8>,
-    front: &str,
-    measure: Measure,
-) -> Result<(), AllocError> {
     let Measure {
         length,
         most,
@@ -68,5 +56,5 @@ fn push_measure(
     let line = format!(in alloc;
         "{front}: {length} instructions, at most {most} steps, {passing} passing\n"
     )?;
-    text.extend_from_slice(line.as_bytes())
+    Ok(line.into_bytes())
 }

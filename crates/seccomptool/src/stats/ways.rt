@@ -1,22 +1,11 @@
 // The most instructions on a way through a program.
 
 ghost use Rattle.std.specs.Prelude.{◌≡◌, ◌≢◌, ◌+◌, ◌<◌, length, IfOk};
-ghost use Rattle.seccompiler.specs.Machine.{IsFine, IsChecked};
+ghost use Rattle.seccomp_compare.specs.Machine.{IsFine, IsChecked};
 ghost use Rattle.seccomptool.specs.Ways.{IsMost, IsGreatestNext};
 
-use seccompiler::bpf::{
-    BPF_ABS, BPF_ALU, BPF_AND, BPF_JA, BPF_JMP, BPF_K, BPF_LD, BPF_RET, BPF_W, BpfProgramRef,
-    sock_filter,
-};
+use seccompiler::bpf::{BpfProgramRef, JUMP, LOAD, MASK, RETURN, sock_filter};
 use std::alloc::{AllocError, Global};
-
-const LOAD: u16 = BPF_LD | BPF_W | BPF_ABS;
-
-const MASK: u16 = BPF_ALU | BPF_AND | BPF_K;
-
-const JUMP: u16 = BPF_JMP | BPF_JA;
-
-const RETURN: u16 = BPF_RET | BPF_K;
 
 // The most instructions on a way through a program, from its first instruction to a return. Whether a
 // record takes it is not asked.

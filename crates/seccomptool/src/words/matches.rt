@@ -1,8 +1,8 @@
 // What clap's matches ask for.
 
 use super::values::{
-    allowed_in, arch_in, arguments_in, call_in, format_in, given_arch, is_set, layout_in,
-    line_format_in, path_in, reading_in, subjects_in, terms_in,
+    allowed_in, arch_in, arguments_in, call_in, format_in, given_arch, layout_in, line_format_in,
+    path_in, reading_in, subjects_in, terms_in,
 };
 use super::{Asked, Call, Command, Inputs, Misuse, Names};
 use crate::diff::scope::Scope;
@@ -47,13 +47,13 @@ fn output_in<'a>(found: &ArgMatches<'a>) -> Option<&'a str> {
 }
 
 fn check_in<'a>(alloc: Global, found: &ArgMatches<'a>) -> Read<'a> {
-    if is_set(found, "list") {
+    if found.get_flag("list") {
         return on(alloc, Command::Codes, None, None);
     }
     let command = Command::Check {
         arch: arch_in(found),
         reading: reading_in(alloc, found)?,
-        denied: is_set(found, "deny-warnings"),
+        denied: found.get_flag("deny-warnings"),
         allowed: allowed_in(alloc, found)?,
     };
     Ok(Asked {
@@ -67,11 +67,11 @@ fn compile_in<'a>(alloc: Global, found: &ArgMatches<'a>) -> Read<'a> {
     let command = Command::Compile {
         arch: arch_in(found),
         reading: reading_in(alloc, found)?,
-        strict: is_set(found, "strict"),
+        strict: found.get_flag("strict"),
         filter: found.get_str("filter"),
         layout: layout_in(found),
         format: format_in(found),
-        quiet: is_set(found, "quiet"),
+        quiet: found.get_flag("quiet"),
     };
     let mut asked = on(alloc, command, Some(path_in(found, "subject")), None)?;
     asked.output = output_in(found);
@@ -84,7 +84,7 @@ fn show_in<'a>(alloc: Global, found: &ArgMatches<'a>) -> Read<'a> {
         reading: reading_in(alloc, found)?,
         filter: found.get_str("filter"),
         layout: layout_in(found),
-        measured: is_set(found, "stats"),
+        measured: found.get_flag("stats"),
     };
     on(alloc, command, Some(path_in(found, "subject")), None)
 }
@@ -115,12 +115,12 @@ fn diff_in<'a>(alloc: Global, found: &ArgMatches<'a>) -> Read<'a> {
             old: of_old,
             new: of_new,
         },
-        scope: if is_set(found, "all") {
+        scope: if found.get_flag("all") {
             Scope::All
         } else {
             Scope::Named
         },
-        quiet: is_set(found, "quiet"),
+        quiet: found.get_flag("quiet"),
     };
     on(alloc, command, Some(old), Some(new))
 }
@@ -135,7 +135,7 @@ fn named_in(text: &str) -> (&str, Option<&str>) {
 }
 
 fn call_of<'a>(alloc: Global, found: &ArgMatches<'a>) -> Read<'a> {
-    let recorded = is_set(found, "record");
+    let recorded = found.get_flag("record");
     let output = output_in(found);
     if output.is_some() && !recorded {
         return Err(Misuse::Told("--output is for --record"));

@@ -72,47 +72,47 @@ const KERNEL: &str =
 
 const ARGUMENTS: &str = "The call's arguments, 0 where they aren't given";
 
+const ARCH: &str = "The architecture";
+
+const CAP: &str = "A capability that a profile's container has, as CAP_SYS_ADMIN";
+
+const DENIED: &str = "End with exit status 1 where there is a warning";
+
+const ALLOWED: &str = "Don't print the warnings of this code";
+
+const LIST: &str = "Print what the codes of warnings are about, and check nothing";
+
+const FILES: &str = "The files, or - for standard input";
+
+const OUTPUT: &str = "Where the program goes, in place of standard output";
+
+const STRICT: &str = "Reject a profile that names calls which the architecture hasn't";
+
+const STATS: &str = "Print how long the programs are, and how many steps they take";
+
+const RECORDS: &str = "Records of calls, in place of standard input, where no CALL is given";
+
+const MORE: &str = "Ask only where NEW permits more than OLD";
+
+const RECORD: &str = "Where the record goes, in place of standard output";
+
 const QUIET: Row<'static> = ("quiet", Nothing, "Don't print how many warnings there are");
 
 const IN_LAYOUT: Row<'static> = ("layout", OneOf("LAYOUT", LAYOUTS, "tree"), LAYOUT);
 
 // Those of every command that takes subjects.
 static COMMON: [Row<'static>; 4] = [
-    (
-        "arch",
-        OneOf("ARCH", ARCHITECTURES, "x86_64"),
-        "The architecture",
-    ),
+    ("arch", OneOf("ARCH", ARCHITECTURES, "x86_64"), ARCH),
     ("oci", Nothing, OCI),
-    (
-        "cap",
-        Several("CAP", &[]),
-        "A capability that a profile's container has, as CAP_SYS_ADMIN",
-    ),
+    ("cap", Several("CAP", &[]), CAP),
     ("kernel", Value("KERNEL"), KERNEL),
 ];
 
 static CHECK: [Row<'static>; 4] = [
-    (
-        "deny-warnings",
-        Nothing,
-        "End with exit status 1 where there is a warning",
-    ),
-    (
-        "allow",
-        Several("CODE", CODES),
-        "Don't print the warnings of this code",
-    ),
-    (
-        "list",
-        Nothing,
-        "Print what the codes of warnings are about, and check nothing",
-    ),
-    (
-        "subject",
-        Files("SUBJECT"),
-        "The files, or - for standard input",
-    ),
+    ("deny-warnings", Nothing, DENIED),
+    ("allow", Several("CODE", CODES), ALLOWED),
+    ("list", Nothing, LIST),
+    ("subject", Files("SUBJECT"), FILES),
 ];
 
 static COMPILE: [Row<'static>; 7] = [
@@ -123,50 +123,30 @@ static COMPILE: [Row<'static>; 7] = [
         OneOf("FORMAT", PROGRAM_FORMATS, "raw"),
         PROGRAM_FORMAT,
     ),
-    (
-        "output",
-        Value("FILE"),
-        "Where the program goes, in place of standard output",
-    ),
+    ("output", Value("FILE"), OUTPUT),
     QUIET,
-    (
-        "strict",
-        Nothing,
-        "Reject a profile that names calls which the architecture hasn't",
-    ),
+    ("strict", Nothing, STRICT),
     ("subject", File("SUBJECT"), FILE),
 ];
 
 static SHOW: [Row<'static>; 4] = [
     ("filter", Value("FILTER"), SHOWN_FILTER),
     IN_LAYOUT,
-    (
-        "stats",
-        Nothing,
-        "Print how long the programs are, and how many steps they take",
-    ),
+    ("stats", Nothing, STATS),
     ("subject", File("SUBJECT"), FILE),
 ];
 
 static EXPLAIN: [Row<'static>; 6] = [
     ("filter", Value("FILTER"), ONE_FILTER),
     ("format", OneOf("FORMAT", LINE_FORMATS, "path"), LINE_FORMAT),
-    (
-        "records",
-        Value("FILE"),
-        "Records of calls, in place of standard input, where no CALL is given",
-    ),
+    ("records", Value("FILE"), RECORDS),
     ("subject", Place("SUBJECT", true), FILE),
     ("call", Place("CALL", false), "The call's name or number"),
     ("arguments", Places("ARG", 6), ARGUMENTS),
 ];
 
 static DIFF: [Row<'static>; 6] = [
-    (
-        "only-more",
-        Nothing,
-        "Ask only where NEW permits more than OLD",
-    ),
+    ("only-more", Nothing, MORE),
     ("all", Nothing, OTHERS),
     ("most", OneOf("N", &[], "1000000"), MOST),
     QUIET,
@@ -175,13 +155,9 @@ static DIFF: [Row<'static>; 6] = [
 ];
 
 static CALL: [Row<'static>; 5] = [
-    ("arch", OneOf("ARCH", ARCHITECTURES, ""), "The architecture"),
+    ("arch", OneOf("ARCH", ARCHITECTURES, ""), ARCH),
     ("record", Nothing, "Write the call's record, 64 bytes"),
-    (
-        "output",
-        Value("FILE"),
-        "Where the record goes, in place of standard output",
-    ),
+    ("output", Value("FILE"), RECORD),
     ("call", Place("CALL", true), "The call's name or number"),
     ("arguments", Places("ARG", 6), ARGUMENTS),
 ];

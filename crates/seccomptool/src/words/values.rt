@@ -10,7 +10,7 @@ use crate::kind::Reading;
 use crate::numbers::read_number;
 use clap::ArgMatches;
 use seccomp_compare::Relation;
-use seccomp_oci::{Container, Kernel, Runtime, kernel_of};
+use seccomp_oci::{Container, Runtime, kernel_of};
 use seccomp_tree::Layout;
 use seccomp_warnings::Code;
 use seccompiler::TargetArch;
@@ -22,13 +22,10 @@ const NO_ARGUMENT: &str =
 const BOTH: &str =
     "SUBJECT and records can't both be read from standard input: give CALL or --records";
 
+const NO_KERNEL: &str = "the value of --kernel is no version of two numbers, as 6.1";
+
 const NO_MOST: &str =
     "the value of --most is no number from 0 to 18446744073709551615, decimal or hexadecimal behind 0x";
-
-// Whether an option without a value is given.
-pub(super) fn is_set(found: &ArgMatches<'_>, id: &str) -> bool {
-    matches!(found.get_str(id), Some("true"))
-}
 
 // The path that is given, or standard input.
 pub(super) fn path_in<'a>(found: &ArgMatches<'a>, id: &str) -> &'a str {
@@ -87,11 +84,8 @@ pub(super) fn subjects_in<'a>(
     alloc: Global,
     found: &ArgMatches<'a>,
 ) -> Result<Vec<Inputs<'a>>, AllocError> {
-    let Some(paths) = found.get_strs("subject") else {
-        return Ok(vec![in alloc; on_one("-")]?);
-    };
     let mut inputs = Vec::new(alloc);
-    for path in paths {
+    for path in found.get_strs("subject").unwrap_or(&[]) {
         inputs.push(on_one(path))?;
     }
     Ok(inputs)
@@ -111,7 +105,7 @@ pub(super) fn terms_in(found: &ArgMatches<'_>) -> Result<Terms, Misuse> {
     };
     Ok(Terms {
         target: arch_in(found),
-        relation: if is_set(found, "only-more") {
+        relation: if found.get_flag("only-more") {
             Relation::AtMostAsPermissive
         } else {
             Relation::Alike
@@ -170,28 +164,23 @@ fn argument_of(text: &str) -> Option<u64> {
 // How what is given is read: whether as profiles, and in the container of the capabilities that `--cap` names, and of the kernel
 // that `--kernel` names.
 pub(super) fn reading_in(alloc: Global, found: &ArgMatches<'_>) -> Result<Reading, Misuse> {
-    let kernel = kernel_in(found)?;
+    let kernel = match found.get_str("kernel") {
+        None => None,
+        Some(text) => match kernel_of(text) {
+            None => return Err(Misuse::Told(NO_KERNEL)),
+            kernel => kernel,
+        },
+    };
     let mut caps = Vec::new(alloc);
     for cap in found.get_strs("cap").unwrap_or(&[]) {
         caps.push(String::from_str(alloc, cap)?)?;
     }
     Ok(Reading {
-        of_profiles: is_set(found, "oci"),
+        of_profiles: found.get_flag("oci"),
         container: Container {
             caps,
             kernel,
             runtime: Runtime::Crun,
         },
     })
-}
-
-// The version that `--kernel` names, if it is given.
-fn kernel_in(found: &ArgMatches<'_>) -> Result<Option<Kernel>, Misuse> {
-    let Some(text) = found.get_str("kernel") else {
-        return Ok(None);
-    };
-    match kernel_of(text) {
-        Some(kernel) => Ok(Some(kernel)),
-        None => Err(Misuse::Told("the value of --kernel is no version of two numbers, as 6.1")),
-    }
 }

@@ -1,5 +1,5 @@
 use Rattle.std.proofs.Common.{sym, subst}
-use Rattle.seccompiler.specs.Machine.{IsChecked}
+use Rattle.seccomp_compare.specs.Machine.{IsChecked}
 use Rattle.seccomptool.specs.Rulings.{StandsFor, of_filter}
 use Rattle.seccomptool.proofs.diff.found_of.Goals as goal
 

@@ -19,12 +19,11 @@ returns-clause-found g c =
     let known = λ (answer : Comparison) (is : c.in_ok-try_comparisons.field-0 ≡ answer). subst (Compares calls relation new old) is
     c.in_ok-try_comparisons.ensures in
     elim c.match-branch-2.branch [
-      | in-Holds w ↦ subst Found (sym w.answer-is) (holds_found target relation new old part calls c.calls_of-calls.ensures
-          c.requires.new_checked c.requires.old_checked (known _ w.in-Holds.is))
+      | in-Holds w ↦ subst Found (sym w.answer-is)
+          (holds_found target relation new old part calls c.calls_of-calls.ensures (known _ w.in-Holds.is))
       | in-Fails w ↦ subst Found (sym w.answer-is)
-          (fails_found target relation new old part calls c.calls_of-calls.ensures
-          c.requires.new_checked c.requires.old_checked w.in-Fails.call w.run.result.word w.run.result.steps
-          w.run-in-Fails.result.word w.run-in-Fails.result.steps (known _ w.in-Fails.is)
+          (fails_found target relation new old part calls c.calls_of-calls.ensures w.in-Fails.call
+          w.run.result.word w.run.result.steps w.run-in-Fails.result.word w.run-in-Fails.result.steps (known _ w.in-Fails.is)
           w.run.ensures.ends w.run.ensures.only w.run-in-Fails.ensures.ends w.run-in-Fails.ensures.only)
       | in-Undecided w ↦ subst Found (sym w.answer-is) tt
     ]

@@ -1,7 +1,7 @@
 use Rattle.std.proofs.Common.{[], ℕ, List, get_or}
 use Rattle.std.proofs.lemmas.List.{get_or_default}
 use Rattle.seccompiler.specs.declared.machine.Outcome.{Outcome}
-use Rattle.seccompiler.specs.Machine.{Ends}
+use Rattle.seccomp_compare.specs.Machine.{Ends}
 use Rattle.seccomptool.proofs.Pairs.{one_more}
 use Rattle.seccomptool.proofs.run.returned.Goals as goal
 

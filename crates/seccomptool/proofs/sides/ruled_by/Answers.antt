@@ -2,6 +2,7 @@ use Rattle.std.proofs.Common.{ap, refl, subst, sym}
 use Rattle.seccomptool.specs.Chosen.{text_of}
 use Rattle.seccomptool.specs.Rulings.{of_profile, of_program}
 use Rattle.seccomptool.specs.Sides.{Rules}
+use Rattle.seccomptool.proofs.findings.Ending.{ends}
 use Rattle.seccomptool.proofs.sides.Profiles.{profile_stands}
 use Rattle.seccomptool.proofs.sides.ruled_by.Goals as goal
 
@@ -25,5 +26,10 @@ returns-in_ok-program_of-in-Program c =
       of_program program,
       subst (λ k. Rules c.args.target k (text_of side.filter) side.given.now (of_program program)) (sym c.in-Program.is)
           (ap text_of c.in_ok-refuse_name-in-Program.ensures, is.program),
-      record { checked = is.checked; decides = λ r rec steps word ends. (steps, ends) },
+      record {
+        checked = is.checked;
+        decides = λ r rec.
+            let end = ends r rec program is.checked in
+            record { steps = end.0; word = end.1; ends = end.2; decided = (end.0, end.2) };
+      },
     )

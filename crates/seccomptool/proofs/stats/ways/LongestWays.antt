@@ -1,14 +1,17 @@
 -- For `most_steps` and `most_behind`: ways through a program, from its end to its front, and the runs that take them.
-use Rattle.std.proofs.Common.{◌≡◌, ◌≢◌, ℕ, suc, ◌+◌, ◌-◌, ◌<◌, ◌≤◌, ◌⊎◌, List, length, max, slice_set, get_or-set_same, get_or-set_other}
+use Rattle.std.proofs.Common.{◌≡◌, ◌≢◌, ℕ, suc, ◌+◌, ◌<◌, ◌≤◌, ◌⊎◌, List, length, max, slice_set, get_or-set_same, get_or-set_other}
 use Rattle.std.proofs.Common.{Some, inl, inr, refl, sym, ◌∙◌, subst, arith}
 use Rattle.std.specs.Prelude.{slice_get, slice_index}
 use Rattle.std.proofs.lemmas.Bool.{cases_eq, cases_lt}
 use Rattle.std.proofs.lemmas.Option.{slice_get_within}
 use Rattle.seccompiler.specs.declared.bpf.sock_filter.{sock_filter}
-use Rattle.seccompiler.specs.Machine.{IsFine, fine_load, fine_mask, fine_jump, fine_equal, fine_greater, fine_at_least, fine_return, Does}
-use Rattle.seccompiler.specs.Machine.{loads, masks, jumps, is_equal, is_not_equal, is_greater, is_not_greater, is_at_least, is_less, Goes}
-use Rattle.seccompiler.specs.Machine.{stays, then_step}
-use Rattle.seccomptool.specs.Ways.{IsTest, equal, greater, at_least, LeadsTo, load_leads, mask_leads, jump_leads, true_leads, false_leads}
+use Rattle.seccompiler.specs.Machine.{fine_load, fine_mask, fine_jump, fine_equal, fine_greater, fine_at_least, fine_return}
+use Rattle.seccompiler.specs.Machine.{loads, masks, jumps, is_equal, is_not_equal, is_greater, is_not_greater, is_at_least, is_less}
+use Rattle.seccompiler.specs.Machine as of_seven
+use Rattle.seccomp_compare.specs.Machine.{IsFine, fine_of_seven, fine_jset, Does, as_of_seven, has_bits, has_no_bits, EndsFrom}
+use Rattle.seccomp_compare.specs.Machine as machine
+use Rattle.seccomptool.specs.Ways.{IsTest, equal, greater, at_least, any_bit, LeadsTo, load_leads, mask_leads, jump_leads}
+use Rattle.seccomptool.specs.Ways.{true_leads, false_leads}
 use Rattle.seccomptool.specs.Ways.{IsWay, way_ends, way_leads, IsLongest, IsMost, IsGreatestNext}
 
 -- ---- one step of a way
@@ -26,6 +29,7 @@ tests_only : (code : ℕ) → IsTest code → code ≤ 0x06 ⊎ ((code ≡ 0x20)
 tests_only code (equal is) other = omega arith
 tests_only code (greater is) other = omega arith
 tests_only code (at_least is) other = omega arith
+tests_only code (any_bit is) other = omega arith
 
 -- A return leads nowhere.
 leads_nowhere : (i : sock_filter) (place next : ℕ) → i.code ≡ 6 → LeadsTo i place next → ⊥
@@ -36,16 +40,21 @@ leads_nowhere i place next six (true_leads test to) = tests_only i.code test (in
 leads_nowhere i place next six (false_leads test to) = tests_only i.code test (inl (omega arith))
 
 -- What an instruction does leads where control may go.
+seven_lead : (i : sock_filter) (r : List ℕ) (place a place' a' : ℕ) → of_seven.Does i r place a place' a' → LeadsTo i place place'
+seven_lead i r place a place' a' (loads code _ to _) = load_leads code to
+seven_lead i r place a place' a' (masks code to _) = mask_leads code to
+seven_lead i r place a place' a' (jumps code to _) = jump_leads code to
+seven_lead i r place a place' a' (is_equal code _ to _) = true_leads (equal code) to
+seven_lead i r place a place' a' (is_not_equal code _ to _) = false_leads (equal code) to
+seven_lead i r place a place' a' (is_greater code _ to _) = true_leads (greater code) to
+seven_lead i r place a place' a' (is_not_greater code _ to _) = false_leads (greater code) to
+seven_lead i r place a place' a' (is_at_least code _ to _) = true_leads (at_least code) to
+seven_lead i r place a place' a' (is_less code _ to _) = false_leads (at_least code) to
+
 does_lead : (i : sock_filter) (r : List ℕ) (place a place' a' : ℕ) → Does i r place a place' a' → LeadsTo i place place'
-does_lead i r place a place' a' (loads code _ to _) = load_leads code to
-does_lead i r place a place' a' (masks code to _) = mask_leads code to
-does_lead i r place a place' a' (jumps code to _) = jump_leads code to
-does_lead i r place a place' a' (is_equal code _ to _) = true_leads (equal code) to
-does_lead i r place a place' a' (is_not_equal code _ to _) = false_leads (equal code) to
-does_lead i r place a place' a' (is_greater code _ to _) = true_leads (greater code) to
-does_lead i r place a place' a' (is_not_greater code _ to _) = false_leads (greater code) to
-does_lead i r place a place' a' (is_at_least code _ to _) = true_leads (at_least code) to
-does_lead i r place a place' a' (is_less code _ to _) = false_leads (at_least code) to
+does_lead i r place a place' a' (as_of_seven does) = seven_lead i r place a place' a' does
+does_lead i r place a place' a' (has_bits code _ to _) = true_leads (any_bit code) to
+does_lead i r place a place' a' (has_no_bits code _ to _) = false_leads (any_bit code) to
 
 -- ---- ways and runs
 
@@ -57,24 +66,14 @@ way_within p place n (way_leads i next here leads rest) =
     let behind = way_within p next _ rest in
     (omega (arith, behind.0), omega arith)
 
--- The steps of a run, and a way behind them, are a way.
-way_run : (p : List sock_filter) (r : List ℕ) (place a n place' a' m : ℕ) → Goes p r place a n place' a' → IsWay p place' m
-    → IsWay p place (n + m)
-way_run p r place a n place' a' m stays way = let same : m ≡ 0 + m = omega arith in subst (IsWay p place) same way
-way_run p r place a n place' a' m (then_step so_far step) way =
-    let longer = way_run p r place a _ _ _ (suc m) so_far
-    (way_leads step.instruction place' step.here (does_lead step.instruction r _ _ place' a' step.does) way) in
-    subst (IsWay p place) (omega arith) longer
+-- The steps of a run are a way.
+way_run : (p : List sock_filter) (r : List ℕ) {place a n w : ℕ} → EndsFrom p r place a n w → IsWay p place n
+way_run p r (machine.returns i here code) = way_ends i here code
+way_run p r (machine.goes_on i here does rest) = way_leads i _ here (does_lead i r _ _ _ _ does) (way_run p r rest)
 
 -- The longest ways from the first instruction on tell the most steps.
 pub most_of : (p : List sock_filter) (n : ℕ) → IsLongest p 0 n → IsMost p n
-most_of p n longest = record {
-  through = longest;
-  runs = λ r steps word ends.
-      let way = way_run p r 0 0 (steps - 1) ends.place ends.accumulator 1 ends.goes (way_ends ends.instruction ends.here ends.returns) in
-      let same : steps - 1 + 1 ≡ steps = omega (arith, ends.some) in
-      longest.longest steps (subst (IsWay p 0) same way);
-}
+most_of p n longest = record { through = longest; runs = λ r steps word ends. longest.longest steps (way_run p r ends) }
 
 -- ---- the longest ways, from the end to the front
 
@@ -175,17 +174,25 @@ greatest_of_test i place numbers n test room other_room is =
     ]
 
 -- An instruction that may stand at a place, and is none of the others, is a test of which both offsets lead to places.
+greatest_of_seven : (i : sock_filter) (place : ℕ) (numbers : List ℕ) (n : ℕ) → of_seven.IsFine i place (length numbers) → i.code ≢ 0x20
+    → i.code ≢ 0x54 → i.code ≢ 0x05 → i.code ≢ 0x06
+    → n ≡ max (slice_index numbers (place + 1 + i.jt)) (slice_index numbers (place + 1 + i.jf)) → IsGreatestNext i place numbers n
+greatest_of_seven i place numbers n (fine_load code _ _) load mask jump give is = absurd (load code)
+greatest_of_seven i place numbers n (fine_mask code) load mask jump give is = absurd (mask code)
+greatest_of_seven i place numbers n (fine_jump code _) load mask jump give is = absurd (jump code)
+greatest_of_seven i place numbers n (fine_equal code t f) load mask jump give is = greatest_of_test i place numbers n (equal code) t f is
+greatest_of_seven i place numbers n (fine_greater code t f) load mask jump give is =
+    greatest_of_test i place numbers n (greater code) t f is
+greatest_of_seven i place numbers n (fine_at_least code t f) load mask jump give is =
+    greatest_of_test i place numbers n (at_least code) t f is
+greatest_of_seven i place numbers n (fine_return code) load mask jump give is = absurd (give code)
+
 pub greatest_of_rest : (i : sock_filter) (place : ℕ) (numbers : List ℕ) (n : ℕ) → IsFine i place (length numbers) → i.code ≢ 0x20
     → i.code ≢ 0x54 → i.code ≢ 0x05 → i.code ≢ 0x06
     → n ≡ max (slice_index numbers (place + 1 + i.jt)) (slice_index numbers (place + 1 + i.jf)) → IsGreatestNext i place numbers n
-greatest_of_rest i place numbers n (fine_load code _ _) load mask jump give is = absurd (load code)
-greatest_of_rest i place numbers n (fine_mask code) load mask jump give is = absurd (mask code)
-greatest_of_rest i place numbers n (fine_jump code _) load mask jump give is = absurd (jump code)
-greatest_of_rest i place numbers n (fine_equal code t f) load mask jump give is = greatest_of_test i place numbers n (equal code) t f is
-greatest_of_rest i place numbers n (fine_greater code t f) load mask jump give is = greatest_of_test i place numbers n (greater code) t f is
-greatest_of_rest i place numbers n (fine_at_least code t f) load mask jump give is =
-    greatest_of_test i place numbers n (at_least code) t f is
-greatest_of_rest i place numbers n (fine_return code) load mask jump give is = absurd (give code)
+greatest_of_rest i place numbers n (fine_of_seven fine) load mask jump give is =
+    greatest_of_seven i place numbers n fine load mask jump give is
+greatest_of_rest i place numbers n (fine_jset code t f) load mask jump give is = greatest_of_test i place numbers n (any_bit code) t f is
 
 -- ---- the numbers, place by place
 

@@ -18,16 +18,25 @@ loop-number-preserved c =
       below = parts_more table c.loop-number.least number c.loop-number.parts.items c.push_unnamed.new.parts.items c.push.new.self.items
           c.loop-number.invariant.below c.loop-number.invariant.begins named.0 c.in-Some.ensures.unnamed named.2
           c.in_ok-push_unnamed.ensures c.in_ok-push.ensures.items;
-      begins = inr (subst (HasName table) same named.2);
+      begins = inr (inl (subst (HasName table) same named.2));
     }
 
 pub returns : goal.returns
 returns c =
-    then_gap c.loop-number.invariant.below
+    let none = c.in_default.ensures.none in
+    let few = c.loop-number.invariant.few in
+    then_gap (then_gap c.loop-number.invariant.below
     (record {
-      some = omega (arith, c.loop-number.invariant.few);
-      unnamed = λ n from to. c.in_default.ensures.none n from;
+      some = omega (arith, few);
+      unnamed = λ n from to. none n from;
       begins = c.loop-number.invariant.begins;
+      ends = inr (inr refl);
+    })
+    c.in_ok-push-2.ensures.items refl)
+    (record {
+      some = omega arith;
+      unnamed = λ n from to. none n (omega (arith, few, from));
+      begins = inr (inr refl);
       ends = inl refl;
     })
-    c.in_ok-push-2.ensures.items refl
+    c.in_ok-push-3.ensures.items refl

@@ -1,4 +1,3 @@
-use Rattle.seccomp_compare.proofs.OfSeven.{checked_of_seven}
 use Rattle.seccomptool.proofs.findings.Ending.{same_holds}
 use Rattle.seccomptool.proofs.findings.tries.try_comparisons.Goals as goal
 
@@ -6,9 +5,3 @@ pub returns-then-are_same : goal.returns-then-are_same
 returns-then-are_same g c =
     same_holds c.args.calls.now c.args.terms.relation c.args.new.now c.args.old.now c.requires.new_checked
     (c.are_same.ensures c.if-are_same.true)
-
-pub compare-requires-clause-p_checked : goal.compare-requires-clause-p_checked
-compare-requires-clause-p_checked g c = checked_of_seven c.args.new.now c.requires.new_checked
-
-pub compare-requires-clause-q_checked : goal.compare-requires-clause-q_checked
-compare-requires-clause-q_checked g c = checked_of_seven c.args.old.now c.requires.old_checked

@@ -1,5 +1,5 @@
 use Rattle.std.proofs.Common.{◌≡◌, ℕ, refl, subst}
-use Rattle.seccompiler.specs.Machine.{Ends}
+use Rattle.seccomp_compare.specs.Machine.{Ends}
 use Rattle.seccomptool.proofs.stats.measure.measure_of.Goals as goal
 
 pub returns : goal.returns

@@ -1,0 +1,2 @@
+-- Lemmas for the functions of `run::unfit`.
+pub mod Misplaced

@@ -9,7 +9,7 @@ use seccompiler::{
 use std::alloc::Global;
 use std::collections::BTreeMap;
 
-/// Allows `fcntl` where its second argument is 2, and kills the process at any other call.
+/// Allows `fcntl` if its second argument is 2, and kills the process at any other call.
 fn fcntl_alone(alloc: Global) -> Result<BpfProgram, BackendError> {
     let condition = SeccompCondition::new(1, SeccompCmpArgLen::Dword, SeccompCmpOp::Eq, 2)?;
     let rule = SeccompRule::new(vec![in alloc; condition]?)?;

@@ -42,8 +42,8 @@ static const char help[] =
     "       catch-filter [OPTIONS] -p PID\n"
     "\n"
     "Runs COMMAND, and writes each program that it or a child of it installs: 8 bytes\n"
-    "for each instruction, as the kernel takes them. Of a running process it writes\n"
-    "the programs of the thread PID, the oldest first; that takes CAP_SYS_ADMIN.\n"
+    "for each instruction, as the kernel takes them. With -p it writes the programs\n"
+    "of the running thread PID, the oldest first; this needs CAP_SYS_ADMIN.\n"
     "\n"
     "Options:\n"
     "  -o, --output PREFIX  Write PREFIX.1.bpf, PREFIX.2.bpf and so on [default: caught]\n"
@@ -51,7 +51,7 @@ static const char help[] =
     "  -h, --help           Print help\n"
     "  -V, --version        Print the version\n"
     "\n"
-    "Exit status: 0 programs were written, 1 none was installed, 2 trouble.\n";
+    "Exit status: 0 if programs were written, 1 if there was none, 2 for trouble.\n";
 
 static const char *prefix = "caught";
 static unsigned written;
@@ -348,7 +348,7 @@ static int catch_command(char **command)
     if (ptrace(PTRACE_SEIZE, child, NULL, (void *)options) != 0 || ptrace(PTRACE_INTERRUPT, child, NULL, NULL) != 0) {
         error = errno;
         kill(child, SIGKILL);
-        fail(NULL, "the kernel lets no process be traced", error);
+        fail(NULL, "the kernel allows no process to be traced", error);
     }
     if (waitpid(child, &status, __WALL) != child || !WIFSTOPPED(status))
         fail(NULL, "the command ended before it was traced", 0);
@@ -373,7 +373,7 @@ static unsigned read_program(pid_t id, unsigned long index, struct sock_filter *
     if (errno == ENOENT || (errno == EINVAL && index == 0))
         return 0;
     if (errno == EACCES)
-        fail(NULL, "only a process with CAP_SYS_ADMIN and without seccomp programs of its own may read programs", 0);
+        fail(NULL, "only a process that has CAP_SYS_ADMIN and no seccomp programs itself may read programs", 0);
     fail(NULL, "PTRACE_SECCOMP_GET_FILTER", errno);
     return 0;
 }

@@ -198,7 +198,7 @@ PASSED = [
 # Lines for a shell, in which JAIL is a jailer with its layout, and CALL the program `call`; standard output; and what is reported,
 # if anything is: what it is about and why, by its text or an errno, and the kernel's call that failed. The exit status is 125
 # then, and else 0. The tool in front is what stands for seccomptool beside the jailer.
-EXPECTED = "1 to 4096 instructions of 8 bytes are expected, found "
+EXPECTED = "expected 1 to 4096 instructions of 8 bytes, found "
 LINES = [
     # The only filter needs no name, and `--` ends the options.
     ("JAIL one.json -- CALL sched_yield", answer_of(1000)),

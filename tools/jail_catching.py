@@ -1,6 +1,6 @@
 """What tools/try-jail tries of tools/catch-filter.c: the programs that it writes are those that were installed.
 
-Each program that is installed here allows all calls, and they differ in length. Where the kernel lets no process be
+Each program that is installed here allows all calls, and they differ in length. If the kernel allows no process to be
 traced, or tells nobody which programs a process has, it is said, and the cases that need it aren't run.
 """
 
@@ -140,7 +140,7 @@ def try_catching(results, folder):
     room.mkdir()
     os.chmod(room, 0o700)
     out, err, status = run([program, "true"], room)
-    if "lets no process be traced" in err:
+    if "allows no process to be traced" in err:
         print(f"no command is traced here: {err.strip()}")
         return
     try_command(results, program, room)

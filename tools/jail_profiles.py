@@ -43,8 +43,8 @@ OF_EXAMPLE = [
 
 # What seccomptool notes of profiles: names that the architecture hasn't, and flags.
 NOTES = re.compile(
-    r"\A(seccomptool: .*: names of no system call of x86_64, left out \(\d+\): .*\n)?"
-    r"(seccomptool: .*: flags, which no filter has, left to whoever installs it \(\d+\): .*\n)?"
+    r"\A(seccomptool: .*: not system calls of x86_64, left out \(\d+\): .*\n)?"
+    r"(seccomptool: .*: flags to set when the program is installed \(\d+\): .*\n)?"
 )
 
 # Calls of Podman's profile that are for a capability, with arguments that the kernel rejects by another errno than EPERM,

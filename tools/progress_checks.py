@@ -147,7 +147,7 @@ OF_TEXT = (
     (["compile", "-q", "-o", "few.bpf", "few.json"], ""), (["compile", "-q", "-o", "profile.bpf", "profile.json"], ""),
     (["compile", "-q", "--format", "c", "few.json"], FEW),
 )
-NO_BYTES = "seccomptool: standard output: bytes aren't written to a terminal; give a file or a pipe\n"
+NO_BYTES = "seccomptool: standard output: bytes aren't written to a terminal; use a file or a pipe\n"
 
 
 def compare_outputs(results, program):

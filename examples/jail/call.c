@@ -25,10 +25,10 @@ static const char usage[] = "usage: call CALL [ARGUMENT]..\n";
 
 static const char help[] =
     "\n"
-    "Makes one system call, to try what a filter does with it: its name or its\n"
-    "number, and up to six arguments, 0 if they are left out. Numbers are as in C:\n"
-    "decimal, after 0x hexadecimal, after 0 octal. Prints what the call returned, or\n"
-    "the errno and its text.\n"
+    "Makes one system call, to try what a filter does with it. CALL is its name or\n"
+    "number. It has six arguments; those that are left out are 0. Numbers are as in\n"
+    "C: decimal, hexadecimal after 0x, octal after 0. Prints what the call returned,\n"
+    "or the errno and its text.\n"
     "\n"
     "Options:\n"
     "  --help     print this\n"

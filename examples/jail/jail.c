@@ -51,17 +51,17 @@ static const char usage[] =
 static const char help[] =
     "\n"
     "Runs a command under seccomp filters: those of a policy with these names, or\n"
-    "the only one that the policy has; or the program of a file, 8 bytes for each\n"
-    "instruction; or what `seccomptool compile --oci` makes of a profile.\n"
+    "the only one that the policy has; or the program in a file, 8 bytes for each\n"
+    "instruction; or the program that `seccomptool compile --oci` makes of a profile.\n"
     "\n"
     "Options:\n"
     "  --tree       compile the policy's filters in the tree layout\n"
-    "  --log        log calls that aren't allowed, those with an errno too\n"
-    "  --close-fds  close the descriptors above 2; else the command has them\n"
+    "  --log        log calls that aren't allowed, including those with an errno\n"
+    "  --close-fds  close the descriptors above 2; else the command inherits them\n"
     "  --help       print this\n"
     "  --version    print the version\n"
     "\n"
-    "Standard streams that are closed are opened as /dev/null.\n"
+    "/dev/null is opened for standard streams that are closed.\n"
     "\n"
     "Exit status: the command's; 125 if nothing was run, 126 if the command can't be\n"
     "run, 127 if it doesn't exist\n";
@@ -196,7 +196,7 @@ static void take_program(size_t length, const char *path, struct program *progra
     char why[100];
 
     if (length == 0 || length % sizeof(struct sock_filter) != 0) {
-        snprintf(why, sizeof why, "1 to 4096 instructions of 8 bytes are expected, found %s%zu bytes",
+        snprintf(why, sizeof why, "expected 1 to 4096 instructions of 8 bytes, found %s%zu bytes",
                  length > most ? "more than " : "", length > most ? most : length);
         fail_for(FAILED, path, why);
     }

@@ -13,7 +13,7 @@ from .forms import (
 )
 
 PARSING = "Error parsing Json: .."
-FLAGS = "flags, which no filter has, left to whoever installs it"
+FLAGS = "flags to set when the program is installed"
 
 
 def profile(*entries, default="SCMP_ACT_ERRNO", **more):
@@ -43,7 +43,7 @@ def compiles(words, given, *decided, told=""):
 
 def left_out(words, given, names, *decided, arch="x86_64"):
     """Returns the cases of a profile of which these names are left out."""
-    told = f"{INPUT}names of no system call of {arch}, left out ({len(names)}): {', '.join(names)}\n"
+    told = f"{INPUT}not system calls of {arch}, left out ({len(names)}): {', '.join(names)}\n"
     return compiles(words, given, *decided, told=told)
 
 
@@ -68,7 +68,7 @@ OF_WHOLE = [
 ]
 
 # The line of its flags.
-OF_FLAGS = (INPUT + "flags, which no filter has, left to whoever installs it (3): "
+OF_FLAGS = (INPUT + "flags to set when the program is installed (3): "
             "SECCOMP_FILTER_FLAG_TSYNC, SECCOMP_FILTER_FLAG_LOG, SECCOMP_FILTER_FLAG_SPEC_ALLOW\n")
 
 # Each action of a profile, with its number if it has one, and that of the program.
@@ -111,7 +111,7 @@ CRITERIA = [
 # Of each condition with such a mask there is a load, a mask and a test. So many are the most that fit: the program of the first one
 # has 4095 instructions, 27 of them copies of returns that would be too far away, and that of the second one would have 4098.
 FITTING, LARGE = ([when(0, "MASKED_EQ", 3)] * number for number in (1356, 1357))
-TOO_LONG = "One program of the profile needs more than 4096 instructions.\n"
+TOO_LONG = "The profile's program needs more than 4096 instructions.\n"
 
 FILES = {
     "reads-profile.json": profile(entry("read")),
@@ -174,7 +174,7 @@ CASES = [
     *left_out("--arch riscv64", profile(entry("open riscv_hwprobe")), ["open"], ("riscv_hwprobe", "allow"), ("read", "errno 1"),
               arch="riscv64"),
     *compiles("unknown-profile.json", "", READ, OTHER,
-              told=TOOL + "unknown-profile.json: names of no system call of x86_64, left out (2): mmap2, waitpid\n"),
+              told=TOOL + "unknown-profile.json: not system calls of x86_64, left out (2): mmap2, waitpid\n"),
     *compiles("-q unknown-profile.json", "", READ, OTHER),
     # Flags, in the profile's order and as often as they stand there, behind the names.
     *compiles("", profile(entry("read"), flags=[]), READ),
@@ -189,25 +189,25 @@ CASES = [
              "(1): SECCOMP_FILTER_FLAG_SPEC_ALLOW", READ),
     *compiles("./log-profile.json", "", READ, OTHER, told=TOOL + f"./log-profile.json: {FLAGS} (1): SECCOMP_FILTER_FLAG_LOG\n"),
     *compiles("flags-profile.json", "", READ, OTHER,
-              told=TOOL + "flags-profile.json: names of no system call of x86_64, left out (1): mmap2\n"
+              told=TOOL + "flags-profile.json: not system calls of x86_64, left out (1): mmap2\n"
               + TOOL + f"flags-profile.json: {FLAGS} (2): SECCOMP_FILTER_FLAG_TSYNC, SECCOMP_FILTER_FLAG_LOG\n"),
     *compiles("--quiet flags-profile.json", "", READ, OTHER),
     *compiles("-a arm64", profile(entry("open openat"), flags=["SECCOMP_FILTER_FLAG_TSYNC"]), ("openat", "allow"), ("read", "errno 1"),
-              told=INPUT + "names of no system call of aarch64, left out (1): open\n"
+              told=INPUT + "not system calls of aarch64, left out (1): open\n"
               + INPUT + f"{FLAGS} (1): SECCOMP_FILTER_FLAG_TSYNC\n"),
     # With --strict they are no error, but names are.
     *flagged("--oci --strict", profile(entry("read"), flags=["SECCOMP_FILTER_FLAG_LOG"]), "(1): SECCOMP_FILTER_FLAG_LOG", READ),
-    rejects("compile --oci --strict flags-profile.json", "", "names of no system call of x86_64 (1): mmap2\n",
+    rejects("compile --oci --strict flags-profile.json", "", "not system calls of x86_64 (1): mmap2\n",
             TOOL + "flags-profile.json: "),
     # With --strict names are rejected.
-    rejects("compile --oci --strict unknown-profile.json", "", "names of no system call of x86_64 (2): mmap2, waitpid\n",
+    rejects("compile --oci --strict unknown-profile.json", "", "not system calls of x86_64 (2): mmap2, waitpid\n",
             TOOL + "unknown-profile.json: "),
-    rejects("compile --oci --strict -q unknown-profile.json", "", "names of no system call of x86_64 (2): mmap2, waitpid\n",
+    rejects("compile --oci --strict -q unknown-profile.json", "", "not system calls of x86_64 (2): mmap2, waitpid\n",
             TOOL + "unknown-profile.json: "),
     rejects("compile --oci --strict -a amd64", json.dumps(profile(entry("no_call\u0007", "SCMP_ACT_LOG"))),
-            "names of no system call of x86_64 (1): no_call\\x07\n"),
+            "not system calls of x86_64 (1): no_call\\x07\n"),
     rejects("compile --oci --strict --arch aarch64", json.dumps(profile(entry("read open"))),
-            "names of no system call of aarch64 (1): open\n"),
+            "not system calls of aarch64 (1): open\n"),
     *compiles("--oci --strict", profile(entry("read"), entry("waitpid", includes={"arches": ["x86"]})), READ, OTHER),
     # Podman's errnos as texts: they win, and may be numbers. The empty text is none.
     *compiles("", profile(entry("read", "SCMP_ACT_ERRNO", errnoRet=22, errno="EINVAL"), entry("write", errno=""),
@@ -234,7 +234,7 @@ CASES = [
     rejects("compile", json.dumps(profile(entry("read", args=LARGE))), TOO_LONG),
     rejects("compile --oci large-profile.json", "", TOO_LONG, TOOL + "large-profile.json: "),
     rejects("compile --oci --strict", json.dumps(profile(entry("waitpid"), entry("read", args=LARGE))),
-            "names of no system call of x86_64 (1): waitpid\n"),
+            "not system calls of x86_64 (1): waitpid\n"),
     # Files, and an output that takes nothing.
     rejects("compile --oci missing.json", "", MISSING, TOOL + "missing.json: "),
     rejects("compile --oci examples", "", FOLDER, TOOL + "examples: "),

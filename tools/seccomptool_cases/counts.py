@@ -5,7 +5,7 @@ import json
 
 from .forms import CLOSED, FULL, INPUT, LOGS, OUTPUT, RESET, TOOL, Case, Failing, rejects
 
-TELLS = {1: "1 warning; seccomptool check tells it\n"}
+TELLS = {1: "1 warning; seccomptool check prints it\n"}
 
 
 def filter_of(mismatch, match, *calls):
@@ -34,7 +34,7 @@ FILES = {name: json.dumps(policy) for name, (policy, _) in POLICIES.items()}
 
 def noted(front, count):
     """Returns the line of standard error on a policy with so many warnings: none where there are none."""
-    return (front + TELLS.get(count, f"{count} warnings; seccomptool check tells them\n")) * bool(count)
+    return (front + TELLS.get(count, f"{count} warnings; seccomptool check prints them\n")) * bool(count)
 
 
 def compiles(name, words="-f a"):

@@ -141,8 +141,8 @@ CASES = [
     misused("logs.json"),
     misused("- -", "error: OLD and NEW can't both be read from standard input\n.."),
     misused("--most 1a logs.json logs.json", 
-            "error: the value of --most is no number from 0 to 18446744073709551615, "
-            "decimal or hexadecimal behind 0x\n.."),
+            "error: the value of --most isn't a number from 0 to 18446744073709551615, "
+            "decimal or hexadecimal after 0x\n.."),
     misused("--most=-1 logs.json logs.json"),
     misused("--only-more=true logs.json logs.json"),
     misused("--only-more --only-more logs.json logs.json"),

@@ -94,7 +94,7 @@ CASES = [
     # A profile's names and values.
     *[case for it in NAMES for case in left_out("", profile(entry("") | {"names": [it]}), [told(it)], ("read", "errno 1"))],
     *[rejects("compile --oci --strict", json.dumps(profile(entry("") | {"names": [it]})),
-              f"names of no system call of x86_64 (1): {told(it)}\n") for it in NAMES],
+              f"not system calls of x86_64 (1): {told(it)}\n") for it in NAMES],
     # The path of a file.
     *[missing(f"{it} {WORD}") for it in OF_ONE if it not in CALLED], *[missing(f"{it} {WORD} read") for it in CALLED],
     missing(f"explain --records {WORD} logs.json"), missing(f"explain --records {WORD} hostile.bpf"),

@@ -292,7 +292,7 @@ CASES = [
     rejects("explain --oci --filter=a reads-profile.json read", "", NO_NAME, TOOL + "reads-profile.json: "),
     misused("diff --oci - -", "OLD and NEW can't both be read from standard input"),
     misused("explain --oci - --records -", "SUBJECT and records can't both be read from standard input: give CALL or --records"),
-    misused("explain --oci --kernel 6 reads-profile.json read", "the value of --kernel is no version of two numbers, as 6.1"),
-    misused("diff --oci --kernel 6 reads-profile.json reads-profile.json", "the value of --kernel is no version of two numbers, as 6.1"),
+    misused("explain --oci --kernel 6 reads-profile.json read", "the value of --kernel isn't a version of two numbers, such as 6.1"),
+    misused("diff --oci --kernel 6 reads-profile.json reads-profile.json", "the value of --kernel isn't a version of two numbers, such as 6.1"),
     Case("compile --format json reads-profile.json", 2, "", "error: invalid value 'json' for '--format <FORMAT>'\n.."),
 ]

@@ -7,7 +7,7 @@ from .forms import FULL, LOGS, MISSING, OUTPUT, TOOL, Case, rejects, writes
 
 FILES = {"read.json": LOGS}
 
-ONTO = "the output isn't written onto what is read\n"
+ONTO = "the output would overwrite the input\n"
 
 
 def beside(name, before, words, then, status=0, output="", told=""):
@@ -43,6 +43,6 @@ CASES = [
           ("read.json", "link")])],
     # So is a record.
     Case("call --record -o made.bin read && ./seccomptool call --record read | cmp -s - made.bin; status=$?; rm made.bin; (exit $status)", 0, "", ""),
-    Case("call -o made.bin read", 2, "", "error: --output is for --record\n.."),
+    Case("call -o made.bin read", 2, "", "error: --output needs --record\n.."),
     beside("input", "", "- -o read.json < ../read.json", "wc -c < read.json", 0, f"{len(TREE)}\n"),
 ]

@@ -17,8 +17,8 @@ FLAG = "SECCOMP_FILTER_FLAG_LOG, SECCOMP_FILTER_FLAG_SPEC_ALLOW or SECCOMP_FILTE
 OBJECT, LIST, TEXT, TEXT_OR_NULL = "an object", "null or an array", "a string", "null or a string"
 INDEX, ACTION_NUMBER = "0 to 5", "null or 0 to 65535"
 NUMBER, NUMBER_OR_NULL = "0 to 18446744073709551615", "null or 0 to 18446744073709551615"
-VERSION = 'null or a version of two numbers, as "4.8"'
-ERROR_NAME = 'null or an errno by name or number, as "EPERM" or "1"'
+VERSION = 'null or a version of two numbers, such as "4.8"'
+ERROR_NAME = 'null or an errno by name or number, such as "EPERM" or "1"'
 
 # Of each of these, values that may not stand there.
 OTHERS = {
@@ -85,7 +85,7 @@ def missing(key):
 
 def numbered(key):
     """Returns the words on a number beside an action that has none."""
-    return f'"{key}" stands beside an action that has no number'
+    return f'"{key}" is given, but the action takes no number'
 
 
 BOTH = 'expected one of "names" and "name", found both'

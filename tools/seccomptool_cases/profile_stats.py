@@ -128,7 +128,7 @@ CASES = [
     writes("show --stats --oci", r'{"default\u0041ction": "SCMP_ACT_ALLOW"}', ALL),
     rejects("show --stats", '{"defaultAction": null}', WRONG_DEFAULT),
     # What is no command.
-    misused("show --stats --oci --kernel 6 reads-profile.json", "the value of --kernel is no version of two numbers, as 6.1"),
+    misused("show --stats --oci --kernel 6 reads-profile.json", "the value of --kernel isn't a version of two numbers, such as 6.1"),
     rejects("show --stats --oci --filter a reads-profile.json", "", NO_NAME, TOOL + "reads-profile.json: "),
     misused("show --stats --oci reads-profile.json reads-profile.json", "unexpected argument 'reads-profile.json' found"),
 ]

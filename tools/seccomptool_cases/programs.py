@@ -50,8 +50,8 @@ FILES = {
     **{f"returns-{word:x}.bpf": program(returns(word)) for word in ACTIONS},
 }
 
-BEHIND = "jump behind the end"
-NO_WORD = "load of no word of a call record"
+BEHIND = "jump past the end"
+NO_WORD = "load from an invalid offset"
 
 # Programs that aren't taken, and why.
 UNFIT = [
@@ -119,7 +119,7 @@ CASES = [
     # Words that are no command.
     misused(""),
     misused("read.bpf read 1a"),
-    misused("read.bpf read --records calls.bin", "error: either CALL or --records is given, not both\n.."),
+    misused("read.bpf read --records calls.bin", "error: CALL and --records can't both be given\n.."),
     misused("-", "error: SUBJECT and records can't both be read from standard input: give CALL or --records\n.."),
     # With `--format word` the return value and the steps: three instructions behind the load, or two.
     writes("explain --format word read.bpf read", "", "7fff0000 3\n"),

@@ -15,30 +15,30 @@ from .forms import OUTPUT, FULL, Case, rejects, writes
 
 # What is so, and what to write instead.
 SAID = {
-    "fake-success": "the call isn't made, and returns 0 as if it had gone well; write an errno from 1 to 4095",
-    "errno-too-large": "Linux keeps the low 16 bits, and takes 4095 for what is above it; write an errno from 1 to 4095",
-    "trace-without-tracer": 'where no tracer is attached, the call fails with ENOSYS; write an errno or "allow" '
-    "where there is none",
+    "fake-success": "the call isn't made, and returns 0 as if it had succeeded; write an errno from 1 to 4095",
+    "errno-too-large": "Linux keeps only the low 16 bits, and takes 4095 for a greater number; write an errno from 1 to 4095",
+    "trace-without-tracer": 'if no tracer is attached, the call fails with ENOSYS; write an errno or "allow" '
+    "if there is none",
     "allows-by-default": "calls without an entry are let through, newer ones too; write a denying action, and entries "
     "for what is allowed",
-    "high-half-ignored": '"dword" compares the low 32 bits, and the value has others; write the value\'s low 32 bits, '
+    "high-half-ignored": '"dword" compares only the low 32 bits, and the value has higher ones; write its low 32 bits, '
     'or "qword"',
     "value-outside-mask": "the value has bits outside the mask, which aren't compared; write the value without them, "
     "or a mask that has them",
-    "always-holds": "it holds for every argument; leave it out, or write what it has to ask",
-    "never-holds": "it holds for no argument, so the entry matches no call; leave the entry out, or write what it has "
-    "to ask",
-    "high-half-evades": "a caller passes by it with a high half, which the kernel ignores for arguments of 32 bits; "
+    "always-holds": "the condition holds for every argument; leave it out, or correct it",
+    "never-holds": "the condition holds for no argument, so the entry matches no call; leave the entry out, or correct "
+    "the condition",
+    "high-half-evades": "a caller evades it by setting a high bit, which the kernel ignores for arguments of 32 bits; "
     'write "dword" for these',
-    "kills-exit": "a process or thread that ends, or returns from a signal handler, by this call is killed; let exit, "
+    "kills-exit": "a process or thread is killed when it ends, or returns from a signal handler, by this call; let exit, "
     "exit_group and rt_sigreturn through",
     "clone-by-clone3": "clone is denied or restricted, and clone3, whose flags no filter sees, is let through; deny "
-    "clone3 with errno 38 in a filter of its own",
-    "crate-differs": "the call has entries with args too, and matches here whatever its arguments are; the Rust crate "
-    "asks these args: leave out those or this",
+    "clone3 with errno 38 in a separate filter",
+    "crate-differs": "the call also has entries with args, and matches here whatever its arguments are; the Rust crate "
+    "checks these args: leave out those entries or this one",
     "unreachable-entry": "no call meets all of its conditions; correct them, or leave the entry out",
     "redundant-entry": "each call that meets this entry meets another entry too; leave it out",
-    "undecided-entry": "it wasn't decided whether a call needs this entry, within 300000 sets of calls divided by the "
+    "undecided-entry": "it wasn't decided whether a call needs this entry, within 300000 sets of calls, divided among the "
     "filter's entries; use fewer masks in it",
 }
 

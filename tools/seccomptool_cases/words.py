@@ -14,11 +14,11 @@ NAMED = (
 
 COMMANDS = ("check", "compile", "show", "explain", "diff", "call")
 
-NO_VERSION = "error: the value of --kernel is no version of two numbers, as 6.1\n.."
+NO_VERSION = "error: the value of --kernel isn't a version of two numbers, such as 6.1\n.."
 
 NO_NUMBER = (
-    "error: an ARG is no number from -9223372036854775808 to 18446744073709551615, "
-    "decimal or hexadecimal behind 0x\n.."
+    "error: an ARG isn't a number from -9223372036854775808 to 18446744073709551615, "
+    "decimal or hexadecimal after 0x\n.."
 )
 
 
@@ -78,7 +78,7 @@ CASES = [
             "error: invalid value 'line' for '--format <FORMAT>'\n  [possible values: path, word]\n.."),
     misused("explain --format word --format path logs.json read"),
     misused("explain < empty"),
-    misused("explain logs.json read --records 63-bytes", "error: either CALL or --records is given, not both\n.."),
+    misused("explain logs.json read --records 63-bytes", "error: CALL and --records can't both be given\n.."),
     misused("explain -",
             "error: SUBJECT and records can't both be read from standard input: give CALL or --records\n.."),
     misused("explain - --records -"),
@@ -86,8 +86,8 @@ CASES = [
     misused("diff -- -: -", "error: OLD and NEW can't both be read from standard input\n.."),
     misused("diff -f a logs.json logs.json", "error: unexpected argument '-f' found\n.."),
     misused("diff --most ten logs.json 63-bytes",
-            "error: the value of --most is no number from 0 to 18446744073709551615, "
-            "decimal or hexadecimal behind 0x\n.."),
+            "error: the value of --most isn't a number from 0 to 18446744073709551615, "
+            "decimal or hexadecimal after 0x\n.."),
     misused("diff --layout tree logs.json 63-bytes"),
     misused("compile --oci reads-profile.json reads-profile.json"),
     misused("compile --oci --cap"),

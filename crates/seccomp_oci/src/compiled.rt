@@ -128,7 +128,7 @@ impl fmt::Display for CompileError {
                 f.write_str(".")
             }
             CompileError::TooLarge => {
-                f.write_str("One program of the profile needs more than 4096 instructions.")
+                f.write_str("The profile's program needs more than 4096 instructions.")
             }
             CompileError::OutOfMemory => f.write_str("Out of memory."),
         }

@@ -70,7 +70,7 @@ pub(crate) fn fault_of(alloc: Global, value: &Value) -> Result<String, AllocErro
         },
         Ok(()) => String::from_str(
             alloc,
-            "The JSON value is no seccomp profile, or it has a part that is not supported.",
+            "The JSON value isn't a seccomp profile, or a part of it isn't supported.",
         ),
     }
 }
@@ -180,7 +180,7 @@ fn in_beside(alloc: Global, key: &str, value: &Value) -> Result<(), Finding> {
         None | Some(Value::Null) => Ok(()),
         Some(Value::String(text)) if text.is_empty() => Ok(()),
         Some(_) => {
-            let words = format!(in alloc; "\"{key}\" stands beside an action that has no number")?;
+            let words = format!(in alloc; "\"{key}\" is given, but the action takes no number")?;
             refuse(alloc, words.as_str())
         }
     }
@@ -291,7 +291,7 @@ fn form_text(form: Form) -> &'static str {
             "SCMP_ACT_ALLOW, SCMP_ACT_ERRNO, SCMP_ACT_KILL, SCMP_ACT_KILL_PROCESS, SCMP_ACT_KILL_THREAD, SCMP_ACT_LOG, SCMP_ACT_TRACE or SCMP_ACT_TRAP"
         }
         Form::ActionNumber => "null or 0 to 65535",
-        Form::ErrorName => "null or an errno by name or number, as \"EPERM\" or \"1\"",
+        Form::ErrorName => "null or an errno by name or number, such as \"EPERM\" or \"1\"",
         Form::List => "null or an array",
         Form::Flag => {
             "SECCOMP_FILTER_FLAG_LOG, SECCOMP_FILTER_FLAG_SPEC_ALLOW or SECCOMP_FILTER_FLAG_TSYNC"
@@ -304,7 +304,7 @@ fn form_text(form: Form) -> &'static str {
         Form::Operator => {
             "SCMP_CMP_EQ, SCMP_CMP_GE, SCMP_CMP_GT, SCMP_CMP_LE, SCMP_CMP_LT, SCMP_CMP_MASKED_EQ or SCMP_CMP_NE"
         }
-        Form::Version => "null or a version of two numbers, as \"4.8\"",
+        Form::Version => "null or a version of two numbers, such as \"4.8\"",
     }
 }
 

@@ -14,33 +14,34 @@ use Rattle.seccomp_warnings.specs.declared.code.Code.TheVariants as code
 
 -- What is so, and what to write instead.
 abbrev pub said_text : Code → List ℕ
-said_text code.FakeSuccess = codes "the call isn't made, and returns 0 as if it had gone well; write an errno from 1 to 4095"
-said_text code.ErrnoTooLarge = codes "Linux keeps the low 16 bits, and takes 4095 for what is above it; write an errno from 1 to 4095"
+said_text code.FakeSuccess = codes "the call isn't made, and returns 0 as if it had succeeded; write an errno from 1 to 4095"
+said_text code.ErrnoTooLarge = codes "Linux keeps only the low 16 bits, and takes 4095 for a greater number; write an errno from 1 to 4095"
 said_text code.TraceWithoutTracer =
-    codes "where no tracer is attached, the call fails with ENOSYS; write an errno or \"allow\" where there is none"
+    codes "if no tracer is attached, the call fails with ENOSYS; write an errno or \"allow\" if there is none"
 said_text code.AllowsByDefault =
     codes "calls without an entry are let through, newer ones too; write a denying action, and entries for what is allowed"
 said_text code.HighHalfIgnored =
-    codes "\"dword\" compares the low 32 bits, and the value has others; write the value's low 32 bits, or \"qword\""
+    codes "\"dword\" compares only the low 32 bits, and the value has higher ones; write its low 32 bits, or \"qword\""
 said_text code.ValueOutsideMask =
     codes "the value has bits outside the mask, which aren't compared; write the value without them, or a mask that has them"
-said_text code.AlwaysHolds = codes "it holds for every argument; leave it out, or write what it has to ask"
-said_text code.NeverHolds = codes "it holds for no argument, so the entry matches no call; leave the entry out, or write what it has to ask"
+said_text code.AlwaysHolds = codes "the condition holds for every argument; leave it out, or correct it"
+said_text code.NeverHolds =
+    codes "the condition holds for no argument, so the entry matches no call; leave the entry out, or correct the condition"
 said_text code.HighHalfEvades =
-    codes "a caller passes by it with a high half, which the kernel ignores for arguments of 32 bits; write \"dword\" for these"
+    codes "a caller evades it by setting a high bit, which the kernel ignores for arguments of 32 bits; write \"dword\" for these"
 said_text code.KillsExit =
-    codes "a process or thread that ends, or returns from a signal handler, by this call is killed; "
+    codes "a process or thread is killed when it ends, or returns from a signal handler, by this call; "
     ++ codes "let exit, exit_group and rt_sigreturn through"
 said_text code.CloneByClone3 =
     codes "clone is denied or restricted, and clone3, whose flags no filter sees, is let through; "
-    ++ codes "deny clone3 with errno 38 in a filter of its own"
+    ++ codes "deny clone3 with errno 38 in a separate filter"
 said_text code.CrateDiffers =
-    codes "the call has entries with args too, and matches here whatever its arguments are; "
-    ++ codes "the Rust crate asks these args: leave out those or this"
+    codes "the call also has entries with args, and matches here whatever its arguments are; "
+    ++ codes "the Rust crate checks these args: leave out those entries or this one"
 said_text code.UnreachableEntry = codes "no call meets all of its conditions; correct them, or leave the entry out"
 said_text code.RedundantEntry = codes "each call that meets this entry meets another entry too; leave it out"
 said_text code.UndecidedEntry =
-    codes "it wasn't decided whether a call needs this entry, within 300000 sets of calls divided by the filter's entries; "
+    codes "it wasn't decided whether a call needs this entry, within 300000 sets of calls, divided among the filter's entries; "
     ++ codes "use fewer masks in it"
 
 -- The way from an action or a condition to the value that a code is about.

@@ -20,9 +20,9 @@ pub(crate) fn counted(
     }
     match count_in(alloc, arch, text)? {
         0 => Ok(Vec::new(alloc)),
-        1 => note(alloc, path, b"1 warning; seccomptool check tells it"),
+        1 => note(alloc, path, b"1 warning; seccomptool check prints it"),
         count => {
-            let told = format!(in alloc; "{count} warnings; seccomptool check tells them")?;
+            let told = format!(in alloc; "{count} warnings; seccomptool check prints them")?;
             note(alloc, path, told.as_bytes())
         }
     }

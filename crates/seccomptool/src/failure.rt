@@ -100,8 +100,8 @@ fn told(alloc: Global, failure: &Failure) -> Result<(Place, String), AllocError>
             )?;
             return Ok((Place::Second, told));
         }
-        Failure::Terminal => "bytes aren't written to a terminal; give a file or a pipe",
-        Failure::Onto => "the output isn't written onto what is read",
+        Failure::Terminal => "bytes aren't written to a terminal; use a file or a pipe",
+        Failure::Onto => "the output would overwrite the input",
     };
     Ok((Place::Output, String::from_str(alloc, told)?))
 }

@@ -64,7 +64,7 @@ pub enum Command<'a> {
     },
     /// Print the codes of warnings.
     Codes,
-    /// Print what is decided on calls, and why.
+    /// Print what is decided for calls, and why.
     Explain {
         /// The architecture.
         arch: TargetArch,

@@ -81,7 +81,7 @@ impl Failure {
                     ""
                 };
                 let found = format!("found {more}{} bytes", length.min(&MOST_BYTES));
-                let expected = "1 to 4096 instructions of 8 bytes are expected";
+                let expected = "expected 1 to 4096 instructions of 8 bytes";
                 (path.clone(), format!("{expected}, {found}"))
             }
             Failure::File(path, error) | Failure::Command(path, error) => {

@@ -9,15 +9,15 @@ use std::alloc::{AllocError, Global};
 
 /// The notes on the profile of a path.
 ///
-/// One line notes the names that are left out: `seccomptool: `, the profile's file, `: names of no system call
-/// of ARCH, left out (N): `, and then the N names, in the profile's order, separated by `, `. The file is
+/// One line notes the names that are left out: `seccomptool: `, the profile's file, `: not system calls of ARCH,
+/// left out (N): `, and then the N names, in the profile's order, separated by `, `. The file is
 /// `path`, or `standard input` if that is `-`. In it and in the names each byte of the control characters
 /// (U+0080 to U+009F too) and of the backslash is written as `\x` and two lower-case hexadecimal digits. If no
 /// name is left out, the line is missing.
 ///
-/// A second line notes the profile's flags: the same prefix, `flags, which no filter has, left to whoever
-/// installs it (N): `, and then the N flags, in the profile's order, separated by `, `. If the profile has no
-/// flags, the line is missing.
+/// A second line notes the profile's flags: the same prefix, `flags to set when the program is installed (N): `,
+/// and then the N flags, in the profile's order, separated by `, `. If the profile has no flags, the line is
+/// missing.
 pub(crate) fn profile_notes(
     alloc: Global,
     arch: TargetArch,
@@ -60,7 +60,7 @@ fn names_told(
     names: &[String],
 ) -> Result<Vec<u8>, AllocError> {
     let (arch, count) = (arch.name(), names.len());
-    let front = format!(in alloc; "names of no system call of {arch}{words} ({count}): ")?;
+    let front = format!(in alloc; "not system calls of {arch}{words} ({count}): ")?;
     let mut text = Vec::new(alloc);
     text.extend_from_slice(front.as_bytes())?;
     for (place, name) in names.iter().enumerate() {
@@ -75,9 +75,7 @@ fn names_told(
 // That no filter has the flags, with their number and their names.
 fn flags_told(alloc: Global, flags: &[Flag]) -> Result<Vec<u8>, AllocError> {
     let count = flags.len();
-    let front = format!(in alloc;
-        "flags, which no filter has, left to whoever installs it ({count}): "
-    )?;
+    let front = format!(in alloc; "flags to set when the program is installed ({count}): ")?;
     let mut text = Vec::new(alloc);
     text.extend_from_slice(front.as_bytes())?;
     for (place, flag) in flags.iter().enumerate() {

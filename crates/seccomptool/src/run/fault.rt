@@ -50,8 +50,8 @@ impl fmt::Display for Amiss {
     fn fmt<W: fmt::Write>(&self, f: &mut fmt::Formatter<W>) -> fmt::Result {
         match self {
             Amiss::Operation(code) => write!(f, "unknown operation 0x{code:x}"),
-            Amiss::Load => f.write_str("load of no word of a call record"),
-            Amiss::Jump => f.write_str("jump behind the end"),
+            Amiss::Load => f.write_str("load from an invalid offset"),
+            Amiss::Jump => f.write_str("jump past the end"),
             Amiss::End => f.write_str("no return at the end"),
         }
     }

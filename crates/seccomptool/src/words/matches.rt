@@ -138,7 +138,7 @@ fn call_of<'a>(alloc: Global, found: &ArgMatches<'a>) -> Read<'a> {
     let recorded = found.get_flag("record");
     let output = output_in(found);
     if output.is_some() && !recorded {
-        return Err(Misuse::Told("--output is for --record"));
+        return Err(Misuse::Told("--output needs --record"));
     }
     let call = Call {
         name: path_in(found, "call"),

@@ -33,70 +33,68 @@ const CODES: &[&str] = &[
 
 const AFTER: &str = "\
 SUBJECT, OLD and NEW are a policy, a seccomp profile of a container runtime, or a
-program in bytes; which one shows in the file. FILE is a path, and - is standard
-input. CALL is the name or number of a system call. Numbers are decimal, or
-hexadecimal behind 0x; an ARG may be negative, and then stands behind --, as in
+program in bytes; the content shows which. FILE is a path, or - for standard input.
+CALL is the name or number of a system call. Numbers are decimal, or hexadecimal
+after 0x. A negative ARG has to follow --, as in
 `seccomptool call --record lseek 3 -- -1`.
 
 Exit status: 0 for yes, 1 for no (`check`: rejected; `diff`: different), 2 for
-trouble, 3 where `diff` didn't decide.";
+trouble, 3 if `diff` didn't decide.";
 
-const FILE: &str = "The policy's, profile's or program's file, or - for standard input";
+const FILE: &str = "The file of a policy, profile or program, or - for standard input";
 
-const ONE_FILTER: &str = "The filter's name; it may be left out where the policy has one filter";
+const ONE_FILTER: &str = "The name of the filter; optional if the policy has only one";
 
-const SHOWN_FILTER: &str = "The name of the filter that is shown; all filters where it isn't given";
+const SHOWN_FILTER: &str = "The name of the filter to show; without it all filters are shown";
 
 const LAYOUT: &str =
     "How a program finds a call's rules: one call after the other, or by a tree of tests";
 
 const PROGRAM_FORMAT: &str =
-    "How the program is written: as bytes, as a listing, or as an initialiser in C";
+    "How the program is written: as bytes, as a listing, or as a C initializer";
 
 const LINE_FORMAT: &str =
     "How a line is written: with places in the policy, or in numbers for scripts";
 
-const OTHERS: &str =
-    "Count other architectures for the exit status too, where a program is compared";
+const OTHERS: &str = "Count other architectures for the exit status too, if a program is compared";
 
-const MOST: &str = "How many sets of arguments are looked at, at most, for each call";
+const MOST: &str = "The most sets of arguments to examine for each call";
 
-const OLD: &str = "The old file, or - for standard input; :FILTER behind it names a filter";
+const OLD: &str = "The old file, or - for standard input; append :FILTER to name a filter";
 
-const NEW: &str = "The new file, or - for standard input; :FILTER behind it names a filter";
+const NEW: &str = "The new file, or - for standard input; append :FILTER to name a filter";
 
-const OCI: &str = "Take texts for profiles of a container runtime, whatever they have";
+const OCI: &str = "Read each text as a profile of a container runtime, whatever it contains";
 
-const KERNEL: &str =
-    "The kernel's version for a profile, as 6.1; newer than each where it isn't given";
+const KERNEL: &str = "The kernel version for a profile, such as 6.1; without it, newer than any";
 
-const ARGUMENTS: &str = "The call's arguments, 0 where they aren't given";
+const ARGUMENTS: &str = "The call's arguments; those that aren't given are 0";
 
 const ARCH: &str = "The architecture";
 
-const CAP: &str = "A capability that a profile's container has, as CAP_SYS_ADMIN";
+const CAP: &str = "A capability of a profile's container, such as CAP_SYS_ADMIN";
 
-const DENIED: &str = "End with exit status 1 where there is a warning";
+const DENIED: &str = "End with exit status 1 if there is a warning";
 
 const ALLOWED: &str = "Don't print the warnings of this code";
 
-const LIST: &str = "Print what the codes of warnings are about, and check nothing";
+const LIST: &str = "Print what each warning code means, and check nothing";
 
 const FILES: &str = "The files, or - for standard input";
 
-const OUTPUT: &str = "Where the program goes, in place of standard output";
+const OUTPUT: &str = "Write the program to FILE instead of standard output";
 
-const STRICT: &str = "Reject a profile that names calls which the architecture hasn't";
+const STRICT: &str = "Reject a profile that names calls which the architecture doesn't have";
 
 const STATS: &str = "Print how long the programs are, and how many steps they take";
 
-const RECORDS: &str = "Records of calls, in place of standard input, where no CALL is given";
+const RECORDS: &str = "Without CALL, read call records from FILE instead of standard input";
 
-const MORE: &str = "Ask only where NEW permits more than OLD";
+const MORE: &str = "Report only calls of which NEW permits more than OLD";
 
-const RECORD: &str = "Where the record goes, in place of standard output";
+const RECORD: &str = "Write the record to FILE instead of standard output";
 
-const QUIET: Row<'static> = ("quiet", Nothing, "Don't print how many warnings there are");
+const QUIET: Row<'static> = ("quiet", Nothing, "Don't print the number of warnings");
 
 const IN_LAYOUT: Row<'static> = ("layout", OneOf("LAYOUT", LAYOUTS, "tree"), LAYOUT);
 
@@ -167,9 +165,9 @@ pub(super) fn program<'a>(alloc: Global) -> Built<'a> {
     let check =
         "Print the first error of a policy or a profile with its place, or else its warnings";
     let compile = "Write the program of a filter or of a profile";
-    let show = "Print the programs, and what their instructions are for";
-    let explain = "Print what is decided on calls, and why";
-    let diff = "Print the calls that OLD and NEW decide otherwise";
+    let show = "Print programs, with notes on their instructions";
+    let explain = "Print what is decided for calls, and why";
+    let diff = "Print the calls that OLD and NEW decide differently";
     let call = "Print the name and the number of a call, or write its struct seccomp_data";
     let commands: [(&'a str, &'a str, &'a [Row<'a>], &'a [Row<'a>]); 6] = [
         ("check", check, &COMMON, &CHECK),

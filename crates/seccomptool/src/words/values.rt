@@ -17,15 +17,15 @@ use seccompiler::TargetArch;
 use std::alloc::{AllocError, Global};
 
 const NO_ARGUMENT: &str =
-    "an ARG is no number from -9223372036854775808 to 18446744073709551615, decimal or hexadecimal behind 0x";
+    "an ARG isn't a number from -9223372036854775808 to 18446744073709551615, decimal or hexadecimal after 0x";
 
 const BOTH: &str =
     "SUBJECT and records can't both be read from standard input: give CALL or --records";
 
-const NO_KERNEL: &str = "the value of --kernel is no version of two numbers, as 6.1";
+const NO_KERNEL: &str = "the value of --kernel isn't a version of two numbers, such as 6.1";
 
 const NO_MOST: &str =
-    "the value of --most is no number from 0 to 18446744073709551615, decimal or hexadecimal behind 0x";
+    "the value of --most isn't a number from 0 to 18446744073709551615, decimal or hexadecimal after 0x";
 
 // The path that is given, or standard input.
 pub(super) fn path_in<'a>(found: &ArgMatches<'a>, id: &str) -> &'a str {
@@ -128,7 +128,7 @@ pub(super) fn call_in<'a>(
         return Ok((None, Some(records)));
     };
     if found.get_str("records").is_some() {
-        return Err(Misuse::Told("either CALL or --records is given, not both"));
+        return Err(Misuse::Told("CALL and --records can't both be given"));
     }
     Ok((Some(Call { name, arguments }), None))
 }

@@ -57,13 +57,13 @@ pub const CONDITION_MAX_LEN: u8 = 6;
 /// The most instructions that the Linux kernel takes in one program.
 pub const BPF_MAX_LEN: usize = 4096;
 
-/// Where the call number stands in `struct seccomp_data`, in bytes.
+/// The offset of the call number in `struct seccomp_data`, in bytes.
 pub const SECCOMP_DATA_NR_OFFSET: u8 = 0;
 
-/// Where the `AUDIT_ARCH_*` value stands in `struct seccomp_data`, in bytes.
+/// The offset of the `AUDIT_ARCH_*` value in `struct seccomp_data`, in bytes.
 pub const SECCOMP_DATA_ARCH_OFFSET: u8 = 4;
 
-/// Where the first argument stands in `struct seccomp_data`, in bytes.
+/// The offset of the first argument in `struct seccomp_data`, in bytes.
 pub const SECCOMP_DATA_ARGS_OFFSET: u8 = 16;
 
 /// How many bytes an argument takes in `struct seccomp_data`.

@@ -26,7 +26,7 @@ pub type BpfMap = HashMap<String, BpfProgram>;
 /// Reads a text of JSON filters to its end, and compiles each filter for an architecture.
 ///
 /// The map has the text's names, each with its filter's program, as `SeccompFilter::to_bpf` gives it.
-/// The text is what the reader gives, which the contract names where the reader's type says what it reads, as
+/// The text is what the reader gives, which the contract names if the reader's type says what it reads, as
 /// a slice does. For a reader whose type doesn't, as a file, it says that there is a
 /// text of which all this holds.
 ///
@@ -38,7 +38,7 @@ pub type BpfMap = HashMap<String, BpfProgram>;
 /// - `Backend(FilterTooLarge(n))` for the least name, in byte order, whose filter's program would have
 ///   more than 4096 instructions. `n` is how many, or `usize::MAX` if that is less.
 ///
-/// `OutOfMemory` may come in place of both, where memory runs out, in the reader too.
+/// `OutOfMemory` may be returned instead of both, if memory runs out, in the reader too.
 ///
 /// # Examples
 ///

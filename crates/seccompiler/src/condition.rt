@@ -61,7 +61,7 @@ impl SeccompCondition {
     ///
     /// # Errors
     ///
-    /// `InvalidArgumentNumber` where `arg_index` is above 5: a system call has six arguments.
+    /// `InvalidArgumentNumber` if `arg_index` is above 5: a system call has six arguments.
     ///
     /// # Examples
     ///
@@ -122,7 +122,7 @@ impl SeccompCondition {
         self.value
     }
 
-    /// Where the high and the low half of the argument stand in a call record, in bytes.
+    /// The offsets of the high and the low half of the argument in a call record, in bytes.
     pub fn get_data_offsets(&self) -> (u8, u8)
         ensures { result ≡ (20 + 8 * self.now.arg_index, 16 + 8 * self.now.arg_index) }
     {
@@ -153,14 +153,14 @@ impl SeccompCondition {
         )
     }
 
-    /// The code of the condition: run from its first instruction it leaves at its end where the
-    /// condition holds, and `offset` instructions further where it does not.
+    /// The code of the condition: run from its first instruction it leaves at its end if the
+    /// condition holds, and `offset` instructions further if it does not.
     ///
     /// The offset is from 1 to 248, so that each jump over it and the rest of the condition fits 8 bits.
     ///
     /// # Errors
     ///
-    /// `OutOfMemory` where memory runs out.
+    /// `OutOfMemory` if memory runs out.
     pub fn to_bpf(&self, alloc: Global, offset: u8) -> Result<Vec<sock_filter>, BackendError>
         requires some { 1 ≤ offset }
         requires few { offset ≤ greatest_offset }

@@ -5,7 +5,7 @@ ghost use Rattle.seccompiler.specs.Machine.{word_at, argument_at};
 
 use crate::bpf::{SECCOMP_DATA_ARG_SIZE, SECCOMP_DATA_ARGS_OFFSET};
 
-/// Where the last 32 bits of a record stand, in bytes.
+/// The offset of the last 32 bits of a record, in bytes.
 pub(crate) const LAST_WORD_OFFSET: u32 = 60;
 
 /// Reads the 32 bits of bytes `k` to `k + 3`.

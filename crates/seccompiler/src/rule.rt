@@ -152,7 +152,7 @@ impl SeccompRule {
     /// it is written over, and nothing outside it. Takes no memory.
     ///
     /// ```
-    /// // The rule and a return behind it, in a buffer of the caller's.
+    /// // The rule and a return after it, in a buffer of the caller's.
     /// let mut buffer = [bpf_stmt(BPF_RET | BPF_K, 0); 16];
     /// let end = rule.code_len();
     /// if end < buffer.len() {

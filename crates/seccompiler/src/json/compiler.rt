@@ -69,10 +69,10 @@ impl JsonCompiler {
     /// # Errors
     ///
     /// The first fault is reported, in this order: of the entries, one after the other, `SyscallName` with
-    /// the call's name and this architecture where the architecture has no such call, else
-    /// `Backend(InvalidArgumentNumber)` where a condition's index is above 5, else `Backend(EmptyRule)` where
-    /// the list of conditions is there and empty; after all entries `Backend(IdenticalActions)` where the two
-    /// actions are equal. `OutOfMemory`, where memory runs out, may come in place of any of these, and no
+    /// the call's name and this architecture if the architecture has no such call, else
+    /// `Backend(InvalidArgumentNumber)` if a condition's index is above 5, else `Backend(EmptyRule)` if
+    /// the list of conditions is there and empty; after all entries `Backend(IdenticalActions)` if the two
+    /// actions are equal. `OutOfMemory`, if memory runs out, may be returned instead of any of these, and no
     /// other error in place of the first.
     pub fn make_seccomp_filter(
         &self,
@@ -99,7 +99,7 @@ impl JsonCompiler {
     /// ascending, each once.
     ///
     /// These are the calls on which a filter that was written for the Rust crate may mean something
-    /// else here. On each of them it matches, whatever the arguments, where the Rust crate's filter
+    /// else here. On each of them it matches, whatever the arguments, if the Rust crate's filter
     /// matches only if the conditions of some entry hold. On every other call both decide the same,
     /// and what the Rust crate's filter matches is matched here too.
     ///
@@ -129,13 +129,13 @@ impl JsonCompiler {
     ///
     /// The first of these that is there:
     ///
-    /// - `SerdeJson` where the bytes are no JSON text;
-    /// - `RepeatedKey` where `repeats_key` finds that a name is repeated;
-    /// - `NotAnObject` where the text is no object;
+    /// - `SerdeJson` if the bytes are no JSON text;
+    /// - `RepeatedKey` if `repeats_key` finds that a name is repeated;
+    /// - `NotAnObject` if the text is no object;
     /// - `Shape` with the least name, in byte order, whose value is no filter;
     /// - what `make_seccomp_filter` rejects, of the least name with such a filter.
     ///
-    /// `OutOfMemory` may come in place of each, where memory runs out. As there is no reader, none is `Read`.
+    /// `OutOfMemory` may be returned instead of each, if memory runs out. As there is no reader, none is `Read`.
     ///
     /// # Examples
     ///
@@ -162,7 +162,7 @@ impl JsonCompiler {
     /// Reads a text of JSON filters to its end, and makes each filter, as `make_seccomp_filter` does.
     ///
     /// The map has the text's names, each with its filter; the filters' call numbers are within 0 to
-    /// 462. The text is what the reader gives, which the contract names where the reader's type says what it
+    /// 462. The text is what the reader gives, which the contract names if the reader's type says what it
     /// reads, as a slice does. For a reader whose type doesn't, as a file, it says that there
     /// is a text of which all this holds.
     ///
@@ -170,14 +170,14 @@ impl JsonCompiler {
     ///
     /// The first of these that is there:
     ///
-    /// - `Read` where the reader fails;
-    /// - `SerdeJson` where the bytes are no JSON text;
-    /// - `RepeatedKey` where `repeats_key` finds that a name is repeated;
-    /// - `NotAnObject` where the text is no object;
+    /// - `Read` if the reader fails;
+    /// - `SerdeJson` if the bytes are no JSON text;
+    /// - `RepeatedKey` if `repeats_key` finds that a name is repeated;
+    /// - `NotAnObject` if the text is no object;
     /// - `Shape` with the least name, in byte order, whose value is no filter;
     /// - what `make_seccomp_filter` rejects, of the least name with such a filter.
     ///
-    /// `OutOfMemory` may come in place of each, where memory runs out, in the reader too.
+    /// `OutOfMemory` may be returned instead of each, if memory runs out, in the reader too.
     ///
     /// # Examples
     ///

@@ -10,18 +10,18 @@ const WORDS_CAPACITY: usize = 128;
 
 /// Why the JSON front end fails.
 ///
-/// Where a text has several faults, the first of these is reported: the reader fails, the bytes are no JSON,
+/// If a text has several faults, the first of these is reported: the reader fails, the bytes are no JSON,
 /// a name is repeated, the top is no object, a filter has a wrong shape, and then what building the filters
 /// rejects.
 #[derive(Drop)]
 pub enum JsonFrontendError {
     /// The backend rejects a filter. No call gives it with `BackendError::OutOfMemory` inside.
     Backend(BackendError),
-    /// The bytes are no JSON text in UTF-8, or nest too deep. No call gives it where memory runs out.
+    /// The bytes are no JSON text in UTF-8, or nest too deep. No call gives it if memory runs out.
     SerdeJson(serde_json::Error),
     /// No system call of this architecture has this name.
     SyscallName(String, TargetArch),
-    /// The reader failed. No call gives it where memory runs out.
+    /// The reader failed. No call gives it if memory runs out.
     Read(io::Error),
     /// The text has more bytes `:` outside strings than the objects of its value have names, as one
     /// that writes a name of an object twice.

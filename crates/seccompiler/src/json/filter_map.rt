@@ -22,9 +22,9 @@ use std::collections::BTreeMap;
 ///
 /// # Errors
 ///
-/// - `NotAnObject` where the value is no object.
+/// - `NotAnObject` if the value is no object.
 /// - `Shape` with the least name, in byte order, whose value is no filter.
-/// - `OutOfMemory` where memory runs out, in place of any answer.
+/// - `OutOfMemory` if memory runs out, in place of any answer.
 ///
 /// # Examples
 ///

@@ -44,7 +44,7 @@ pub fn is_commented(value: &Value) -> bool
     )
 }
 
-/// The number under this name of an object, where serde_json holds it as a whole one, at most `most`.
+/// The number under this name of an object, if serde_json holds it as a whole one, at most `most`.
 pub fn number_under(value: &Value, name: &str, most: u64) -> Option<u64>
     ensures found { IfSome result (λ n. Under (view value.now) name.now (λ v. IsWhole most v n)) }
     ensures none { IfNone result ((n : ℕ) → Under (view value.now) name.now (λ v. IsWhole most v n) → ⊥) }
@@ -53,7 +53,7 @@ pub fn number_under(value: &Value, name: &str, most: u64) -> Option<u64>
     (number <= most).then_some(number)
 }
 
-/// The number of an object of this one name, where serde_json holds it as a whole one, at most `most`.
+/// The number of an object of this one name, if serde_json holds it as a whole one, at most `most`.
 pub fn number_alone(value: &Value, name: &str, most: u64) -> Option<u64>
     ensures found { IfSome result (IsNumbered most name.now (view value.now)) }
     ensures none { IfNone result ((n : ℕ) → IsNumbered most name.now (view value.now) n → ⊥) }

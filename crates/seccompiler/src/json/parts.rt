@@ -24,7 +24,7 @@ const GREATEST_DATA: u64 = 0xffff_ffff;
 
 const GREATEST_INDEX: u64 = 0xff;
 
-/// The action that a JSON value is, or `None` where it is none.
+/// The action that a JSON value is, or `None` if it is none.
 ///
 /// An action is one of the texts `"allow"`, `"kill_thread"`, `"kill_process"`, `"log"` and `"trap"`, or
 /// an object of the one name `errno` or `trace`, whose value is a whole number up to 4294967295.
@@ -59,7 +59,7 @@ pub fn read_action(value: &Value) -> Option<SeccompAction>
     }
 }
 
-/// The length of an argument that a JSON value is, or `None` where it is none.
+/// The length of an argument that a JSON value is, or `None` if it is none.
 ///
 /// A length is one of the texts `"dword"` and `"qword"`, and nothing else. It takes no memory.
 pub fn read_arg_len(value: &Value) -> Option<SeccompCmpArgLen>
@@ -73,7 +73,7 @@ pub fn read_arg_len(value: &Value) -> Option<SeccompCmpArgLen>
     }
 }
 
-/// The operator that a JSON value is, or `None` where it is none.
+/// The operator that a JSON value is, or `None` if it is none.
 ///
 /// An operator is one of the texts `"eq"`, `"ge"`, `"gt"`, `"le"`, `"lt"` and `"ne"`, or an object of
 /// the one name `masked_eq`, whose value is a mask: a whole number up to 18446744073709551615. Nothing
@@ -247,7 +247,7 @@ fn read_actions(value: &Value) -> Option<(SeccompAction, SeccompAction)>
     Some((mismatch_action, match_action))
 }
 
-/// The filter that the value is, or `None` where it is none; an error only where memory runs out.
+/// The filter that the value is, or `None` if it is none; an error only if memory runs out.
 pub fn read_filter(alloc: Global, value: &Value) -> Result<Option<JsonFilter>, AllocError>
     ensures found { IfOk result (λ o. IfSome o (IsFilter (view value.now))) }
     ensures none { IfOk result

@@ -26,7 +26,7 @@ use std::collections::{BTreeMap, BTreeSet};
 ///
 /// # Errors
 ///
-/// `Backend(InvalidArgumentNumber)` where the index is above 5: a system call has six arguments.
+/// `Backend(InvalidArgumentNumber)` if the index is above 5: a system call has six arguments.
 impl TryFrom<JsonCondition> for SeccompCondition {
     ghost use Rattle.seccompiler.specs.JsonSteps.{IsConditionOf};
 

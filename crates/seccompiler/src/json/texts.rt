@@ -20,11 +20,11 @@ use std::io::{ErrorKind, Read};
 
 /// Reads all that a reader gives, to its end.
 ///
-/// The reader is dropped, and behind an error any part of it may have been read.
+/// The reader is dropped, and after an error any part of it may have been read.
 ///
 /// # Errors
 ///
-/// `Read` where the reader fails; `OutOfMemory` where memory runs out, in the reader too. No other error
+/// `Read` if the reader fails; `OutOfMemory` if memory runs out, in the reader too. No other error
 /// comes.
 pub fn text_of<R: Read + Drop>(alloc: Global, mut reader: R) -> Result<Vec<u8>, JsonFrontendError>
     ensures text { IfOk result (λ text. IfSome (R.remaining reader) (λ known. text.items ≡ known)) }
@@ -53,12 +53,12 @@ pub fn text_of<R: Read + Drop>(alloc: Global, mut reader: R) -> Result<Vec<u8>, 
 ///
 /// The first of these that is there:
 ///
-/// - `SerdeJson` where the bytes are no JSON text;
-/// - `RepeatedKey` where `repeats_key` finds that a name is repeated;
-/// - `NotAnObject` where the text is no object;
+/// - `SerdeJson` if the bytes are no JSON text;
+/// - `RepeatedKey` if `repeats_key` finds that a name is repeated;
+/// - `NotAnObject` if the text is no object;
 /// - `Shape` with the least name, in byte order, whose value is no filter.
 ///
-/// `OutOfMemory` may come in place of any answer, where memory runs out. No other error comes: as
+/// `OutOfMemory` may be returned instead of any answer, if memory runs out. No other error is returned: as
 /// there is no reader, none is `Read`.
 ///
 /// # Examples

@@ -40,7 +40,7 @@ impl EqualByParts for JsonCondition {
 pub struct JsonRule {
     /// The call's name: `syscall` in the text. It may be no call's.
     pub syscall: String,
-    /// The conditions: `args` in the text, `None` where the text has none, or null.
+    /// The conditions: `args` in the text, `None` if the text has none, or null.
     pub conditions: Option<Vec<JsonCondition>>,
 }
 
@@ -81,9 +81,9 @@ impl EqualByParts for JsonRule {
 /// entries as a list.
 #[derive(Debug, Drop)]
 pub struct JsonFilter {
-    /// What the filter answers where no entry matches: `mismatch_action` or `default_action`.
+    /// What the filter answers if no entry matches: `mismatch_action` or `default_action`.
     pub mismatch_action: SeccompAction,
-    /// What the filter answers where an entry matches: `match_action` or `filter_action`.
+    /// What the filter answers if an entry matches: `match_action` or `filter_action`.
     pub match_action: SeccompAction,
     /// The entries, in the text's order: `filter` in the text.
     pub rules: Vec<JsonRule>,

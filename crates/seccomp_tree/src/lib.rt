@@ -1,7 +1,7 @@
 //! Decisions on system calls, with any number of return values, and their program as one tree of tests.
 //!
 //! ```
-//! // Allow the calls 0 to 2 of x86_64, and the call 16 where its second argument is 0x5401; trap any other call.
+//! // Allow the calls 0 to 2 of x86_64, and the call 16 if its second argument is 0x5401; trap any other call.
 //! let (allow, trap) = (0x7fff_0000, 0x0003_0000);
 //! let mut calls = BTreeMap::new(alloc);
 //! for number in 0..3 {

@@ -56,7 +56,7 @@ pub fn capabilities() -> &'static [&'static str]
 }
 
 /// The capability of this name, as profiles write it: `CAP_SYS_ADMIN`, for that name and for `SYS_ADMIN`, in any case.
-/// None where Linux has no such capability. It takes no memory.
+/// None if Linux has no such capability. It takes no memory.
 pub fn capability(name: &str) -> Option<&'static str>
     ensures some { IfSome result (λ own. Contains capability_names own.now × IsCalled own.now name.now) }
     ensures none { IfNone result (All (λ own. IsCalled own name.now → ⊥) capability_names) }

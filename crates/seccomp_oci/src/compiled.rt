@@ -57,7 +57,7 @@ pub enum CompileError {
 /// - `UnknownNames` with the names that would be left out, if there are any and `strict` is set;
 /// - `TooLarge` if the program would have more than 4096 instructions.
 ///
-/// `OutOfMemory` may come in place of any answer, if memory runs out. No other error comes, and `Profile` never
+/// `OutOfMemory` may be returned instead of any answer, if memory runs out. No other error is returned, and `Profile` never
 /// contains `OutOfMemory`.
 pub fn compile_profile(
     alloc: Global,

@@ -20,13 +20,13 @@ use std::marker::Model;
 /// What an entry says: its calls, its action, and when it decides one of these calls.
 #[derive(Debug, Drop)]
 pub(crate) struct Concern {
-    /// The numbers of its calls; none where the entry says nothing in the container.
+    /// The numbers of its calls; none if the entry says nothing in the container.
     pub(crate) numbers: Vec<u32>,
     /// Its action.
     pub(crate) action: SeccompAction,
     /// How soon it is asked.
     pub(crate) rank: u8,
-    /// Lists of conditions. The entry's are met where all conditions of one of these lists hold.
+    /// Lists of conditions. The entry's are met if all conditions of one of these lists hold.
     pub(crate) alternatives: Vec<Vec<SeccompCondition>>,
 }
 
@@ -149,7 +149,7 @@ fn push_number(numbers: &mut Vec<u32>, number: Option<u32>) -> Result<(), AllocE
     }
 }
 
-/// The number of the call of this name, where the architecture has one.
+/// The number of the call of this name, if the architecture has one.
 pub(crate) fn number_of(arch: TargetArch, name: &str) -> Option<u32>
     ensures some { IfSome result (λ n. (number_of (table_of arch) name.now ≡ Some (pos n)) × (n < 463)) }
     ensures none { IfNone result ((n : ℕ) → number_of (table_of arch) name.now ≡ Some (pos n) → ⊥) }
@@ -200,7 +200,7 @@ fn conditions_of(alloc: Global, args: &[Argument]) -> Result<Vec<SeccompConditio
     Ok(all)
 }
 
-/// The condition that holds where this one is met.
+/// The condition that holds if this one is met.
 pub(crate) fn condition_of(argument: &Argument) -> SeccompCondition
     requires { argument.now.index ≤ 5 }
     ensures { (r : List ℕ) → Holds result r ↔ IsMet r argument.now }

@@ -18,7 +18,7 @@ use seccompiler::{SeccompAction, SyscallTable, TargetArch};
 pub struct ProfileDecision {
     /// The action.
     pub action: SeccompAction,
-    /// The place of the entry whose action it is, from 0; none where it is the default action.
+    /// The place of the entry whose action it is, from 0; none if it is the default action.
     pub entry: Option<usize>,
 }
 

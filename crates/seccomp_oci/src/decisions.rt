@@ -25,7 +25,7 @@ const NUMBERS: u32 = 463;
 ///
 /// # Errors
 ///
-/// An error comes where memory runs out.
+/// An error is returned if memory runs out.
 pub fn decisions_of_profile(
     alloc: Global,
     arch: TargetArch,

@@ -115,7 +115,7 @@ fn read_entry(alloc: Global, value: &Value) -> Result<Option<Entry>, AllocError>
     }))
 }
 
-/// The entries that the items are, in their order; `None` where one is none.
+/// The entries that the items are, in their order; `None` if one is none.
 pub(crate) fn read_entries(alloc: Global, items: &[Value]) -> Result<Option<Vec<Entry>>, AllocError>
     ensures found { IfOk result
         (λ o. IfSome o (λ all. OneByOne IsEntry (items_view items.now) all.items)) }

@@ -22,7 +22,7 @@ fn errors() -> &'static [(&'static str, u32)]
     &ERRORS
 }
 
-/// The name of the errno of this number, as `ENOSYS` for 38; none where Linux has no such errno. It takes no memory.
+/// The name of the errno of this number, as `ENOSYS` for 38; none if Linux has no such errno. It takes no memory.
 pub fn error_name(number: u32) -> Option<&'static str>
     ensures some { IfSome result (λ name. IsErrorName name.now number) }
     ensures none { IfNone result (All (λ error. error.1 ≡ number → ⊥) error_names) }
@@ -94,7 +94,7 @@ fn named_text(text: &str) -> Option<Option<u32>>
     }
 }
 
-/// The errno that stands there as a text, if one does; `None` where something else stands there.
+/// The errno that stands there as a text, if one does; `None` if something else stands there.
 pub(crate) fn error_number(name: Option<&Value>) -> Option<Option<u32>>
     ensures found { IfSome result (IsNamedOr (option_map (λ v. view v.now) name.entry)) }
     ensures none { IfNone result ((o : _) → IsNamedOr (option_map (λ v. view v.now) name.entry) o → ⊥) }
@@ -131,7 +131,7 @@ fn beside(value: &Value, number: &str, name: &str) -> Option<Option<u32>>
 }
 
 /// The action that stands under a key, with the number that stands beside it under the others, by itself or by name. `None`
-/// where none is there that can be carried. It takes no memory.
+/// if none is there that can be carried. It takes no memory.
 pub(crate) fn action_under(
     value: &Value,
     action: &str,

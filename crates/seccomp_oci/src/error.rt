@@ -10,7 +10,7 @@ const WORDS_CAPACITY: usize = 128;
 /// Why a text is no profile.
 #[derive(Debug, Drop)]
 pub enum ProfileError {
-    /// The bytes are no JSON text in UTF-8, or nest too deep. No call gives it where memory runs out.
+    /// The bytes are no JSON text in UTF-8, or nest too deep. No call gives it if memory runs out.
     Json(serde_json::Error),
     /// The text's value is no profile, or it has a part that isn't supported. The text says where, and what is wrong there.
     NotAProfile(String),

@@ -8,7 +8,7 @@ use seccomp_command_line::names::push_readable;
 use serde_json::Value;
 use std::alloc::{AllocError, Global};
 
-/// What a search ends with where it doesn't end well.
+/// What a search ends with if it doesn't end well.
 #[derive(Drop)]
 enum Finding {
     /// The first fault: the way to its place, each step with its mark in front, a colon, and what is wrong there.

@@ -1,7 +1,7 @@
 //! Seccomp profiles of OCI runtimes, as Docker, Podman, containerd and runc take them.
 //!
 //! A *profile* is the JSON of `linux.seccomp` in the OCI runtime specification. [`profile_of`] reads
-//! one; where a text is none, its error says where, and what is wrong there. [`applies`] says whether an entry
+//! one; if a text is none, its error says where, and what is wrong there. [`applies`] says whether an entry
 //! applies to a container. [`decisions_of_profile`] gives what a profile decides of each call, as decisions, whose
 //! program is one tree; [`decision_of_profile`] says what it decides of one call, and by which entry.
 //! [`compile_profile`] goes from the text of a profile to its program.

@@ -39,13 +39,13 @@ fn read_texts(alloc: Global, items: &[Value]) -> Result<Option<Vec<String>>, All
     Ok(Some(found))
 }
 
-/// The texts of an array, in its order: no texts where nothing stands there, or null.
+/// The texts of an array, in its order: no texts if nothing stands there, or null.
 ///
-/// `None` where an array has another item, or where something else stands there.
+/// `None` if an array has another item, or if something else stands there.
 ///
 /// # Errors
 ///
-/// An error comes where memory runs out.
+/// An error is returned if memory runs out.
 pub(crate) fn texts_under(
     alloc: Global,
     value: Option<&Value>,
@@ -77,13 +77,13 @@ fn read_arguments(alloc: Global, items: &[Value]) -> Result<Option<Vec<Argument>
     Ok(Some(found))
 }
 
-/// The conditions of an array, in its order: no conditions where nothing stands there, or null.
+/// The conditions of an array, in its order: no conditions if nothing stands there, or null.
 ///
-/// `None` where an array has another item, or where something else stands there.
+/// `None` if an array has another item, or if something else stands there.
 ///
 /// # Errors
 ///
-/// An error comes where memory runs out.
+/// An error is returned if memory runs out.
 pub(crate) fn arguments_under(
     alloc: Global,
     value: Option<&Value>,
@@ -115,13 +115,13 @@ fn read_flags(alloc: Global, items: &[Value]) -> Result<Option<Vec<Flag>>, Alloc
     Ok(Some(found))
 }
 
-/// The flags of an array, in its order: no flags where nothing stands there, or null.
+/// The flags of an array, in its order: no flags if nothing stands there, or null.
 ///
-/// `None` where an array has another item, or where something else stands there.
+/// `None` if an array has another item, or if something else stands there.
 ///
 /// # Errors
 ///
-/// An error comes where memory runs out.
+/// An error is returned if memory runs out.
 pub(crate) fn flags_under(
     alloc: Global,
     value: Option<&Value>,

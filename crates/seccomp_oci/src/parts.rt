@@ -51,9 +51,9 @@ fn action_of_text(text: &str, number: Option<u32>) -> Option<SeccompAction>
     read_plain_action(text, number)
 }
 
-/// The action that a JSON value is, with this number beside it; `None` where it is none that can be carried.
+/// The action that a JSON value is, with this number beside it; `None` if it is none that can be carried.
 ///
-/// `SCMP_ACT_ERRNO` and `SCMP_ACT_TRACE` take a number; where none is given, it is 1, which is `EPERM`. Beside any other action
+/// `SCMP_ACT_ERRNO` and `SCMP_ACT_TRACE` take a number; if none is given, it is 1, which is `EPERM`. Beside any other action
 /// none may stand. `SCMP_ACT_KILL` is `SCMP_ACT_KILL_THREAD`, and `SCMP_ACT_NOTIFY` can't be carried. It takes no memory.
 pub(crate) fn read_action(value: &Value, number: Option<u32>) -> Option<SeccompAction>
     ensures found { IfSome result (IsAction (view value.now) number) }
@@ -78,7 +78,7 @@ fn operator_of_text(text: &str) -> Option<Operator>
     }
 }
 
-/// The operator that a JSON value is, or `None` where it is none.
+/// The operator that a JSON value is, or `None` if it is none.
 pub(crate) fn read_operator(value: &Value) -> Option<Operator>
     ensures found { IfSome result (IsOperator (view value.now)) }
     ensures none { IfNone result ((o : Operator) → IsOperator (view value.now) o → ⊥) }
@@ -94,7 +94,7 @@ fn read_index(value: &Value) -> Option<u8>
     u8::try_from(whole_of(5, value)?).ok()
 }
 
-/// The condition on an argument that a JSON value is, or `None` where it is none.
+/// The condition on an argument that a JSON value is, or `None` if it is none.
 ///
 /// It is an object of `index`, from 0 to 5, `value`, `op` and, if it likes, `valueTwo`, and has no other
 /// name. Both numbers are whole ones of 64 bits. It takes no memory.
@@ -129,7 +129,7 @@ fn flag_of_text(text: &str) -> Option<Flag>
     }
 }
 
-/// The flag that a JSON value is, or `None` where it is none of those that leave decisions as they are.
+/// The flag that a JSON value is, or `None` if it is none of those that leave decisions as they are.
 ///
 /// It takes no memory.
 pub(crate) fn read_flag(value: &Value) -> Option<Flag>

@@ -75,8 +75,8 @@ fn read_profile(alloc: Global, value: &Value) -> Result<Option<Profile>, AllocEr
 ///
 /// `Json` if the bytes are no JSON text in UTF-8. `NotAProfile` if the text's value is no profile, with the
 /// text of its first fault: the path to its place, a colon, a space, and what is wrong there, as
-/// `syscalls[3].args[0].index: expected 0 to 5, found 6`. `OutOfMemory` may come in place of any answer, if
-/// memory runs out. No other error comes.
+/// `syscalls[3].args[0].index: expected 0 to 5, found 6`. `OutOfMemory` may be returned instead of any answer, if
+/// memory runs out. No other error is returned.
 pub fn profile_of(alloc: Global, text: &[u8]) -> Result<Profile, ProfileError>
     ensures read { IfOk result (IsProfileText text.now) }
     ensures fault { IfErr result (IsProfileFault text.now) }

@@ -29,7 +29,7 @@ pub struct Argument {
     pub index: u8,
     /// What the argument is compared with; the mask of `MaskedEq`.
     pub value: u64,
-    /// What the argument is compared with under a mask: `valueTwo`, 0 where the text has none.
+    /// What the argument is compared with under a mask: `valueTwo`, 0 if the text has none.
     pub value_two: u64,
     /// How the argument is compared: `op`.
     pub operator: Operator,
@@ -71,7 +71,7 @@ pub enum Runtime {
 pub struct Container {
     /// Names of the container's capabilities as a profile has them, such as `CAP_SYS_ADMIN`.
     pub caps: Vec<String>,
-    /// The kernel; where none is given, it counts as newer than each that a profile names.
+    /// The kernel; if none is given, it counts as newer than each that a profile names.
     pub kernel: Option<Kernel>,
     /// The runtime.
     pub runtime: Runtime,

@@ -100,7 +100,7 @@ fn left_out_of(
 ///
 /// # Errors
 ///
-/// An error comes where memory runs out.
+/// An error is returned if memory runs out.
 pub fn unknown_names(
     alloc: Global,
     arch: TargetArch,

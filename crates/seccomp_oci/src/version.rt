@@ -8,7 +8,7 @@ ghost use Rattle.seccomp_oci.specs.Version.{IsKernel, IsKernelOr, IsNumberText, 
 use crate::types::Kernel;
 use serde_json::Value;
 
-/// The number that a text of decimal digits and nothing else is, where 32 bits hold it.
+/// The number that a text of decimal digits and nothing else is, if 32 bits hold it.
 pub(crate) fn number_of(text: &str) -> Option<u32>
     ensures found { IfSome result (IsNumberText text.now) }
     ensures none { IfNone result ((n : ℕ) → IsNumberText text.now n → ⊥) }
@@ -20,7 +20,7 @@ pub(crate) fn number_of(text: &str) -> Option<u32>
 }
 
 /// The version of the kernel that a text is: two decimal numbers of 32 bits with a full stop between them,
-/// as `4.8`; `None` where it is none.
+/// as `4.8`; `None` if it is none.
 ///
 /// It takes no memory.
 pub fn kernel_of(text: &str) -> Option<Kernel>
@@ -47,8 +47,8 @@ fn read_kernel(value: &Value) -> Option<Kernel>
     kernel_of(value.as_str()?)
 }
 
-/// The version of the kernel that stands there, which is none where nothing stands there, null or the empty
-/// text; `None` where something else stands there.
+/// The version of the kernel that stands there, which is none if nothing stands there, null or the empty
+/// text; `None` if something else stands there.
 pub(crate) fn kernel_under(value: Option<&Value>) -> Option<Option<Kernel>>
     ensures found { IfSome result (IsKernelOr (option_map (λ v. view v.now) value.entry)) }
     ensures none { IfNone result ((k : Option Kernel) → IsKernelOr (option_map (λ v. view v.now) value.entry) k → ⊥) }

@@ -9,7 +9,7 @@ ghost use Rattle.seccomp_compare.specs.RecordSets.{IsIn, accumulator, Reaches};
 use crate::values::{Values, outcome};
 use seccompiler::bpf::{BpfProgramRef, JUMP, LOAD, MASK, RETURN, sock_filter};
 
-/// Where a run stands: at a place, with 32 bits of the record under a mask in the accumulator.
+/// The state of a run: a place, and 32 bits of the record under a mask in the accumulator.
 #[derive(Clone, Copy)]
 pub struct At {
     /// The place of the next instruction.

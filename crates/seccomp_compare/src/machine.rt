@@ -46,7 +46,7 @@ pub fn check(prog: BpfProgramRef<'_>) -> bool
 
 /// Gives the first place of a program that keeps [`check`] from passing it, if there is one.
 ///
-/// That is the place of the first instruction that may not stand where it does; or 4096, if there are
+/// That is the place of the first instruction that isn't allowed there; or 4096, if there are
 /// more and those before may; or the last place, if all may and the last instruction doesn't return.
 /// Of no instructions it is 0.
 pub fn first_unfit(prog: BpfProgramRef<'_>) -> Option<usize>

@@ -31,7 +31,7 @@ pub struct Report {
 /// # Errors
 ///
 /// What `JsonCompiler::make_seccomp_filter` rejects the first filter for that has no policy on the
-/// architecture. `OutOfMemory` if memory runs out, which may come in place of it.
+/// architecture. `OutOfMemory` if memory runs out, which may be returned instead of it.
 pub fn report_of(
     alloc: Global,
     arch: TargetArch,

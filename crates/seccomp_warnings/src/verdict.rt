@@ -48,7 +48,7 @@ pub enum Verdict {
 /// # Errors
 ///
 /// What [`JsonCompiler::make_seccomp_filter`] rejects the filter for; `OutOfMemory` if memory runs out, which
-/// may come in place of it.
+/// may be returned instead of it.
 pub fn verdicts_of(
     alloc: Global,
     arch: TargetArch,

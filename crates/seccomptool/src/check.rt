@@ -26,7 +26,7 @@ use std::alloc::Global;
 ///
 /// `Fault` with the text of a fault of the kind that `compile_from_json` reports, if it has a place. `Library`
 /// with the error of `compile_from_json`, if it has no place: the bytes are no JSON, or a name is repeated.
-/// `OutOfMemory` comes in place of any of these if memory runs out.
+/// `OutOfMemory` is returned instead of any of these if memory runs out.
 ///
 /// The contract promises any one fault of that kind, and lets it be reported as `Library`. That it is the first
 /// in the order of docs/CHECKS.md, and that a fault with a place is reported as `Fault`, is tested and not

@@ -4,7 +4,7 @@ use seccomp_warnings::Code;
 use std::alloc::{AllocError, Global};
 
 /// A line for each code of a warning, in the order of `Code::all`: its name, `: `, and what is so
-/// where a warning has the code, in a few sentences.
+/// if a warning has the code, in a few sentences.
 pub(crate) fn codes_text(alloc: Global) -> Result<Vec<u8>, AllocError> {
     let mut text = Vec::new(alloc);
     for code in Code::all() {

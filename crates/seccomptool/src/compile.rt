@@ -31,11 +31,11 @@ pub struct NamedProgram {
 ///
 /// # Errors
 ///
-/// The first of these: where no name is asked for, the fault that keeps the names from being read, or `Unchosen` with the names
-/// where it isn't one; `Library` with what `JsonCompiler::policies_of` rejects the text for; `NoFilter` with the name where no
-/// filter has it; `Fault` where the program is too large in this layout, with a text of the filter's name, of the
-/// instructions that it needs, and of those of the other layout, where they fit. `OutOfMemory` comes in place of any of
-/// these where memory runs out.
+/// The first of these: if no name is asked for, the fault that keeps the names from being read, or `Unchosen` with the names
+/// if it isn't one; `Library` with what `JsonCompiler::policies_of` rejects the text for; `NoFilter` with the name if no
+/// filter has it; `Fault` if the program is too large in this layout, with a text of the filter's name, of the
+/// instructions that it needs, and of those of the other layout, if they fit. `OutOfMemory` is returned instead of any of
+/// these if memory runs out.
 pub fn compiled(
     alloc: Global,
     target: TargetArch,

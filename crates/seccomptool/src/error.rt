@@ -17,7 +17,7 @@ pub enum ToolError {
     Library(seccompiler::Error),
     /// No filter of the policy has this name.
     NoFilter(String),
-    /// No filter is asked for, and the policy hasn't one but these, by their names.
+    /// No filter is asked for, and the policy doesn't have one but these, by their names.
     Unchosen(String),
     /// The architecture has no call of this name or number.
     UnknownCall(String, TargetArch),

@@ -35,7 +35,7 @@ pub enum Why {
     Profile {
         /// The number of the record's call.
         number: u32,
-        /// The place of the entry whose action it is, from 0; none where it is the default action.
+        /// The place of the entry whose action it is, from 0; none if it is the default action.
         entry: Option<usize>,
     },
 }
@@ -188,7 +188,7 @@ fn action_of(filter: &JsonFilter, reason: Reason) -> SeccompAction
 ///
 /// # Errors
 ///
-/// `Profile` with what [`profile_of`](seccomp_oci::profile_of) gives of a profile. `OutOfMemory` where memory runs out.
+/// `Profile` with what [`profile_of`](seccomp_oci::profile_of) gives of a profile. `OutOfMemory` if memory runs out.
 pub fn explain_profile(
     alloc: Global,
     target: TargetArch,

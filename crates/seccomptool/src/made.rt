@@ -45,11 +45,11 @@ use std::alloc::{AllocError, Global};
 pub(crate) struct Made {
     /// What it writes.
     pub text: Vec<u8>,
-    /// How many bytes of the records stand behind the last whole one.
+    /// How many bytes of the records stand after the last whole one.
     pub rest: usize,
     /// What it finds.
     pub verdict: Verdict,
-    /// What is to be noted on standard error, in lines, each with a line feed: no bytes where nothing is.
+    /// What is to be noted on standard error, in lines, each with a line feed: no bytes if nothing is.
     pub notes: Vec<u8>,
 }
 

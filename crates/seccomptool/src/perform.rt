@@ -18,12 +18,12 @@ use std::alloc::{AllocError, Global};
 use std::io;
 use std::io::{Read, Write};
 
-/// What a command gives where it is carried out.
+/// What a command gives if it is carried out.
 #[derive(Drop)]
 pub struct Done {
     /// What it finds.
     pub verdict: Verdict,
-    /// What is to be noted on standard error, in lines, each with a line feed: no bytes where nothing is.
+    /// What is to be noted on standard error, in lines, each with a line feed: no bytes if nothing is.
     pub notes: Vec<u8>,
 }
 
@@ -32,8 +32,8 @@ pub struct Done {
 ///
 /// # Errors
 ///
-/// The first of these: `First` where the first one can't be read; the engine's error of the first one; `Second` where the second
-/// one can't be read; the engine's other errors; `Output` where the writer fails; `ShortRecord` where 1 to 63 bytes are left of
+/// The first of these: `First` if the first one can't be read; the engine's error of the first one; `Second` if the second
+/// one can't be read; the engine's other errors; `Output` if the writer fails; `ShortRecord` if 1 to 63 bytes are left of
 /// records, after what is made of the whole ones is written. On any error but the last two nothing is written.
 pub fn perform<P: Read + Drop, R: Read + Drop, W: Write, G: Progress>(
     alloc: Global,

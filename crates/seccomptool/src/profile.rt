@@ -11,11 +11,11 @@ use seccomp_oci::{CompileError, CompiledProfile, Container, ProfileError, compil
 use seccompiler::TargetArch;
 use std::alloc::Global;
 
-/// The program of a profile's text. Where it isn't strict, names that no call of the architecture has are left out.
+/// The program of a profile's text. If it isn't strict, names that no call of the architecture has are left out.
 ///
 /// # Errors
 ///
-/// `Profile` with what `compile_profile` gives; `OutOfMemory` in its place where memory runs out.
+/// `Profile` with what `compile_profile` gives; `OutOfMemory` in its place if memory runs out.
 pub(crate) fn compiled_of(
     alloc: Global,
     target: TargetArch,

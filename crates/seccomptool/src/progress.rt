@@ -36,7 +36,7 @@ pub(crate) struct Watch<'a, R> {
 }
 
 impl<'a, R: Eprint + Clock> Watch<'a, R> {
-    /// `to_terminal` says whether standard error is a terminal: where it isn't, nothing is shown.
+    /// `to_terminal` says whether standard error is a terminal: if it isn't, nothing is shown.
     pub(crate) fn new(rt: &'a R, to_terminal: bool) -> Self {
         Watch {
             rt,

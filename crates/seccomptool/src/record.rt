@@ -16,12 +16,12 @@ use std::alloc::{AllocError, Global};
 ///
 /// They are the call number and the `AUDIT_ARCH_*` value, of 4 bytes each, the instruction pointer, which
 /// is 0, and the six arguments, of 8 bytes each, every number with its low byte first. `call` is the
-/// call's number, from 0 to 4294967295, in decimal digits, or in hexadecimal ones behind `0x`; or, where
+/// call's number, from 0 to 4294967295, in decimal digits, or in hexadecimal ones after `0x`; or, if
 /// it is no number that 64 bits hold, the name of a call of the architecture.
 ///
 /// # Errors
 ///
-/// `UnknownCall` with the text and the architecture where `call` is no call; `OutOfMemory` in its place where memory runs out.
+/// `UnknownCall` with the text and the architecture if `call` is no call; `OutOfMemory` in its place if memory runs out.
 pub fn called_record(
     alloc: Global,
     target: TargetArch,
@@ -50,7 +50,7 @@ pub struct KnownCall {
 ///
 /// # Errors
 ///
-/// `NoCall` with the text where there is none; `OutOfMemory` in its place where memory runs out.
+/// `NoCall` with the text if there is none; `OutOfMemory` in its place if memory runs out.
 pub fn known_calls(
     alloc: Global,
     targets: &[TargetArch],
@@ -82,7 +82,7 @@ fn push_known(calls: &mut Vec<KnownCall>, target: TargetArch, call: &str) -> Res
     Ok(())
 }
 
-/// The lines of calls: the architecture, the call's name, as it is given where it is no number, and its number.
+/// The lines of calls: the architecture, the call's name, as it is given if it is no number, and its number.
 pub(crate) fn calls_text(
     alloc: Global,
     given: &str,

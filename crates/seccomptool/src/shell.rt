@@ -23,7 +23,7 @@ use std::rt::Files;
 // The status of a command that fails.
 const TROUBLE: u8 = 2;
 
-/// Carries out what the arguments behind the program's name ask for, or says what is wrong with
+/// Carries out what the arguments after the program's name ask for, or says what is wrong with
 /// them, or writes the help or the version that they ask for. `to_terminal` says whether standard output
 /// is a terminal; `progress` gets how far comparisons are.
 pub(crate) fn answer<G: Progress>(

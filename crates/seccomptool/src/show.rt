@@ -25,8 +25,8 @@ use std::collections::BTreeMap;
 /// # Errors
 ///
 /// The first of these: `Library` with what `JsonCompiler::policies_of` rejects the text for; `Library` with `FilterTooLarge`, or
-/// `TreeTooLarge`, of the least name whose program would have more than 4096 instructions in this layout. `OutOfMemory` comes in place of any
-/// of these where memory runs out.
+/// `TreeTooLarge`, of the least name whose program would have more than 4096 instructions in this layout. `OutOfMemory`
+/// is returned instead of any of these if memory runs out.
 pub fn programs_in(
     alloc: Global,
     target: TargetArch,

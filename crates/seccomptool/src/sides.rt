@@ -20,7 +20,7 @@ use std::collections::BTreeMap;
 pub struct Side<'a> {
     /// What it is.
     pub kind: Subject<'a>,
-    /// The filter that is asked for, of a policy; its only one where none is.
+    /// The filter that is asked for, of a policy; its only one if none is.
     pub filter: Option<&'a str>,
     /// Its bytes.
     pub given: &'a [u8],
@@ -40,9 +40,9 @@ pub(crate) struct Ruled {
 ///
 /// # Errors
 ///
-/// `Library` with what is at fault in a policy; `NoFilter` with the name where no filter has the one that is asked for; `Unchosen`
-/// where no filter is asked for and the policy hasn't exactly one; `Library` with `FilterTooLarge` where the filter is too large in
-/// both layouts; `Profile` with what is at fault in a profile; `Program` with the first fault of a program. `OutOfMemory` where
+/// `Library` with what is at fault in a policy; `NoFilter` with the name if no filter has the one that is asked for; `Unchosen`
+/// if no filter is asked for and the policy doesn't have exactly one; `Library` with `FilterTooLarge` if the filter is too large in
+/// both layouts; `Profile` with what is at fault in a profile; `Program` with the first fault of a program. `OutOfMemory` if
 /// memory runs out.
 pub(crate) fn ruled_by(
     alloc: Global,

@@ -39,7 +39,8 @@ pub struct FilterStats {
 /// # Errors
 ///
 /// The first of these: `Library` with what `JsonCompiler::policies_of` rejects the text for; `Library` with `FilterTooLarge` of the
-/// least name whose program in the linear layout is too large, or else whose tree is. `OutOfMemory` comes in place of any of these where memory runs out.
+/// least name whose program in the linear layout is too large, or else whose tree is. `OutOfMemory` is returned instead of any
+/// of these if memory runs out.
 pub fn stats_of(
     alloc: Global,
     target: TargetArch,

@@ -29,7 +29,7 @@ pub enum Command<'a> {
         reading: Reading,
         /// Whether names that no call of the architecture has are an error, in a profile.
         strict: bool,
-        /// The filter's name; the policy's only filter where there is none.
+        /// The filter's name; the policy's only filter if there is none.
         filter: Option<&'a str>,
         /// The program's layout.
         layout: Layout,
@@ -44,7 +44,7 @@ pub enum Command<'a> {
         arch: TargetArch,
         /// How what is given is read.
         reading: Reading,
-        /// The filter's name; all filters of a policy where there is none.
+        /// The filter's name; all filters of a policy if there is none.
         filter: Option<&'a str>,
         /// The programs' layout.
         layout: Layout,
@@ -70,16 +70,16 @@ pub enum Command<'a> {
         arch: TargetArch,
         /// How what is given is read.
         reading: Reading,
-        /// The filter's name; the policy's only filter where there is none.
+        /// The filter's name; the policy's only filter if there is none.
         filter: Option<&'a str>,
         /// How a line is written.
         format: LineFormat,
-        /// The call; those of the records where there is none.
+        /// The call; those of the records if there is none.
         call: Option<Call<'a>>,
     },
     /// Print the name and the number of a call, or write its record.
     Call {
-        /// The architecture; all where there is none.
+        /// The architecture; all if there is none.
         arch: Option<TargetArch>,
         /// The call.
         call: Call<'a>,
@@ -101,7 +101,7 @@ pub enum Command<'a> {
     },
 }
 
-/// The names of the filters of two sides, where they are asked for.
+/// The names of the filters of two sides, if they are asked for.
 #[derive(Clone, Copy)]
 pub struct Names<'a> {
     /// The old one.
@@ -115,7 +115,7 @@ pub struct Names<'a> {
 pub struct Call<'a> {
     /// Its name or number.
     pub name: &'a str,
-    /// Its arguments, 0 where none is given.
+    /// Its arguments, 0 if none is given.
     pub arguments: [u64; 6],
 }
 
@@ -163,9 +163,9 @@ impl<T: Drop> From<AllocFailed<T>> for Misuse {
 ///
 /// # Errors
 ///
-/// `clap`'s: help and the version where they are asked for, and its own error of arguments that are no
-/// command. `ValueValidation` where an ARG or the value of `--most` is no number, where `explain` is given both CALL and
-/// `--records`, where the value of `--kernel` is no version, where `call` is given `--output` without `--record`, and where two files
+/// `clap`'s: help and the version if they are asked for, and its own error of arguments that are no
+/// command. `ValueValidation` if an ARG or the value of `--most` is no number, if `explain` is given both CALL and
+/// `--records`, if the value of `--kernel` is no version, if `call` is given `--output` without `--record`, and if two files
 /// would both be read from standard input: what is explained and records, or both of what is compared. `OutOfMemory` may come in
 /// place of any.
 pub(crate) fn read<'a>(alloc: Global, words: &'a [String]) -> Result<Asked<'a>, clap::Error> {

@@ -26,13 +26,13 @@ pub struct CheckedProfile {
 /// These filters decide together, and a runtime reads the profile. So these warnings are left out beside those of the allowed
 /// codes:
 ///
-/// - of each filter those of `crate-differs`, and those of `clone-by-clone3` where one of the filters denies each `clone3`;
+/// - of each filter those of `crate-differs`, and those of `clone-by-clone3` if one of the filters denies each `clone3`;
 /// - of `base` those of `unreachable-entry`, `redundant-entry` and `undecided-entry`;
-/// - of each other filter those of `allows-by-default`, where there is `base`.
+/// - of each other filter those of `allows-by-default`, if there is `base`.
 ///
 /// # Errors
 ///
-/// Those of [`compiled_of`], where it isn't strict.
+/// Those of [`compiled_of`], if it isn't strict.
 pub fn profile_checked(
     alloc: Global,
     target: TargetArch,

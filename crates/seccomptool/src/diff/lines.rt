@@ -36,7 +36,7 @@ pub(crate) fn lines_by_name(
 }
 
 /// The lines of a comparison of a pair of sides: what is found on the architecture's calls, those that have a name first; and then,
-/// where one of the sides is a program, on the calls of others.
+/// if one of the sides is a program, on the calls of others.
 pub(crate) fn pair_lines(
     alloc: Global,
     terms: Terms,

@@ -27,8 +27,8 @@ pub enum Reason {
         entries: usize,
         /// The call's number.
         number: u32,
-        /// Of the first conditions that don't hold, one of each entry, the first that stands furthest
-        /// behind in its entry.
+        /// Of the first conditions that don't hold, one of each entry, the first of those with the
+        /// greatest index.
         nearest: Miss,
     },
     /// An entry is for the record's call and matches by itself, and none in front of it does.

@@ -9,7 +9,7 @@ use seccomp_tree::fitting_bpf;
 use seccompiler::{BpfProgram, SeccompFilter};
 use std::alloc::Global;
 
-/// The program of a filter as a tree where that fits, else in the linear layout.
+/// The program of a filter as a tree if that fits, else in the linear layout.
 pub(crate) fn fitting_program(
     alloc: Global,
     filter: &SeccompFilter,

@@ -61,7 +61,7 @@ pub(crate) fn push_verdict(
     })
 }
 
-/// Adds the line of what is found on a part: none where the relation holds.
+/// Adds the line of what is found on a part: none if the relation holds.
 pub(crate) fn push_finding(
     alloc: Global,
     text: &mut Vec<u8>,
@@ -125,7 +125,7 @@ impl fmt::Display for Word {
     }
 }
 
-/// A call of an architecture, by its name, or by its number where it has none.
+/// A call of an architecture, by its name, or by its number if it has none.
 #[derive(Clone, Copy)]
 pub(crate) struct CallName {
     pub(crate) target: TargetArch,
@@ -174,7 +174,7 @@ impl fmt::Display for PartName {
     }
 }
 
-/// A call on which two sides differ: its name or number, behind the `AUDIT_ARCH_*` value where that is another, its arguments,
+/// A call on which two sides differ: its name or number, after the `AUDIT_ARCH_*` value if that is another, its arguments,
 /// and the instruction pointer if that is to be printed.
 #[derive(Clone, Copy)]
 struct Example {

@@ -9,19 +9,19 @@ pub enum ProgramFault {
     Short(usize),
     /// It has so many instructions: none, or more than 4096.
     Length(usize),
-    /// Its instruction at this place, from 0, is the first that may not stand where it does.
+    /// Its instruction at this place, from 0, is the first that isn't allowed there.
     Unfit(usize, Amiss),
 }
 
-/// Why an instruction may not stand where it does.
+/// Why an instruction isn't allowed at its place.
 #[derive(Clone, Copy)]
 pub enum Amiss {
     /// Its code is this one, and none of those that `machine::run` of `seccomp_compare` knows.
     Operation(u16),
-    /// It loads from a byte that is no multiple of 4, or lies behind byte 60: none of a record's 16 numbers
+    /// It loads from a byte that is no multiple of 4, or is above byte 60: none of a record's 16 numbers
     /// of 32 bits.
     Load,
-    /// A place that it leads to lies behind the program's end.
+    /// A place that it leads to is past the program's end.
     Jump,
     /// It is the last one, and doesn't return.
     End,

@@ -21,7 +21,7 @@ use std::alloc::{AllocError, Global};
 ///
 /// # Errors
 ///
-/// `Program` with the first of [`ProgramFault`] that is so of the bytes; `OutOfMemory` in its place where memory runs out.
+/// `Program` with the first of [`ProgramFault`] that is so of the bytes; `OutOfMemory` in its place if memory runs out.
 pub(crate) fn program_of(alloc: Global, bytes: &[u8]) -> Result<BpfProgram, ToolError>
     ensures program { IfOk result (λ read. IsProgramOf bytes.now read.items) }
     ensures checked { IfOk result (λ read. IsChecked read.items) }

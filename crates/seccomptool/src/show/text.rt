@@ -40,7 +40,7 @@ pub(crate) fn programs_text(
     some_text(alloc, asked, text)
 }
 
-/// The text of a program by itself. Its calls have their names on the architecture that it tests for, and on this one where it
+/// The text of a program by itself. Its calls have their names on the architecture that it tests for, and on this one if it
 /// tests for none.
 pub(crate) fn program_text(
     alloc: Global,

@@ -42,7 +42,7 @@ pub(crate) fn filters_text(
     some_text(alloc, asked, text)
 }
 
-/// The line of the numbers of one program, behind a name.
+/// The line of the numbers of one program, after a name.
 pub(crate) fn measure_text(
     alloc: Global,
     front: &str,

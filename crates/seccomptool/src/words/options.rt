@@ -5,7 +5,7 @@ use std::alloc::{AllocError, Global};
 
 pub(super) type Built<'a> = Result<Command<'a>, AllocError>;
 
-/// An option or an argument: its name, which is that of an option behind `--`; what it takes; and what the help says of it.
+/// An option or an argument: its name, which is that of an option after `--`; what it takes; and what the help says of it.
 pub(super) type Row<'a> = (&'a str, Takes<'a>, &'a str);
 
 /// What an option takes, or what an argument is, with the name of that in the help.
@@ -15,7 +15,7 @@ pub(super) enum Takes<'a> {
     Nothing,
     /// An option with a value.
     Value(&'a str),
-    /// An option with one of these values, if there are any, and with this one where it isn't given, unless that is empty.
+    /// An option with one of these values, if there are any, and with this one if it isn't given, unless that is empty.
     OneOf(&'a str, &'a [&'a str], &'a str),
     /// An option with one of these values, if there are any, which may be given several times.
     Several(&'a str, &'a [&'a str]),
@@ -23,9 +23,9 @@ pub(super) enum Takes<'a> {
     Place(&'a str, bool),
     /// So many arguments at most in a row; options may stand between them.
     Places(&'a str, usize),
-    /// A file, which is standard input where it isn't given.
+    /// A file, which is standard input if it isn't given.
     File(&'a str),
-    /// Files, which are standard input where none is given.
+    /// Files, which are standard input if none is given.
     Files(&'a str),
 }
 

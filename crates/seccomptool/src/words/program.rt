@@ -160,7 +160,7 @@ static CALL: [Row<'static>; 5] = [
     ("arguments", Places("ARG", 6), ARGUMENTS),
 ];
 
-/// The subcommands and their arguments. The arguments that it reads are those behind the program's own name.
+/// The subcommands and their arguments. The arguments that it reads are those after the program's own name.
 pub(super) fn program<'a>(alloc: Global) -> Built<'a> {
     let check =
         "Print the first error of a policy or a profile with its place, or else its warnings";

@@ -34,7 +34,7 @@ pub trait TellsRecords {
 /// # Errors
 ///
 /// The first of these: `Read` if the reader fails; `Write` if the writer does; `ShortRecord` if 1 to 63 bytes
-/// are left, after the text of the whole records is written. `OutOfMemory` comes in place of any of these if
+/// are left, after the text of the whole records is written. `OutOfMemory` is returned instead of any of these if
 /// memory runs out, in the reader too. On any error but `Write` and `ShortRecord` nothing is written.
 pub fn tell_records<T: TellsRecords, R: Read + Drop, W: Write>(
     alloc: Global,

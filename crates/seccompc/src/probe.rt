@@ -34,7 +34,7 @@ use std::io::{Read, Write};
 /// architecture's name, ASCII case aside; `Library` with `InvalidArgumentNumber` if `index` is above 5;
 /// `Library` with `InvalidSyscallNumber` if `nr` lies outside 0 to 4294967295; `Read` if the reader fails;
 /// `Write` if the writer does; `ShortRecord` if 1 to 63 bytes are left, after the lines of the whole records
-/// are written. `OutOfMemory` comes in place of any of these if memory runs out, in the reader too. On any
+/// are written. `OutOfMemory` is returned instead of any of these if memory runs out, in the reader too. On any
 /// error but `Write` and `ShortRecord` nothing is written.
 pub fn probe<R: Read + Drop, W: Write>(
     alloc: Global,

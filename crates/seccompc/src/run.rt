@@ -27,7 +27,7 @@ use std::io::{Read, Write};
 /// architecture's name, ASCII case aside; `Library` with what `compile_from_json` rejects the policy for,
 /// `JsonFrontend(Read)` among it if its reader fails; `NoFilter` with the name if no filter of the policy has
 /// it; `Read` if the reader of the records fails; `Write` if the writer does; `ShortRecord` if 1 to 63 bytes
-/// are left, after the lines of the whole records are written. `OutOfMemory` comes in place of any of these if
+/// are left, after the lines of the whole records are written. `OutOfMemory` is returned instead of any of these if
 /// memory runs out, in a reader too. On any error but `Write` and `ShortRecord` nothing is written.
 pub fn run_policy<P: Read + Drop, R: Read + Drop, W: Write>(
     alloc: Global,

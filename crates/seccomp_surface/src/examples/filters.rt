@@ -40,7 +40,7 @@ fn a_rule_in_a_buffer(rt: HostRuntime) -> Result<(), Fail> {
     let equal = SeccompCondition::new(0, SeccompCmpArgLen::Dword, SeccompCmpOp::Eq, 5)?;
     let rule = SeccompRule::new(vec![in alloc; equal]?)?;
     let word = SeccompAction::Allow.into();
-    // The rule and a return behind it, in a buffer of the caller's.
+    // The rule and a return after it, in a buffer of the caller's.
     let mut buffer = [bpf_stmt(BPF_RET | BPF_K, 0); 16];
     let end = rule.code_len();
     if end < buffer.len() {

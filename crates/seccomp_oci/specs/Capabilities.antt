@@ -14,7 +14,7 @@ capability_names = codes "CAP_CHOWN" ∷ codes "CAP_DAC_OVERRIDE" ∷ codes "CAP
     ∷ codes "CAP_MAC_ADMIN" ∷ codes "CAP_SYSLOG" ∷ codes "CAP_WAKE_ALARM" ∷ codes "CAP_BLOCK_SUSPEND" ∷ codes "CAP_AUDIT_READ"
     ∷ codes "CAP_PERFMON" ∷ codes "CAP_BPF" ∷ codes "CAP_CHECKPOINT_RESTORE" ∷ []
 
--- The name is what stands behind the first four bytes of the capability's, in any case.
+-- The name is what stands after the first four bytes of the capability's, in any case.
 pub record IsShort (own name : List ℕ) : Type 0 where
   pub long : 4 ≤ length own
   pub same : map to_ascii_lowercase (drop 4 own) ≡ map to_ascii_lowercase name

@@ -26,7 +26,7 @@ pub record IsProfileProgram (arch : TargetArch) (container : Container) (p : Pro
   pub checked : IsChecked program
   pub decides : (r : List ℕ) → IsRecord r → EndsAsProfile arch container p program r
 
--- The text is this profile's, and these names are left out: none where that is an error.
+-- The text is this profile's, and these names are left out: none if that is an error.
 pub record IsRead (arch : TargetArch) (container : Container) (strict : Bool) (text : List ℕ) (p : Profile)
     (left_out : List (List ℕ)) : Type 0 where
   pub profile : IsProfileText text p

@@ -23,7 +23,7 @@ go_name x86_64 = codes "amd64"
 go_name aarch64 = codes "arm64"
 go_name riscv64 = codes "riscv64"
 
--- The kernel is this one, or a newer one: by the major number, and where they have the same one, by the minor number. Where
+-- The kernel is this one, or a newer one: by the major number, and if they have the same one, by the minor number. If
 -- no kernel is given, it is newer than each.
 abbrev pub IsAtLeast : Option Kernel → Kernel → Type 0
 IsAtLeast None least = ⊤
@@ -115,7 +115,7 @@ pub record IsFirstLeast {X : Type 0} (rank_of : X → ℕ) (P : X → Type 0) (x
 abbrev pub NoneOf : {X : Type 0} → (X → Type 0) → List X → ℕ → Type 0
 NoneOf {X = X} P xs n = (k : ℕ) (y : X) → k < n → y ≡ slice_index_or xs k y → P y → ⊥
 
--- ---- what holds where no entry matches
+-- ---- what holds if no entry matches
 
 -- The default action of a number. On x86_64 the thread is killed that makes a call by a number of x32, which has bit 30
 -- (asm/unistd.h); libseccomp takes the greatest number for none of these. Errno 38 (ENOSYS) answers numbers above all that are named.
@@ -158,7 +158,7 @@ pub record IsByEntry (arch : TargetArch) (container : Container) (p : Profile) (
   pub is : action ≡ entry.action
 
 -- What a profile decides of a call record of the architecture, in a container. Of the entries that match the first without
--- conditions decides, whatever stands beside it. Else it is the first of the strictest; where they name several actions, the
+-- conditions decides, whatever stands beside it. Else it is the first of the strictest; if they name several actions, the
 -- profile leaves the answer open. If none matches, it is the default action.
 pub data IsProfileDecision (arch : TargetArch) (container : Container) (p : Profile) (r : List ℕ) (action : SeccompAction) : Type 0 where
   by_entry : (place : ℕ) → IsByEntry arch container p r action place → IsProfileDecision arch container p r action

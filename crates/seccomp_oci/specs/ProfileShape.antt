@@ -28,7 +28,7 @@ pub record AreCriteria (d : Data) (c : Criteria) : Type 0 where
   pub arches : IsListed IsText (get (codes "arches") d) c.arches
   pub min_kernel : IsKernelOr (get (codes "minKernel") d) c.min_kernel
 
--- What stands there is these criteria: empty ones where nothing stands there, or null.
+-- What stands there is these criteria: empty ones if nothing stands there, or null.
 abbrev pub AreCriteriaOr : Option Data → Criteria → Type 0
 AreCriteriaOr None c = (c.caps ≡ []) × (c.arches ≡ []) × (c.min_kernel ≡ None)
 AreCriteriaOr (Some null) c = (c.caps ≡ []) × (c.arches ≡ []) × (c.min_kernel ≡ None)

@@ -19,7 +19,7 @@ IsProfileFault text (Json cause) = (IsMemory cause → ⊥) × ((d : Data) → I
 IsProfileFault text (NotAProfile told) = (d : Data) × IsReadAs text d × ((p : Profile) → IsProfile d p → ⊥)
 IsProfileFault text OutOfMemory = ⊤
 
--- The text of the error, where all of it is known: that of `Json` ends in serde_json's own words.
+-- The text of the error, if all of it is known: that of `Json` ends in serde_json's own words.
 abbrev pub profile_error_text : ProfileError → Option (List ℕ)
 profile_error_text (Json cause) = None
 profile_error_text (NotAProfile told) = Some (string_bytes told)

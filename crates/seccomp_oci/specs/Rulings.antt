@@ -10,7 +10,7 @@ use Rattle.seccomp_oci.specs.Concerns.{Concern, IsConcernOf}
 use Rattle.seccomp_oci.specs.Decision.{IsFirstLeast, Matches, rank}
 use Rattle.seccomp_oci.specs.Types.{Container, Entry}
 
--- Of the calls of number n this is what the entry says: it has the property where one of the lists of conditions holds.
+-- Of the calls of number n this is what the entry says: it has the property if one of the lists of conditions holds.
 pub record IsSaid (P : Entry → Type 0) (n : ℕ) (r : List ℕ) (e : Entry) (c : Concern) : Type 0 where
   pub rank : c.rank ≡ rank e
   pub action : c.action ≡ e.action
@@ -29,7 +29,7 @@ NoneHolds r rulings = All (λ (d : Ruling). RuleHolds d.conditions r → ⊥) ru
 abbrev pub IsDone : ℕ → ℕ → ℕ → Entry → Type 0
 IsDone s i k e = (rank e < s) ⊎ ((rank e ≡ s) × (k < i))
 
--- The rulings are those of the entries that are done: the first that holds is that of the entry that is asked first, and where none
+-- The rulings are those of the entries that are done: the first that holds is that of the entry that is asked first, and if none
 -- holds, no entry that is done has the property.
 pub record AreRulings (P : Entry → Type 0) (entries : List Entry) (s i : ℕ) (r : List ℕ) (rulings : List Ruling) : Type 0 where
   pub held : (w : ℕ) → IsHeld r rulings w

@@ -26,7 +26,7 @@ IsWholeOr otherwise most None n = n ≡ otherwise
 IsWholeOr otherwise most (Some null) n = n ≡ otherwise
 IsWholeOr otherwise most (Some d) n = IsWhole most d n
 
--- The items that stand there: none where nothing stands there, or null; else those of an array.
+-- The items that stand there: none if nothing stands there, or null; else those of an array.
 abbrev pub items_of : Option Data → Option Items
 items_of None = Some no_items
 items_of (Some null) = Some no_items

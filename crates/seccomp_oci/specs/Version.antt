@@ -12,7 +12,7 @@ pub record IsNumberText (text : List ℕ) (n : ℕ) : Type 0 where
   pub value : n ≡ digits_value 10 text
   pub fits : n < 2 ^ 32
 
--- The text is this version: its major number stands in front of the first full stop, and its minor number behind it.
+-- The text is this version: its major number stands in front of the first full stop, and its minor number after it.
 pub record IsVersion (text : List ℕ) (k : Kernel) : Type 0 where
   pub major : IsNumberText (before_first (λ c. c == 46) text) k.major
   pub minor : IsNumberText (after_first (λ c. c == 46) text) k.minor

@@ -14,7 +14,7 @@ use Rattle.seccompiler_c.specs.declared.fault.Fault.{Fault}
 use Rattle.seccompiler_c.specs.declared.fault.Fault.TheVariants.{OutOfMemory, UnknownArchitecture, UnknownLayout, Text, NoFilter, NoIndex}
 use Rattle.seccompiler_c.specs.declared.fault.Fault.TheVariants.{Filter, NoRoom}
 
--- The text of a fault, where all of it is known: that of JSON that can't be read ends in serde_json's own words.
+-- The text of a fault, if all of it is known: that of JSON that can't be read ends in serde_json's own words.
 abbrev pub fault_text : Fault → Option (List ℕ)
 fault_text OutOfMemory = Some (codes "Out of memory.")
 fault_text UnknownArchitecture = Some (codes "Unknown architecture.")
@@ -31,7 +31,7 @@ IsFaultText (Text e) said = IsJsonText e said
 IsFaultText fault said = fault_text fault ≡ Some said
 
 -- The front of the buffer holds the front of a text, as many whole characters of it as there is room for with a byte 0
--- behind them; this byte; and behind it what it held.
+-- after them; this byte; and after it what it held.
 pub record HoldsFront (said old new : List ℕ) : Type 0 where
   pub count : ℕ
   pub boundary : IsCharBoundary said count
@@ -44,7 +44,7 @@ pub data HoldsMessage (said old new : List ℕ) : Type 0 where
   holds : HoldsFront said old new → HoldsMessage said old new
   no_byte : length old ≡ 0 → new ≡ old → HoldsMessage said old new
 
--- The sentence is the fault's text, as people read it, or, where memory is refused for it, what the fault's code means.
+-- The sentence is the fault's text, as people read it, or, if memory is refused for it, what the fault's code means.
 abbrev pub IsTold : Fault → List ℕ → Type 0
 IsTold fault said = IsShown (IsFaultText fault) said ⊎ (said ≡ code_text (fault_code fault))
 
@@ -55,7 +55,7 @@ pub record TellsFault (fault : Fault) (old new : List ℕ) : Type 0 where
   pub told : IsTold fault said
   pub holds : HoldsMessage said old new
 
--- The kind of a fault on an architecture, where it has a place in the policy.
+-- The kind of a fault on an architecture, if it has a place in the policy.
 abbrev pub fault_cause : TargetArch → Fault → Option Cause
 fault_cause target (Text e) = frontend_cause target e
 fault_cause target fault = None

@@ -16,7 +16,7 @@ use Rattle.seccomptool.specs.declared.error.ToolError.TheVariants.{Library, Faul
 use Rattle.seccomptool.specs.declared.findings.Verdict.{Verdict}
 use Rattle.seccomptool.specs.declared.findings.Verdict.TheVariants.{Same, Different}
 
--- The report is that of the filters of a text, but for the codes that are allowed for a filter's name, each line behind this front.
+-- The report is that of the filters of a text, but for the codes that are allowed for a filter's name, each line after this front.
 pub record IsTextReport (target : TargetArch) (allowed_for : JsonFilterMap → List ℕ → List Code) (front text : List ℕ) (report : Report)
     : Type 0 where
   pub filters : JsonFilterMap
@@ -35,7 +35,7 @@ IsRefusal target text (Fault told) = IsPlaced target text (string_bytes told)
 IsRefusal target text OutOfMemory = ⊤
 IsRefusal target text e = ⊥
 
--- The verdict where warnings are denied or not, and there are so many: different where there are some and they are denied.
+-- The verdict if warnings are denied or not, and there are so many: different if there are some and they are denied.
 abbrev pub verdict_where : Bool → ℕ → Verdict
 verdict_where false count = Same
 verdict_where true count = if count == 0 then Same else Different

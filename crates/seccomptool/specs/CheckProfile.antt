@@ -26,7 +26,7 @@ has_base filters = is_some (get_by_text filters.0 (codes "base"))
 abbrev pub DenyClone3 : JsonFilterMap → Type 0
 DenyClone3 filters = Any (λ (f : String Global × JsonFilter). DeniesEach (codes "clone3") f.1) filters.0.entries
 
--- Of each filter: what the Rust crate makes of it, since a runtime reads the profile; and that `clone3` is let through, where another
+-- Of each filter: what the Rust crate makes of it, since a runtime reads the profile; and that `clone3` is let through, if another
 -- filter denies it.
 abbrev pub codes_of_each : (denied : Bool) → List Code
 codes_of_each true = code.CrateDiffers ∷ code.CloneByClone3 ∷ []
@@ -36,7 +36,7 @@ codes_of_each false = code.CrateDiffers ∷ []
 abbrev pub codes_of_base : List Code
 codes_of_base = code.UnreachableEntry ∷ code.RedundantEntry ∷ code.UndecidedEntry ∷ []
 
--- Of each other filter moreover: that it lets through what it doesn't list, where `base` judges that.
+-- Of each other filter moreover: that it lets through what it doesn't list, if `base` judges that.
 abbrev pub codes_of_others : (base : Bool) → List Code
 codes_of_others true = code.AllowsByDefault ∷ []
 codes_of_others false = []
@@ -48,7 +48,7 @@ left_out_of base denied allowed =
 
 -- ---- the warnings
 
--- The report is that of these filters, each line behind a front, without what isn't reported of a profile's filters.
+-- The report is that of these filters, each line after a front, without what isn't reported of a profile's filters.
 pub record IsProfileReport (target : TargetArch) (allowed : List Code) (front : List ℕ) (filters : JsonFilterMap) (report : Report) : Type 0
   where
     pub denies : Bool

@@ -11,7 +11,7 @@ use Rattle.seccompiler.specs.JsonTypes.{JsonFilter}
 use Rattle.seccomptool.specs.declared.error.ToolError.{ToolError}
 use Rattle.seccomptool.specs.declared.error.ToolError.TheVariants.{Library, Unchosen, OutOfMemory}
 
--- The bytes of a text, where there is one.
+-- The bytes of a text, if there is one.
 abbrev pub text_of : Option (Bor (List ℕ)) → Option (List ℕ)
 text_of = option_map (λ t. t.now)
 
@@ -21,7 +21,7 @@ pub record HasOnlyName (d : Data) (name : List ℕ) : Type 0 where
   pub there : Has d name value
   pub only : (other : List ℕ) (v : Data) → Has d other v → other ≡ name
 
--- The name is the one that is asked for; or, where none is, the only one of the text's value.
+-- The name is the one that is asked for; or, if none is, the only one of the text's value.
 abbrev pub IsChosen : List ℕ → Option (List ℕ) → List ℕ → Type 0
 IsChosen text (Some asked) name = name ≡ asked
 IsChosen text None name = OfValue text (λ d. HasOnlyName d name)

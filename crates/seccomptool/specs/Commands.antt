@@ -185,7 +185,7 @@ IsCarriedOut (DiffOf terms reading names counted quiet) old new v = IsCompared t
 abbrev pub IsPerformed : Command → Verdict → Type 0
 IsPerformed command v = (first : List ℕ) × (second : List ℕ) × IsCarriedOut command first second v
 
--- What is written is as it was, unless it is writing that fails, or a rest of a record is told behind what is written.
+-- What is written is as it was, unless it is writing that fails, or a rest of a record is told after what is written.
 abbrev pub KeepsOutput : {W : Type 0} → Failure → W → W → Type 0
 KeepsOutput (failure.Output e) old new = ⊤
 KeepsOutput (failure.ShortRecord rest) old new = ⊤
@@ -198,12 +198,12 @@ verdict_status Same = 0
 verdict_status Different = 1
 verdict_status Undecided = 3
 
--- The command may end with this status: where that is a verdict's, and not that of trouble, it is carried out, and this is what it
+-- The command may end with this status: if that is a verdict's, and not that of trouble, it is carried out, and this is what it
 -- finds.
 abbrev pub EndsWith : Command → ℕ → Type 0
 EndsWith command status = (v : Verdict) → status ≡ verdict_status v → IsPerformed command v
 
--- The command ends with statuses, one for each of these that it is carried out on, of which this is the greatest; it is 0 where
+-- The command ends with statuses, one for each of these that it is carried out on, of which this is the greatest; it is 0 if
 -- there is none.
 pub record EndWith (command : Command) (inputs : List Inputs) (status : ℕ) : Type 0 where
   pub statuses : List ℕ

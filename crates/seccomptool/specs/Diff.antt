@@ -111,7 +111,7 @@ IsDiffWhere true true target relation old new diff = ⊥
 IsDiffWhere old_whole new_whole target relation old new (OfPair pair) = IsPairOf target relation old new pair
 IsDiffWhere old_whole new_whole target relation old new diff = ⊥
 
--- The comparison of two sides: name by name, where all filters of both are compared, or else of what both rule.
+-- The comparison of two sides: name by name, if all filters of both are compared, or else of what both rule.
 abbrev pub IsDiff : TargetArch → Relation → (old new : Side) → Diff → Type 0
 IsDiff target relation old new diff = IsDiffWhere (is_whole old) (is_whole new) target relation old new diff
 

@@ -61,7 +61,7 @@ between least next = if nat_eq least next then [] else Unnamed least (next - 1) 
 
 -- ---- what is found
 
--- What is found on a part, where Words r new old says that the new side's word for the record is the one and the old side's
+-- What is found on a part, if Words r new old says that the new side's word for the record is the one and the old side's
 -- the other: that the relation holds of the words for each of these calls; or a call of them, with its words, for which it
 -- doesn't; or nothing.
 abbrev pub IsFound : (TargetArch) → Relation → (List ℕ → ℕ → ℕ → Type 0) → Part → Answer → Type 0

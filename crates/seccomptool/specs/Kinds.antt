@@ -42,7 +42,7 @@ abbrev pub IsReadAsProfile : (of_profiles : Bool) → List ℕ → Type 0
 IsReadAsProfile true text = ⊤
 IsReadAsProfile false text = IsOfProfile text
 
--- The bytes are taken as this: as a program where they begin as one; else as a profile in the container that is given, where they
+-- The bytes are taken as this: as a program if they begin as one; else as a profile in the container that is given, if they
 -- are read as one; else as a policy.
 abbrev pub IsTakenAs : Reading → List ℕ → Subject → Type 0
 IsTakenAs reading bytes subject.Program = BeginsAsProgram bytes

@@ -8,7 +8,7 @@ pub record IsWritten (radix : ℕ) (text : List ℕ) (n : ℕ) : Type 0 where
   pub value : n ≡ digits_value radix text
   pub fits : n < 2 ^ 64
 
--- The text is this number, in decimal digits, or in hexadecimal ones of either case behind `0x`.
+-- The text is this number, in decimal digits, or in hexadecimal ones of either case after `0x`.
 pub data IsNumber (text : List ℕ) (n : ℕ) : Type 0 where
   decimal : IsWritten 10 text n → IsNumber text n
   hexadecimal : (digits : List ℕ) → text ≡ codes "0x" ++ digits → IsWritten 16 digits n → IsNumber text n

@@ -52,7 +52,7 @@ abbrev pub FailsBelow : List JsonRule → List ℕ → ℕ → ℕ → Type 0
 FailsBelow entries r bound index = OfEntry (λ entry. (place : ℕ) × EntryFails entry r place × (place < bound)) entries index
 
 -- None of the entries with these indices matches, and this is the nearest miss: of its entry the first condition that
--- doesn't hold stands at its place; those of the entries in front stand lower, and those of the entries behind no higher.
+-- doesn't hold stands at its place; those of the entries in front stand lower, and those of the entries after no higher.
 pub record IsNearest (entries : List JsonRule) (r : List ℕ) (indices : List ℕ) (miss : Miss) : Type 0 where
   pub front : List ℕ
   pub back : List ℕ
@@ -67,7 +67,7 @@ pub record IsFirstMatch (entries : List JsonRule) (r : List ℕ) (indices : List
   pub matches : OfEntry (λ entry. EntryHolds entry r) entries place
   pub before : All (OfEntry (λ entry. EntryHolds entry r → ⊥) entries) (take rule indices)
 
--- This is why a filter of these entries decides a record of its own architecture as it does, where those of the record's
+-- This is why a filter of these entries decides a record of its own architecture as it does, if those of the record's
 -- call are the entries with these indices.
 abbrev pub IsReasonAmong : List JsonRule → List ℕ → List ℕ → Reason → Type 0
 IsReasonAmong entries r indices AnotherArchitecture = ⊥
@@ -86,7 +86,7 @@ pub data IsReason (target : TargetArch) (entries : List JsonRule) (r : List ℕ)
   of_another : word_at r 4 ≢ audit_word target → reason ≡ AnotherArchitecture → IsReason target entries r reason
   of_call : word_at r 4 ≡ audit_word target → IsReasonOfCall target entries r reason → IsReason target entries r reason
 
--- Between layers: the nearest miss of those so far and one more, which is the one more, where its condition stands further behind.
+-- Between layers: the nearest miss of those so far and one more, which is the one more, if its condition stands further on.
 abbrev pub nearer : Option Miss → Miss → Miss
 nearer None miss = miss
 nearer (Some nearest) miss = if nat_le miss.condition nearest.condition then nearest else miss

@@ -9,7 +9,7 @@ use Rattle.seccomptool.specs.declared.error.ToolError.{ToolError}
 use Rattle.seccomptool.specs.declared.error.ToolError.TheVariants.{UnknownCall, OutOfMemory}
 use Rattle.seccomptool.specs.Numbers.{IsNumber}
 
--- The text is this call of the architecture: its number, or, where it is no number, its name.
+-- The text is this call of the architecture: its number, or, if it is no number, its name.
 pub data IsCall (target : TargetArch) (text : List ℕ) (n : ℕ) : Type 0 where
   numbered : IsNumber text n → n < 2 ^ 32 → IsCall target text n
   named : ((m : ℕ) → IsNumber text m → ⊥) → number_of (table_of target) text ≡ Some (pos n) → IsCall target text n

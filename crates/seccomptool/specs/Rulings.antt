@@ -43,7 +43,7 @@ pub record StandsFor (target : TargetArch) (ruling : Ruling) (p : List sock_filt
 abbrev pub AreDecided : TargetArch → (new old : Ruling) → List ℕ → ℕ → ℕ → Type 0
 AreDecided target new old r new_word old_word = Decides target new r new_word × Decides target old r old_word
 
--- These are found of what the new and the old ruling decide. Where the verdict is that nothing differs, the relation holds of
+-- These are found of what the new and the old ruling decide. If the verdict is that nothing differs, the relation holds of
 -- both for every call of the architecture.
 pub record AreFindingsOf (target : TargetArch) (relation : Relation) (new old : Ruling) (findings : List Finding) : Type 0 where
   pub are : AreFindings target relation (AreDecided target new old) findings

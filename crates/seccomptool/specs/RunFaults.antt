@@ -19,13 +19,13 @@ known_codes = 0x20 ∷ 0x54 ∷ 0x05 ∷ 0x15 ∷ 0x25 ∷ 0x35 ∷ 0x45 ∷ 0x0
 abbrev pub IsTest : sock_filter → Type 0
 IsTest i = (i.code ≡ 0x15) ⊎ ((i.code ≡ 0x25) ⊎ ((i.code ≡ 0x35) ⊎ (i.code ≡ 0x45)))
 
--- The instruction at this place leads to one that lies behind the end of a program of n instructions.
+-- The instruction at this place leads to one past the end of a program of n instructions.
 pub data JumpsBehind (i : sock_filter) (place n : ℕ) : Type 0 where
   always : i.code ≡ 0x05 → n ≤ place + 1 + i.k → JumpsBehind i place n
   where_met : IsTest i → n ≤ place + 1 + i.jt → JumpsBehind i place n
   where_unmet : IsTest i → n ≤ place + 1 + i.jf → JumpsBehind i place n
 
--- This is amiss with the instruction at this place of a program of n instructions. Where the last one doesn't return, it
+-- This is amiss with the instruction at this place of a program of n instructions. If the last one doesn't return, it
 -- is one that might stand at its place if others followed.
 abbrev pub IsAmiss : sock_filter → ℕ → ℕ → Amiss → Type 0
 IsAmiss i place n (Operation code) = (code ≡ i.code) × All (λ known. i.code ≢ known) known_codes
@@ -33,7 +33,7 @@ IsAmiss i place n Load = (i.code ≡ 0x20) × ((i.k % 4 ≢ 0) ⊎ (60 < i.k))
 IsAmiss i place n Jump = JumpsBehind i place n
 IsAmiss i place n End = IsFine i place n × (place + 1 ≡ n) × (i.code ≢ 0x06)
 
--- The instruction at this place is the first that may not stand where it does, and this is amiss with it.
+-- The instruction at this place is the first that isn't allowed there, and this is amiss with it.
 pub record IsUnfitAt (program : List sock_filter) (place : ℕ) (amiss : Amiss) : Type 0 where
   pub first : IsFirstUnfit program place
   pub instruction : sock_filter

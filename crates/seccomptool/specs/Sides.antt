@@ -21,7 +21,7 @@ pub record IsOnly (filters : Policies) (name : List ℕ) (filter : Filter) : Typ
   pub there : filters name ≡ Some filter
   pub only : (other : List ℕ) (g : Filter) → filters other ≡ Some g → other ≡ name
 
--- The filter of the name that is asked for; or, where none is, the only one, under its name.
+-- The filter of the name that is asked for; or, if none is, the only one, under its name.
 abbrev pub IsChosen : Option (List ℕ) → Policies → List ℕ → Filter → Type 0
 IsChosen (Some asked) filters name filter = (name ≡ asked) × (filters asked ≡ Some filter)
 IsChosen None filters name filter = IsOnly filters name filter

@@ -40,7 +40,7 @@ pub record IsMeasureIn (layout : Layout) (target : TargetArch) (f : Filter) (m :
   pub compiled : IsCompiledIn layout f program
   pub measure : IsMeasureOf target program m
 
--- The value's policy on this architecture is one of whose programs these are the numbers. Where the policy has chains, so many
+-- The value's policy on this architecture is one of whose programs these are the numbers. If the policy has chains, so many
 -- steps takes the program in the linear layout on each record of this architecture that no chain is for.
 pub record HasStats (target : TargetArch) (s : FilterStats) (value : Data) : Type 0 where
   pub policy : Filter

@@ -1,5 +1,5 @@
 """Holds the names and numbers of calls against other sources of the machine: the kernel's headers, through a C compiler, and the
-resolver of libseccomp, where they are installed. Both may be older than the tables, or newer, so a name that they lack is passed over."""
+resolver of libseccomp, if they are installed. Both may be older than the tables, or newer, so a name that they lack is passed over."""
 
 import ctypes
 import ctypes.util
@@ -24,7 +24,7 @@ BORDERS = {"arch_specific_syscall", "syscalls"}
 
 
 def in_header(arch):
-    """Returns the numbers of names as a header has them; none where there is no header or no compiler."""
+    """Returns the numbers of names as a header has them; none if there is no header or no compiler."""
     header, defined = HEADERS[arch]
     words = ["env", "cc", "-E", "-dM", *defined.split(), "-include", header, "-x", "c", "/dev/null"]
     try:
@@ -38,7 +38,7 @@ def in_header(arch):
 
 
 def in_libseccomp(arch, names):
-    """Returns the numbers of names as libseccomp resolves them; none where it isn't installed. A number below 0 is its own."""
+    """Returns the numbers of names as libseccomp resolves them; none if it isn't installed. A number below 0 is its own."""
     file = ctypes.util.find_library("seccomp")
     if file is None:
         return {}
@@ -49,7 +49,7 @@ def in_libseccomp(arch, names):
 
 
 def compare_with(results, what, pairs, other):
-    """Compares a table with another source, where they share names."""
+    """Compares a table with another source, if they share names."""
     if not other:
         print(f"{what}: there is no such source, so it is left out")
         return

@@ -178,7 +178,7 @@ static const char SAME[] =
     "  {\"index\":0,\"type\":\"qword\",\"op\":\"le\",\"val\":9},{\"index\":0,\"type\":\"qword\",\"op\":\"ne\",\"val\":0}]}]}}";
 
 /* Kinds and data of actions on which the programs of those arrays end: the word is the kind with the low 16 bits of
- * the data, where data count. */
+ * the data, if data count. */
 static const struct {
     uint32_t kind, data;
     int64_t word;
@@ -276,7 +276,7 @@ static const struct {
 };
 
 /* Programs of so many returns with this instruction at a place: whether they may be run, and the first place that
- * isn't taken; SIZE_MAX where the place is as it was. */
+ * isn't taken; SIZE_MAX if the place is as it was. */
 static const struct {
     const char *what;
     size_t count, at;
@@ -331,7 +331,7 @@ static const struct {
     {"they are for no calls", LAX, 4, STRICT, 4, 0, AUDIT_ARCH_RISCV64, 40, 39, 1000, 1},
     {"the same program", LAX, 4, LAX, 4, 0, 0, 0, 0, 1000, 1},
     /* All calls are five sets, by the test for 39: all of them, which are split below 39; those below; those from 39 on,
-     * which are split behind it; 39 alone; and those above. Those below show that the lax one permits more. */
+     * which are split after it; 39 alone; and those above. Those below show that the lax one permits more. */
     {"as many sets as it takes", STRICT, 4, LAX, 4, 1, 0, 0, 0, 5, 1},
     {"one set less", STRICT, 4, LAX, 4, 1, 0, 0, 0, 4, SECCOMPILER_UNDECIDED},
     {"as many sets as a difference takes", LAX, 4, STRICT, 4, 1, 0, 0, 0, 2, 0},

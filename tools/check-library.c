@@ -69,7 +69,7 @@ void __wrap_free(void *block)
     __real_free(block);
 }
 
-/* From here on these requests are refused, counted from 1: none where the last is before the first. */
+/* From here on these requests are refused, counted from 1: none if the last is before the first. */
 static void refuse(long first, long last)
 {
     requests = 0;
@@ -119,7 +119,7 @@ static void mark_message(void)
     memset(message, '#', sizeof message);
 }
 
-/* The message is this sentence, and what is behind its byte 0 is as it was. */
+/* The message is this sentence, and what is after its byte 0 is as it was. */
 static int is_told(const char *said)
 {
     size_t bytes = strlen(said) + 1;
@@ -169,13 +169,13 @@ static void check_programs(void)
 {
     equal(compile_readme(SECCOMPILER_LAYOUT_LINEAR, 4100), 24, "the README's policy");
     check(memcmp(program, LISTING, sizeof LISTING) == 0, "the listing of the README's policy");
-    check(is_marked(24), "behind the program");
+    check(is_marked(24), "after the program");
     equal(seccompiler_check(program, 24), 1, "a check of the program");
     equal(seccompiler_check(program, 23), 0, "a check without the last return, to which a jump leads");
     equal(seccompiler_check(program, 25), 0, "a check of one instruction more");
     check_calls(24);
     equal(compile_readme(SECCOMPILER_LAYOUT_TREE, 13), 13, "the README's policy as a tree");
-    check(is_marked(13), "behind the tree");
+    check(is_marked(13), "after the tree");
     equal(seccompiler_check(program, 13), 1, "a check of the tree");
     check_calls(13);
 }
@@ -226,7 +226,7 @@ static int64_t compile_rules(const struct asked *asked)
         asked->chains, asked->chain_count, asked->rules, asked->rule_count, asked->conditions,
         asked->condition_count, asked->mismatch_kind, asked->mismatch_data, asked->match_kind, asked->match_data,
         asked->arch, asked->layout, program, asked->capacity);
-    check(is_marked(answer < 0 ? 0 : answer), "behind a program of rules");
+    check(is_marked(answer < 0 ? 0 : answer), "after a program of rules");
     if (refused_from <= refused_to)
         return answer;
     int64_t length = length_of_rules(asked);
@@ -400,7 +400,7 @@ static int64_t compile_rule(const struct seccompiler_condition *conditions, size
 {
     mark();
     int64_t answer = seccompiler_compile_rule(conditions, count, program, room);
-    check(is_marked(answer < 0 ? 0 : answer), "behind the code of a rule");
+    check(is_marked(answer < 0 ? 0 : answer), "after the code of a rule");
     return answer;
 }
 
@@ -449,7 +449,7 @@ static void check_refusals(void)
     for (size_t i = 0; i < sizeof NO_JSON / sizeof *NO_JSON; i++) {
         equal(compile(NO_JSON[i], strlen(NO_JSON[i]), AUDIT_ARCH_X86_64, "b", 1, 0, 0), SECCOMPILER_REJECTED,
               "a text of no JSON");
-        check(strlen(message) > strlen(NO_JSON_SAID), "words behind the beginning of a text of no JSON");
+        check(strlen(message) > strlen(NO_JSON_SAID), "words after the beginning of a text of no JSON");
         check(memcmp(message, NO_JSON_SAID, strlen(NO_JSON_SAID)) == 0, "the text of no JSON");
     }
 }
@@ -464,7 +464,7 @@ static void check_cuts(void)
               SECCOMPILER_REJECTED, "a code whose text is cut");
         check(memcmp(message, SHAPELESS_SAID, bytes) == 0, "a text that is cut");
         check(capacity == 0 || message[bytes++] == 0, "the end of a text that is cut");
-        check(message[bytes] == '#', "behind a text that is cut");
+        check(message[bytes] == '#', "after a text that is cut");
     }
 }
 
@@ -484,7 +484,7 @@ static void check_names(void)
         equal(name_at(NAMED, i, name, sizeof name), FILTERS[i].bytes, "the length of a name");
         check(is_told(""), "the message of a name");
         check(memcmp(name, FILTERS[i].name, FILTERS[i].bytes + 1) == 0, "a name");
-        check(name[FILTERS[i].bytes + 1] == '#', "behind a name");
+        check(name[FILTERS[i].bytes + 1] == '#', "after a name");
     }
     for (size_t i = 0; i < sizeof NO_NAMES / sizeof *NO_NAMES; i++) {
         char name[16];
@@ -614,9 +614,9 @@ static void check_lengths(void)
 {
     char *fits = long_text(817), *large = long_text(818);
     equal(compile(fits, strlen(fits), AUDIT_ARCH_X86_64, "a", 1, 0, 4096), 4092, "with room for any program");
-    check(is_marked(4092), "behind a program with room for any");
+    check(is_marked(4092), "after a program with room for any");
     equal(compile(fits, strlen(fits), AUDIT_ARCH_X86_64, "a", 1, 0, 4092), 4092, "the longest program");
-    check(is_marked(4092), "behind the longest program");
+    check(is_marked(4092), "after the longest program");
     equal(seccompiler_check(program, 4092), 1, "a check of the longest program");
     equal(compile(fits, strlen(fits), AUDIT_ARCH_X86_64, "a", 1, 0, 4091), SECCOMPILER_NO_ROOM, "no room");
     equal(compile(large, strlen(large), AUDIT_ARCH_X86_64, "a", 1, 0, 0), SECCOMPILER_TOO_LARGE, "too large");
@@ -630,7 +630,7 @@ static void check_lengths(void)
 /* ---- requests for memory refused: all, and each in turn */
 
 /* Makes a call with all requests refused, which answers want of memory; then once for each of its
- * requests, that one refused. Each answer is want of memory or the ample one, which comes where the call
+ * requests, that one refused. Each answer is want of memory or the ample one, which comes if the call
  * goes on without what was refused, and at the end. */
 static void sweep(int64_t (*call)(void), int64_t ample, int64_t refused)
 {
@@ -718,7 +718,7 @@ static int64_t compared(void)
     return answer;
 }
 
-/* A refusal of a shape: where memory is refused for its place, the message has none; where it is refused for all of
+/* A refusal of a shape: if memory is refused for its place, the message has none; if it is refused for all of
  * its text, the message is what the code means. */
 static int64_t refused_shape(const char *text, const char *said, const char *without_place)
 {
@@ -739,7 +739,7 @@ static int64_t steering(void)
     return refused_shape(STEERING, STEERING_SAID, STEERING_WITHOUT_PLACE);
 }
 
-/* Nothing is requested for a message for which there is no room: where all that is then requested is granted, and
+/* Nothing is requested for a message for which there is no room: if all that is then requested is granted, and
  * nothing more, a refusal has its code, and what the code means for its message. */
 static void without_room(void)
 {
@@ -753,7 +753,7 @@ static void without_room(void)
     refuse(1, 0);
 }
 
-/* The functions that take no memory make no request for any, and answer where none is granted. */
+/* The functions that take no memory make no request for any, and answer if none is granted. */
 static void without_memory(void)
 {
     struct seccomp_data call = call_of(AUDIT_ARCH_X86_64, 288, 0, 0, 0);

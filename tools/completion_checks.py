@@ -1,6 +1,6 @@
 #!/usr/bin/env python3
 """Checks of the completions, a part of tools/check-documents. It needs the built programs, and bash; zsh and fish are asked
-where they are installed.
+if they are installed.
 
 usage: tools/completion_checks.py
 
@@ -8,8 +8,8 @@ Each completion is asked of bash itself: it sources the file of completions/, se
 function and prints COMPREPLY. What is wanted comes from the programs' help and from the files of the folder:
 
 - the commands are exactly those that the help lists, and each command's options exactly those of its own help;
-- an option's values are those that its help lists; a file is completed where the help names one, and `-` beside it
-  where the help says that it is standard input; nothing is completed for any other argument;
+- an option's values are those that its help lists; a file is completed if the help names one, and `-` beside it
+  if the help says that it is standard input; nothing is completed for any other argument;
 - filters are those of the policy on the line, and what their names hold isn't run by the shell;
 - the scripts at the top of the repository, which would build the programs, aren't run.
 
@@ -43,7 +43,7 @@ OPTION = re.compile(r"^ +(?:(-\w), )?(--[a-z][a-z-]*)(?: <(\w+)>)?(?:.*\[possibl
 # The arguments that are files.
 FILES = ("FILE", "NEW", "OLD", "POLICY", "SUBJECT")
 
-# A filter's name that does something where a shell expands it, and one that is quoted.
+# A filter's name that does something if a shell expands it, and one that is quoted.
 FILTERS = ("$(touch made)", "a b", "main")
 ENTRIES = {"mismatch_action": "log", "match_action": "allow", "filter": []}
 POLICY = json.dumps({name: ENTRIES for name in FILTERS})
@@ -74,7 +74,7 @@ def commands_of(text):
 
 
 def wanted_for(kind, files, text=""):
-    """Returns what is completed where a help names this kind of argument. Bash itself quotes the names of files."""
+    """Returns what is completed if a help names this kind of argument. Bash itself quotes the names of files."""
     is_input = re.search(rf"^ +[<\[]{kind}[>\]].* - for standard input", text, re.M) is not None
     return sorted([*(files if kind in FILES else []), *(["-"] if is_input else [])])
 
@@ -196,7 +196,7 @@ def compare_shell(results, folder, shell):
 
 
 def compare_filters(results, folder):
-    """Compares the filters that are completed with those of policies, where one of their names is a trap."""
+    """Compares the filters that are completed with those of policies, if one of their names is a trap."""
     stated = sorted(quoted(it) for it in FILTERS)
     (folder / "policy.json").write_text(POLICY)
     for command in (it for it in commands_of(printed(folder, "./seccomptool --help")) if it != "help"):
@@ -248,7 +248,7 @@ class Results:
         self.passed = self.failed = 0
 
     def compare(self, what, stated, given):
-        """Counts a comparison, and prints what was wanted and found where it differs."""
+        """Counts a comparison, and prints what was wanted and found if it differs."""
         self.passed += stated == given
         self.failed += stated != given
         if stated != given:

@@ -31,5 +31,5 @@ def commands_of(lines):
 
 
 def is_jailed(lines):
-    """Returns whether a block runs a jailer: tools/try-jail runs it, where the kernel takes filters."""
+    """Returns whether a block runs a jailer: tools/try-jail runs it, if the kernel takes filters."""
     return any(it.startswith("$ jail ") for it in lines)

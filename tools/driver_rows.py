@@ -36,7 +36,7 @@ length, operator and value. Questions are
     failing FAULT CALL ..         the same of readers that give a byte at a time and fail after each; FAULT may be `never`
     make_seccomp_filter, widened ARCH TEXT; read_filters, repeats_key TEXT
 
-Where a call is rejected the answer is the error's text. In a TEXT `<3 x ENTRY>` stands for an entry three times.
+If a call is rejected the answer is the error's text. In a TEXT `<3 x ENTRY>` stands for an entry three times.
 """
 
 import collections
@@ -113,7 +113,7 @@ class Refused:
 
     def check(self, how, number):
         """Has a request fail; returns whether one did. All rows are answered as ever, and one maybe by that memory ran out before; or none
-        is, where the program has no memory for the rows themselves. Where there is no more memory at all, the rows may end early."""
+        is, if the program has no memory for the rows themselves. If there is no more memory at all, the rows may end early."""
         is_refused, status, told = self.told(how, number)
         rows = [row for row in told if not row.endswith(OUT_OF_MEMORY)]
         short = [place - before for before, place in

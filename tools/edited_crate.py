@@ -50,7 +50,7 @@ class Crate:
 
     @functools.lru_cache(maxsize=None)
     def copy_of(self, edit, ending=""):
-        """Returns an edit's function with the edit, under a name that ends so; or None where there is no such copy, or a
+        """Returns an edit's function with the edit, under a name that ends so; or None if there is no such copy, or a
         proof beside the function's names what is the function's, or its own is one of a cycle."""
         above = proofs_of(edit.function)
         (path, *more) = {path for path, _, _ in edit.changes}
@@ -83,7 +83,7 @@ def proofs_of(function):
 
 
 class EditedCrate:
-    """The texts of a crate with some edits: each on a copy of its function where it has one, and else in place."""
+    """The texts of a crate with some edits: each on a copy of its function if it has one, and else in place."""
 
     def __init__(self, crate, edits):
         self.crate, self.texts = crate, dict(crate.texts)
@@ -138,7 +138,7 @@ class EditedCrate:
         self.texts[f"{folder}/Proof.antt"] = HOLE.format(crate=self.crate.name, path=path, name=name)
 
     def write_answers(self, function):
-        """Writes an empty file of answers for a function that has none. Where there is none, a check of a wrong body makes
+        """Writes an empty file of answers for a function that has none. If there is none, a check of a wrong body makes
         one to print it, which takes it some time. A function that calls itself has its answers in another folder."""
         folder = proofs_of(function)
         is_written = any(f"{folder}/{it}" in self.texts for it in ("Answers.antt", "Proof.antt"))
@@ -174,7 +174,7 @@ class Said:
     def open_goals(self, function):
         """Returns the goals of a function's proof that are open, and the lemmas that it stands on and that are refused.
         Not those for which a written proof only names something that is gone: that would be refused of a right body too.
-        Where what is gone is a goal, none of those counts for which nothing is written."""
+        If what is gone is a goal, none of those counts for which nothing is written."""
         above, _, last = function.partition("::")[2].replace("::", "/").rpartition("/")
         place = re.compile(re.escape(above + "/" if above else "") + r"\+?" + re.escape(last) + r"/\w+")
         gone = r"has no field|is not in scope|has no `|was not admitted"
@@ -192,7 +192,7 @@ class Said:
         return [it for it in dict.fromkeys(found) if it in told or it not in refused]
 
     def verdict(self, edit, function):
-        """Returns whether an edit is refused by its goal, or None where its function waits for another, is refused by
+        """Returns whether an edit is refused by its goal, or None if its function waits for another, is refused by
         other goals alone, or has no verdict; and why."""
         if not self.has_ended:
             return None, f"no verdict: {self.text[:600]}"

@@ -1,5 +1,5 @@
 """Rows of programs and policies that are compared, for the program of crates/seccomp_vectors: made at random, the same each time, and
-of programs in files. Where the answer isn't known the row says `decided`: any but `undecided`."""
+of programs in files. If the answer isn't known the row says `decided`: any but `undecided`."""
 
 import random
 import struct

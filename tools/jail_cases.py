@@ -30,7 +30,7 @@ def denying(*entries):
 
 
 WIDE = 4294967298  # 2 to the 32, and 2: its low half is 2.
-FIONREAD = 0x541B  # A request of `ioctl` that a pipe answers, by EFAULT where its argument is 0.
+FIONREAD = 0x541B  # A request of `ioctl` that a pipe answers, by EFAULT if its argument is 0.
 TIOCSTI = 0x5412  # A request of `ioctl` that types into a terminal.
 CALLS = denying("sched_yield")
 
@@ -114,7 +114,7 @@ REFUSED = [
     ("no-filters.json", "", NO_FILTER + "."),
     ("actions.json", b"\xff", NO_FILTER + "\\xff."),
     ("actions.json", "a\x1b]\u0085", NO_FILTER + "a\\x1b]\\xc2\\x85."),
-    # Names are parted at commas, and the command isn't run where one of them is no filter's.
+    # Names are separated by commas, and the command isn't run if one of them is no filter's.
     ("comma.json", "a,b", NO_FILTER + "b."),
     ("comma.json", "a,", NO_FILTER + "."),
     ("actions.json", "errno,dog", NO_FILTER + "dog."),
@@ -166,7 +166,7 @@ CALLED = [
     (",errno", "sched_yield", "errno 1: Operation not permitted\n", 0),
     ("errno,no seccomp", "sched_yield", "errno 1: Operation not permitted\n", 0),
     ("nothing logged,errno", "sched_yield", "errno 1: Operation not permitted\n", 0),
-    # Where a filter answers `seccomp` with 0, the next one isn't installed, and neither jailer notices.
+    # If a filter answers `seccomp` with 0, the next one isn't installed, and neither jailer notices.
     ("seccomp as if done,errno", "sched_yield", "0\n", 0),
 ]
 
@@ -317,7 +317,7 @@ WEB_CALLS = [
 # What that policy doesn't tell apart from TCP: a socket of MPTCP. A kernel without it answers with another number.
 WEB_PASSED = "socket 2 1 262"
 
-# Under the filter `deny` of examples/deny-policy.json: what is refused, where the first argument is 0, a flag of a
+# Under the filter `deny` of examples/deny-policy.json: what is refused, if the first argument is 0, a flag of a
 # namespace or, before a request, standard input; and what isn't.
 DENIED = [
     "unshare", "setns", "clone3", "clone 0x00020000", "clone 0x02000000", "clone 0x04000000", "clone 0x08000000",
@@ -344,7 +344,7 @@ print(subprocess.run(["echo", "a child"], capture_output=True, text=True).stdout
 """
 
 # Filters whose programs bubblewrap is given, the first one first; and its options, each of which takes one, with a call
-# and the error number that it answers, or None where it is made.
+# and the error number that it answers, or None if it is made.
 WRAPPED = [denying("sched_yield", "getpgid"), filter_of({"errno": 1001}, "allow", "sched_yield")]
 WRAPPED_CALLS = [
     (["--seccomp"], "sched_yield", 1000),

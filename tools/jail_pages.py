@@ -56,7 +56,7 @@ LINES
 
 
 def is_of_profile(lines):
-    """Returns whether a block names the program that try_profiles makes where seccomptool is built."""
+    """Returns whether a block names the program that try_profiles makes if seccomptool is built."""
     return any(PROGRAM in it for it in lines)
 
 

@@ -1,8 +1,8 @@
 """What tools/try-jail runs under the programs that `seccomptool compile` makes of profiles.
 
-The profiles are the example's and, where Debian's package golang-github-containers-common is installed, Podman's. A
+The profiles are the example's and, if Debian's package golang-github-containers-common is installed, Podman's. A
 jailer reads a profile's program from a file or, by --oci, asks seccomptool for it. Calls have arguments that the kernel rejects,
-so none of them changes anything where the program lets it through.
+so none of them changes anything if the program lets it through.
 """
 
 import pathlib
@@ -29,7 +29,7 @@ PASSING = [
 ]
 
 # Calls under the example's filters: the arguments of `compile`, the call, and the errno that it gets, by the profile or,
-# where that lets it through, by the kernel. KILLED is a call that kills; None one that is made, whatever it returns.
+# if that lets it through, by the kernel. KILLED is a call that kills; None one that is made, whatever it returns.
 OF_EXAMPLE = [
     ([], "clone3", 38), ([], "bpf", 38), ([], "sched_rr_get_interval", 38), ([], str(0x40000000), KILLED), ([], "4000", 38),
     ([], "mount", 1), ([], "umount2", 1), ([], "setns -1", 1), ([], "unshare -1", 1), ([], "pivot_root", 1),

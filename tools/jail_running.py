@@ -22,7 +22,7 @@ class Results:
         self.passed = self.failed = 0
 
     def compare(self, what, wanted, found):
-        """Counts a case, and prints what was wanted and found where they differ."""
+        """Counts a case, and prints what was wanted and found if they differ."""
         self.passed += wanted == found
         self.failed += wanted != found
         if wanted != found:
@@ -65,7 +65,7 @@ class Jailer:
 
 
 def step(results, what, words, place=TOP):
-    """Runs a step of the build, where a warning is an error; returns whether it went well."""
+    """Runs a step of the build, in which a warning is an error; returns whether it went well."""
     ran = subprocess.run(
         words, cwd=place, stdin=subprocess.DEVNULL, stdout=subprocess.PIPE, stderr=subprocess.STDOUT,
         timeout=BUILD_SECONDS, env={**os.environ, "CFLAGS": "-Werror", "RUSTFLAGS": "-D warnings"}

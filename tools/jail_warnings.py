@@ -1,7 +1,7 @@
 """What tools/try-jail shows of the codes of docs/CHECKS.md: what the running kernel does under filters that have them.
 
 Of each code there are filters that have it and filters that just don't. Each has calls, with what `call` prints of them.
-Where seccomptool is built, `check` has to warn of exactly the codes that are stated.
+If seccomptool is built, `check` has to warn of exactly the codes that are stated.
 """
 
 import json
@@ -42,7 +42,7 @@ THREES = [(sum(it), PASSES & sum(it) ^ sum(CHANCE.sample(it, CHANCE.randint(1, 3
 YIELD_OF_X32 = str(X32_BIT + X32_CALLS["sched_yield"])
 
 
-# Calls that the kernel rejects for their arguments where a filter lets them through: flags that don't go together, and a
+# Calls that the kernel rejects for their arguments if a filter lets them through: flags that don't go together, and a
 # structure of no size.
 CLONE, CLONE3, INVALID = "clone 0x800", "clone3 0 0", answer_of(22)
 
@@ -51,8 +51,8 @@ ENDED = [("exit 6", 6), ("exit_group 7", 7)]
 
 
 class Shown(NamedTuple):
-    """The codes of a filter, beside `allows-by-default` where it does, the filter, and calls with their answers. A list
-    has the answers of kernels that are configured differently. A number is the exit status of `call` where it prints
+    """The codes of a filter, beside `allows-by-default` if it does, the filter, and calls with their answers. A list
+    has the answers of kernels that are configured differently. A number is the exit status of `call` if it prints
     nothing."""
 
     codes: list
@@ -186,7 +186,7 @@ def try_believed(results, jailer, folder):
 
 
 def try_ended(results, jailer, folder):
-    """Runs a command that ends, and one that returns from a signal handler first: they are killed where the filter does."""
+    """Runs a command that ends, and one that returns from a signal handler first: they are killed if the filter does."""
     killed, caught = ("", "", KILLED), ("caught\n", "", 7)
     for name, at_end, at_return in [
         ("kills at the end", killed, ("caught\n", "", KILLED)), ("kills at a return", ("", "", 0), killed),

@@ -18,7 +18,7 @@ def escaped(text):
 
 
 def hanging(line):
-    """Returns a line whose further lines hang, where it is too wide."""
+    """Returns a line whose further lines hang, if it is too wide."""
     return f".in +4n\n.ti -4n\n{escaped(line)}\n.in\n"
 
 

@@ -2,7 +2,7 @@
 that there is none. Both are held against an interpreter of classic BPF, as linux/bpf_common.h has it.
 
 The programs are those of examples/foreign and some that are made at random, and the numbers are the constant of a jump or a returned
-value, always the same ones. Where `diff` says that two programs are the same, records at random and at the borders of both are run.
+value, always the same ones. If `diff` says that two programs are the same, records at random and at the borders of both are run.
 """
 
 import random
@@ -25,7 +25,7 @@ FOREIGN = ("one-test", "two-borders", "two-halves", "mask-of-a-bit", "crun", "ru
 # How many of the mutations are of each long program.
 OF_LONG = 40
 
-# A call on which two programs differ: its name or number, behind the `AUDIT_ARCH_*` value where that is another, its arguments, and
+# A call on which two programs differ: its name or number, after the `AUDIT_ARCH_*` value if that is another, its arguments, and
 # the instruction pointer.
 EXAMPLE = re.compile(r": (?:0x([0-9a-f]+) )?(\w+)\(((?:0x[0-9a-f]+(?:, )?){6})\)(?: at 0x([0-9a-f]+))?$")
 

@@ -333,7 +333,7 @@ class Results:
         self.passed = self.failed = 0
 
     def compare(self, what, stated, given):
-        """Counts a comparison, and prints what was found where it differs."""
+        """Counts a comparison, and prints what was found if it differs."""
         self.passed += stated == given
         self.failed += stated != given
         if stated != given:

@@ -38,7 +38,7 @@ HELP = ("-h", "--help")
 # What `compile` and `diff` note of policies that are right.
 NOTES = re.compile(r"(?m)^seccomptool: .*: \d+ warnings?; seccomptool check tells (?:it|them)\n")
 
-# What stands in front of what seccomptool reports: its name, and a file's where it is about one.
+# What stands in front of what seccomptool reports: its name, and a file's if it is about one.
 IN_FRONT = re.compile(r"seccomptool: (standard (input|output): |[\w./\\\[-]+: )?")
 
 # What is reported of a policy of wrong shape, as the library does.
@@ -74,12 +74,12 @@ ANNOTATIONS = ("$schema", "title", "description")
 # Words of the schema whose values are numbers.
 BOUNDS = ("minimum", "maximum", "minItems")
 
-# What no policy shows where it is left out: that a filter is an object also follows from its actions.
+# What no policy shows if it is left out: that a filter is an object also follows from its actions.
 FOLLOWS = ("$defs.filter.type",)
 
 
 def content_of(name, files):
-    """Returns a file of the tables or of the examples, as a text or bytes; None where it is neither."""
+    """Returns a file of the tables or of the examples, as a text or bytes; None if it is neither."""
     path = TOP / name
     if name not in files:
         return path.read_bytes() if name.startswith("examples/") and path.is_file() else None
@@ -112,7 +112,7 @@ def is_profile(words, text):
 
 
 def policy_of(case, files):
-    """Returns the text of the policy that a case's command reads; None where it reads none or several, or reading fails."""
+    """Returns the text of the policy that a case's command reads; None if it reads none or several, or reading fails."""
     words = [it or '""' for it in shlex.split(case.words)]
     name = None
     if words[:1] == [GIVEN_A_FILE] and len(words) > 2 and not words[1].startswith("-") and ".bpf" not in words[1]:
@@ -138,15 +138,15 @@ def is_program(text):
 
 
 def text_of(name, case, files):
-    """Returns the text of a file that a case names, or of its standard input; None where there is none."""
+    """Returns the text of a file that a case names, or of its standard input; None if there is none."""
     if name == "-":
         return case.given if isinstance(case.given, (str, bytes)) else None
     return content_of(name.removeprefix("./"), files) if name is not None else None
 
 
 def is_valid(case):
-    """Returns whether a case has its policy's shape right; None where it doesn't say that, and the message that says
-    something else where it is unknown."""
+    """Returns whether a case has its policy's shape right; None if it doesn't say that, and the message that says
+    something else if it is unknown."""
     errors = NOTES.sub("", case.errors)
     message = IN_FRONT.sub("", errors, count=1)
     at_place = message.partition(": ")[2] if case.words.startswith(("check", "compile")) else ""
@@ -197,7 +197,7 @@ def places_of(value, place=()):
 
 
 def changed(schema, place, difference):
-    """Returns the schema with a number changed by the difference, or with a part left out where that is 0."""
+    """Returns the schema with a number changed by the difference, or with a part left out if that is 0."""
     around = schema = copy.deepcopy(schema)
     for key in place[:-1]:
         around = around[key]

@@ -54,7 +54,7 @@ LARGE = (
     "Max length is 4096.\n"
 )
 
-# What stands after `./seccompc`, the status, standard output, and standard error; where that ends
+# What stands after `./seccompc`, the status, standard output, and standard error; if that ends
 # with `..`, it only has to begin so.
 CASES = [
     # What each command writes.
@@ -111,7 +111,7 @@ CASES = [
     ("list x86_64 <&-", 1, "", UNREAD),
     ("probe x86_64 1 1 1 <&-", 1, "", "Error reading input.\n"),
     ("run x86_64 logs.json a <&-", 1, "", "Error reading input.\n"),
-    # Outputs that take nothing. Where nothing is to be written, nothing fails.
+    # Outputs that take nothing. If nothing is to be written, nothing fails.
     ("list x86_64 < logs.json > /dev/full", 1, "", UNWRITTEN),
     ("list x86_64 < logs.json >&-", 1, "", UNWRITTEN),
     ("list x86_64 < no-filters.json > /dev/full", 0, "", ""),

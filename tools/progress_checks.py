@@ -12,10 +12,10 @@ with standard error as a terminal and as a pipe:
 - on the pipe comes nothing;
 - the exit status and standard output are the same, and what they have to be.
 
-A comparison that takes no time shows nothing on a terminal, and where a policy is rejected the error stands there alone,
+A comparison that takes no time shows nothing on a terminal, and if a policy is rejected the error stands there alone,
 as on a pipe.
 
-Where standard output is a terminal, a command that would write bytes there fails and writes none; text is written as it is.
+If standard output is a terminal, a command that would write bytes there fails and writes none; text is written as it is.
 
 Prints each difference, and as its last line 'N passed, M failed'.
 """
@@ -49,7 +49,7 @@ MASKS = [(at, 3 << bit) for at, count in ((0, 15), (1, 15), (2, 4)) for bit in r
 
 
 def policy(masks):
-    """Returns a policy that allows `read` where an argument has all bits of a mask."""
+    """Returns a policy that allows `read` if an argument has all bits of a mask."""
     entries = [
         {"syscall": "read", "args": [{"index": at, "type": "dword", "op": {"masked_eq": mask}, "val": mask}]}
         for at, mask in masks
@@ -171,7 +171,7 @@ class Results:
         self.passed = self.failed = 0
 
     def compare(self, what, stated, given):
-        """Counts a comparison, and prints what was wanted and found where it differs."""
+        """Counts a comparison, and prints what was wanted and found if it differs."""
         self.passed += stated == given
         self.failed += stated != given
         if stated != given:

@@ -1,5 +1,5 @@
 """The prover of the kit, called over the libraries that `rt ci` or `rt lib` built: rt's own checks would build these
-anew where `rt ci` did."""
+anew if `rt ci` did."""
 
 import pathlib
 import subprocess

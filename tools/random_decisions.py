@@ -76,7 +76,7 @@ def some_rulings(draw, values):
 
 
 def some_decisions(draw, arch, values, low, high):
-    """Decisions on calls of numbers from `low` up to `high`, and on some others where all numbers may be."""
+    """Decisions on calls of numbers from `low` up to `high`, and on some others if all numbers may be."""
     others = [1 << 30, (1 << 30) + 1, 1 << 31, DWORD - 2, DWORD - 1, 0] if high > 1 << 31 else []
     numbers = {draw.choice([draw.randrange(low, low + 20), draw.randrange(low, low + 464), *others]) for _ in range(draw.randint(0, 10))}
     starts = sorted({0, draw.choice([10, 300, 463, 1 << 30])}) if others and draw.random() < 0.4 else [0]
@@ -184,7 +184,7 @@ def compare_decisions(results, count=COUNT, seed=SEED):
         results.compare(f"random decisions {place}", ("",), (told,))
 
 
-# Numbers of no call, of which a kernel says so where they are allowed.
+# Numbers of no call, of which a kernel says so if they are allowed.
 FREE = 1000
 NO_CALL = 38
 ERRORS = [ALLOW, *(ERRNO | it for it in (1, 2, 13, 4095))]

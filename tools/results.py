@@ -19,14 +19,14 @@ class Results:
         return not differences
 
     def compare(self, what, stated, given):
-        """Compares what is stated with what was given, part by part, as one case. Where the text of a part ends with `..` only its
+        """Compares what is stated with what was given, part by part, as one case. If the text of a part ends with `..` only its
         beginning is stated."""
         parts = zip(("status", "output", "errors"), stated, given)
         return self.take(what, *(f"{part}: {difference(wanted, found)}" for part, wanted, found in parts
                                  if wanted != found and not begins(wanted, found)))
 
     def tell(self, what, well, given):
-        """Counts a case that is well or not, and prints what was given where it isn't."""
+        """Counts a case that is well or not, and prints what was given if it isn't."""
         return self.take(what, *(() if well else (repr(it[-200:] if isinstance(it, (bytes, str)) else it) for it in given or ("",))))
 
     def close(self):
@@ -41,6 +41,6 @@ def begins(wanted, found):
 
 
 def difference(wanted, found):
-    """Returns the lines that differ, or both values where no line does."""
+    """Returns the lines that differ, or both values if no line does."""
     lines = difflib.unified_diff(str(wanted).splitlines(), str(found).splitlines(), "stated", "found", lineterm="", n=1)
     return "\n".join(["", *lines]) if str(wanted).count("\n") > 1 else f"{wanted!r}, found {found!r}"

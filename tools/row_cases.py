@@ -28,7 +28,7 @@ length, operator and value. Questions are
     action ACTION                 what a program returns for it
     architecture NAME             the instructions that ask for it
 
-An answer of instructions may begin with their number, and with how many relays are among them; `..` stands for any others. Where a
+An answer of instructions may begin with their number, and with how many relays are among them; `..` stands for any others. If a
 policy is rejected the answer is the error's text.
 
 `seccompc list` and `run` answer for the linear layout, `seccomptool compile` for the tree, whose steps are counted here. What
@@ -232,7 +232,7 @@ class Policy:
 
     @staticmethod
     def agreed(line, decided, of_tree, layout):
-        """Returns a program's word and steps, where both programs return what is decided."""
+        """Returns a program's word and steps, if both programs return what is decided."""
         word, steps = line.split()
         if word != decided or of_tree is not None and word != f"{of_tree[0]:08x}":
             return f"{word} of run, {decided} of explain, {of_tree} of the tree"

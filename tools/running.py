@@ -35,8 +35,8 @@ class Calls(NamedTuple):
 
 
 class Case(NamedTuple):
-    """What stands after the program's name, the status, standard output, and standard error; where one of these
-    ends with `..`, it only has to begin so. Standard input is empty where a case has none. Calls may fall short."""
+    """What stands after the program's name, the status, standard output, and standard error; if one of these
+    ends with `..`, it only has to begin so. Standard input is empty if a case has none. Calls may fall short."""
 
     words: str
     status: int
@@ -65,7 +65,7 @@ def run(command, folder, **more):
 
 @contextlib.contextmanager
 def standard_input(given):
-    """Gives a file of these bytes; or, where reading is to fail after them, a socket whose other end went away
+    """Gives a file of these bytes; or, if reading is to fail after them, a socket whose other end went away
     without reading what was sent to it, which Linux answers by ECONNRESET once all was read."""
     if isinstance(given, Failing):
         read, other = socket.socketpair()
@@ -115,6 +115,6 @@ def run_refused(words, folder, told, **how):
 
 
 def is_built(results, name, words, status):
-    """Builds a program where it isn't; counts whether it ends with this status."""
+    """Builds a program if it isn't; counts whether it ends with this status."""
     ran = subprocess.run([TOP / "tools/run-program", name, *words], stdin=subprocess.DEVNULL, capture_output=True)
     return results.tell(f"{name} is built, and has ample memory", ran.returncode == status, (ran.returncode, text_of(ran.stderr)))

@@ -52,7 +52,7 @@ SCRIPT_CASES = [
     ("without sources that can be listed", ONCE + "rm crates.txt;", LIST, 3, "", "seccompc: proving and building\n.."),
 ]
 
-# What a terminal gets of the script where rt proves a library in parts: a line, and one that is written anew.
+# What a terminal gets of the script if rt proves a library in parts: a line, and one that is written anew.
 ON_TERMINAL = BUILDS.replace("\n", "\r\n") + "".join(
     f"\r{it:72}" for it in ("seccompc: proving seccompiler", "seccompc: proving seccompiler, 0 of 2 functions",
                             "seccompc: proving seccompiler, 2 of 2 functions", "seccompc: proving seccompc", "")) + "\r"

@@ -3,8 +3,8 @@
 import functools
 import re
 
-# A head ends with the brace that begins the body, behind a line of clauses or on the last line of the signature, or
-# with the whole of a body without statements, or with a semicolon where there is no body.
+# A head ends with the brace that begins the body, after a line of clauses or on the last line of the signature, or
+# with the whole of a body without statements, or with a semicolon if there is no body.
 HEAD = r'(?m)^( *)(?:pub(?:\((?:crate|super)\))? )?(?:unsafe )?(?:extern "C" )?fn (\w+)(?:.|\n)*?(?:(?: |^\1)\{\}?$|;$)'
 TYPE = r"(?m)^ *(?:pub(?:\((?:crate|super)\))? )?(?:struct|enum|union) (\w+)"
 
@@ -29,7 +29,7 @@ class Function:
         return set(re.findall(r"\b(\w+)\(", self.body))
 
     def cycle(self):
-        """Returns the name of the cycle of calls that it says it is in, or its own where it may call itself, or None."""
+        """Returns the name of the cycle of calls that it says it is in, or its own if it may call itself, or None."""
         return self.cycle_said() or (self.name if self.name in self.calls() else None)
 
     def cycle_said(self):
@@ -38,8 +38,8 @@ class Function:
         return found[1] if found else None
 
     def copy(self, text, name, changes):
-        """Returns its text under another name, with the body changed, or None where there is no such copy: of a
-        trait's method, of a function that says it is in a cycle, and where a change isn't of the body."""
+        """Returns its text under another name, with the body changed, or None if there is no such copy: of a
+        trait's method, of a function that says it is in a cycle, and if a change isn't of the body."""
         body = self.body
         if self.is_of_trait or self.cycle_said():
             return None
@@ -57,7 +57,7 @@ class Function:
 
 def type_of(block):
     """Returns what a check calls the type that a block's functions are of, by the block's first line: `TargetArch`, or
-    `TargetArchDisplay` and `U32FromSeccompAction` where the block is of a trait."""
+    `TargetArchDisplay` and `U32FromSeccompAction` if the block is of a trait."""
     found = re.match(r"impl(?:<[^>]*>)? (?:\w+::)*(\w+)(?:<(\w+)>)? for (\w)(\w*)", block)
     if found:
         return found[3].upper() + found[4] + found[1] + (found[2] or "")
@@ -101,7 +101,7 @@ BODIES = [("two", "\n    2\n}\n"), ("agree", "}\n"), ("behind", "\n        part.
 
 
 def check_itself():
-    """Fails where the sample's functions are cut out otherwise: then an edit could change another function's body."""
+    """Fails if the sample's functions are cut out otherwise: then an edit could change another function's body."""
     found = [(it.name, it.body) for it in functions_of(SAMPLE)]
     assert found == BODIES, found
     assert "".join(it.without_body() for it in functions_of(SAMPLE)).count("loop {}") == len(BODIES)

@@ -5,7 +5,7 @@ from seccomptool_cases.forms import NO_ARCHITECTURE, Failing, refuses, writes
 
 from .policies import LOGS
 
-# Entries of the filters below: `read` where the low half of argument 0 is 5, and always.
+# Entries of the filters below: `read` if the low half of argument 0 is 5, and always.
 WHERE_5 = '{"syscall":"read","args":[{"index":0,"type":"dword","op":"eq","val":5}]}'
 ALWAYS = '{"syscall":"read"}'
 

@@ -5,8 +5,8 @@ from seccomptool_cases.forms import refuses, writes
 
 from .instructions import jump_equal, listing, load, program
 
-# What a policy is refused for, behind the words that all such refusals begin with; of a text that is no JSON only
-# the library's own words, behind which stand those of serde_json.
+# What a policy is refused for, after the words that all such refusals begin with; of a text that is no JSON only
+# the library's own words, after which stand those of serde_json.
 UNPARSED = "Error parsing Json: .."
 REPEATED = "Repeated key in Json.\n"
 NO_OBJECT = "Json is not an object of filters.\n"
@@ -15,12 +15,12 @@ EQUAL_ACTIONS = "`match_action` and `mismatch_action` are equal.\n"
 
 
 def shape(name="a"):
-    """Returns what is told where the filter of this name is none."""
+    """Returns what is told if the filter of this name is none."""
     return f"Json filter has a wrong shape: {name}.\n"
 
 
 def unknown(name, architecture="x86_64"):
-    """Returns what is told where an architecture has no call of this name."""
+    """Returns what is told if an architecture has no call of this name."""
     return f"Invalid syscall name: {name} for given arch: {architecture}.\n"
 
 

@@ -1,4 +1,4 @@
-"""What `probe` has to do: the lines of records, a rest behind them, and the faults in their order."""
+"""What `probe` has to do: the lines of records, a rest after them, and the faults in their order."""
 
 from program_cases import INDEX
 from seccomptool_cases.forms import NO_ARCHITECTURE, Case, Failing, refuses, writes
@@ -32,7 +32,7 @@ FILES = {}
 CASES = [
     # The program of a probe has 14 instructions.
     writes("list x86_64", AS_POLICY, "filter 14 a\n.."),
-    # `probe` tells of a rest behind the lines, and of less than a record alone.
+    # `probe` tells of a rest after the lines, and of less than a record alone.
     *[Case(PROBE, 1, LINE, SHORT.format(rest), ALLOWED + ALLOWED[:rest]) for rest in range(1, 64)],
     refuses(PROBE, bytes(63), SHORT.format(63)),
     # `probe` tells the first fault of its words, which comes before that of its reader.
@@ -40,6 +40,6 @@ CASES = [
     # `probe` takes each architecture.
     *[writes(f"probe {name} 4294967295 1 7", record_of(4294967295, word, 0, 7), LINE)
       for name, word in (("x86_64", X86_64), ("AArch64", AARCH64), ("RISCV64", RISCV64))],
-    # `probe` writes nothing where reading fails.
+    # `probe` writes nothing if reading fails.
     *[refuses(PROBE, Failing(ALLOWED[:length]), UNREAD_RECORDS) for length in (0, 1, 63, 64)],
 ]

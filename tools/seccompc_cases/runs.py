@@ -37,7 +37,7 @@ CASES = [
       for number, arguments, line in LINES],
     *[writes(f"run x86_64 run-three.json {name}", CALL_1, line)
       for name, line in (("a", "00030000 3\n"), ("b", LOGGED), ("c", "00030000 3\n"))],
-    # `run` tells of a rest behind the lines.
+    # `run` tells of a rest after the lines.
     Case("run x86_64 run-logs.json a", 1, LOGGED, SHORT.format(1), CALL_1 + bytes(1)),
     # `run` tells the first fault; that of the records' reader is the last.
     refuses("run x8664 list.json b", Failing(""), NO_ARCHITECTURE),

@@ -132,7 +132,7 @@ OF_5 = [
      [load(60), jump_equal(0, 0, 3), load(56), jump_equal(0, 0, 1)]),
 ]
 
-# Values that are operators, and their code behind the load of the argument, with the number 2.
+# Values that are operators, and their code after the load of the argument, with the number 2.
 OPERATORS = [
     ('"eq"', [jump_equal(2, 0, 1)]),
     ('"ge"', [jump_at_least(2, 0, 1)]),

@@ -1,4 +1,4 @@
-"""What seccompc has to do where reads and writes pass few bytes a call, or fail behind some; and, for tools/check-program, where few
+"""What seccompc has to do if reads and writes pass few bytes a call, or fail after some; and, for tools/check-program, if few
 of its requests for memory are granted. The calls are those of tools/short-calls.c, and FILE of `run` has a descriptor of its own."""
 
 import errno
@@ -30,7 +30,7 @@ def unread(words, given, text, *calls):
 
 
 def unwritten(words, given, output, at_once, taken, error):
-    """Returns the case of a writing that fails behind so many bytes of this output."""
+    """Returns the case of a writing that fails after so many bytes of this output."""
     return Case(words, 1, output[:taken], UNWRITTEN, given, Calls(OUTPUT, at_once, taken, error))
 
 
@@ -46,12 +46,12 @@ CASES = [
     *[slow("run x86_64 run-complex.json main_thread", record_of(number, X86_64, *arguments), line, FILE, 1)
       for number, arguments, line in LINES],
     slow("list x86_64", LOGS, LOGS_LISTED, INPUT, 1),
-    # Reading fails, or wants memory, behind so many bytes.
+    # Reading fails, or wants memory, after so many bytes.
     *[case for length in (0, 1, 63, 64) for case in unread(PROBE, ALLOWED, UNREAD_RECORDS, INPUT, 64, length)],
     *[case for length in (0, 1, len(LOGS)) for case in unread("list x86_64", LOGS, UNREAD, INPUT, 1, length)],
     *unread(UNTRACED, "", UNREAD, FILE, 7, len(LOGS)),
     *unread(UNTRACED, bytes(64), UNREAD_RECORDS, INPUT, 64, 64),
-    # Writing fails behind so many bytes, and does not where it takes each, a byte a call.
+    # Writing fails after so many bytes, and does not if it takes each, a byte a call.
     *[unwritten(PROBE, RECORDS, PROBED, 1, taken, error)
       for error in (errno.EPIPE, errno.ENOMEM) for taken in range(len(PROBED))],
     *[unwritten("list x86_64", LOGS, LOGS_LISTED, 1, taken, errno.ENOMEM) for taken in range(len(LOGS_LISTED))],

@@ -43,7 +43,7 @@ REPEATS = [
     # A name that is spelled in two ways is the same name.
     '{"a":' + EMPTY + r',"\u0061":' + EMPTY + "}",
     r'{"\u0061":' + EMPTY + ',"a":' + EMPTY + "}",
-    # Where no filter is.
+    # If no filter is.
     '[{"a":1,"a":1}]',
     '{"a":' + EMPTY + ',"a":3}',
 ]

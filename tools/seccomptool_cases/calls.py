@@ -30,8 +30,8 @@ def asking(name):
 
 
 def of_calls(mismatch, match, entries, warnings):
-    """Returns the cases of a filter of these actions and entries, where an entry may be a name, that has these warnings,
-    each a place and a code, beside `allows-by-default` where it does."""
+    """Returns the cases of a filter of these actions and entries, if an entry may be a name, that has these warnings,
+    each a place and a code, beside `allows-by-default` if it does."""
     entries = [entry(it) if isinstance(it, str) else it for it in entries]
     filters = {"a": {"mismatch_action": mismatch, "match_action": match, "filter": entries}}
     default = [("mismatch_action", "allows-by-default")] if mismatch in PERMITS else []
@@ -59,7 +59,7 @@ KILLS_EXIT = [
     ("kill_process", "allow", ["exit_group", "rt_sigreturn", "exit"], []),
     # An entry with args names its call too.
     ("kill_process", "allow", ["exit_group", "rt_sigreturn", asking("exit")], []),
-    # Where both kill, each of the calls is killed by one of them.
+    # If both kill, each of the calls is killed by one of them.
     ("kill_process", "kill_thread", ["exit"], [*killed("exit_group", "rt_sigreturn"), *at("kills-exit", 0)]),
     ("trap", "allow", [], []),
     ({"errno": 1}, "allow", ["read"], []),
@@ -79,7 +79,7 @@ CLONE_BY_CLONE3 = [
     ("allow", {"errno": 1}, ["clone", asking("clone3")], []),
     ("allow", {"errno": 1}, ["clone3"], []),
     ("allow", {"errno": 1}, ["fork", "vfork"], []),
-    # Where the calls that an entry names are let through as well, or none is, clone isn't denied alone.
+    # If the calls that an entry names are let through as well, or none is, clone isn't denied alone.
     ("allow", "log", ["clone"], []),
     ("trap", {"errno": 1}, ["clone"], []),
     ("trap", "allow", ["clone3"], at("clone-by-clone3", 0)),

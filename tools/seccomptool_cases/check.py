@@ -50,7 +50,7 @@ def entries(text):
 
 
 def condition(text):
-    """Returns the policy that has this condition behind a faultless one, in the second entry."""
+    """Returns the policy that has this condition after a faultless one, in the second entry."""
     return entries('{"syscall":"read"},{"syscall":"read","args":[' + FAULTLESS + "," + text + "]}")
 
 
@@ -232,7 +232,7 @@ OF_SEVERAL = [
          TOOL + 'unknown-call.json: a.filter[0].syscall: unknown system call "nosyscall" on riscv64\n'),
     # A file's name is written as a filter's: what steers a terminal by its numbers.
     Case("check \"$(printf 'no\\nfile')\"", 2, "", TOOL + r"no\x0afile: " + MISSING),
-    # Where the output takes nothing, each policy with a warning fails.
+    # If the output takes nothing, each policy with a warning fails.
     Case("check logs.json no-filters.json logs.json > /dev/full", 2, "", (OUTPUT + FULL) * 2),
 ]
 
@@ -276,7 +276,7 @@ CASES = [
     *FIRST_FAULTS,
     # `check` tells the filter that is too long.
     told(entries(TOO_LONG), "a", "needs 10130 instructions in the linear layout; 4096 fit"),
-    # Where its tree fits, `check` tells how long that is.
+    # If its tree fits, `check` tells how long that is.
     told("{" + of_rules("a", 813, ("write", "open", "close", "stat")) + "}", "a",
          "needs 4106 instructions in the linear layout; 4096 fit; 18 in the tree layout"),
     told("{" + of_rules("a", 816) + "}", "a", "needs 4101 instructions in the linear layout; 4096 fit; 17 in the tree layout"),

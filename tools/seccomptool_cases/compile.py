@@ -1,5 +1,5 @@
 """What `compile` has to do: programs as bytes, as listings and for C, and the faults. What C makes of a program is
-tried where the compilers cc and c++ are installed."""
+tried if the compilers cc and c++ are installed."""
 
 import shutil
 import struct
@@ -13,7 +13,7 @@ from .forms import (
 from .long_filters import of_masks, of_rules
 
 # The programs of a filter without entries: the architecture's word is loaded and compared, another one
-# kills the process, behind the test in the chains, and at the end in the tree.
+# kills the process, after the test in the chains, and at the end in the tree.
 LINEAR = bytes.fromhex("""
     20 00 00 00 04 00 00 00  15 00 01 00 3e 00 00 c0  06 00 00 00 00 00 00 80  06 00 00 00 00 00 fc 7f
 """)
@@ -88,7 +88,7 @@ def included(layout, compiler, flags):
 
 
 CASES = [
-    # `compile` writes the bytes of both layouts, that of a tree where none is asked for.
+    # `compile` writes the bytes of both layouts, that of a tree if none is asked for.
     writes("compile -f a", LOGS, TREE),
     writes("compile --filter a --layout tree", LOGS, TREE),
     writes("compile --filter=a --layout=linear", LOGS, LINEAR),
@@ -97,7 +97,7 @@ CASES = [
     writes("compile logs.json", "", TREE),
     writes("compile logs.json -fa --layout linear", "", LINEAR),
     writes("compile -f \"$(printf 'a\\n\\\\')\" names.json", "", TREE),
-    # `compile` writes the forms that are asked for, bytes where none is.
+    # `compile` writes the forms that are asked for, bytes if none is.
     writes("compile --format raw logs.json", "", TREE),
     writes("compile logs.json --format=listing", "", listed("a", TREE)),
     writes("compile --format listing --layout linear", LOGS, listed("a", LINEAR)),
@@ -111,16 +111,16 @@ CASES = [
     writes(f"compile {EXAMPLE} --format listing --layout linear > listed.txt &&"
            f" ./seccompc list x86_64 < {EXAMPLE} | cmp - listed.txt; status=$?; rm listed.txt; (exit $status)", "", ""),
     *[included(layout, *it) for layout in ("linear", "tree") for it in COMPILERS.items() if shutil.which(it[0])],
-    # The architecture is x86_64 where none is named.
+    # The architecture is x86_64 if none is named.
     *[writes(f"compile -a {arch} logs.json", "", of_word(word)) for arch, word in WORDS.items()],
-    # The policy's only filter is taken where none is named.
+    # The policy's only filter is taken if none is named.
     writes("compile two-filters.json -f a", "", TREE),
     rejects("compile two-filters.json", "", WHICH.format("a, b\\xc2\\x9b"), TOOL + "two-filters.json: "),
     rejects("compile", "{}", "The policy has no filters.\n"),
     rejects("compile", '{"a":' + LOGS[5:-1] + ',"":' + LOGS[5:], WHICH.format("'', a")),
     rejects("compile", "[]", NO_OBJECT),
     rejects("compile", '{"a":{}}', FRONTEND + "Json filter has a wrong shape: a.\n"),
-    # `compile` writes a file, where there is no fault.
+    # `compile` writes a file, if there is no fault.
     writes("compile logs.json -o written && cat written && rm written", "", TREE),
     rejects("compile no-json.json -o unwritten; status=$?; test ! -e unwritten && (exit $status)", "",
             FRONTEND + "Error parsing Json: ..", TOOL + "no-json.json: "),
@@ -136,7 +136,7 @@ CASES = [
     # The length of the filter's own program is asked for, and of no other.
     writes("compile -f a", LOGS[:-1] + "," + of_rules("b", 816) + "}", TREE),
     rejects("compile -f b too-large.json", "", NO_FILTER, TOOL + "too-large.json: "),
-    # Of a program that is too large the length in the other layout is told where it fits there.
+    # Of a program that is too large the length in the other layout is told if it fits there.
     rejects("compile --layout linear too-large.json", "", f"a: needs 10130 {IN_LINEAR}\n", TOOL + "too-large.json: "),
     rejects("compile -f a --layout linear", WIDE, f"a: needs 4106 {IN_LINEAR}; 18 in the tree layout\n"),
     rejects("compile --format c --layout linear", WIDE.replace('"a"', r'"a\u009b"'),

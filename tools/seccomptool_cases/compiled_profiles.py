@@ -176,7 +176,7 @@ CASES = [
     *compiles("unknown-profile.json", "", READ, OTHER,
               told=TOOL + "unknown-profile.json: not system calls of x86_64, left out (2): mmap2, waitpid\n"),
     *compiles("-q unknown-profile.json", "", READ, OTHER),
-    # Flags, in the profile's order and as often as they stand there, behind the names.
+    # Flags, in the profile's order and as often as they stand there, after the names.
     *compiles("", profile(entry("read"), flags=[]), READ),
     *flagged("", profile(entry("read"), flags=["SECCOMP_FILTER_FLAG_LOG"]), "(1): SECCOMP_FILTER_FLAG_LOG", READ),
     *flagged("-", profile(entry("read"), flags=["SECCOMP_FILTER_FLAG_TSYNC"]), "(1): SECCOMP_FILTER_FLAG_TSYNC", READ),

@@ -33,7 +33,7 @@ FILES = {name: json.dumps(policy) for name, (policy, _) in POLICIES.items()}
 
 
 def noted(front, count):
-    """Returns the line of standard error on a policy with so many warnings: none where there are none."""
+    """Returns the line of standard error on a policy with so many warnings: none if there are none."""
     return (front + TELLS.get(count, f"{count} warnings; seccomptool check prints them\n")) * bool(count)
 
 
@@ -68,7 +68,7 @@ CASES = [
     Case("diff --most 0 one-warning.json three-warnings.json", 3, "filter a: undecided\n..",
          noted(f"{TOOL}one-warning.json: ", 1) + noted(f"{TOOL}three-warnings.json: ", 3)),
     Case("compile -o /dev/null three-warnings.json", 0, "", noted(f"{TOOL}three-warnings.json: ", 3)),
-    # Where a command fails there is its error alone.
+    # If a command fails there is its error alone.
     rejects("compile one-warning.json > /dev/full", "", FULL, OUTPUT),
     rejects("compile -f b one-warning.json", "", "No filter has this name: b.\n", TOOL + "one-warning.json: "),
     rejects("compile one-warning.json >&-", "", CLOSED, OUTPUT),

@@ -89,7 +89,7 @@ CASES = [
     differ("logs.json allows-read-of-5.json", "filter a: different\n" + READS_5),
     differ("-a riscv64 logs.json allows-read.json", "filter a: different\n" + READS),
     differ("errno-1.json errno-2.json", "filter a: different\n" + OTHER_ERRNO),
-    # Each call has a line where the default changes, and so has each range of numbers without a name.
+    # Each call has a line if the default changes, and so has each range of numbers without a name.
     differ("logs.json traps.json",
            "filter a: different\n  read: log -> trap, less: read(0x0, 0x0, 0x0, 0x0, 0x0, 0x0)\n"
            "  write: log -> trap, less: write(0x0, 0x0, 0x0, 0x0, 0x0, 0x0)\n.."),
@@ -107,7 +107,7 @@ CASES = [
     fails("filters-b-a.json:b filters-c-a.json:b", "No filter has this name: b.\n", TOOL + "filters-c-a.json: "),
     fails("filters-b-a.json:c filters-c-a.json:c", "No filter has this name: c.\n", TOOL + "filters-b-a.json: "),
     fails("filters-b-a.json logs.json:a", "Name one of its filters: a, b.\n", TOOL + "filters-b-a.json: "),
-    # A path with a colon has one more behind it.
+    # A path with a colon has one more after it.
     fails("log:s.json logs.json", MISSING, TOOL + "log: "),
     fails("log:s.json: logs.json", MISSING, TOOL + "log:s.json: "),
     # No set may be looked at, or few.
@@ -115,7 +115,7 @@ CASES = [
     Case("diff --most=0x0 --only-more logs.json allows-read.json", 3, "filter a: undecided\n  read: undecided\n..", ""),
     same("--most 0x10 logs.json logs.json", SAME),
     # The calls of `read` take five sets, by the test of an argument for 5: all of them, which are split below 5; those below;
-    # those from 5 on, which are split behind it; 5 alone; and those above. Every other part takes one set.
+    # those from 5 on, which are split after it; 5 alone; and those above. Every other part takes one set.
     same("--most 5 allows-read-of-5.json allows-read-of-5.json", SAME),
     Case("diff --most 4 allows-read-of-5.json allows-read-of-5-twice.json", 3, "filter a: undecided\n  read: undecided\n", ""),
     # A filter that neither has.

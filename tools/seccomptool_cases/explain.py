@@ -66,7 +66,7 @@ LINES = [
     (4294967295, (0, 0, 0), "errno 1: no entry of call 4294967295\n"),
 ]
 
-# The same of the other policy: the nearest miss is that of the condition furthest behind, and the first of these.
+# The same of the other policy: the nearest miss is that of the condition with the greatest index, and the first of these.
 NEAR_LINES = [
     (72, (9, 1, 0), r"trace 2: n\x07.filter[0] (fcntl)" "\n"),
     (72, (9, 2, 0),
@@ -96,7 +96,7 @@ EXAMPLE_LINES = "log: no entry of call 72\n" * 3 + "log: no entry of call 5\n" +
 
 SHORT = "The input ends inside a record, after 1 bytes of it.\n"
 NO_FILTER = "No filter has this name: b.\n"
-# A whole record, behind which reading fails.
+# A whole record, after which reading fails.
 FAILING_RECORDS = Failing(bytes(64))
 
 CASES = [

@@ -51,7 +51,7 @@ def rejects_in_both(words, given, told):
 
 
 def fails_to_read_and_write(words, read=LOGS, written=LOGS):
-    """Returns the cases of a policy behind which reading fails, and of one whose output can't be written."""
+    """Returns the cases of a policy after which reading fails, and of one whose output can't be written."""
     return [
         rejects(words, Failing(read), RESET),
         rejects(words + " > /dev/full", written, FULL, OUTPUT),

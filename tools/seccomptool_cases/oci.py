@@ -37,7 +37,7 @@ def is_met(condition, arguments):
 
 
 def are_met(conditions, arguments):
-    """Returns whether the conditions of an entry are: alternatives where two of them are on one argument."""
+    """Returns whether the conditions of an entry are: alternatives if two of them are on one argument."""
     places = [it["index"] for it in conditions]
     how = any if len(set(places)) < len(places) else all
     return how(is_met(it, arguments) for it in conditions)
@@ -103,7 +103,7 @@ def ways(command, words):
 
 
 def whole(arguments):
-    """Returns six arguments, 0 where none is given."""
+    """Returns six arguments, 0 if none is given."""
     return (*arguments, *[0] * (6 - len(arguments)))
 
 

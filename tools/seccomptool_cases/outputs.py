@@ -11,7 +11,7 @@ ONTO = "the output would overwrite the input\n"
 
 
 def beside(name, before, words, then, status=0, output="", told=""):
-    """Returns the case of words in a folder of this name that has a file `older`, and of what is looked at behind them."""
+    """Returns the case of words in a folder of this name that has a file `older`, and of what is looked at after them."""
     return Case(f"--version > /dev/null && mkdir {name} && cd {name} && echo older > older && cp ../read.json . && {before}"
                 f" ../seccomptool compile -q {words}; status=$?; {then}; cd .. && rm -r {name} && (exit $status)",
                 status, output, told)
@@ -21,14 +21,14 @@ CASES = [
     # `-` is standard output.
     writes("compile -q logs.json -o -", "", TREE),
     rejects("compile -q logs.json --output=- > /dev/full", "", FULL, OUTPUT),
-    # A file is replaced whole and keeps its permissions, also where a link leads to it, and nothing is left beside it.
+    # A file is replaced whole and keeps its permissions, also if a link leads to it, and nothing is left beside it.
     beside("replaced", "chmod 640 older &&", "read.json -o older", "stat -c %a older; ls",
            0, "640\nolder\nread.json\n"),
     beside("linked", "ln -s older link &&", "read.json -o link", "readlink link; wc -c < older", 0, f"older\n{len(TREE)}\n"),
     beside("dangling", "ln -s newer link &&", "read.json -o link", "wc -c < link", 0, f"{len(TREE)}\n"),
     beside("taken", "touch older.0.new &&", "read.json -o older", "ls; wc -c < older", 0, f"older\nolder.0.new\nread.json\n{len(TREE)}\n"),
     beside("made", "", "read.json -o made.bpf", "ls; wc -c < made.bpf", 0, f"made.bpf\nolder\nread.json\n{len(TREE)}\n"),
-    # An older file stays where anything fails, and nothing is left beside it.
+    # An older file stays if anything fails, and nothing is left beside it.
     beside("faulty", "", "../no-json.json -o older", "ls; cat older", 2, "older\nread.json\nolder\n",
            TOOL + "../no-json.json: " + FRONTEND + "Error parsing Json: .."),
     beside("unnamed", "", "-f b read.json -o older", "ls; cat older", 2, "older\nread.json\nolder\n",

@@ -47,7 +47,7 @@ MAY_BE_NULL = ("includes", "excludes")
 OF_CONDITION = {"index": INDEX, "value": NUMBER, "valueTwo": NUMBER_OR_NULL, "op": OPERATOR}
 OF_CRITERIA = {"caps": LIST, "arches": LIST, "minKernel": VERSION}
 
-# The same keys as they are listed where another stands.
+# The same keys as they are listed if another is found.
 ENTRY_KEYS = "names, name, action, errnoRet, errno, args, includes, excludes or comment"
 CONDITION_KEYS = "index, value, valueTwo or op"
 CRITERIA_KEYS = "caps, arches or minKernel"
@@ -57,7 +57,7 @@ PLAIN = [f"SCMP_ACT_{it}" for it in ("ALLOW", "KILL", "KILL_PROCESS", "KILL_THRE
 
 ARGUMENT = when(0, "EQ", 5)
 
-# A number that 64 bits don't hold, as JSON; and how it begins where it is shown, with the fewest digits that read back. What
+# A number that 64 bits don't hold, as JSON; and how it begins if it is shown, with the fewest digits that read back. What
 # reads back may have a sign in its exponent or none.
 TOO_GREAT, SHOWN_TOO_GREAT = "18446744073709551616", "1.8446744073709552e.."
 
@@ -69,12 +69,12 @@ def shown(value):
 
 
 def stands(form, value):
-    """Returns the words on a value that stands where another may."""
+    """Returns the words on a value in the place of another."""
     return f"expected {form}, found {shown(value)}"
 
 
 def strange(key, keys):
-    """Returns the words on a key that stands where others may."""
+    """Returns the words on a key in the place of others."""
     return f'"{key}": unknown key; expected {keys}'
 
 
@@ -97,7 +97,7 @@ def second(one):
 
 
 def in_condition(condition):
-    """Returns the profile that has this condition behind another, in the second entry."""
+    """Returns the profile that has this condition after another, in the second entry."""
     return second(entry("read", args=[ARGUMENT, condition]))
 
 
@@ -119,7 +119,7 @@ WRONG_VALUES = [
       for part in ("includes", "excludes") for key, form in OF_CRITERIA.items() for it in OTHERS[form]],
 ]
 
-# Each list with an item that may not stand there, behind one that may.
+# Each list with an item that may not stand there, after one that may.
 WRONG_ITEMS = [
     *[("flags[1]", stands(FLAG, it), profile(flags=["SECCOMP_FILTER_FLAG_LOG", it])) for it in OTHERS[FLAG]],
     *[(ENTRY, stands(OBJECT, it), second(it)) for it in OTHERS[OBJECT]],
@@ -241,7 +241,7 @@ CASES = [
     # A value is JSON, which leaves some characters that steer a terminal as they are.
     rejects("compile --oci", json.dumps({"defaultAction": "\u009b2J\u007f\u00b5"}),
             f'defaultAction: expected {ACTION}, found "\\xc2\\x9b2J\\x7f\u00b5"\n'),
-    # Each command reports the same, behind the file that is no profile.
+    # Each command reports the same, after the file that is no profile.
     *[Case(words.format(file), status, "", f"{TOOL}{file}: {told}") for words, status in COMMANDS
       for file, told in (("wrong-profile.json", IN_ENTRY), ("config.json", OF_CONFIG), ("logs.json", NO_PROFILE))],
     *[Case(words.format("-"), status, "", INPUT + IN_ENTRY, json.dumps(WRONG)) for words, status in COMMANDS if "<" not in words],

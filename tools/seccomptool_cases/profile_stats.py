@@ -71,7 +71,7 @@ def line(length, most, passing):
 
 
 # A load and a test of the architecture's word and the return of another one; a load of the number, and tests of it at 1, at the
-# first number of x32 and behind its last one; and the returns of three actions. A number behind those of x32 takes each test.
+# first number of x32 and after its last one; and the returns of three actions. A number after those of x32 takes each test.
 READS = line(10, 7, 7)
 
 # The same without an entry: the tests of x32, and two actions. The default action makes no difference.
@@ -108,8 +108,8 @@ KNOWN = [
     rejects("show --stats --oci reads-profile.json >&-", "", CLOSED, OUTPUT),
 ]
 
-# The call 0 matches always. In the linear layout it has a test, two jumps and two returns, behind 4 instructions and in front of a
-# return; each call takes 3 steps to the number, a test, a jump and a return. In the tree it has a test and two returns behind 4.
+# The call 0 matches always. In the linear layout it has a test, two jumps and two returns, after 4 instructions and in front of a
+# return; each call takes 3 steps to the number, a test, a jump and a return. In the tree it has a test and two returns after 4.
 COMMENTED_STEPS = "filter a\nlinear: 10 instructions, at most 6 steps, 6 passing\ntree: 7 instructions, at most 5 steps, 5 passing\n"
 
 CASES = [

@@ -35,7 +35,7 @@ PROGRAMS = {
     "reads-riscv64.bpf": guarded((JUMP_EQUAL, 0, 1, 63), returns(ALLOW), returns(LOG), arch=RISCV64),
     "logs.bpf": program(returns(LOG)),
     "allows.bpf": program(returns(ALLOW)),
-    # `read` of 5 (a condition on the low half of argument 0), and of numbers whose bit 0 is set; and `read` where the high half of
+    # `read` of 5 (a condition on the low half of argument 0), and of numbers whose bit 0 is set; and `read` if the high half of
     # the instruction pointer is 5.
     "reads-5.bpf": guarded((JUMP_EQUAL, 0, 3, 0), (LOAD, 0, 0, 16), (JUMP_EQUAL, 0, 1, 5), returns(ALLOW), returns(LOG)),
     "reads-odd.bpf": guarded(
@@ -83,7 +83,7 @@ def fails(words, told, place=TOOL, given=""):
 
 
 def compiled(arch, layout, file):
-    """Returns words behind which the program of a policy's file, in this layout, is standard input."""
+    """Returns words after which the program of a policy's file, in this layout, is standard input."""
     return f"compile -q {arch} -f a --layout {layout} {file} | ./seccomptool diff -q {arch} {file}:a -"
 
 

@@ -121,7 +121,7 @@ CASES = [
     misused("read.bpf read 1a"),
     misused("read.bpf read --records calls.bin", "error: CALL and --records can't both be given\n.."),
     misused("-", "error: SUBJECT and records can't both be read from standard input: give CALL or --records\n.."),
-    # With `--format word` the return value and the steps: three instructions behind the load, or two.
+    # With `--format word` the return value and the steps: three instructions after the load, or two.
     writes("explain --format word read.bpf read", "", "7fff0000 3\n"),
     writes("explain read.bpf 1 --format=word", "", "00050001 3\n"),
     writes("explain --format word longest.bpf 0", "", "7fff0000 4096\n"),

@@ -116,7 +116,7 @@ LOADS_SHOWN = "".join(f"{place:4}  {f'ld [{4 * place}]':28}; {it}\n" for place, 
 """
 
 # A program for aarch64 and for an architecture without a table, in which ways meet. Calls have their names on the architecture
-# of each way: `openat` is 56 on aarch64, and 257 on x86_64. Where the ways to a test differ, nothing is said of what differs.
+# of each way: `openat` is 56 on aarch64, and 257 on x86_64. If the ways to a test differ, nothing is said of what differs.
 OF_ARCHITECTURES = program(
     (LOAD, 0, 0, 4), (JUMP_EQUAL, 3, 0, 0xC00000B7), (JUMP_EQUAL, 4, 0, 0x40000003), (LOAD, 0, 0, 0), (JUMP_EQUAL, 4, 10, 257),
     (LOAD, 0, 0, 0), (JUMP_EQUAL, 2, 8, 56), (LOAD, 0, 0, 0), (JUMP_EQUAL, 0, 6, 295), (JUMP_AT_LEAST, 0, 1, 80),

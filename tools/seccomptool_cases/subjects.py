@@ -28,7 +28,7 @@ PROGRAMS = ("logs-all.bpf", "reads.bpf")
 
 
 def x32_line(olds, news):
-    """Returns the line of x32 numbers, on which a profile kills the thread, where one of both sides is a profile."""
+    """Returns the line of x32 numbers, on which a profile kills the thread, if one of both sides is a profile."""
     if (olds is PROFILES) == (news is PROFILES):
         return ""
     change = "kill_thread -> log, more" if olds is PROFILES else "log -> kill_thread, less"

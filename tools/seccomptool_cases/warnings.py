@@ -1,4 +1,4 @@
-"""What `check` has to do where a policy may not say what its author means: its warnings.
+"""The warnings that `check` has to print if a policy may not say what its author means.
 
 Of each code there is a table of filters that have it and of filters that just don't. The lines of any other policy are
 found by trying its conditions on values, and not by their operators: conditions.py has many. calls.py has the tables of
@@ -46,7 +46,7 @@ SAID = {
 BESIDE = ("unreachable-entry", "redundant-entry", "undecided-entry")
 ALLOWED = " ".join(f"--allow {it}" for it in BESIDE)
 
-# The key of an action or a condition that a code is about, behind its place.
+# The key of an action or a condition that a code is about, after its place.
 KEYS = {
     "fake-success": ".errno",
     "errno-too-large": ".errno",
@@ -68,7 +68,7 @@ OTHER = {"errno": 2}
 
 
 def line(place, code, file="standard input"):
-    """Returns the line of a warning about a file, where this is the place of an action, an entry or a condition."""
+    """Returns the line of a warning about a file, if this is the place of an action, an entry or a condition."""
     return f"{file}: {place}{KEYS.get(code, '')}: warning [{code}]: {SAID[code]}\n"
 
 
@@ -84,7 +84,7 @@ def filter_of(conditions, mismatch="trap", match="allow"):
 
 
 def warned(filters, *lines):
-    """Returns the cases of a policy that has exactly these warnings, where they are denied and where they aren't."""
+    """Returns the cases of a policy that has exactly these warnings, if they are denied and if they aren't."""
     text, output = json.dumps(filters), "".join(lines)
     denied = Case(f"check {ALLOWED} --deny-warnings", 1 if lines else 0, output, "", text)
     return [writes(f"check {ALLOWED}", text, output), denied]
@@ -99,7 +99,7 @@ def of_action(action, codes):
 
 
 def of_condition(length, operator, value, codes, mismatch="trap", match="allow"):
-    """Returns the cases of a condition that has these codes, behind one and in an entry that have none."""
+    """Returns the cases of a condition that has these codes, after one and in an entry that have none."""
     plain = condition("dword", "eq", 7)
     filters = {"a": filter_of([plain, condition(length, operator, value, 5)], mismatch, match)}
     filters["a"]["filter"].insert(0, {"syscall": "write"})
@@ -112,7 +112,7 @@ def masked(mask):
     return {"masked_eq": mask}
 
 
-# Actions, and their codes. One that kills, and one that lets calls through, has codes that depend on where it stands.
+# Actions, and their codes. One that kills, and one that lets calls through, has codes that depend on its place.
 ACTIONS = [
     ({"errno": 0}, ["fake-success"]),
     ({"errno": 1}, []),
@@ -166,7 +166,7 @@ CONDITIONS = [
     ("dword", "gt", 2**33 - 1, ["high-half-ignored", "never-holds"]),
 ]
 
-# Conditions that a high half passes by, where a filter denies what it lists, and conditions that it doesn't.
+# Conditions that a high half passes by, if a filter denies what it lists, and conditions that it doesn't.
 EVADED = [
     ("qword", "eq", 0x5412, ["high-half-evades"]),
     ("qword", "eq", LOW, ["high-half-evades"]),
@@ -190,7 +190,7 @@ DEFAULTS = [
     *(it for action in PERMITS for it in warned(
         {"a": filter_of([], action, "trap")}, line("a.mismatch_action", "allows-by-default"))),
     *(it for action in PERMITS for it in warned({"a": filter_of([], "trap", action)})),
-    # Where the listed calls are let through as well, nothing is denied that could be passed by.
+    # If the listed calls are let through as well, nothing is denied that could be passed by.
     *of_condition("qword", "eq", 5, [], "allow", "log"),
     *of_condition("qword", "eq", 5, [], "trap", "kill_process"),
     *(it for action in DENIES for it in of_condition("qword", "eq", 5, ["high-half-evades"], "log", action)),
@@ -287,7 +287,7 @@ EXITS = ("exit", "exit_group", "rt_sigreturn")
 
 
 def asked_of(entries, name):
-    """Returns the args of each entry that names this call: none where it has no args."""
+    """Returns the args of each entry that names this call: none if it has no args."""
     return [it.get("args") for it in entries if it["syscall"] == name]
 
 
@@ -351,6 +351,6 @@ CASES = [
     *warned({}),
     # A policy with a fault has no warnings.
     rejects("check", FAULTY, "a: expected two actions that differ, found the same one twice\n"),
-    # Where the warnings can't be written, that is told.
+    # If the warnings can't be written, that is told.
     rejects("check > /dev/full", json.dumps({"a": filter_of([], {"errno": 0}, "allow")}), FULL, OUTPUT),
 ]

@@ -71,7 +71,7 @@ fn only(path: &OsStr, programs: BpfMap) -> Result<Programs, Failure> {
     Err(Failure::NotOne(path.into(), why))
 }
 
-/// Reads what may be a program: no more than one byte behind the longest.
+/// Reads what may be a program: no more than one byte past the longest.
 fn read_program(from: impl Read) -> io::Result<Vec<u8>> {
     let mut bytes = Vec::new();
     from.take(MOST_BYTES as u64 + 1).read_to_end(&mut bytes)?;
@@ -128,7 +128,7 @@ fn install(path: &OsStr, programs: &Programs, flags: c_ulong) -> Result<(), Fail
     Ok(())
 }
 
-/// Takes the options in front; returns them, and what stands behind them.
+/// Takes the options in front; returns them, and what follows them.
 fn options(mut words: &[OsString]) -> (Options, &[OsString]) {
     let (layout, flags, closes) = (Layout::Linear, 0, false);
     let mut options = Options {

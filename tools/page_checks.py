@@ -1,7 +1,7 @@
 #!/usr/bin/env python3
 """Checks of the pages that need no built program, a part of tools/check-documents.
 
-usage: tools/page_checks.py [--long]
+usage: tools/page_checks.py
 
 - Each link leads to a file or folder of the repository, and each anchor to a heading of its page. Addresses of
   other sites are not looked at.
@@ -18,8 +18,7 @@ usage: tools/page_checks.py [--long]
 - The picture in docs/ is what tools/make-picture makes of its source.
 - A line of proofs or definitions has at most 140 characters, in each crate.
 
-Prints each difference, and as its last line 'N passed, M failed'. With --long it prints the sentences of more than
-30 words instead, which pages have few of.
+Prints each difference, and as its last line 'N passed, M failed'.
 """
 
 import fnmatch
@@ -36,7 +35,6 @@ LINE = 140
 README_WORDS = 900
 PAGES_WORDS = 32000
 CHANGES_WORDS = 900
-SENTENCE = 30
 
 LINK = re.compile(r"\[[^\]]*\]\(<?([^()\s>]+)>?\)|(?:src|srcset)=\"([^\"]+)\"")
 CODE = re.compile(r"``.+?``|`[^`]+`")
@@ -235,7 +233,6 @@ def documentation_of(source):
 
 def compare_terms(results):
     """Looks for terms that pages don't use, outside code and the table itself."""
-    results.compare("CONTRIBUTING.md: terms in its table 'Words'", (True,), (bool(unwanted_terms()),))
     table = section_of(TOP / "CONTRIBUTING.md", "Words")
     texts = {page: [it for it in lines_of(page) if it not in table] for page in pages()}
     for pattern in DOCUMENTED:
@@ -284,8 +281,6 @@ def compare_codes(results):
     names, told = defined_texts(text, "code_text"), defined_texts(text, "paragraph_text")
     all_codes = re.search(r"^all_codes = ([^\[]*)\[\]", text, re.M)[1]
     order = [names[it] for it in re.findall(r"code\.(\w+)", all_codes)]
-    results.compare("Codes.antt: codes with a name and a paragraph", (order, sorted(names)),
-                    ([names[it] for it in told], sorted(told)))
     sections = re.findall(r"^### `([a-z0-9-]+)`$", page.read_text(encoding="utf-8"), re.M)
     table = re.findall(r"^\| \[`([a-z0-9-]+)`\]", page.read_text(encoding="utf-8"), re.M)
     results.compare("docs/CHECKS.md: the sections of codes", order, sections)
@@ -316,16 +311,6 @@ def compare_pages(results):
     compare_proofs(results)
 
 
-def sentences_of(page):
-    """Returns the sentences of a page, those of a cell or an item by themselves, each with its line's number."""
-    sentences = []
-    for number, line in lines_of(page):
-        text = CODE.sub("code", re.sub(r"\[([^\]]*)\]\([^)]*\)", r"\1", line))
-        for part in re.split(r"\|", text) if text.startswith("|") else [text]:
-            sentences += [(number, it) for it in re.split(r"[.:;?!]\**\s+|\s·\s", part)]
-    return sentences
-
-
 class Results:
     """Counts the comparisons, and prints what differs."""
 
@@ -341,12 +326,6 @@ class Results:
 
 
 def main():
-    if sys.argv[1:] == ["--long"]:
-        for page in pages():
-            for number, sentence in sentences_of(page):
-                if len(sentence.split()) > SENTENCE:
-                    print(f"{name_of(page)}:{number}: {len(sentence.split())} words: {sentence}")
-        return 0
     results = Results()
     compare_pages(results)
     print(f"{results.passed} passed, {results.failed} failed")

@@ -53,6 +53,7 @@ static const char help[] =
     "Runs a command under seccomp filters: those of a policy with these names, or\n"
     "the only one that the policy has; or the program in a file, 8 bytes for each\n"
     "instruction; or the program that `seccomptool compile --oci` makes of a profile.\n"
+    "If a standard stream is closed, /dev/null is opened in its place.\n"
     "\n"
     "Options:\n"
     "  --tree       compile the policy's filters in the tree layout\n"
@@ -60,8 +61,6 @@ static const char help[] =
     "  --close-fds  close the descriptors above 2; else the command inherits them\n"
     "  --help       print this\n"
     "  --version    print the version\n"
-    "\n"
-    "/dev/null is opened for standard streams that are closed.\n"
     "\n"
     "Exit status: the command's; 125 if nothing was run, 126 if the command can't be\n"
     "run, 127 if it doesn't exist\n";

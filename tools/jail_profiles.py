@@ -41,7 +41,7 @@ OF_EXAMPLE = [
     ([], "kexec_load", KILLED), ([], "kexec_file_load", KILLED), (SYS_ADMIN, "kexec_load", KILLED),
 ]
 
-# What seccomptool notes of profiles: names that the architecture hasn't, and flags.
+# What seccomptool notes of profiles: names that the architecture doesn't have, and flags.
 NOTES = re.compile(
     r"\A(seccomptool: .*: not system calls of x86_64, left out \(\d+\): .*\n)?"
     r"(seccomptool: .*: flags to set when the program is installed \(\d+\): .*\n)?"

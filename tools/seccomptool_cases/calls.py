@@ -1,4 +1,4 @@
-"""What `check` has to warn of by the names of calls: those that a filter has entries of, and those that it hasn't.
+"""What `check` has to warn of by the names of calls: those that a filter has entries of, and those that it doesn't have.
 
 Of each code there is a table of filters that have it and of filters that just don't. More filters come by chance, and
 their lines are those of warnings.py.

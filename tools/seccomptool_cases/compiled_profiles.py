@@ -157,12 +157,12 @@ CASES = [
     *compiles("", profile(entry("read write", args=[when(0, "EQ", 1), when(1, "EQ", 2), when(0, "EQ", 3)])),
               *[(f"{name} {given}", action) for name in ("read", "write")
                 for given, action in (("1", "allow"), ("0 2", "allow"), ("3", "allow"), ("2 1", "errno 1"))]),
-    # An entry whose calls the architecture hasn't decides nothing.
+    # An entry whose calls the architecture doesn't have decides nothing.
     *left_out("", profile(entry("waitpid", "SCMP_ACT_TRAP"), entry("read")), ["waitpid"], READ, OTHER),
     # What an entry includes and excludes.
     *[case for more, those, others in CRITERIA for action, all_words in (("allow", those), ("errno 1", others)) for words in all_words
       for case in compiles(f"--oci {words}", profile(entry("read", **more)), ("read", action))],
-    # Names that the architecture hasn't, of entries that apply.
+    # Names that the architecture doesn't have, of entries that apply.
     *left_out("", profile(entry("waitpid read mmap2"), entry("mmap2 Read read")), ["waitpid", "mmap2", "mmap2", "Read"], READ, OTHER),
     *left_out("", profile({"names": ["no\ncall", "a\\b", "\u009b", "\u00b5", ""], "action": "SCMP_ACT_ALLOW"}),
               ["no\\x0acall", "a\\x5cb", "\\xc2\\x9b", "\u00b5", ""], ("read", "errno 1")),

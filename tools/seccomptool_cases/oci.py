@@ -209,7 +209,7 @@ KNOWN = [
     writes("explain --oci reads-profile.json < examples/records.bin", "",
            "errno 1: defaultAction\n" * 4 + "kill_process: another architecture\n"),
     writes("explain --oci reads-profile.json", "", ""),
-    # Names that the architecture hasn't are no reason, and aren't listed.
+    # Names that the architecture doesn't have are no reason, and aren't listed.
     writes("explain --oci unknown-profile.json read", "", "allow: syscalls[0] (read)\n"),
     writes("explain --oci - open", json.dumps(profile(entry("read"), entry("no_such_call open"))), "allow: syscalls[1] (open)\n"),
     writes("diff --oci unknown-profile.json reads-profile.json", "", "profile: same\n"),

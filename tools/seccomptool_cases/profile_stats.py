@@ -91,7 +91,7 @@ KNOWN = [
     writes("show --stats --oci -", json.dumps(profile(entry("read"), default="SCMP_ACT_KILL")), KILLS),
     writes("show --stats --oci -", json.dumps(profile()), NOTHING),
     writes("show --stats --oci -", json.dumps(profile(entry("read"), default="SCMP_ACT_ALLOW")), ALL),
-    # Of the architecture that is named; names that it hasn't are left out, and not listed, nor are flags.
+    # Of the architecture that is named; names that it doesn't have are left out, and not listed, nor are flags.
     writes("show --stats --oci --arch=amd64 -", OPENS, READS),
     writes("show --stats --oci -a arm64 -", OPENS, NOTHING_ELSEWHERE),
     writes("show --stats --oci -a riscv64 -", OPENS, NOTHING_ELSEWHERE),

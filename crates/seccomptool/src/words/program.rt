@@ -33,7 +33,7 @@ const CODES: &[&str] = &[
 
 const AFTER: &str = "\
 SUBJECT, OLD and NEW are a policy, a seccomp profile of a container runtime, or a
-program in bytes; which one shows in the file. FILE is a path, and - is standard
+program, in bytes or C: the file shows which. FILE is a path, and - is standard
 input. CALL is the name or number of a system call. Numbers are decimal, or
 hexadecimal behind 0x; an ARG may be negative, and then stands behind --, as in
 `seccomptool call --record lseek 3 -- -1`.

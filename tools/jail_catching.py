@@ -1,16 +1,20 @@
 """What tools/try-jail tries of tools/catch-filter.c: the programs that it writes are those that were installed.
 
-Each program that is installed here allows all calls, and they differ in length. If the kernel allows no process to be
-traced, or tells nobody which programs a process has, it is said, and the cases that need it aren't run.
+Each program that is installed here allows all calls, and they differ in length; except those that runc and crun install for
+a container, which seccomptool shows, explains and compares with the profile. If the kernel allows no process to be traced, or
+tells nobody which programs a process has, or a runtime isn't installed or runs no container, it is said, and the cases that need
+it aren't run.
 """
 
+import json
 import os
 import pathlib
+import shutil
 import struct
 import subprocess
 import sys
 
-from jail_running import ENVIRONMENT, TOP, run, step
+from jail_running import ENVIRONMENT, EXAMPLES, TOOL, TOP, run, step
 from running_kernel import SECCOMP
 
 ALLOW = struct.pack("<HBBI", 6, 0, 0, 0x7FFF0000)
@@ -60,7 +64,7 @@ def program_of(loads):
 
 def caught(room, prefix):
     """Returns the programs of the files of a prefix in a folder, by their numbers, and the names of all other files."""
-    files = {it.name: it.read_bytes() for it in room.iterdir()}
+    files = {it.name: it.read_bytes() for it in room.iterdir() if it.is_file()}
     programs = []
     while f"{prefix}.{len(programs) + 1}.bpf" in files:
         programs.append(files.pop(f"{prefix}.{len(programs) + 1}.bpf"))
@@ -129,6 +133,90 @@ def try_process(results, program, folder):
     results.compare("catch-filter: a process without programs", ("", "catch-filter: the process has no program\n", 1), found)
 
 
+PROFILE = EXAMPLES / "oci-profile.json"
+
+# Runs a command where no cgroups of both versions are mounted: crun takes only one.
+ALONE = ["unshare", "--mount", "sh", "-c", 'umount /sys/fs/cgroup/unified 2> /dev/null; exec "$@"', "sh"]
+
+# What the profile says of calls in a container without capabilities.
+EXPLAINED = [
+    ("read", "allow"), ("memfd_create", "log"), ("kexec_load", "kill_process"), ("mount", "errno 1"), ("clone3", "errno 38"),
+    ("clone 0x800", "allow"), ("clone 0x10000000", "errno 38"), ("personality 0xffffffff", "allow"), ("personality 1", "errno 38"),
+]
+
+# By the runtime and the architectures of the container's profile, what a program does with `read` of x32 and with a number above
+# those of x32. A profile's program kills the thread at both. libseccomp's tests for at least 0x40000000, and that of runc in front of
+# it for the bit, and answers other numbers above the profile's with ENOSYS (libcontainer/seccomp/patchbpf).
+X32, ABOVE = str(2**30), str(2**31)
+NUMBERS = {
+    ("crun", "X86_64"): ("kill_thread", "kill_thread"), ("crun", "X86_64 X32"): ("allow", "errno 38"),
+    ("runc", "X86_64"): ("kill_thread", "errno 38"), ("runc", "X86_64 X32"): ("allow", "errno 38"),
+}
+
+
+def given_to_runtime(profile, architectures):
+    """Returns what an engine makes of a profile for the runtime of a container without capabilities."""
+    entries = [{key: it[key] for key in ("names", "action", "errnoRet", "args") if key in it}
+               for it in profile["syscalls"] if not it.get("includes", {}).get("caps")]
+    defaults = {key: profile[key] for key in ("defaultAction", "defaultErrnoRet")}
+    return {**defaults, "architectures": [f"SCMP_ARCH_{it}" for it in architectures.split()], "syscalls": entries}
+
+
+def contained(folder, runtime, seccomp):
+    """Returns the words that run `true` in a container, with this as the part `seccomp` of its config.json."""
+    linux = {"namespaces": [{"type": "mount"}, {"type": "pid"}], **({"seccomp": seccomp} if seccomp else {})}
+    process = {"user": {"uid": 0, "gid": 0}, "args": ["/true"], "cwd": "/", "noNewPrivileges": True}
+    mounts = [{"destination": "/proc", "type": "proc", "source": "proc"}]
+    config = {"ociVersion": "1.0.2", "process": process, "root": {"path": "root"}, "mounts": mounts, "linux": linux}
+    (folder / "config.json").write_text(json.dumps(config))
+    return [*ALONE, runtime, "--root", folder / "state", "run", "--bundle", folder, f"catch-filter-{os.getpid()}"]
+
+
+def try_runtime(results, program, folder, runtime, architectures):
+    """Catches the program that a runtime installs for a profile, and looks what seccomptool says of it."""
+    profile = json.loads(PROFILE.read_text(encoding="utf-8"))
+    name = pathlib.Path(runtime).name
+    what = f"{name} {architectures}"
+    words = contained(folder, runtime, given_to_runtime(profile, architectures))
+    found = run([program, "-o", what, *words], folder)
+    if not results.compare(f"{what}: one program is caught", (1, 0), (len(caught(folder, what)[0]), found[2])):
+        print(found[1])
+        return
+    file = folder / f"{what}.1.bpf"
+    out, err, status = run([TOOL, "show", file], folder)
+    results.compare(f"{what}: shown", (file.stat().st_size // 8, False, "", 0), (out.count("\n"), "unknown" in out, err, status))
+    numbers = NUMBERS[name, architectures]
+    for call, action in [*EXPLAINED, *zip((X32, ABOVE), numbers)]:
+        found = run([TOOL, "explain", file, *call.split()], folder)
+        results.compare(f"{what}: {call}", (action + "\n", "", 0), found)
+    # It differs from the profile at most on numbers from those of x32 on, and there by one of both.
+    lines = [f"  x32 calls {X32} to {2**32 - 1}: kill_thread -> {action}, more: {call}(0x0, 0x0, 0x0, 0x0, 0x0, 0x0)\n"
+             for call, action in zip((X32, ABOVE), numbers) if action != "kill_thread"]
+    wanted = [("profile: different\n" + line, "", 1) for line in lines] or [("profile: same\n", "", 0)]
+    out, err, status = run([TOOL, "diff", "-q", PROFILE, file], folder)
+    found = out.partition("other architectures")[0], err, status
+    results.compare(f"{what}: compared", found if found in wanted else wanted, found)
+
+
+def try_runtimes(results, program, folder):
+    """Runs a container by each runtime that is installed."""
+    (folder / "root").mkdir()
+    (folder / "true.c").write_text("int main(void) { return 0; }\n")
+    linked = run(["cc", "-static", "true.c", "-o", "root/true"], folder)
+    for name in ("runc", "crun"):
+        runtime = shutil.which(name, path="/usr/bin:/bin:/usr/sbin:/sbin")
+        if os.geteuid() != 0 or runtime is None or linked[2] != 0:
+            why = "not installed" if runtime is None else "nothing links a static program" if linked[2] else "only root runs it"
+            print(f"{name}: {why}, so no program of its containers is caught")
+            continue
+        out, err, status = run(contained(folder, runtime, None), folder)
+        if status == 0:
+            for _, architectures in (it for it in NUMBERS if it[0] == name):
+                try_runtime(results, program, folder, runtime, architectures)
+        else:
+            print(f"{name} runs no container here, so no program of its containers is caught: {(err or out).strip()}")
+
+
 def try_catching(results, folder):
     """Builds tools/catch-filter.c, and runs its cases."""
     program = folder / "bin/catch-filter"
@@ -145,3 +233,5 @@ def try_catching(results, folder):
         return
     try_command(results, program, room)
     try_process(results, program, room)
+    if TOOL.exists():
+        try_runtimes(results, program, room)

@@ -1,8 +1,10 @@
-"""Programs in which one number is another: `diff` of seccomptool finds a call on which such a program returns another value, or says
-that there is none. Both are held against an interpreter of classic BPF, as linux/bpf_common.h has it.
+"""Programs in which one number is another: `diff` of seccomptool prints the calls on which such a program returns another value, or
+says that there are none. Both are held against an interpreter of classic BPF, as linux/bpf_common.h has it: on the call of each
+line both programs return two values, and each record at random whose run comes to the place of the mutation, and for which they do,
+is of a call that has a line.
 
 The programs are those of examples/foreign and some that are made at random, and the numbers are the constant of a jump or a returned
-value, always the same ones. If `diff` says that two programs are the same, records at random and at the borders of both are run.
+value, always the same ones.
 """
 
 import random
@@ -12,33 +14,46 @@ import struct
 LOAD, MASK, JUMP, RETURN = 0x20, 0x54, 0x05, 0x06
 TESTS = {0x15: lambda a, k: a == k, 0x25: lambda a, k: a > k, 0x35: lambda a, k: a >= k, 0x45: lambda a, k: a & k != 0}
 
-# `AUDIT_ARCH_*` values (linux/audit.h).
-X86_64, I386 = 0xC000003E, 0x40000003
+# An `AUDIT_ARCH_*` value (linux/audit.h).
+X86_64 = 0xC000003E
 
 # Return values (linux/seccomp.h).
 WORDS = (0x7FFF0000, 0x7FFC0000, 0x00050001, 0x00050026, 0x00030000, 0, 0x80000000)
 
+# How many mutations there are, of each program of examples/foreign, and of each one that is made; and how often a record is looked
+# for that comes to the place of one.
 MUTATIONS = 1000
-RECORDS = 2000
-FOREIGN = ("one-test", "two-borders", "two-halves", "mask-of-a-bit", "crun", "runc", "chromium-a", "chromium-b")
+OF_FOREIGN = 10
+OF_MADE = 18
+TRIES = 10
+FOREIGN = ("one-test", "two-borders", "two-halves", "mask-of-a-bit", "crun", "runc", "chromium-a", "chromium-b", "flatpak",
+           "libseccomp-calls")
 
-# How many of the mutations are of each long program.
-OF_LONG = 40
+# Compares a file with each of others, and prints the exit statuses.
+DIFFS = 'old=$1; shift; for new; do "$0" diff -q --all "$old" "$new" > "${new%.bpf}.out" 2>&1; echo $?; done'
 
-# A call on which two programs differ: its name or number, after the `AUDIT_ARCH_*` value if that is another, its arguments, and
-# the instruction pointer.
-EXAMPLE = re.compile(r": (?:0x([0-9a-f]+) )?(\w+)\(((?:0x[0-9a-f]+(?:, )?){6})\)(?: at 0x([0-9a-f]+))?$")
+# A line of calls on which two programs differ: other numbers, other architectures or a name; and at its end an example, its name or
+# number, after the `AUDIT_ARCH_*` value if that is another, its arguments, and the instruction pointer.
+LINE = re.compile(r"  (?:(?:other|x32) calls (\d+) to (\d+)|other architectures 0x([0-9a-f]+) to 0x([0-9a-f]+)|(\w+)): [^:]*: "
+                  r"(?:0x([0-9a-f]+) )?(\w+)\(" + ", ".join(["0x([0-9a-f]+)"] * 6) + r"\)(?: at 0x([0-9a-f]+))?")
+
+
+def next_of(program, place):
+    """Returns the places to which an instruction leads."""
+    code, if_so, if_not, k = program[place]
+    if code in TESTS:
+        return place + 1 + if_so, place + 1 + if_not
+    return () if code == RETURN else (place + 1 + (k if code == JUMP else 0),)
 
 
 def answer_of(program, record):
-    """Returns what a program returns for the sixteen numbers of a record, and the places that the run visits."""
-    place, accumulator, visited = 0, 0, []
+    """Returns what a program returns for the sixteen numbers of a record."""
+    place, accumulator = 0, 0
     while True:
-        visited.append(place)
         code, if_so, if_not, k = program[place]
         place += 1
         if code == RETURN:
-            return k, visited
+            return k
         if code == LOAD:
             accumulator = record[k // 4]
         elif code == MASK:
@@ -58,8 +73,9 @@ def made(numbers):
             code += [(test, 0, 1, number), (RETURN, 0, 0, word)]
         else:
             inner = numbers.choice(tuple(TESTS))
-            code += [(test, 0, 5, number), (LOAD, 0, 0, 16 + 4 * numbers.randrange(12)), (MASK, 0, 0, numbers.choice((0xFFFFFFFF, 0xFF, 6))),
-                     (inner, 0, 1, numbers.randrange(8)), (RETURN, 0, 0, word), (LOAD, 0, 0, 0)]
+            code += [(test, 0, 5, number), (LOAD, 0, 0, 16 + 4 * numbers.randrange(12)),
+                     (MASK, 0, 0, numbers.choice((0xFFFFFFFF, 0xFF, 6))), (inner, 0, 1, numbers.randrange(8)), (RETURN, 0, 0, word),
+                     (LOAD, 0, 0, 0)]
     return [*code, (RETURN, 0, 0, numbers.choice(WORDS))]
 
 
@@ -73,60 +89,104 @@ def mutated(numbers, program):
     return [*program[:place], (code, if_so, if_not, k), *program[place + 1:]], place
 
 
-def records_of(numbers, program):
-    """Returns records, each sixteen numbers: at the borders of the program's tests, and at random."""
-    borders = sorted({(k + step) % 2**32 for code, _, _, k in program if code in TESTS for step in (-1, 0, 1)} | {0, 2**32 - 1})
-    calls = [it for it in borders if it < 2**31] + [*range(470)]
-
-    def number():
-        return numbers.choice(borders) if numbers.randrange(3) else numbers.getrandbits(32)
-
-    return [(numbers.choice(calls) if numbers.randrange(4) else number(), X86_64 if numbers.randrange(8) else numbers.choice((I386, number())),
-             *(number() for _ in range(14))) for _ in range(RECORDS)]
+def near(numbers, mask, k):
+    """Returns numbers that a test under a mask may tell from others."""
+    chance = numbers.getrandbits(32)
+    return [k, (k + 1) % 2**32, (k - 1) % 2**32, k & mask | chance & ~mask, chance & ~k]
 
 
-def record_of(found, number_of):
-    """Returns the record of a call that `diff` prints."""
-    arch, name, arguments, pointer = found.groups()
-    number = int(name) if name.isdigit() else number_of[name]
-    wide = [int(pointer or "0", 16), *(int(it, 16) for it in arguments.split(", "))]
-    return (number, int(arch, 16) if arch else X86_64, *(half for it in wide for half in (it % 2**32, it >> 32)))
+def way_to(numbers, program, place, leads):
+    """Returns the tests on a way to a place, chosen at random among the places that lead there: for each number of a record those that
+    it has to meet; and which number is loaded at the end, under which mask."""
+    at, loaded, mask, asked = 0, 0, 0, {}
+    while at != place:
+        code, if_so, _, k = program[at]
+        if code == LOAD:
+            loaded, mask = k // 4, 2**32 - 1
+        elif code == MASK:
+            mask &= k
+        then = numbers.choice([it for it in next_of(program, at) if it in leads])
+        if code in TESTS:
+            asked.setdefault(loaded, []).append((mask, TESTS[code], k, then == at + 1 + if_so))
+        at = then
+    return asked, loaded, mask
 
 
-def is_well(line, new, old, number_of):
-    """Returns whether the interpreter answers the call of a line by two values."""
-    found = EXAMPLE.search(line)
-    if not found:
-        return False
-    record = record_of(found, number_of)
-    return answer_of(new, record)[0] != answer_of(old, record)[0]
+def records_to(numbers, program, place, wanted):
+    """Returns records whose runs come to a place, at random. A number that is tested there is near one of those wanted, if the way to
+    the place lets it."""
+    leads, records = {place}, []
+    for at in range(place - 1, -1, -1):
+        leads.update([at] if leads.intersection(next_of(program, at)) else [])
+    for _ in range(TRIES if 0 in leads else 0):
+        asked, loaded, mask = way_to(numbers, program, place, leads)
+        record = [numbers.getrandbits(32) for _ in range(16)]
+        first = numbers.sample([it for k in wanted for it in near(numbers, mask, k)], 5 * len(wanted))
+        for number, tests in {loaded: [], **asked}.items():
+            tried = [*(first if number == loaded else ()), record[number]]
+            tried += [it for mask, _, k, _ in reversed(tests) for it in near(numbers, mask, k)]
+            record[number] = next((it for it in tried if all(test(it & mask, k) == so for mask, test, k, so in tests)), None)
+        records += [] if None in record else [record]
+    return records
+
+
+def found_on(line, number_of):
+    """Returns what a line of `diff` says: that of records whose number in a place, 0 or 1, lies between two others, this one is answered
+    otherwise. None if it says no such thing."""
+    said = LINE.fullmatch(line)
+    if not said:
+        return None
+    least, greatest, first, last, name, arch, call, *arguments, pointer = said.groups()
+    wide = [int(it or "0", 16) for it in (pointer, *arguments)]
+    number = int(call) if call.isdigit() else number_of[call]
+    record = number, int(arch, 16) if arch else X86_64, *(half for it in wide for half in (it % 2**32, it >> 32))
+    if first:
+        return (1, int(first, 16), int(last, 16)), record
+    return (0, *((number_of[name],) * 2 if name else (int(least), int(greatest)))), record
+
+
+def is_within(record, part):
+    """Returns whether a record is of the calls of a line: those of x86_64 are known by their number, and others by the architecture."""
+    place, least, greatest = part
+    return place == (record[1] != X86_64) and least <= record[place] <= greatest
 
 
 def programs(numbers, top):
-    """Returns the programs and how many mutations there are of each."""
-    read = {it: list(struct.iter_unpack("<HBBI", (top / f"examples/foreign/{it}.bpf").read_bytes())) for it in FOREIGN}
-    foreign = [(name, program, OF_LONG) for name, program in read.items()]
-    each = 20
-    return [*foreign, *((f"made {it}", made(numbers), each) for it in range((MUTATIONS - OF_LONG * len(foreign)) // each))]
+    """Returns programs with their names, and how many mutations there are of each."""
+    for name in FOREIGN:
+        yield name, list(struct.iter_unpack("<HBBI", (top / f"examples/foreign/{name}.bpf").read_bytes())), OF_FOREIGN
+    for number in range((MUTATIONS - OF_FOREIGN * len(FOREIGN)) // OF_MADE):
+        yield f"made {number}", made(numbers), OF_MADE
+
+
+def compared(run, tool, folder, old, mutations):
+    """Returns what `diff` says of a program and each of these: its exit status, and what it prints."""
+    files = [folder / f"{number}.bpf" for number in range(len(mutations) + 1)]
+    for file, program in zip(files, [old, *mutations]):
+        file.write_bytes(b"".join(struct.pack("<HBBI", *it) for it in program))
+    statuses = run(["sh", "-c", DIFFS, tool, *files])[1].split()
+    return [(int(status), file.with_suffix(".out").read_text(encoding="utf-8")) for status, file in zip(statuses, files[1:])]
+
+
+def is_right(old, new, records, status, lines, number_of):
+    """Returns whether each line of `diff` is so, and none is missing of those that records show."""
+    found = [found_on(line, number_of) for line in lines]
+    parts = {it[0] for it in found if it}
+    return status == bool(lines) and all(
+        it and is_within(it[1], it[0]) and answer_of(new, it[1]) != answer_of(old, it[1]) for it in found
+    ) and all(answer_of(new, it) == answer_of(old, it) or any(is_within(it, part) for part in parts) for it in records)
 
 
 def check_mutations(results, folder, top, tool, run, number_of):
     """Compares programs with mutated ones. run(command) returns the exit status, the output and the errors."""
-    numbers = random.Random(62)
-    old_file, new_file = folder / "old.bpf", folder / "new.bpf"
+    numbers, tried, reached = random.Random(62), 0, 0
     for name, old, count in programs(numbers, top):
-        old_file.write_bytes(b"".join(struct.pack("<HBBI", *it) for it in old))
-        records = records_of(numbers, old)
-        answers = [answer_of(old, it) for it in records]
-        for _ in range(count):
-            new, place = mutated(numbers, old)
-            new_file.write_bytes(b"".join(struct.pack("<HBBI", *it) for it in new))
-            status, output, errors = run([tool, "diff", "-q", "--all", old_file, new_file])
-            lines = [line for line in output.decode().split("\n") if line.startswith("  ")]
-            if status == 1:
-                well = lines and all(is_well(line, new, old, number_of) for line in lines)
-            else:
-                # Only a run that comes to the place of the mutation can end otherwise.
-                well = status == 0 and not lines and all(
-                    answer_of(new, it)[0] == word for it, (word, visited) in zip(records, answers) if place in visited)
-            results.tell(f"{name}, with {new[place]} at {place} in the place of {old[place]}", well, (status, output, errors))
+        mutations = [mutated(numbers, old) for _ in range(count)]
+        for (new, place), (status, output) in zip(mutations, compared(run, tool, folder, old, [it for it, _ in mutations])):
+            lines = [line for line in output.split("\n") if line.startswith("  ")]
+            records = records_to(numbers, old, place, (old[place][3], new[place][3]))
+            tried, reached = tried + 1, reached + bool(records)
+            well = is_right(old, new, records, status, lines, number_of)
+            results.tell(f"{name}, with {new[place]} at {place} in the place of {old[place]}", well, (status, output))
+    results.tell("so many mutations are tried, and records come to most of them", tried == MUTATIONS and reached >= MUTATIONS * 4 // 5,
+                 (tried, reached))

@@ -17,7 +17,7 @@ FILES = {
     "names.json": {"b": LOGS, "a\n\\": LOGS, "\u00b5": LOGS},
     "no-filters.json": {},
     "empty": "",
-    "no-json.json": "{1}",
+    "no-json.json": "{a}",
     "large-number.json": "1e999",
     "comma.json": "[1,]",
     "list.json": [],

@@ -267,7 +267,7 @@ CASES = [
     writes("check", "{}", ""),
     # `check` tells faults without a place as the library.
     rejects("check", '{"a":{"filter":1,"filter":2}}', REPEATED),
-    rejects("check", "{1}", UNPARSED),
+    rejects("check", "{a}", UNPARSED),
     # `check` tells the place in the filters, in an entry and in a condition, and the first fault.
     *IN_FILTERS,
     *IN_AN_ENTRY,

@@ -1,5 +1,5 @@
 -- The sets of calls that a comparison of two programs goes through, what it finds on each, and its verdict.
-use Rattle.std.specs.Prelude.{◌≡◌, ◌≢◌, ℕ, pos, ◌+◌, ◌-◌, ◌^◌, ◌≤◌, ◌⊎◌, List, [], ◌∷◌, ◌++◌, map, All, Option, Some, None, nat_eq}
+use Rattle.std.specs.Prelude.{◌≡◌, ◌≢◌, ℕ, pos, ◌+◌, ◌-◌, ◌^◌, ◌<◌, ◌≤◌, ◌⊎◌, List, [], ◌∷◌, ◌++◌, map, All, Option, Some, None, nat_eq}
 use Rattle.std.specs.Prelude.{if◌then◌else◌, ⊤}
 use Rattle.std.specs.Ordering.{int_eq}
 use Rattle.seccompiler.specs.declared.backend.TargetArch.{TargetArch}
@@ -39,12 +39,13 @@ IsInPart target (Unnamed least greatest) r = IsRecord r × (word_at r 4 ≡ audi
 IsInPart target (Elsewhere least greatest) r = IsRecord r × (least ≤ word_at r 4) × (word_at r 4 ≤ greatest)
 
 -- The numbers from the least to the greatest have no name, and are all that there are between two numbers with names, the
--- number where those of x32 begin (`__X32_SYSCALL_BIT` of asm/unistd.h), or an end of all numbers.
+-- number where those of x32 begin (`__X32_SYSCALL_BIT` of asm/unistd.h), or an end of all numbers. All are x32's, or none is.
 pub record IsGap (table : List Pair) (least greatest : ℕ) : Type 0 where
   pub some : least ≤ greatest
   pub unnamed : (n : ℕ) → least ≤ n → n ≤ greatest → LacksName table n
   pub begins : (least ≡ 0) ⊎ (HasName table (least - 1) ⊎ (least ≡ 2 ^ 30))
   pub ends : (greatest + 1 ≡ 2 ^ 32) ⊎ (HasName table (greatest + 1) ⊎ (greatest + 1 ≡ 2 ^ 30))
+  pub apart : (greatest < 2 ^ 30) ⊎ (2 ^ 30 ≤ least)
 
 -- The parts are those of the numbers below this one, in ascending order: one for each number that has a name, and one for
 -- each range of numbers between these.

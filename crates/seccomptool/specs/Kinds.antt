@@ -1,5 +1,7 @@
 -- What is given: which bytes are a program's, and which texts are those of profiles of container runtimes.
-use Rattle.std.specs.Prelude.{◌≡◌, ℕ, Bool, true, false, List, ◌++◌, Option, Some, codes, slice_get, ⊤}
+use Rattle.std.specs.Prelude.{◌≡◌, ℕ, ◌≤◌, ◌⊎◌, Bool, true, false, List, ◌++◌, Option, Some, codes, drop, slice_get, ⊤}
+use Rattle.std.specs.Char.{is_ascii_whitespace}
+use Rattle.std.specs.List.{prefix_len}
 use Rattle.serde_json.specs.Data.{Data, string}
 use Rattle.seccompiler.specs.declared.backend.TargetArch.{TargetArch}
 use Rattle.seccompiler.specs.JsonAnswers.{ArePoliciesOf, IsReadAs, OfValue}
@@ -33,9 +35,26 @@ pub record IsOfProfile (text : List ℕ) : Type 0 where
 abbrev pub IsPolicyText : TargetArch → List ℕ → Type 0
 IsPolicyText arch text = (find : List ℕ → Option Filter) × OfValue text (ArePoliciesOf arch find)
 
--- The bytes begin as those of a program: the second one, the high byte of the first instruction's code, is 0.
+-- What stands behind the white space that a text begins with.
+abbrev pub behind_space : List ℕ → List ℕ
+behind_space text = drop (prefix_len is_ascii_whitespace text) text
+
+-- A digit, a brace or a comment begins with this byte.
+abbrev pub BeginsInitializer : ℕ → Type 0
+BeginsInitializer byte = ((0x30 ≤ byte) × (byte ≤ 0x39)) ⊎ ((byte ≡ 0x7b) ⊎ (byte ≡ 0x2f))
+
+-- The text begins as C's initializers of instructions: with a brace and then, white space aside, with a digit, a brace or a
+-- comment. No text of JSON does.
+pub record BeginsAsInitializers (text : List ℕ) : Type 0 where
+  pub brace : slice_get (behind_space text) 0 ≡ Some 0x7b
+  pub next : ℕ
+  pub there : slice_get (behind_space (drop 1 (behind_space text))) 0 ≡ Some next
+  pub begins : BeginsInitializer next
+
+-- What is given begins as a program: as a text of initializers, or as bytes of which the second one, the high byte of the first
+-- instruction's code, is 0.
 abbrev pub BeginsAsProgram : List ℕ → Type 0
-BeginsAsProgram bytes = slice_get bytes 1 ≡ Some 0
+BeginsAsProgram given = BeginsAsInitializers given ⊎ (slice_get given 1 ≡ Some 0)
 
 -- The text is a profile's: all are, or it is taken for one's.
 abbrev pub IsReadAsProfile : (of_profiles : Bool) → List ℕ → Type 0

@@ -1,4 +1,4 @@
--- What `run` gives: the program that bytes are, what is at fault in them, and what the program returns for records.
+-- The program that is given, what is at fault in it, and what it returns for records.
 use Rattle.std.specs.Prelude.{◌≡◌, ℕ, ◌*◌, ◌%◌, ◌<◌, ◌≤◌, ◌⊎◌, List, length, ⊤}
 use Rattle.std.specs.List.{AllZip}
 use Rattle.seccompiler.specs.declared.bpf.sock_filter.{sock_filter}
@@ -10,26 +10,36 @@ use Rattle.seccomptool.specs.declared.error.ToolError.TheVariants.{Program, OutO
 use Rattle.seccomptool.specs.declared.run.fault.ProgramFault.{ProgramFault}
 use Rattle.seccomptool.specs.declared.run.fault.ProgramFault.TheVariants as fault
 use Rattle.seccomptool.specs.Compile.{program_bytes}
+use Rattle.seccomptool.specs.Kinds.{BeginsAsInitializers}
 use Rattle.seccomptool.specs.RunFaults.{IsUnfitAt}
 
 -- The bytes are those of this program. Each field of an instruction lies within its type's range, so there is no other.
-pub record IsProgramOf (bytes : List ℕ) (program : List sock_filter) : Type 0 where
+pub record HasBytes (bytes : List ℕ) (program : List sock_filter) : Type 0 where
   pub whole : program_bytes program ≡ bytes
   pub ranges : AreInRange program
+
+-- The program is the one that is given in bytes. Which one a text of initializers gives isn't said.
+abbrev pub IsProgramOf : List ℕ → List sock_filter → Type 0
+IsProgramOf given program = BeginsAsInitializers given ⊎ HasBytes given program
 
 -- The first fault of a program's bytes: they end inside an instruction; they are of none, or of more than a program may
 -- have; or one of those is unfit.
 abbrev pub IsProgramFault : List ℕ → ProgramFault → Type 0
+IsProgramFault bytes (fault.Text line expected) = ⊥
 IsProgramFault bytes (fault.Short rest) = (length bytes % 8 ≡ rest) × (0 < rest)
 IsProgramFault bytes (fault.Length count) = (length bytes ≡ count * 8) × ((count ≡ 0) ⊎ (greatest_length < count))
 IsProgramFault bytes (fault.Unfit place amiss) =
-    (program : List sock_filter) × IsProgramOf bytes program × (length program ≤ greatest_length) × IsUnfitAt program place amiss
+    (program : List sock_filter) × HasBytes bytes program × (length program ≤ greatest_length) × IsUnfitAt program place amiss
 
--- Why a program isn't run: its first fault, or want of memory.
+-- Why bytes aren't run: their first fault, or want of memory.
+abbrev pub AreRefusedBytes : List ℕ → ToolError → Type 0
+AreRefusedBytes bytes (Program fault) = IsProgramFault bytes fault
+AreRefusedBytes bytes OutOfMemory = ⊤
+AreRefusedBytes bytes e = ⊥
+
+-- Why what is given isn't run; of a text of initializers it isn't said.
 abbrev pub IsRefusedProgram : List ℕ → ToolError → Type 0
-IsRefusedProgram bytes (Program fault) = IsProgramFault bytes fault
-IsRefusedProgram bytes OutOfMemory = ⊤
-IsRefusedProgram bytes e = ⊥
+IsRefusedProgram given e = BeginsAsInitializers given ⊎ AreRefusedBytes given e
 
 -- So the program ends on the records, one after the other.
 abbrev pub AreReturned : List sock_filter → List (List ℕ) → List Outcome → Type 0

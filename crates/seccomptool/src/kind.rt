@@ -5,6 +5,7 @@ ghost use Rattle.serde_json.specs.View.{view};
 ghost use Rattle.seccompiler.specs.declared.backend.TargetArch.{TargetArch};
 ghost use Rattle.seccomptool.specs.Kinds.{BeginsAsProgram, IsOfProfile, IsPolicyText, IsTakenAs, NamesDefault, StandsIn};
 
+use crate::run::initializers::begins_as_initializers;
 use seccomp_oci::Container;
 use serde_json::Value;
 use std::alloc::{AllocError, Global};
@@ -25,12 +26,12 @@ pub enum Subject<'a> {
     Policy,
     /// The text of a profile, in this container.
     Profile(&'a Container),
-    /// The bytes of a program.
+    /// A program, in bytes or as C's initializers.
     Program,
 }
 
-// What bytes are: a program, where they begin as one; else a profile, where all texts are profiles or this one is taken for a
-// profile's; else a policy.
+// What is given: a program, if it begins as one; else a profile, if all texts are profiles or this one is taken for a profile's;
+// else a policy.
 pub(crate) fn subject_of<'a>(
     alloc: Global,
     reading: &'a Reading,
@@ -47,12 +48,12 @@ pub(crate) fn subject_of<'a>(
     Ok(Subject::Policy)
 }
 
-// Whether bytes begin as those of a program: the second one is the high byte of the first instruction's code, which is 0, and no
-// text of JSON has a 0.
+// Whether what is given begins as a program: the second byte is the high one of the first instruction's code, which is 0, and no
+// text of JSON has a 0; or there are C's initializers.
 fn begins_as_program(text: &[u8]) -> bool
     ensures { IsTrue result ↔ BeginsAsProgram text.now }
 {
-    text.len() > 1 && text[1] == 0
+    begins_as_initializers(text) || text.len() > 1 && text[1] == 0
 }
 
 // Whether a text is taken for a profile. Only one that has the key's bytes is parsed, since policies may be large.

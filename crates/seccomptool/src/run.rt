@@ -1,6 +1,7 @@
 // What a program decides on records.
 
 pub mod fault;
+pub(crate) mod initializers;
 pub(crate) mod program;
 mod unfit;
 

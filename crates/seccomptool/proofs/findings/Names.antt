@@ -27,11 +27,11 @@ none_above (pair ∷ pairs) all n high = elim (cases_Bool (int_eq pair.1 (pos n)
 
 -- The parts below a number that has a name, and then its own.
 pub parts_more : (table : List Pair) (least number : ℕ) (old middle new : List Part) → ArePartsBelow table old least
-    → (least ≡ 0) ⊎ (HasName table (least - 1) ⊎ (least ≡ 2 ^ 30)) → least ≤ number
+    → (least ≡ 0) ⊎ (HasName table (least - 1) ⊎ (least ≡ 2 ^ 30)) → least ≤ number → number < 463
     → ((n : ℕ) → least ≤ n → n < number → LacksName table n) → HasName table number → middle ≡ old ++ between least number
     → new ≡ middle ++ Named number ∷ []
     → ArePartsBelow table new (number + 1)
-parts_more table least number old middle new below begins low unnamed named in_front own = then_named (elim (cases_eq least number) [
+parts_more table least number old middle new below begins low few unnamed named in_front own = then_named (elim (cases_eq least number) [
   | inl same ↦ subst (ArePartsBelow table middle) same (subst (λ parts. ArePartsBelow table parts least) (sym (in_front
       ∙ ap (λ parts. old ++ parts) (none_between same) ∙ append-nil old)) below)
   | inr other ↦
@@ -44,6 +44,7 @@ parts_more table least number old middle new below begins low unnamed named in_f
         begins = begins;
         ends = inr (inl (subst (HasName table)
             again named));
+        apart = inl (omega (arith, few));
       })
       (in_front ∙ ap (λ parts. old ++ parts) (some_between other)) again
 ]) named own refl

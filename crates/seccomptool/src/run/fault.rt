@@ -5,6 +5,8 @@ use std::fmt;
 /// Why a program isn't run, in the order in which the faults are reported.
 #[derive(Drop)]
 pub enum ProgramFault {
+    /// It is a text, and on this line, from 1, something else stands than this.
+    Text(usize, &'static str),
     /// Its bytes end inside an instruction, after so many bytes of it, from 1 to 7.
     Short(usize),
     /// It has so many instructions: none, or more than 4096.
@@ -31,6 +33,7 @@ pub enum Amiss {
 impl fmt::Display for ProgramFault {
     fn fmt<W: fmt::Write>(&self, f: &mut fmt::Formatter<W>) -> fmt::Result {
         match self {
+            ProgramFault::Text(line, expected) => write!(f, "line {line}: expected {expected}"),
             ProgramFault::Short(rest) => {
                 write!(
                     f,

@@ -1,31 +1,45 @@
-// The program that bytes are.
+// The program that is given, as bytes or as a text of C.
 
 ghost use Rattle.std.specs.Prelude.{◌≡◌, ◌≤◌, length, map, All, IfOk, IfErr};
 ghost use Rattle.std.specs.List.{concat};
 ghost use Rattle.seccompiler.specs.Machine.{IsInRange};
 ghost use Rattle.seccomp_compare.specs.Machine.{IsChecked};
 ghost use Rattle.seccomptool.specs.Compile.{instruction_bytes};
-ghost use Rattle.seccomptool.specs.Run.{IsCutFault, IsProgramOf, IsRefusedProgram};
+ghost use Rattle.seccomptool.specs.Run.{AreRefusedBytes, HasBytes, IsCutFault, IsProgramOf, IsRefusedProgram};
 
 use crate::error::ToolError;
 use crate::run::fault::ProgramFault;
+use crate::run::initializers::{begins_as_initializers, bytes_of_initializers};
 use crate::run::unfit::refuse_unfit;
 use seccompiler::bpf::BPF_MAX_LEN;
 use seccompiler::{BpfProgram, sock_filter};
 use std::alloc::{AllocError, Global};
 
-/// The program of these bytes, which may be run.
+/// The program of what is given, which may be run.
 ///
 /// Each instruction is a `struct sock_filter` of 8 bytes, its numbers with the low byte first: code in 2, jt in 1, jf in 1, k
-/// in 4.
+/// in 4. A text has [their initializers](bytes_of_initializers).
 ///
 /// # Errors
 ///
-/// `Program` with the first of [`ProgramFault`] that is so of the bytes; `OutOfMemory` in its place if memory runs out.
-pub(crate) fn program_of(alloc: Global, bytes: &[u8]) -> Result<BpfProgram, ToolError>
-    ensures program { IfOk result (λ read. IsProgramOf bytes.now read.items) }
+/// `Program` with the first of [`ProgramFault`] that is so of it; `OutOfMemory` in its place if memory runs out.
+pub(crate) fn program_of(alloc: Global, given: &[u8]) -> Result<BpfProgram, ToolError>
+    ensures program { IfOk result (λ read. IsProgramOf given.now read.items) }
     ensures checked { IfOk result (λ read. IsChecked read.items) }
-    ensures refused { IfErr result (IsRefusedProgram bytes.now) }
+    ensures refused { IfErr result (IsRefusedProgram given.now) }
+{
+    if begins_as_initializers(given) {
+        let bytes = bytes_of_initializers(alloc, given)?;
+        return program_of_bytes(alloc, &bytes);
+    }
+    program_of_bytes(alloc, given)
+}
+
+// The program of these bytes.
+fn program_of_bytes(alloc: Global, bytes: &[u8]) -> Result<BpfProgram, ToolError>
+    ensures program { IfOk result (λ read. HasBytes bytes.now read.items) }
+    ensures checked { IfOk result (λ read. IsChecked read.items) }
+    ensures refused { IfErr result (AreRefusedBytes bytes.now) }
 {
     let program = instructions(alloc, cut(bytes)?)?;
     refuse_unfit(&program)?;

@@ -33,9 +33,9 @@ const CODES: &[&str] = &[
 
 const AFTER: &str = "\
 SUBJECT, OLD and NEW are a policy, a seccomp profile of a container runtime, or a
-program in bytes; the content shows which. FILE is a path, or - for standard input.
-CALL is the name or number of a system call. Numbers are decimal, or hexadecimal
-after 0x. A negative ARG has to follow --, as in
+program, in bytes or C; the content shows which. FILE is a path, or - for standard
+input. CALL is the name or number of a system call. Numbers are decimal, or
+hexadecimal after 0x. A negative ARG has to follow --, as in
 `seccomptool call --record lseek 3 -- -1`.
 
 Exit status: 0 for yes, 1 for no (`check`: rejected; `diff`: different), 2 for

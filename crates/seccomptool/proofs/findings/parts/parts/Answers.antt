@@ -16,7 +16,7 @@ loop-number-preserved c =
     record {
       few = omega (arith, named.1);
       below = parts_more table c.loop-number.least number c.loop-number.parts.items c.push_unnamed.new.parts.items c.push.new.self.items
-          c.loop-number.invariant.below c.loop-number.invariant.begins named.0 c.in-Some.ensures.unnamed named.2
+          c.loop-number.invariant.below c.loop-number.invariant.begins named.0 named.1 c.in-Some.ensures.unnamed named.2
           c.in_ok-push_unnamed.ensures c.in_ok-push.ensures.items;
       begins = inr (inl (subst (HasName table) same named.2));
     }
@@ -31,6 +31,7 @@ returns c =
       unnamed = λ n from to. none n from;
       begins = c.loop-number.invariant.begins;
       ends = inr (inr refl);
+      apart = inl (omega arith);
     })
     c.in_ok-push-2.ensures.items refl)
     (record {
@@ -38,5 +39,6 @@ returns c =
       unnamed = λ n from to. none n (omega (arith, few, from));
       begins = inr (inr refl);
       ends = inl refl;
+      apart = inr (omega arith);
     })
     c.in_ok-push-3.ensures.items refl

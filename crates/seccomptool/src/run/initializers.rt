@@ -1,0 +1,154 @@
+// Programs as C has them: initializers of `struct sock_filter`, as `tcpdump -dd` and `compile --format c` write them.
+
+ghost use Rattle.std.specs.Prelude.{◌≡◌, ◌≤◌, ◌↔◌, IsTrue, length};
+ghost use Rattle.seccomptool.specs.Kinds.{BeginsAsInitializers, BeginsInitializer, behind_space};
+
+use crate::error::ToolError;
+use crate::numbers::read_number;
+use crate::run::fault::ProgramFault;
+use std::alloc::Global;
+
+// What stands next in `{ CODE, JT, JF, K },`, by its place from 0, of which the last ones are K's and the comma's.
+const OPERAND: u8 = 7;
+
+const BEHIND: u8 = 9;
+// Nothing but semicolons, behind the brace that closes all.
+const END: u8 = 10;
+
+#[derive(Drop)]
+struct Reader {
+    // 8 for each instruction; those of the last one may be fewer.
+    bytes: Vec<u8>,
+    next: u8,
+    // Whether braces stand around all instructions.
+    is_braced: bool,
+    line: usize,
+}
+
+// Whether a text begins with a brace and then a digit, a brace or a comment, as no text of JSON does.
+pub(crate) fn begins_as_initializers(text: &[u8]) -> bool
+    ensures { IsTrue result ↔ BeginsAsInitializers text.now }
+{
+    let outer = behind_space(text);
+    if outer.is_empty() || outer[0] != b'{' {
+        return false;
+    }
+    let inner = behind_space(&outer[1..]);
+    !inner.is_empty() && begins_initializer(inner[0])
+}
+
+// Whether a digit, a brace or a comment begins with this byte.
+fn begins_initializer(byte: u8) -> bool
+    ensures { IsTrue result ↔ BeginsInitializer byte }
+{
+    byte.is_ascii_digit() || byte == b'{' || byte == b'/'
+}
+
+// What stands behind the white space that a text begins with.
+fn behind_space(text: &[u8]) -> &[u8]
+    ensures { result.now ≡ behind_space text.now }
+{
+    text.trim_ascii_start()
+}
+
+/// The bytes of the instructions that a text initializes: four numbers each, decimal or hexadecimal, in braces. Braces may stand
+/// around all, a comma behind the last one, and comments anywhere.
+///
+/// # Errors
+///
+/// `Program` with the line of the first thing that isn't so; `OutOfMemory` if memory runs out.
+pub(crate) fn bytes_of_initializers(alloc: Global, text: &[u8]) -> Result<Vec<u8>, ToolError> {
+    let mut reader = Reader {
+        bytes: Vec::new(alloc),
+        next: 0,
+        is_braced: false,
+        line: 1,
+    };
+    let mut rest = text;
+    // A piece has a byte at least, while there is a rest.
+    for _ in 0..text.len() {
+        let (piece, behind) = rest.split_at(piece_len(rest));
+        reader.take(piece)?;
+        rest = behind;
+    }
+    match reader.next {
+        END => Ok(reader.bytes),
+        0 | BEHIND if !reader.is_braced => Ok(reader.bytes),
+        _ => Err(reader.fault()),
+    }
+}
+
+// How long the white space, the comment, the number or the mark is that a text begins with.
+fn piece_len(text: &[u8]) -> usize
+    ensures { result ≤ length text.now }
+{
+    let end = match text {
+        [b'/', b'/', ..] => text.iter().position(|byte| *byte == b'\n'),
+        [b'/', b'*', inner @ ..] => inner
+            .windows(2)
+            .position(|two| two.starts_with(b"*/"))
+            .map(|place| place.saturating_add(4)),
+        [first, ..] if first.is_ascii_alphanumeric() => {
+            text.iter().position(|byte| !byte.is_ascii_alphanumeric())
+        }
+        _ => Some(1),
+    };
+    end.unwrap_or(text.len()).min(text.len())
+}
+
+impl Reader {
+    fn take(&mut self, piece: &[u8]) -> Result<(), ToolError> {
+        let Some(first) = piece.first() else {
+            return Ok(());
+        };
+        if first.is_ascii_whitespace() || (*first == b'/' && piece.len() > 1) {
+            let lines = piece.iter().filter(|byte| **byte == b'\n').count();
+            self.line = self.line.saturating_add(lines);
+            return Ok(());
+        }
+        self.next = match (self.next, *first) {
+            (1, b'{') if self.bytes.is_empty() && !self.is_braced => {
+                self.is_braced = true;
+                1
+            }
+            (1 | 3 | 5 | OPERAND, _) => self.number(piece)?,
+            (0, b'{') | (2 | 4 | 6, b',') | (8, b'}') => self.next.saturating_add(1),
+            (BEHIND, b',') => 0,
+            (0 | BEHIND, b'}') if self.is_braced => END,
+            (END, b';') => END,
+            _ => return Err(self.fault()),
+        };
+        Ok(())
+    }
+
+    // Adds the bytes of a number, and gives the place behind it.
+    fn number(&mut self, piece: &[u8]) -> Result<u8, ToolError> {
+        // C takes digits behind a 0 for octal ones.
+        let number = match piece {
+            [b'0', b'0'..=b'9', ..] => None,
+            _ => str::from_utf8(piece).ok().and_then(read_number),
+        };
+        let Some(number) = number.and_then(|number| u32::try_from(number).ok()) else {
+            return Err(self.fault());
+        };
+        match (self.next, u8::try_from(number)) {
+            (OPERAND, _) => self.bytes.extend_from_slice(&number.to_le_bytes())?,
+            (1, Ok(code)) => self.bytes.extend_from_slice(&[code, 0])?,
+            (_, Ok(offset)) => self.bytes.push(offset)?,
+            (_, Err(_)) => return Err(self.fault()),
+        }
+        Ok(self.next.saturating_add(1))
+    }
+
+    fn fault(&self) -> ToolError {
+        let expected = match self.next {
+            0 => "an opening brace",
+            1 | 3 | 5 => "a number from 0 to 255",
+            OPERAND => "a number from 0 to 4294967295",
+            8 => "a closing brace",
+            END => "the end",
+            _ => "a comma",
+        };
+        ToolError::Program(ProgramFault::Text(self.line, expected))
+    }
+}

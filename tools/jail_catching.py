@@ -10,7 +10,8 @@ import struct
 import subprocess
 import sys
 
-from jail_running import ENVIRONMENT, TOP, run, step
+from commands import ENVIRONMENT, TOP, run
+from jail_running import step
 from running_kernel import SECCOMP
 
 ALLOW = struct.pack("<HBBI", 6, 0, 0, 0x7FFF0000)

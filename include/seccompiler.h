@@ -74,8 +74,7 @@
  *     after the NUL byte are left as they were, and a buffer of 0 bytes is left alone. 256 bytes are enough
  *     for each message that has no name and no value of the policy. Control characters, and those that turn
  *     the direction of writing or are invisible, are written as \x and two digits for each of their bytes. So a
- *     message is one line and steers no terminal. If memory runs out for the path of the place, the message
- *     has none. If it runs out for that too, it is that of seccompiler_strerror.
+ *     message is one line and steers no terminal. If memory runs out for it, it is that of seccompiler_strerror.
  *
  * If a function takes a pointer and a length, the pointer isn't null, even for a length of 0. The functions
  * are proved over references of Rust, which are never null, so the proofs say nothing of a null pointer. A

@@ -20,21 +20,18 @@ static const char README[] =
     "{\"index\":1,\"type\":\"dword\",\"op\":\"eq\",\"val\":1,\"comment\":\"F_GETFD\"}]}]}}";
 static const char NAME[] = "main_thread";
 
-/* A filter without actions, whose name has two bytes, what is said of it, and what the library alone says. */
+/* A filter without actions, whose name has two bytes, and what is said of it. */
 static const char SHAPELESS[] = "{\"\xc2\xb5\":{}}";
 static const char SHAPELESS_SAID[] = "\xc2\xb5: missing \"mismatch_action\" or \"default_action\"";
-static const char WITHOUT_PLACE[] = "Json filter has a wrong shape: \xc2\xb5.";
 
 /* The same of a name of characters that steer a terminal or aren't seen there, which messages have by their bytes'
  * numbers: U+0000, U+001B, U+007F, U+0080, U+009F, U+061C, U+200B, U+200F, U+2028, U+202E, U+2060, U+2066, U+2069, U+FEFF. */
 static const char STEERING[] =
     "{\"\\u0000\\u001b\x7f\xc2\x80\xc2\x9f\xd8\x9c\xe2\x80\x8b\xe2\x80\x8f\xe2\x80\xa8\xe2\x80\xae"
     "\xe2\x81\xa0\xe2\x81\xa6\xe2\x81\xa9\xef\xbb\xbf\":{}}";
-#define STEERING_NAME \
-    "\\x00\\x1b\\x7f\\xc2\\x80\\xc2\\x9f\\xd8\\x9c\\xe2\\x80\\x8b\\xe2\\x80\\x8f\\xe2\\x80\\xa8\\xe2\\x80\\xae" \
-    "\\xe2\\x81\\xa0\\xe2\\x81\\xa6\\xe2\\x81\\xa9\\xef\\xbb\\xbf"
-static const char STEERING_SAID[] = STEERING_NAME ": missing \"mismatch_action\" or \"default_action\"";
-static const char STEERING_WITHOUT_PLACE[] = "Json filter has a wrong shape: " STEERING_NAME ".";
+static const char STEERING_SAID[] =
+    "\\x00\\x1b\\x7f\\xc2\\x80\\xc2\\x9f\\xd8\\x9c\\xe2\\x80\\x8b\\xe2\\x80\\x8f\\xe2\\x80\\xa8\\xe2\\x80\\xae"
+    "\\xe2\\x81\\xa0\\xe2\\x81\\xa6\\xe2\\x81\\xa9\\xef\\xbb\\xbf: missing \"mismatch_action\" or \"default_action\"";
 
 /* Their neighbours, which stand in a message as they are: U+0020, U+007E, U+00A0, U+061B, U+061D, U+200A, U+2010, U+2027,
  * U+202F, U+205F, U+2061, U+2065, U+206A, U+FEFE, U+FF00, U+1F600. */

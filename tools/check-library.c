@@ -718,25 +718,23 @@ static int64_t compared(void)
     return answer;
 }
 
-/* A refusal of a shape: if memory is refused for its place, the message has none; if it is refused for all of
- * its text, the message is what the code means. */
-static int64_t refused_shape(const char *text, const char *said, const char *without_place)
+/* A refusal of a shape: if memory is refused for its text, the message is what the code means. */
+static int64_t refused_shape(const char *text, const char *said)
 {
     int64_t answer = compile(text, strlen(text), AUDIT_ARCH_X86_64, "b", 1, 0, 0);
-    check(answer == SECCOMPILER_REJECTED ? is_told(said) || is_told(without_place) || is_told("The policy is rejected.")
-                                         : is_told("Out of memory."),
+    check(answer == SECCOMPILER_REJECTED ? is_told(said) || is_told("The policy is rejected.") : is_told("Out of memory."),
           "a text with a refused request");
     return answer;
 }
 
 static int64_t shape(void)
 {
-    return refused_shape(SHAPELESS, SHAPELESS_SAID, WITHOUT_PLACE);
+    return refused_shape(SHAPELESS, SHAPELESS_SAID);
 }
 
 static int64_t steering(void)
 {
-    return refused_shape(STEERING, STEERING_SAID, STEERING_WITHOUT_PLACE);
+    return refused_shape(STEERING, STEERING_SAID);
 }
 
 /* Nothing is requested for a message for which there is no room: if all that is then requested is granted, and

@@ -27,6 +27,8 @@ import tempfile
 
 sys.dont_write_bytecode = True
 
+from results import Results  # noqa: E402
+
 TOP = pathlib.Path(__file__).resolve().parent.parent
 NAMES = ("seccomptool", "seccompc")
 SECONDS = 60
@@ -241,25 +243,10 @@ def compare_completions(results, programs):
         compare_scripts(results, folder)
 
 
-class Results:
-    """Counts the comparisons, and prints what differs."""
-
-    def __init__(self):
-        self.passed = self.failed = 0
-
-    def compare(self, what, stated, given):
-        """Counts a comparison, and prints what was wanted and found if it differs."""
-        self.passed += stated == given
-        self.failed += stated != given
-        if stated != given:
-            print(f"{what}: DIFFERS\n  wanted {stated!r}\n  found  {given!r}", flush=True)
-
-
 def main():
     results = Results()
     compare_completions(results, {name: TOP / f"crates/{name}/out/{name}" for name in NAMES})
-    print(f"{results.passed} passed, {results.failed} failed")
-    return 1 if results.failed else 0
+    return results.close()
 
 
 if __name__ == "__main__":

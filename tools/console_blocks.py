@@ -30,6 +30,17 @@ def commands_of(lines):
     return commands
 
 
+def compare_block(results, what, lines, run, passed_over=()):
+    """Runs the commands of a block by `run`, which returns their exit status and what they print, and compares this with what is
+    shown; returns how many. A command ends well, unless the next one prints its exit status."""
+    status, commands = 0, commands_of(lines)
+    for (command, shown), then in zip(commands, [*commands[1:], ["", ""]]):
+        if not command.startswith(passed_over):
+            status, given = run(f"(exit {status})\n{command}")
+            results.compare(f"{what}: {command}", (status if then[0] == "echo $?" else 0, shown), (status, given))
+    return len(commands)
+
+
 def is_jailed(lines):
     """Returns whether a block runs a jailer: tools/try-jail runs it, if the kernel takes filters."""
     return any(it.startswith("$ jail ") for it in lines)

@@ -14,7 +14,8 @@ import struct
 import subprocess
 import sys
 
-from jail_running import ENVIRONMENT, EXAMPLES, TOOL, TOP, run, step
+from commands import ENVIRONMENT, TOP, run
+from jail_running import EXAMPLES, TOOL, step
 from running_kernel import SECCOMP
 
 ALLOW = struct.pack("<HBBI", 6, 0, 0, 0x7FFF0000)

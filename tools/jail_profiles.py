@@ -9,8 +9,9 @@ import pathlib
 import re
 import subprocess
 
+from commands import ENVIRONMENT, SECONDS, run
 from jail_cases import KILLED, answer_of
-from jail_running import ENVIRONMENT, EXAMPLES, SECONDS, TOOL, run
+from jail_running import EXAMPLES, TOOL
 
 EXAMPLE = EXAMPLES / "oci-profile.json"
 PODMAN = pathlib.Path("/usr/share/containers/seccomp.json")

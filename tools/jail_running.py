@@ -1,46 +1,15 @@
-"""What tools/try-jail runs with: the jailers, steps of a build, and the count of its cases."""
+"""What tools/try-jail runs with: the jailers, and steps of a build."""
 
 import os
-import pathlib
 import subprocess
 import sys
 
-TOP = pathlib.Path(__file__).resolve().parent.parent
+from commands import TOP
+
 EXAMPLES = TOP / "examples"
 ARCHIVE = TOP / "crates/seccompiler_c/out/libseccompiler_c.a"
 TOOL = TOP / "crates/seccomptool/out/seccomptool"
-SECONDS = 60
 BUILD_SECONDS = 1800
-
-ENVIRONMENT = {"PATH": "/usr/bin:/bin", "LC_ALL": "C"}
-
-
-class Results:
-    """Counts the cases, and prints what differs."""
-
-    def __init__(self):
-        self.passed = self.failed = 0
-
-    def compare(self, what, wanted, found):
-        """Counts a case, and prints what was wanted and found if they differ."""
-        self.passed += wanted == found
-        self.failed += wanted != found
-        if wanted != found:
-            print(f"{what}: DIFFERS\n  wanted {wanted!r}\n  found  {found!r}", flush=True)
-        return wanted == found
-
-
-def run(words, folder, given="", **more):
-    """Runs a command in the folder; returns its standard output, standard error and status."""
-    words = [os.fsencode(it) for it in words]
-    try:
-        ran = subprocess.run(
-            words, cwd=folder, input=given.encode(), capture_output=True, timeout=SECONDS,
-            env=ENVIRONMENT, **more
-        )
-    except subprocess.TimeoutExpired:
-        return "", f"no end within {SECONDS} seconds", None
-    return *(it.decode("utf-8", "surrogateescape") for it in (ran.stdout, ran.stderr)), ran.returncode
 
 
 class Jailer:

@@ -12,8 +12,9 @@ import re
 import sys
 from typing import NamedTuple
 
+from commands import TOP, run
 from jail_cases import KILLED, TIOCSTI, X32_ANSWERS, X32_BIT, X32_CALLS, answer_of, denying, filter_of, when
-from jail_running import EXAMPLES, TOOL, TOP, run
+from jail_running import EXAMPLES, TOOL
 
 LOW = 2**32 - 1
 WHOLE = 2**64 - 1

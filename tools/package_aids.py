@@ -4,7 +4,7 @@ tools/check-package."""
 import re
 import shutil
 
-from package_forms import ENVIRONMENT, TOP, run, symbols_of, told
+from commands import ENVIRONMENT, TOP, run, symbols_of, told
 
 # Completes a program's first word in bash.
 ASKED = """
@@ -37,10 +37,11 @@ def check_pages(results, unpacked):
     top = unpacked / "share/man"
     for page in sorted(top.glob("*/*")):
         part = page.suffix[1:]
-        out, err, status = run(["man", "--warnings", "-M", top, part, page.stem], unpacked, LC_ALL="C", MANWIDTH="80")
+        out, err, status = run(["man", "--warnings", "-M", top, part, page.stem], unpacked, MANWIDTH="80")
         found = f"{page.stem.upper()}({part})" in out, err, status
         results.compare(f"man {part} {page.stem}", (True, "", 0), found)
         results.compare(f"man {part} {page.stem}: wide lines", [], [it for it in out.splitlines() if len(it) > 80])
+        results.compare(f"man {part} {page.stem}: no word is hyphenated", True, "\n.nh\n" in page.read_text())
 
 
 def check_aids(results, unpacked):

@@ -5,20 +5,13 @@ import re
 import shutil
 import subprocess
 
-from package_forms import ENVIRONMENT, TOP, run
+from commands import ENVIRONMENT, TOP, run
+from console_blocks import blocks_of
 
-# The project that takes the crate from the package, and the tests of the crate that want one of Debian's crates.
-PROJECT = """[package]
-name = "fresh"
-version = "0.1.0"
-edition = "2021"
-
-[dependencies]
-seccompiler = {{ version = "0.5.0", features = {features} }}
-{crates}
-[patch.crates-io]
-seccompiler = {{ path = "{crate}" }}
-"""
+# The beginning of a project; what it depends on if it runs the tests of the crate, and those that want one of Debian's crates.
+PROJECT = '[package]\nname = "fresh"\nversion = "0.1.0"\nedition = "2021"\n'
+DEPENDENCIES = '[dependencies]\nseccompiler = {{ version = "0.5.0", features = {} }}\n'
+PAGE = "share/doc/seccompiler/docs/SWITCHING.md"
 CRATE = "share/seccompiler/rust/seccompiler"
 REGISTRY = pathlib.Path("/usr/share/cargo/registry")
 DEBIAN = f'[source.crates-io]\nreplace-with = "debian"\n[source.debian]\ndirectory = "{REGISTRY}"\n'
@@ -35,6 +28,23 @@ def cargo_environment():
     return {"PATH": path} if shutil.which("cargo", path=path) else None
 
 
+def texts_of(page, kind, package="PACKAGE"):
+    """Returns the blocks of a kind of a page, with the package's folder."""
+    return ["\n".join([*lines, ""]).replace("PACKAGE", str(package)) for _, lines in blocks_of(page, kind)]
+
+
+def check_page(results, unpacked, folder, why, environment):
+    """Builds the page's new project and program, and the function of the README, and runs the program if the kernel takes filters."""
+    place, beside = folder / "new", (unpacked / PAGE).parent.parent
+    (place / "src").mkdir(parents=True)
+    (place / "Cargo.toml").write_text(PROJECT + texts_of(unpacked / PAGE, "toml", unpacked)[1])
+    (place / "src/main.rs").write_text(texts_of(unpacked / PAGE, "rs")[0])
+    (place / "src/lib.rs").write_text("#![allow(dead_code)]\n" + texts_of(TOP / "README.md", "rs")[0])
+    words = ["cargo", "run" if why is None else "build", "--offline", "--quiet", "--manifest-path", place / "Cargo.toml"]
+    wanted = (beside / "examples/cat-policy.json").read_text() if why is None else ""
+    results.compare("SWITCHING.md: the new project", (wanted, "", 0), run(words, beside, **environment))
+
+
 def write_project(unpacked, place):
     """Writes a project of cargo that takes the crate from the package, and runs those of its tests that can be run."""
     there = {test: it for test, it in WANTING.items() if any(REGISTRY.glob(f"{it[0]}-[0-9]*"))}
@@ -42,8 +52,9 @@ def write_project(unpacked, place):
     (place / ".cargo").mkdir()
     (place / "src/lib.rs").write_text("")
     features = '["json", "serde"]' if "deserialize" in there else '["json"]'
+    patch, _ = texts_of(unpacked / PAGE, "toml", unpacked)
     crates = "".join(line for _, line in there.values())
-    (place / "Cargo.toml").write_text(PROJECT.format(features=features, crates=crates, crate=unpacked / CRATE))
+    (place / "Cargo.toml").write_text(PROJECT + DEPENDENCIES.format(features) + crates + patch)
     if there:
         (place / ".cargo/config.toml").write_text(DEBIAN)
     shutil.copytree(unpacked / CRATE / "tests", place / "tests")
@@ -99,5 +110,6 @@ def check_crate(results, unpacked, folder, why):
         out, err, status = run(["cargo", "test", "--offline", "--test", test], place, **more)
         passed = re.search(r"^test result: ok\. [1-9]\d* passed; 0 failed; 0 ignored", out, re.M) is not None
         results.compare(f"the crate's test {test}: {err[-500:]}{out[-1500:]}", (True, 0), (passed, status))
+    check_page(results, unpacked, folder, why, more)
     check_alone(results, unpacked, folder, more)
     check_style(results, place, more)

@@ -5,8 +5,8 @@ import os
 import re
 import shutil
 
-from console_blocks import blocks_of, commands_of, is_jailed
-from package_forms import ENVIRONMENT, TOP, run
+from commands import ENVIRONMENT, VERSION, run, shell_of
+from console_blocks import blocks_of, compare_block, is_jailed
 from page_checks import anchors_of
 
 DOC = "share/doc/seccompiler"
@@ -16,7 +16,7 @@ LINK = re.compile(r"\]\(([^()\s]+)\)")
 ELSEWHERE = re.compile(r"^\$ (tools/|bench/|rt |cargo|git |\.ci/|examples/jail/build)", re.M)
 
 # Where what Debian's packages have lies in the other.
-PLACES = (("share/zsh/vendor-completions/", "share/zsh/site-functions/"),)
+MOVED = "share/zsh/vendor-completions/", "share/zsh/site-functions/"
 # What they have in another form, or alone.
 OWN = re.compile(r"share/doc/[^/]*/(copyright|changelog\.gz|changelog\.Debian\.gz)$")
 LEFT_OUT = re.compile(r"share/doc/seccompiler/(CHANGELOG\.md|LICENSE-[A-Z0-9a-z-]*|NOTICE)$|README$")
@@ -45,12 +45,7 @@ def check_commands(results, unpacked, folder, why):
         for number, lines in blocks_of(page):
             if ELSEWHERE.search("\n".join(lines)) or (is_jailed(lines) and why is not None):
                 continue
-            status, commands = 0, commands_of(lines)
-            for (command, shown), then in zip(commands, [*commands[1:], ["", ""]]):
-                out, _, status = run(["sh", "-c", f"exec 2>&1; (exit {status}); {command}"], beside, PATH=path, LC_ALL="C")
-                wanted = status if then[0] == "echo $?" else 0
-                results.compare(f"{DOC}/docs/{page.name}:{number}: {command}", (shown, wanted), (out, status))
-                tried += 1
+            tried += compare_block(results, f"{DOC}/docs/{page.name}:{number}", lines, shell_of(beside, path))
     results.compare("commands of pages", True, tried > 50)
 
 
@@ -67,17 +62,16 @@ def check_unit(results, unpacked, folder):
     results.compare("systemd-analyze verify", ("", "", 0), run(["systemd-analyze", "verify", unit], folder))
 
 
-def files_of(top):
-    """Returns the bytes of each file below the folder, or where it links to; what is compressed as it was before."""
+def files_below(top):
+    """Returns each file's path below the folder, with its mode and bytes, or where it links to; a compressed page as it was before."""
     files = {}
-    for path in sorted(it for it in top.rglob("*") if it.is_symlink() or it.is_file()):
-        name = str(path.relative_to(top))
+    for path in sorted(top.rglob("*")):
+        name, is_page = str(path.relative_to(top)), "share/man/" in str(path) and path.suffix == ".gz"
         if path.is_symlink():
             files[name] = os.readlink(path)
-        elif "share/man/" in name and path.suffix == ".gz":
-            files[name.removesuffix(".gz")] = gzip.decompress(path.read_bytes())
-        else:
-            files[name] = path.read_bytes()
+        elif path.is_file():
+            content = path.read_bytes()
+            files[name.removesuffix(".gz" * is_page)] = path.stat().st_mode & 0o7777, gzip.decompress(content) if is_page else content
     return files
 
 
@@ -92,15 +86,9 @@ def check_debian(results, unpacked, packages, folder):
         if shutil.which("lintian", path=ENVIRONMENT["PATH"]):
             words = ["lintian", "--allow-root", "--fail-on", "error", "--tag-display-limit", "0", "-L", "error", package]
             results.compare(f"lintian {package.name}", ("", "", 0), run(words, folder))
-    found = {}
-    for name, content in files_of(root / "usr").items():
-        for there, here in PLACES:
-            name = name.replace(there, here)
-        found[name] = content
-    wanted = {it: content for it, content in files_of(unpacked).items() if not LEFT_OUT.match(it)}
-    found = {it: content for it, content in found.items() if not OWN.match(it)}
+    found = {it.replace(*MOVED): content for it, content in files_below(root / "usr").items() if not OWN.match(it)}
+    wanted = {it: content for it, content in files_below(unpacked).items() if not LEFT_OUT.match(it)}
     results.compare("the files of Debian's packages", sorted(wanted), sorted(found))
     results.compare("files that differ there", [], [it for it in wanted if wanted[it] != found.get(it)])
-    versions = re.findall(r"^## \[(\d\S*)\]", (TOP / "CHANGELOG.md").read_text(), re.M)
-    names = [f"{it}_{versions[0]}-1_amd64.deb" for it in ("libseccompiler-dev", "seccompiler")]
+    names = [f"{it}_{VERSION}-1_amd64.deb" for it in ("libseccompiler-dev", "seccompiler")]
     results.compare("Debian's packages", names, sorted(it.name for it in packages))

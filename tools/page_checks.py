@@ -30,6 +30,8 @@ import re
 import subprocess
 import sys
 
+from results import Results
+
 TOP = pathlib.Path(__file__).resolve().parent.parent
 LINE = 140
 README_WORDS = 900
@@ -311,25 +313,12 @@ def compare_pages(results):
     compare_proofs(results)
 
 
-class Results:
-    """Counts the comparisons, and prints what differs."""
-
-    def __init__(self):
-        self.passed = self.failed = 0
-
-    def compare(self, what, stated, given):
-        """Counts a comparison, and prints what was found if it differs."""
-        self.passed += stated == given
-        self.failed += stated != given
-        if stated != given:
-            print(f"{what}: {', '.join(map(str, given))}", flush=True)
 
 
 def main():
     results = Results()
     compare_pages(results)
-    print(f"{results.passed} passed, {results.failed} failed")
-    return 1 if results.failed else 0
+    return results.close()
 
 
 if __name__ == "__main__":

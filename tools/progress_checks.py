@@ -33,6 +33,8 @@ import tempfile
 
 sys.dont_write_bytecode = True
 
+from results import Results  # noqa: E402
+
 TOP = pathlib.Path(__file__).resolve().parent.parent
 SECONDS = 300
 
@@ -164,27 +166,12 @@ def compare_outputs(results, program):
             results.compare(f"seccomptool {' '.join(words)} to a terminal", (0, "", text.replace("\n", "\r\n").encode()), found)
 
 
-class Results:
-    """Counts the comparisons, and prints what differs."""
-
-    def __init__(self):
-        self.passed = self.failed = 0
-
-    def compare(self, what, stated, given):
-        """Counts a comparison, and prints what was wanted and found if it differs."""
-        self.passed += stated == given
-        self.failed += stated != given
-        if stated != given:
-            print(f"{what}: DIFFERS\n  wanted {stated!r}\n  found  {given!r}", flush=True)
-
-
 def main():
     results = Results()
     program = TOP / "crates/seccomptool/out/seccomptool"
     compare_outputs(results, program)
     compare_progress(results, program)
-    print(f"{results.passed} passed, {results.failed} failed")
-    return 1 if results.failed else 0
+    return results.close()
 
 
 if __name__ == "__main__":

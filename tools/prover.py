@@ -1,6 +1,7 @@
 """The prover of the kit, called over the libraries that `rt ci` or `rt lib` built: rt's own checks would build these
 anew if `rt ci` did."""
 
+import os
 import pathlib
 import subprocess
 import sys
@@ -9,9 +10,9 @@ TOP = pathlib.Path(__file__).resolve().parent.parent
 
 
 def kit():
-    """Returns the folder of the kit."""
-    page = subprocess.run(["rt", "doc"], check=True, stdout=subprocess.PIPE, text=True).stdout
-    return pathlib.Path(page.strip()).parent
+    """Returns the folder of the kit: the one that RATTLE_KIT names, or that of `rt`."""
+    named = os.environ.get("RATTLE_KIT")
+    return pathlib.Path(named or pathlib.Path(subprocess.check_output(["rt", "doc"], text=True).strip()).parent)
 
 
 def listed():
@@ -24,6 +25,16 @@ def below(name, crates):
     """Returns the crates of this repository that a crate stands on."""
     found = {it for it in crates[name][1] if it in crates}
     return found.union(*(below(it, crates) for it in found))
+
+
+def newer_source(file, name):
+    """Returns a source of a crate, or of those that it stands on, that is newer than a file, if there is one; and the file if it
+    isn't there."""
+    if not file.exists():
+        return file
+    crates = (TOP / "crates" / it for it in (name, *below(name, listed())))
+    sources = (it for crate in crates for part in ("src", "specs", "proofs") for it in (crate / part).rglob("*.*"))
+    return next((it.relative_to(TOP) for it in sources if it.stat().st_mtime > file.stat().st_mtime), "")
 
 
 def words(name):

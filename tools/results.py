@@ -1,5 +1,4 @@
-"""The one form of report of tools/check-documents, tools/check-program and tools/refuse-each: what is compared is counted, and what
-differs is printed."""
+"""The one form of report of the scripts that check: what is compared is counted, and what differs is printed."""
 
 import difflib
 
@@ -19,11 +18,8 @@ class Results:
         return not differences
 
     def compare(self, what, stated, given):
-        """Compares what is stated with what was given, part by part, as one case. If the text of a part ends with `..` only its
-        beginning is stated."""
-        parts = zip(("status", "output", "errors"), stated, given)
-        return self.take(what, *(f"{part}: {difference(wanted, found)}" for part, wanted, found in parts
-                                 if wanted != found and not begins(wanted, found)))
+        """Compares what is stated with what was given as one case, and tuples part by part."""
+        return self.take(what, *differences(stated, given))
 
     def tell(self, what, well, given):
         """Counts a case that is well or not, and prints what was given if it isn't."""
@@ -35,9 +31,12 @@ class Results:
         return 1 if self.failed else 0
 
 
-def begins(wanted, found):
-    """Returns whether only a beginning is stated, and found."""
-    return str(wanted).endswith("..") and str(found).startswith(wanted[:-2])
+def differences(stated, given):
+    """Returns what differs. Of a text that ends with `..` only the beginning is stated."""
+    if isinstance(stated, tuple) and isinstance(given, tuple) and len(stated) == len(given):
+        return [it for parts in zip(stated, given) for it in differences(*parts)]
+    begins = isinstance(stated, str) and stated.endswith("..") and str(given).startswith(stated[:-2])
+    return [] if stated == given or begins else [difference(stated, given)]
 
 
 def difference(wanted, found):

@@ -309,7 +309,7 @@ static _Noreturn void misuse(void)
 /* Returns whether this is an option of a profile, which has a value. */
 static int is_of_profile(const char *word)
 {
-    return strcmp(word, "--cap") == 0 || strcmp(word, "--kernel") == 0 || strcmp(word, "--runtime") == 0;
+    return strcmp(word, "--cap") == 0 || strcmp(word, "--kernel") == 0;
 }
 
 /* Returns the words of the command: without `--` in front, and at least one. */

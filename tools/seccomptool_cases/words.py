@@ -32,7 +32,7 @@ CASES = [
     writes("--help", "", "Compiles, checks and explains seccomp policies\n\nUsage: seccomptool <COMMAND>\n.."),
     writes("-h", "", "Compiles, checks and explains seccomp policies\n\nUsage: seccomptool <COMMAND>\n.."),
     writes("help", "", "Compiles, checks and explains seccomp policies\n\nUsage: seccomptool <COMMAND>\n.."),
-    *[writes(words, "", "seccomptool 0.6.0\n") for words in ("--version", "-V")],
+    *[writes(words, "", "seccomptool 0.6.0 (commit unknown, since it was built from sources)\n") for words in ("--version", "-V")],
     *[case for it in COMMANDS for case in (
         writes(f"help {it}", "", ".."), writes(f"{it} --help", "", ".."), writes(f"{it} no.json -h", "", ".."))],
     writes("help compile", "", "Write the program of a filter or of a profile\n\nUsage: seccomptool compile [OPTIONS] [SUBJECT]\n.."),

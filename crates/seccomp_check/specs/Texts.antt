@@ -1,7 +1,8 @@
 -- The texts of the faults of a policy that have a place.
 use Rattle.std.specs.Prelude.{List, ℕ, [], ◌∷◌, ◌++◌, map, Option, None, Some, option_map, codes, decimal, string_bytes}
 use Rattle.std.specs.List.{concat}
-use Rattle.seccomp_command_line.specs.Names.{readable}
+use Rattle.seccomp_command_line.specs.Readable.{readable}
+use Rattle.seccomp_command_line.specs.declared.readable.TextKind.TheVariants.{Name}
 use Rattle.seccompiler.specs.Architecture.{arch_text}
 use Rattle.seccomp_check.specs.declared.fault.Expected.{Expected}
 use Rattle.seccomp_check.specs.declared.fault.Expected.TheVariants as expected
@@ -17,12 +18,12 @@ use Rattle.seccomp_check.specs.declared.fault.Step.TheVariants as step
 
 -- A step after the first: a name after a dot, and a place in brackets.
 abbrev pub step_text : Step → List ℕ
-step_text (step.Key key) = codes "." ++ readable (string_bytes key)
+step_text (step.Key key) = codes "." ++ readable Name (string_bytes key)
 step_text (step.Item i) = codes "[" ++ decimal i ++ codes "]"
 
 -- The first step: a name without the dot.
 abbrev pub first_text : Step → List ℕ
-first_text (step.Key key) = readable (string_bytes key)
+first_text (step.Key key) = readable Name (string_bytes key)
 first_text (step.Item i) = codes "[" ++ decimal i ++ codes "]"
 
 -- The path of a place.
@@ -77,7 +78,8 @@ tree_text (Some n) = codes "; " ++ decimal n ++ codes " in the tree layout"
 -- What is wrong there.
 abbrev pub problem_text : Problem → List ℕ
 problem_text (problem.Stands text e near) = stands_text (string_bytes text) e ++ suggested_text (option_map (λ n. n.now) near)
-problem_text (problem.Strange key kind) = codes "\"" ++ readable (string_bytes key) ++ codes "\": unknown key; expected " ++ keys_text kind
+problem_text (problem.Strange key kind) =
+    codes "\"" ++ readable Name (string_bytes key) ++ codes "\": unknown key; expected " ++ keys_text kind
 problem_text (problem.Missing key) = codes "missing \"" ++ key.now ++ codes "\""
 problem_text (problem.Neither key other) = codes "missing \"" ++ key.now ++ codes "\" or \"" ++ other.now ++ codes "\""
 problem_text (problem.Both key other) = codes "expected one of \"" ++ key.now ++ codes "\" and \"" ++ other.now ++ codes "\", found both"

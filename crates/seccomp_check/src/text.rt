@@ -2,13 +2,14 @@
 
 ghost use Rattle.std.specs.Prelude.{◌≡◌, ◌++◌, map, IfOk, OnOk, codes, decimal, option_map, string_bytes};
 ghost use Rattle.std.specs.List.{concat};
-ghost use Rattle.seccomp_command_line.specs.Names.{readable};
+ghost use Rattle.seccomp_command_line.specs.Readable.{readable};
+ghost use Rattle.seccomp_command_line.specs.declared.readable.TextKind.TheVariants.{Name};
 ghost use Rattle.seccomp_check.specs.Texts as spec;
 ghost use Rattle.seccomp_check.specs.declared.fault.Expected.TheVariants.{Call};
 
 use crate::fault::{Expected, Fault, Problem, Step};
 use crate::part::{Kind, Part};
-use seccomp_command_line::names::push_readable;
+use seccomp_command_line::readable::{TextKind, push_readable};
 use seccompiler::TargetArch;
 use std::alloc::{AllocError, Global};
 
@@ -40,7 +41,7 @@ fn push_first(text: &mut Vec<u8>, alloc: Global, step: &Step) -> Result<(), Allo
     ensures { OnOk result (text.new.items ≡ text.old.items ++ spec.first_text step.now) }
 {
     match step {
-        Step::Key(key) => push_readable(text, key.as_str()),
+        Step::Key(key) => push_readable(text, key.as_str(), TextKind::Name),
         Step::Item(place) => push_place(text, alloc, *place),
     }
 }
@@ -52,7 +53,7 @@ fn push_step(text: &mut Vec<u8>, alloc: Global, step: &Step) -> Result<(), Alloc
     match step {
         Step::Key(key) => {
             text.extend_from_slice(b".")?;
-            push_readable(text, key.as_str())
+            push_readable(text, key.as_str(), TextKind::Name)
         }
         Step::Item(place) => push_place(text, alloc, *place),
     }
@@ -169,10 +170,10 @@ fn keys_text(kind: Kind) -> &'static str
 
 // Adds that a name stands where others may.
 fn push_strange(text: &mut Vec<u8>, key: &str, kind: Kind) -> Result<(), AllocError>
-    ensures { OnOk result (text.new.items ≡ text.old.items ++ codes "\"" ++ readable key.now ++ codes "\": unknown key; expected " ++ spec.keys_text kind) }
+    ensures { OnOk result (text.new.items ≡ text.old.items ++ codes "\"" ++ readable Name key.now ++ codes "\": unknown key; expected " ++ spec.keys_text kind) }
 {
     text.extend_from_slice(b"\"")?;
-    push_readable(text, key)?;
+    push_readable(text, key, TextKind::Name)?;
     text.extend_from_slice(b"\": unknown key; expected ")?;
     text.extend_from_slice(keys_text(kind).as_bytes())
 }

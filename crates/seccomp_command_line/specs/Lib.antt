@@ -2,6 +2,7 @@
 -- as they are written; what goes wrong; what is reported of records, and what of a policy; and what an engine answers.
 pub mod Hexadecimal
 pub mod Names
+pub mod Readable
 pub mod Listing
 pub mod Numbers
 pub mod Errors

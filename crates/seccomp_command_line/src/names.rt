@@ -1,16 +1,15 @@
-// Names of filters, as the programs write them.
+// Names of filters, as listings have them.
 
-ghost use Rattle.std.specs.Prelude.{◌≡◌, ◌++◌, map, OnOk};
-ghost use Rattle.std.specs.List.{concat};
-ghost use Rattle.seccomp_command_line.specs.Names.{is_escaped, byte_number, escaped_byte, escaped, is_numbered, readable_character, readable};
+ghost use Rattle.std.specs.Prelude.{◌≡◌, ◌++◌, OnOk};
+ghost use Rattle.seccomp_command_line.specs.Names.{is_escaped, byte_number, escaped_byte, escaped};
 
 use crate::hexadecimal::two_digits;
 use std::alloc::AllocError;
 
 /// Adds a name to a text in the form of a listing: the bytes 00 to 1f, 7f and the backslash as `\x` and two
 /// lower-case hexadecimal digits, all others as they are. No two names are written alike. The control
-/// characters U+0080 to U+009F stay as they are, and some terminals obey them; [`push_readable`] writes names
-/// for people.
+/// characters U+0080 to U+009F stay as they are, and some terminals obey them; `push_readable` writes names for
+/// people.
 ///
 /// # Errors
 ///
@@ -20,22 +19,6 @@ pub fn push_escaped(text: &mut Vec<u8>, name: &[u8]) -> Result<(), AllocError>
 {
     for byte in name {
         push_byte(text, *byte)?;
-    }
-    Ok(())
-}
-
-/// Adds a name to a text for people: each byte of the control characters (U+0080 to U+009F too) and of the
-/// backslash as `\x` and two lower-case hexadecimal digits, all others as they are. No name steers a terminal,
-/// and no two names are written alike.
-///
-/// # Errors
-///
-/// `AllocError` if memory runs out; the beginning of the name may then be in the text.
-pub fn push_readable(text: &mut Vec<u8>, name: &str) -> Result<(), AllocError>
-    ensures { OnOk result (text.new.items ≡ text.old.items ++ readable name.now) }
-{
-    for character in name.chars() {
-        push_character(text, character)?;
     }
     Ok(())
 }
@@ -58,38 +41,8 @@ fn push_byte(text: &mut Vec<u8>, byte: u8) -> Result<(), AllocError>
     }
 }
 
-// Whether people are shown a character by the numbers of its bytes.
-fn is_numbered(character: char) -> bool
-    ensures { result ≡ is_numbered character }
-{
-    character.is_control() || character == '\\'
-}
-
-// Adds a character of a name.
-fn push_character(text: &mut Vec<u8>, character: char) -> Result<(), AllocError>
-    ensures { OnOk result (text.new.items ≡ text.old.items ++ readable_character character) }
-{
-    let mut room = [0; 4];
-    let bytes = character.encode_utf8(&mut room).as_bytes();
-    if is_numbered(character) {
-        push_numbers(text, bytes)
-    } else {
-        text.extend_from_slice(bytes)
-    }
-}
-
-// Adds bytes by their numbers.
-fn push_numbers(text: &mut Vec<u8>, bytes: &[u8]) -> Result<(), AllocError>
-    ensures { OnOk result (text.new.items ≡ text.old.items ++ concat (map byte_number bytes.now)) }
-{
-    for byte in bytes {
-        push_number(text, *byte)?;
-    }
-    Ok(())
-}
-
 // Adds a byte by its number.
-fn push_number(text: &mut Vec<u8>, byte: u8) -> Result<(), AllocError>
+pub(crate) fn push_number(text: &mut Vec<u8>, byte: u8) -> Result<(), AllocError>
     ensures { OnOk result (text.new.items ≡ text.old.items ++ byte_number byte) }
 {
     let [high, low] = two_digits(byte);

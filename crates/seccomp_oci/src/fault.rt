@@ -4,7 +4,7 @@ use crate::errnos::error_number;
 use crate::members::{is_absent, is_among, items_of, whole_of, whole_or};
 use crate::parts::{read_action, read_flag, read_operator};
 use crate::version::kernel_under;
-use seccomp_command_line::names::push_readable;
+use seccomp_command_line::readable::{TextKind, readable};
 use serde_json::Value;
 use std::alloc::{AllocError, Global};
 
@@ -223,11 +223,7 @@ fn in_object(alloc: Global, keys: &[&str], told: &str, value: &Value) -> Result<
 
 // A name that isn't known.
 fn strange(alloc: Global, name: &str, told: &str) -> Result<(), Finding> {
-    let mut shown = Vec::new(alloc);
-    push_readable(&mut shown, name)?;
-    let Ok(shown) = String::from_utf8(shown) else {
-        return refuse(alloc, "unknown key");
-    };
+    let shown = readable(alloc, name, TextKind::Name)?;
     let words = format!(in alloc; "\"{shown}\": unknown key; expected {told}")?;
     refuse(alloc, words.as_str())
 }

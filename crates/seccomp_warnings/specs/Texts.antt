@@ -1,7 +1,8 @@
 -- The lines of warnings.
 use Rattle.std.specs.Prelude.{List, ℕ, [], ◌++◌, map, codes, decimal}
 use Rattle.std.specs.List.{concat}
-use Rattle.seccomp_command_line.specs.Names.{readable}
+use Rattle.seccomp_command_line.specs.Readable.{readable}
+use Rattle.seccomp_command_line.specs.declared.readable.TextKind.TheVariants.{Name}
 use Rattle.seccomp_warnings.specs.declared.unlisted.Unlisted.{Unlisted}
 use Rattle.seccomp_warnings.specs.declared.warning.Comparison.{Comparison}
 use Rattle.seccomp_warnings.specs.declared.warning.Subject.{Subject}
@@ -79,7 +80,7 @@ subject_text (subject.Condition c) = comparison_text c
 
 -- The place of a warning of the filter of a name, as the path of a fault has it.
 abbrev pub place_of : List ℕ → Warning → List ℕ
-place_of name w = readable name ++ subject_text w.subject ++ part_text w.code
+place_of name w = readable Name name ++ subject_text w.subject ++ part_text w.code
 
 -- The code as it stands in a line.
 abbrev pub mark_of : Code → List ℕ

@@ -41,7 +41,7 @@ IsUndecided text architecture name UnknownArchitecture = IsNoArchitecture archit
 IsUndecided text architecture name f = OfArchitecture architecture (λ target. IsPolicyFault target text name f)
 
 -- What seccompiler_decide answers, and what the message then holds: the word, and an empty sentence; or the code of why
--- there is none, and a sentence that tells it, by its place on that architecture or without one.
+-- there is none, and a sentence that tells it on that architecture.
 pub data AnswersDecide (text : List ℕ) (architecture : ℕ) (name call : List ℕ) (answer : ℤ)
     (message_old message_new : List ℕ) : Type 0 where
   decided : OfArchitecture architecture (λ target. NamesPolicy target text name (Decides call answer))

@@ -8,8 +8,9 @@ use Rattle.seccompiler.specs.declared.backend.TargetArch.{TargetArch}
 use Rattle.seccomp_tree.specs.Layouts.{filter_text}
 use Rattle.seccomp_check.specs.Checks.{TellsFaultOf, frontend_cause}
 use Rattle.seccomp_check.specs.declared.fault.Cause.{Cause}
+use Rattle.seccomp_command_line.specs.Readable.{readable}
+use Rattle.seccomp_command_line.specs.declared.readable.TextKind.TheVariants.{Line}
 use Rattle.seccompiler_c.specs.Codes.{fault_code, code_text, IsSentence}
-use Rattle.seccompiler_c.specs.Readable.{IsShown}
 use Rattle.seccompiler_c.specs.declared.fault.Fault.{Fault}
 use Rattle.seccompiler_c.specs.declared.fault.Fault.TheVariants.{OutOfMemory, UnknownArchitecture, UnknownLayout, Text, NoFilter, NoIndex}
 use Rattle.seccompiler_c.specs.declared.fault.Fault.TheVariants.{Filter, NoRoom}
@@ -44,17 +45,6 @@ pub data HoldsMessage (said old new : List ℕ) : Type 0 where
   holds : HoldsFront said old new → HoldsMessage said old new
   no_byte : length old ≡ 0 → new ≡ old → HoldsMessage said old new
 
--- The sentence is the fault's text, as people read it, or, if memory is refused for it, what the fault's code means.
-abbrev pub IsTold : Fault → List ℕ → Type 0
-IsTold fault said = IsShown (IsFaultText fault) said ⊎ (said ≡ code_text (fault_code fault))
-
--- The buffer holds a sentence that tells the fault.
-pub record TellsFault (fault : Fault) (old new : List ℕ) : Type 0 where
-  pub said : List ℕ
-  pub utf8 : IsUtf8 said
-  pub told : IsTold fault said
-  pub holds : HoldsMessage said old new
-
 -- The kind of a fault on an architecture, if it has a place in the policy.
 abbrev pub fault_cause : TargetArch → Fault → Option Cause
 fault_cause target (Text e) = frontend_cause target e
@@ -67,11 +57,22 @@ pub record IsPlaced (target : TargetArch) (text : List ℕ) (fault : Fault) (sai
   pub kind : fault_cause target fault ≡ Some cause
   pub placed : (d : Data) → IsReadAs text d → TellsFaultOf cause d said
 
--- The sentence tells the fault of a policy's text: by its place, on an architecture of which P holds, as people read it; or
--- else as any fault is told.
-pub data IsToldOf (P : TargetArch → Type 0) (text : List ℕ) (fault : Fault) (said : List ℕ) : Type 0 where
-  by_place : (target : TargetArch) → P target → IsShown (IsPlaced target text fault) said → IsToldOf P text fault said
-  without_place : IsTold fault said → IsToldOf P text fault said
+-- The text tells the fault of a policy's text: by its place, if on an architecture of which P holds the fault is of a kind that
+-- has one; and else it is the fault's own.
+pub data IsTextOf (P : TargetArch → Type 0) (text : List ℕ) (fault : Fault) (told : List ℕ) : Type 0 where
+  by_place : (target : TargetArch) → P target → IsPlaced target text fault told → IsTextOf P text fault told
+  without_place : ((target : TargetArch) → P target → fault_cause target fault ≡ None) → IsFaultText fault told
+      → IsTextOf P text fault told
+
+-- What is said is a text of which P holds, as people read it.
+pub record IsShown (P : List ℕ → Type 0) (said : List ℕ) : Type 0 where
+  pub text : List ℕ
+  pub holds : P text
+  pub shown : said ≡ readable Line text
+
+-- The sentence is this text as people read it, or, if memory runs out for it, what the fault's code means.
+abbrev pub IsToldOf : (TargetArch → Type 0) → List ℕ → Fault → List ℕ → Type 0
+IsToldOf P text fault said = IsShown (IsTextOf P text fault) said ⊎ (said ≡ code_text (fault_code fault))
 
 -- The buffer holds a sentence that tells the fault so.
 pub record TellsPolicyFault (P : TargetArch → Type 0) (text : List ℕ) (fault : Fault) (old new : List ℕ) : Type 0 where

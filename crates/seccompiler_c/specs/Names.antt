@@ -42,8 +42,8 @@ IsUnnamed text index NoIndex = OfNames text (λ names. length names ≤ index)
 IsUnnamed text index f = ⊥
 
 -- What seccompiler_filter_names answers, and what the buffer of the name and the message then hold: the name, its length,
--- and an empty sentence; or the code of why there is none, and a sentence that tells it, by its place or without one, and the
--- buffer is as it was. The kinds of faults that come here are the same on all architectures.
+-- and an empty sentence; or the code of why there is none, and a sentence that tells it, and the buffer is as it was. Whether
+-- such a fault has a place is the same on all architectures.
 pub data AnswersNames (text : List ℕ) (index : ℕ) (name_old name_new : List ℕ) (answer : ℤ)
     (message_old message_new : List ℕ) : Type 0 where
   named : (name : List ℕ) → OfNames text (λ names. slice_get names index ≡ Some name) → answer ≡ pos (length name)

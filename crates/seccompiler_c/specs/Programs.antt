@@ -68,7 +68,7 @@ pub record Holds (old new : List sock_filter) (answer : ℤ) (program : List soc
 
 -- What seccompiler_compile answers, what the array then holds, and what the message: the program, and an empty
 -- sentence; or what the array held before, if the request is refused; the answer is the refusal's code, and the
--- sentence reports it, by its place on the architecture that was asked for or without one.
+-- sentence reports it, on the architecture that was asked for.
 pub data AnswersCompile (r : Request) (old new : List sock_filter) (answer : ℤ) (message_old message_new : List ℕ) : Type 0 where
   compiled : OfProgram r (Holds old new answer) → HoldsMessage [] message_old message_new
       → AnswersCompile r old new answer message_old message_new

@@ -3,13 +3,12 @@
 ghost use Rattle.std.specs.Prelude.{◌≡◌, [], pos, length, IfOk, IfSome, string_bytes};
 ghost use Rattle.seccompiler.specs.declared.backend.TargetArch.{TargetArch};
 ghost use Rattle.seccompiler_c.specs.Arguments.{IsArchitecture};
-ghost use Rattle.seccompiler_c.specs.Messages.{HoldsMessage, IsFaultText, TellsFault, fault_cause, IsPlaced, TellsPolicyFault};
-ghost use Rattle.seccompiler_c.specs.Readable.{IsShown};
+ghost use Rattle.seccompiler_c.specs.Messages.{HoldsMessage, IsFaultText, fault_cause, IsTextOf, IsShown, TellsPolicyFault};
 
 use crate::arguments::architecture_of;
 use crate::fault::Fault;
-use crate::readable::readable;
 use seccomp_check::{Cause, cause_of_frontend, place};
+use seccomp_command_line::readable::{TextKind, readable};
 use seccompiler::TargetArch;
 use std::alloc::Global;
 use std::fmt;
@@ -46,30 +45,6 @@ fn text_of(alloc: Global, fault: &Fault) -> Result<String, fmt::Error>
     Ok(f.into_inner())
 }
 
-// The same as people read it, where there is memory for it.
-fn shown(alloc: Global, fault: &Fault) -> Option<String>
-    ensures { IfSome result (λ said. IsShown (IsFaultText fault.now) (string_bytes said)) }
-{
-    match text_of(alloc, fault) {
-        Ok(text) => readable(alloc, text.as_str()),
-        Err(_) => None,
-    }
-}
-
-// Writes the text of a fault, or what its code means where there is no memory for the text. Where there is
-// no room for it, no memory is asked for.
-pub(crate) fn tell(alloc: Global, fault: &Fault, message: &mut [u8])
-    ensures { TellsFault fault.now message.old message.new }
-{
-    if message.is_empty() {
-        return write_message(fault.code().text(), message);
-    }
-    match shown(alloc, fault) {
-        Some(said) => write_message(said.as_str(), message),
-        None => write_message(fault.code().text(), message),
-    }
-}
-
 // The kind of a fault, where it has a place in the policy.
 fn cause_of(target: TargetArch, fault: &Fault) -> Option<Cause>
     ensures { result ≡ fault_cause target fault.now }
@@ -80,27 +55,30 @@ fn cause_of(target: TargetArch, fault: &Fault) -> Option<Cause>
     }
 }
 
-// The text of a policy's fault with the path of its place, where it has one and there is memory for it.
-fn placed(alloc: Global, policy: &[u8], target: TargetArch, fault: &Fault) -> Option<String>
-    ensures { IfSome result (λ said. IsPlaced target policy.now fault.now (string_bytes said)) }
+// The text of a policy's fault: with the path of its place if it is of a kind that has one. None if memory runs out for it, or no
+// place is found, which isn't proved not to be.
+fn told(alloc: Global, policy: &[u8], target: TargetArch, fault: &Fault) -> Option<String>
+    ensures { IfSome result (λ text. IsTextOf (λ t. t ≡ target) policy.now fault.now (string_bytes text)) }
 {
-    let cause = cause_of(target, fault)?;
-    match place(alloc, cause, policy) {
-        Ok(found) => found,
-        Err(_) => None,
+    match cause_of(target, fault) {
+        None => text_of(alloc, fault).ok(),
+        Some(cause) => match place(alloc, cause, policy) {
+            Ok(found) => found,
+            Err(_) => None,
+        },
     }
 }
 
 // The same as people read it.
-fn shown_place(alloc: Global, policy: &[u8], target: TargetArch, fault: &Fault) -> Option<String>
-    ensures { IfSome result (λ said. IsShown (IsPlaced target policy.now fault.now) (string_bytes said)) }
+fn shown(alloc: Global, policy: &[u8], target: TargetArch, fault: &Fault) -> Option<String>
+    ensures { IfSome result (λ said. IsShown (IsTextOf (λ t. t ≡ target) policy.now fault.now) (string_bytes said)) }
 {
-    let text = placed(alloc, policy, target, fault)?;
-    readable(alloc, text.as_str())
+    let text = told(alloc, policy, target, fault)?;
+    readable(alloc, text.as_str(), TextKind::Line).ok()
 }
 
-// Writes the text of a policy's fault on an architecture: with the path of its place where it has one, and
-// else as `tell` does.
+// Writes the text of a policy's fault on an architecture as people read it, or what its code means if memory runs out
+// for the text. If there is no room for it, no memory is asked for.
 pub(crate) fn tell_place(
     alloc: Global,
     policy: &[u8],
@@ -111,15 +89,15 @@ pub(crate) fn tell_place(
     ensures { TellsPolicyFault (λ t. t ≡ target) policy.now fault.now message.old message.new }
 {
     if message.is_empty() {
-        return tell(alloc, fault, message);
+        return write_message(fault.code().text(), message);
     }
-    match shown_place(alloc, policy, target, fault) {
+    match shown(alloc, policy, target, fault) {
         Some(said) => write_message(said.as_str(), message),
-        None => tell(alloc, fault, message),
+        None => write_message(fault.code().text(), message),
     }
 }
 
-// The same on the architecture of a word.
+// The same on the architecture of a word. If the word is none's, that is the fault, and its text is what the code means.
 pub(crate) fn tell_policy(
     alloc: Global,
     policy: &[u8],
@@ -131,6 +109,6 @@ pub(crate) fn tell_policy(
 {
     match architecture_of(architecture) {
         Some(target) => tell_place(alloc, policy, target, fault, message),
-        None => tell(alloc, fault, message),
+        None => write_message(fault.code().text(), message),
     }
 }

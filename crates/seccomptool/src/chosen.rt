@@ -5,7 +5,7 @@ ghost use Rattle.std.specs.BTreeMap as tree;
 ghost use Rattle.seccomptool.specs.Chosen.{HoldsOnly, IsChosen, text_of};
 
 use crate::error::ToolError;
-use seccomp_command_line::names::push_readable;
+use seccomp_command_line::readable::{TextKind, push_readable};
 use seccompiler::json::filters_of;
 use seccompiler::{JsonFilter, JsonFilterMap};
 use std::alloc::{AllocError, Global};
@@ -86,7 +86,7 @@ pub(crate) fn names_of<V>(
         if name.is_empty() {
             text.extend_from_slice(b"''")?;
         }
-        push_readable(&mut text, name.as_str())?;
+        push_readable(&mut text, name.as_str(), TextKind::Name)?;
     }
     match String::from_utf8(text) {
         Ok(names) => Ok(names),

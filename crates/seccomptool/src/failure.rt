@@ -2,8 +2,9 @@
 
 use crate::error::{FaultAt, Place, ToolError};
 use crate::notes::front_of;
-use crate::readable::{LineFeeds, readable};
+use crate::readable::readable;
 use crate::words::{Asked, Inputs};
+use seccomp_command_line::readable::TextKind;
 use std::alloc::{AllocError, Global};
 use std::io;
 use std::io::ErrorKind;
@@ -42,7 +43,7 @@ pub(crate) fn tell(
 
 // Tells notes on standard error: lines of text.
 pub(crate) fn note(rt: &(impl Eprint + AllocGlobal), notes: &[u8]) {
-    if let Ok(lines) = readable(rt.alloc(), notes, LineFeeds::Kept) {
+    if let Ok(lines) = readable(rt.alloc(), notes, TextKind::Lines) {
         let _ = eprint!(rt; "{lines}");
     }
 }
@@ -69,7 +70,7 @@ fn line_of(alloc: Global, front: &[u8], told: &str) -> Result<String, AllocError
     line.extend_from_slice(b"seccomptool: ")?;
     line.extend_from_slice(front)?;
     line.extend_from_slice(told.as_bytes())?;
-    readable(alloc, &line, LineFeeds::Numbered)
+    readable(alloc, &line, TextKind::Line)
 }
 
 // The line of what is wrong with what stands at a path.

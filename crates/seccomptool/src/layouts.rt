@@ -4,7 +4,7 @@ ghost use Rattle.std.specs.Prelude.{IfOk};
 ghost use Rattle.seccomp_tree.specs.Layouts.{IsCompiledIn};
 
 use crate::error::ToolError;
-use seccomp_command_line::names::push_readable;
+use seccomp_command_line::readable::{TextKind, push_readable};
 use seccomp_tree::{FilterError, Layout, to_bpf_in};
 use seccompiler::{BpfProgram, SeccompFilter};
 use std::alloc::{AllocError, Global};
@@ -68,7 +68,7 @@ fn room_text(
     other: (Layout, Option<usize>),
 ) -> Result<String, AllocError> {
     let mut text = Vec::new(alloc);
-    push_readable(&mut text, name)?;
+    push_readable(&mut text, name, TextKind::Name)?;
     let layout = layout_text(needs.0);
     let told = match needs.1 {
         Some(length) => {

@@ -1,6 +1,6 @@
 // Notes on what stands at a path, for standard error.
 
-use seccomp_command_line::names::push_readable;
+use seccomp_command_line::readable::{TextKind, push_readable};
 use std::alloc::{AllocError, Global};
 
 // The line of a note on what stands at this path.
@@ -20,7 +20,7 @@ pub(crate) fn front_of(alloc: Global, path: &str) -> Result<Vec<u8>, AllocError>
         front.extend_from_slice(b"standard input: ")?;
         return Ok(front);
     }
-    push_readable(&mut front, path)?;
+    push_readable(&mut front, path, TextKind::Name)?;
     front.extend_from_slice(b": ")?;
     Ok(front)
 }

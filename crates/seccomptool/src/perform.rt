@@ -11,9 +11,10 @@ use crate::made::{
     Made, call_made, check_made, codes_made, compile_made, diff_made, explain_made, show_made,
 };
 use crate::progress::Progress;
-use crate::readable::{LineFeeds, readable};
+use crate::readable::readable;
 use crate::shell::writes_bytes;
 use crate::words::{Command, Inputs};
+use seccomp_command_line::readable::TextKind;
 use std::alloc::{AllocError, Global};
 use std::io;
 use std::io::{Read, Write};
@@ -134,7 +135,7 @@ fn shown(alloc: Global, command: &Command<'_>, text: Vec<u8>) -> Result<Vec<u8>,
     if writes_bytes(command) || is_plain(&text) {
         return Ok(text);
     }
-    Ok(readable(alloc, &text, LineFeeds::Kept)?.into_bytes())
+    Ok(readable(alloc, &text, TextKind::Lines)?.into_bytes())
 }
 
 // Whether a text has printed ASCII and line feeds alone.

@@ -12,10 +12,10 @@ use crate::findings::Verdict;
 use crate::output::{is_same, write_whole};
 use crate::perform::{Done, perform};
 use crate::progress::Progress;
-use crate::readable::{LineFeeds, readable};
 use crate::source::open;
 use crate::words::{Asked, Command, Inputs, read};
 use clap::error::ErrorKind;
+use seccomp_command_line::readable::{TextKind, readable};
 use std::io;
 use std::process::ExitCode;
 use std::rt::Files;
@@ -82,7 +82,7 @@ fn misused(rt: &(impl Print + Eprint + AllocGlobal), error: &clap::Error) -> Exi
 fn tell_misuse(rt: &(impl Eprint + AllocGlobal), error: &clap::Error) {
     let alloc = rt.alloc();
     if let Ok(told) = format!(in alloc; "{error}") {
-        if let Ok(lines) = readable(alloc, told.as_bytes(), LineFeeds::Kept) {
+        if let Ok(lines) = readable(alloc, told.as_str(), TextKind::Lines) {
             let _ = eprint!(rt; "{lines}");
         }
     }

@@ -1,38 +1,45 @@
--- For `placed`, `tell_place` and `tell_policy`: sentences that tell the fault of a policy's text.
-use Rattle.std.proofs.Common.{◌≡◌, ℕ, List, Option, Some, None, IfSome, String, Global, string_bytes, refl, sym, subst}
-use Rattle.std.specs.Str.{IsUtf8}
+-- For `told`, `tell_policy` and `seccompiler_filter_names`: texts that tell the fault of a policy's text.
+use Rattle.std.proofs.Common.{◌≡◌, ℕ, List, Option, Some, None, IfSome, Result, Ok, Err, IfOk, String, Global, string_bytes}
+use Rattle.std.proofs.Common.{refl, sym, subst, inl, inr}
+use Rattle.std.specs.Result.{result_ok}
 use Rattle.serde_json.specs.Data.{Data}
 use Rattle.seccompiler.specs.JsonAnswers.{IsReadAs}
 use Rattle.seccompiler.specs.declared.backend.TargetArch.{TargetArch}
+use Rattle.seccompiler.specs.declared.json.error.JsonFrontendError.TheVariants.{SyscallName}
 use Rattle.seccomp_check.specs.Checks.{TellsFaultOf}
 use Rattle.seccomp_check.specs.declared.fault.Cause.{Cause}
-use Rattle.seccompiler_c.specs.Messages.{HoldsMessage, TellsFault, TellsPolicyFault, fault_cause}
-use Rattle.seccompiler_c.specs.Messages.{IsPlaced, IsToldOf, by_place, without_place}
-use Rattle.seccompiler_c.specs.Readable.{IsShown}
+use Rattle.seccompiler_c.specs.Messages.{IsFaultText, TellsPolicyFault, fault_cause, IsTextOf, by_place, without_place, IsToldOf}
 use Rattle.seccompiler_c.specs.declared.fault.Fault.{Fault}
+use Rattle.seccompiler_c.specs.declared.fault.Fault.TheVariants.{Text}
 
-module _ (text : List ℕ) (fault : Fault) (old new : List ℕ) where
-  -- A sentence without a place.
-  pub told_alone : (P : TargetArch → Type 0) → TellsFault fault old new → TellsPolicyFault P text fault old new
-  told_alone P tells = record { said = tells.said; utf8 = tells.utf8; told = without_place tells.told; holds = tells.holds }
+-- A fault that has no place on one architecture has none on another.
+nowhere : (fault : Fault) (one other : TargetArch) → fault_cause one fault ≡ None → fault_cause other fault ≡ None
+nowhere (Text (SyscallName name known)) one other none = absurd cc
+nowhere fault one other none = none
 
-  -- A sentence with a place.
-  pub told_there : (target : TargetArch) (said : List ℕ) → IsUtf8 said → IsShown (IsPlaced target text fault) said
-      → HoldsMessage said old new → TellsPolicyFault (λ t. t ≡ target) text fault old new
-  told_there target said utf8 placed holds = record { said = said; utf8 = utf8; told = by_place target refl placed; holds = holds }
+-- What is reported on one architecture is reported on those for which P holds, if it does of that one.
+pub told_on : (text : List ℕ) (fault : Fault) (old new : List ℕ) (P : TargetArch → Type 0) (target : TargetArch) → P target
+    → TellsPolicyFault (λ t. t ≡ target) text fault old new → TellsPolicyFault P text fault old new
+told_on text fault old new P target holds tells = record { said = tells.said; utf8 = tells.utf8; told = by tells.told; holds = tells.holds }
+  where
+    of : (told : List ℕ) → IsTextOf (λ t. t ≡ target) text fault told → IsTextOf P text fault told
+    of told (by_place t same placed) = by_place t (subst P (sym same) holds) placed
+    of told (without_place none own) = without_place (λ t at. nowhere fault target t (none target refl)) own
 
-  -- What is reported on one architecture is reported on those for which P holds, if it does of that one.
-  pub told_on : (P : TargetArch → Type 0) (target : TargetArch) → P target → TellsPolicyFault (λ t. t ≡ target) text fault old new
-      → TellsPolicyFault P text fault old new
-  told_on P target holds tells = record { said = tells.said; utf8 = tells.utf8; told = by tells.told; holds = tells.holds }
-    where
-      by : IsToldOf (λ t. t ≡ target) text fault tells.said → IsToldOf P text fault tells.said
-      by (by_place t same placed) = by_place t (subst P (sym same) holds) placed
-      by (without_place told) = without_place told
+    by : IsToldOf (λ t. t ≡ target) text fault tells.said → IsToldOf P text fault tells.said
+    by (inl shown) = inl (record { text = shown.text; holds = of shown.text shown.holds; shown = shown.shown })
+    by (inr code) = inr code
 
 -- The text that is found for a fault's kind tells the fault by its place.
 pub placed_at : (target : TargetArch) (text : List ℕ) (fault : Fault) (cause : Cause) → fault_cause target fault ≡ Some cause
     → (found : Option (String Global)) → ((d : Data) → IsReadAs text d → IfSome found (λ said. TellsFaultOf cause d (string_bytes said)))
-    → IfSome found (λ said. IsPlaced target text fault (string_bytes said))
+    → IfSome found (λ told. IsTextOf (λ t. t ≡ target) text fault (string_bytes told))
 placed_at target text fault cause kind None told = tt
-placed_at target text fault cause kind (Some said) told = record { cause = cause; kind = kind; placed = told }
+placed_at target text fault cause kind (Some said) told = by_place target refl (record { cause = cause; kind = kind; placed = told })
+
+-- The text of a fault that has no place is its own.
+pub own_text : {E : Type 0} (target : TargetArch) (text : List ℕ) (fault : Fault) → fault_cause target fault ≡ None
+    → (read : Result (String Global) E) → IfOk read (λ own. IsFaultText fault (string_bytes own))
+    → IfSome (result_ok read) (λ told. IsTextOf (λ t. t ≡ target) text fault (string_bytes told))
+own_text target text fault none (Ok own) is = without_place (λ t same. subst (λ t. fault_cause t fault ≡ None) (sym same) none) is
+own_text target text fault none (Err e) is = tt

@@ -6,7 +6,7 @@ use crate::findings::lines::{Shown, push_filter, push_finding, push_verdict};
 use crate::findings::{Finding, Part, Terms, verdict_of};
 use crate::kind::Subject;
 use crate::sides::Side;
-use seccomp_command_line::names::push_readable;
+use seccomp_command_line::readable::{TextKind, push_readable};
 use std::alloc::{AllocError, Global};
 
 /// The lines of a comparison of two policies: under each name what is found, and then a line for each part of the calls on which
@@ -89,7 +89,7 @@ fn push_title(
                 return Ok(());
             }
             text.extend_from_slice(b" -> ")?;
-            push_readable(text, new.as_str())
+            push_readable(text, new.as_str(), TextKind::Name)
         }
         (Some(name), None) | (None, Some(name)) => push_filter(text, name.as_str()),
         (None, None) if is_program(old) && is_program(new) => text.extend_from_slice(b"program"),

@@ -5,7 +5,7 @@ use crate::explain::reason::{Miss, Reason};
 use crate::explain::{Explained, Explanation, NamedFilter, Why};
 use crate::findings::lines::CallName;
 use seccomp_command_line::hexadecimal::eight_digits;
-use seccomp_command_line::names::push_readable;
+use seccomp_command_line::readable::{TextKind, push_readable};
 use seccompiler::{SeccompAction, TargetArch};
 use std::alloc::{AllocError, Global};
 
@@ -136,7 +136,7 @@ fn push_entry(
     filter: &NamedFilter,
     place: usize,
 ) -> Result<(), AllocError> {
-    push_readable(text, filter.name.as_str())?;
+    push_readable(text, filter.name.as_str(), TextKind::Name)?;
     push(text, format!(in alloc; ".filter[{place}]")?)
 }
 

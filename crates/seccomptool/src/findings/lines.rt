@@ -4,7 +4,7 @@ ghost use Rattle.std.specs.Prelude.{◌≤◌};
 
 use crate::findings::parts::{X32, name_of};
 use crate::findings::{Answer, Finding, Part, Verdict};
-use seccomp_command_line::names::push_readable;
+use seccomp_command_line::readable::{TextKind, push_readable};
 use seccomp_compare::{Relation, rank};
 use seccompiler::TargetArch;
 use std::alloc::{AllocError, Global};
@@ -43,7 +43,7 @@ pub(crate) struct Shown {
 /// Adds a filter by its name.
 pub(crate) fn push_filter(text: &mut Vec<u8>, name: &str) -> Result<(), AllocError> {
     text.extend_from_slice(b"filter ")?;
-    push_readable(text, name)
+    push_readable(text, name, TextKind::Name)
 }
 
 /// Adds a verdict in words.

@@ -2,7 +2,7 @@
 
 use crate::error::ToolError;
 use crate::notes::note;
-use seccomp_command_line::names::push_readable;
+use seccomp_command_line::readable::{TextKind, push_readable};
 use seccomp_oci::{CompileError, Flag};
 use seccompiler::TargetArch;
 use std::alloc::{AllocError, Global};
@@ -67,7 +67,7 @@ fn names_told(
         if place > 0 {
             text.extend_from_slice(b", ")?;
         }
-        push_readable(&mut text, name.as_str())?;
+        push_readable(&mut text, name.as_str(), TextKind::Name)?;
     }
     Ok(text)
 }

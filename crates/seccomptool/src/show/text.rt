@@ -5,7 +5,7 @@ use crate::compile::NamedProgram;
 use crate::error::ToolError;
 use crate::show::instruction::words;
 use crate::show::notes::notes;
-use seccomp_command_line::names::push_readable;
+use seccomp_command_line::readable::{TextKind, push_readable};
 use seccompiler::{BpfProgramRef, TargetArch};
 use std::alloc::{AllocError, Global};
 
@@ -32,7 +32,7 @@ pub(crate) fn programs_text(
         if is_asked(asked, made.name.as_str()) {
             let count = made.program.len();
             text.extend_from_slice(format!(in alloc; "filter {count} ")?.as_bytes())?;
-            push_readable(&mut text, made.name.as_str())?;
+            push_readable(&mut text, made.name.as_str(), TextKind::Name)?;
             text.push(b'\n')?;
             push_instructions(alloc, &mut text, None, &made.program)?;
         }

@@ -3,7 +3,7 @@
 use crate::chosen::{is_asked, some_text};
 use crate::error::ToolError;
 use crate::stats::{FilterStats, Measure};
-use seccomp_command_line::names::push_readable;
+use seccomp_command_line::readable::{TextKind, push_readable};
 use std::alloc::{AllocError, Global};
 
 /// The lines of filters' numbers, three for each filter:
@@ -33,7 +33,7 @@ pub(crate) fn filters_text(
     for filter in all {
         if is_asked(asked, filter.name.as_str()) {
             text.extend_from_slice(b"filter ")?;
-            push_readable(&mut text, filter.name.as_str())?;
+            push_readable(&mut text, filter.name.as_str(), TextKind::Name)?;
             text.push(b'\n')?;
             text.extend_from_slice(&measure_text(alloc, "linear", filter.linear)?)?;
             text.extend_from_slice(&measure_text(alloc, "tree", filter.tree)?)?;

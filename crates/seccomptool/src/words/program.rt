@@ -5,6 +5,9 @@ use super::options::{Built, Row, subcommand};
 use clap::Command;
 use std::alloc::Global;
 
+// Over the 40 characters behind `commit` tools/package writes the commit, so that the program isn't proved again for it.
+const VERSION: &str = "0.6.0 (commit unknown, since it was built from sources)";
+
 const ARCHITECTURES: &[&str] = &["x86_64", "aarch64", "riscv64", "amd64", "arm64"];
 
 const LAYOUTS: &[&str] = &["linear", "tree"];
@@ -188,7 +191,7 @@ fn top<'a>(alloc: Global) -> Built<'a> {
     let named = Command::new(alloc, "seccomptool").bin_name("seccomptool")?;
     Ok(
         named
-            .version("0.6.0")
+            .version(VERSION)
             .about("Compiles, checks and explains seccomp policies")
             .after_help(AFTER)
             .no_binary_name(true)

@@ -1,7 +1,7 @@
 use Rattle.std.proofs.Common.{◌≡◌, ◌++◌, take, map}
 use Rattle.std.specs.List.{concat}
 use Rattle.seccomp_command_line.specs.Names.{byte_number}
-use Rattle.seccompiler_c.proofs.readable.push_numbers.Given as goal
+use Rattle.seccomp_command_line.proofs.readable.push_numbers.Given as goal
 
 abbrev pub invariant-loop-byte : goal.invariant-loop-byte
-invariant-loop-byte l = l.said.items ≡ l.fn.said.items ++ concat (map byte_number (take l.byte-index l.bytes))
+invariant-loop-byte l = l.text.items ≡ l.fn.text.items ++ concat (map byte_number (take l.byte-index l.bytes))

@@ -1,6 +1,6 @@
 use Rattle.seccomp_command_line.specs.Names.{byte_number}
 use Rattle.seccomp_command_line.proofs.Joined.{joined_more}
-use Rattle.seccomp_command_line.proofs.names.push_numbers.Goals as goal
+use Rattle.seccomp_command_line.proofs.readable.push_numbers.Goals as goal
 
 pub loop-byte-preserved : goal.loop-byte-preserved
 loop-byte-preserved c =

@@ -1,0 +1,34 @@
+-- Texts from outside, as people read them: nothing in them steers a terminal.
+use Rattle.std.specs.Prelude.{ℕ, ◌==◌, ◌||◌, ◌&&◌, not, Bool, if◌then◌else◌, List, map}
+use Rattle.std.specs.Char.{is_control, encode_utf8}
+use Rattle.std.specs.Int.{is_in_range}
+use Rattle.std.specs.List.{concat}
+use Rattle.std.specs.Str.{chars}
+use Rattle.seccomp_command_line.specs.Names.{byte_number}
+use Rattle.seccomp_command_line.specs.declared.readable.TextKind.{TextKind}
+use Rattle.seccomp_command_line.specs.declared.readable.TextKind.TheVariants.{Name, Line, Lines}
+
+-- The characters that turn the direction of writing, or aren't seen.
+abbrev pub is_invisible : ℕ → Bool
+is_invisible c = (c == 0x61C) || is_in_range 0x200B 0x200F c || is_in_range 0x2028 0x202E c || (c == 0x2060)
+    || is_in_range 0x2066 0x2069 c || (c == 0xFEFF)
+
+-- The characters that steer a terminal or aren't seen there: these, and the control characters, which are U+0000 to U+001F
+-- and U+007F to U+009F.
+abbrev pub is_steering : ℕ → Bool
+is_steering c = is_control c || is_invisible c
+
+-- The characters that are written by the numbers of their bytes: these; in names the backslash too; and in lines all but the
+-- line feed.
+abbrev pub is_numbered : TextKind → ℕ → Bool
+is_numbered Name c = is_steering c || (c == 92)
+is_numbered Line c = is_steering c
+is_numbered Lines c = is_steering c && not (c == 10)
+
+-- A character, as people read it: its bytes, or each byte by its number, which is `\x` and two hexadecimal digits.
+abbrev pub readable_character : TextKind → ℕ → List ℕ
+readable_character kind c = if is_numbered kind c then concat (map byte_number (encode_utf8 c)) else encode_utf8 c
+
+-- A text as people read it, character by character.
+abbrev pub readable : TextKind → List ℕ → List ℕ
+readable kind text = concat (map (readable_character kind) (chars text))

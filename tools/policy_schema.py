@@ -133,8 +133,10 @@ def policy_of(case, files):
 
 
 def is_program(text):
-    """Returns whether bytes are a program's: no text of JSON has a 0."""
-    return isinstance(text, bytes) and b"\0" in text[:2]
+    """Returns whether what is given is a program in bytes or in C: no text of JSON has a 0, or a digit, a brace or a comment after
+    its first brace."""
+    text = text.decode("latin-1") if isinstance(text, bytes) else text or ""
+    return "\0" in text[:2] or re.match(r"\s*\{\s*[\d{/]", text) is not None
 
 
 def text_of(name, case, files):

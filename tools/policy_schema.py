@@ -31,12 +31,13 @@ SCHEMA = TOP / "docs/policy.schema.json"
 READING, GIVEN_A_FILE = "list", "run"
 OF_TOOL = ("compile", "show", "check", "explain", "diff")
 WITH_VALUES = (
-    "-a", "--arch", "--allow", "-f", "--filter", "-o", "--output", "--layout", "--format", "--most", "--records"
+    "-a", "--arch", "--allow", "-f", "--filter", "-o", "--output", "--layout", "--format", "--most", "--records", "--log",
+    "--cap", "--kernel"
 )
 HELP = ("-h", "--help")
 
 # What `compile` and `diff` note of policies that are right.
-NOTES = re.compile(r"(?m)^seccomptool: .*: \d+ warnings?; seccomptool check tells (?:it|them)\n")
+NOTES = re.compile(r"(?m)^seccomptool: .*: \d+ warnings?; seccomptool check prints (?:it|them)\n")
 
 # What stands in front of what seccomptool reports: its name, and a file's if it is about one.
 IN_FRONT = re.compile(r"seccomptool: (standard (input|output): |[\w./\\\[-]+: )?")
@@ -50,7 +51,7 @@ UNSAID = re.compile(
     r"|Backend error: (The seccomp filter |Invalid target arch: )"
     r"|The input ends inside a record, |Error (reading input|writing output)\."
     r"|No filter has this name: |Name one of its filters: |The policy has no filters\.|No call of \w+ has this name or number: "
-    r"|The JSON value is no seccomp profile, |[A-Z][\w ]+ \(os error \d+\)\n|usage: |error: |$"
+    r"|The JSON value isn't a seccomp profile, |[A-Z][\w ]+ \(os error \d+\)\n|usage: |error: |$"
 )
 
 # What `check` reports after a place: that the shape is wrong there; and what can only be found in one that is right.

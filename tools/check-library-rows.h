@@ -216,7 +216,7 @@ static const struct {
     {OF_ENTRY("{\"syscall\":\"read\"},{\"syscall\":\"fnctl\"}"), "b", AUDIT_ARCH_X86_64, 0, 0, SECCOMPILER_REJECTED,
      "a.filter[1].syscall: unknown system call \"fnctl\" on x86_64; did you mean \"fcntl\"?"},
     {OF_ENTRY("{\"syscall\":\"open\"}"), "b", AUDIT_ARCH_RISCV64, 0, 0, SECCOMPILER_REJECTED,
-     "a.filter[0].syscall: unknown system call \"open\" on riscv64"},
+     "a.filter[0].syscall: unknown system call \"open\" on riscv64; did you mean \"openat\"?"},
     {OF_ENTRY("{\"syscall\":\"read\",\"args\":[{\"index\":6,\"type\":\"dword\",\"op\":\"eq\",\"val\":0}]}"), "b",
      AUDIT_ARCH_X86_64, 0, 0, SECCOMPILER_REJECTED, "a.filter[0].args[0].index: expected 0 to 5, found 6"},
     {OF_ENTRY("{\"syscall\":\"read\",\"args\":[]}"), "b", AUDIT_ARCH_X86_64, 0, 0, SECCOMPILER_REJECTED,

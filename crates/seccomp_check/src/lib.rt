@@ -37,6 +37,7 @@ ghost use Rattle.seccomp_check.specs.Texts as spec;
 ghost use Rattle.seccomp_check.specs.declared.part.Part.TheVariants.{Policy};
 
 pub use crate::fault::{Cause, Expected, Fault, Finding, Problem, Step};
+pub use crate::near::near_name;
 pub use crate::part::{Kind, Part};
 pub use crate::rejection::Rejection;
 use crate::text::fault_text;

@@ -32,9 +32,10 @@ fn told(line: &str) -> Option<Told<'_>> {
     })
 }
 
-// What stands behind this mark at the beginning of a word.
+// What stands behind this mark at the beginning of a word. The audit system separates what it adds to a line by the character
+// U+001D.
 fn field<'a>(line: &'a str, mark: &str) -> Option<&'a str> {
-    for word in line.split_whitespace() {
+    for word in line.split(|c: char| c.is_whitespace() || c == '\u{1d}') {
         if let Some(value) = word.strip_prefix(mark) {
             return Some(value);
         }

@@ -1,7 +1,7 @@
 //! Makes a policy that allows the calls that a program made.
 //!
 //! [`read_trace`] reads a program's calls from `strace`, the kernel's log or the audit system, [`learn`] makes a
-//! policy of them, and [`policy_text`] writes it as JSON. `docs/LEARNING.md` goes through this step by step.
+//! policy of them, and [`written_policy`] writes it as JSON, or [`profile_text`] as a profile of a container runtime. `docs/LEARNING.md` goes through this step by step.
 //!
 //! ```
 //! use seccomp_learn::{learn, read_trace};
@@ -30,18 +30,22 @@ pub mod names;
 mod numbers;
 pub mod observation;
 pub mod policy;
+pub mod profile;
 mod records;
 mod rules;
 mod strace;
 pub mod text;
 pub mod trace;
 pub mod usual;
+pub mod written;
 
 pub use crate::limits::within;
 pub use crate::line::{Line, Told, line_of};
 pub use crate::names::name_of;
 pub use crate::observation::{Kept, Observation};
 pub use crate::policy::{Learned, learn};
+pub use crate::profile::profile_text;
 pub use crate::text::policy_text;
 pub use crate::trace::{Trace, read_trace, told_number};
-pub use crate::usual::{start_and_exit, usual_kept};
+pub use crate::usual::{asked_kept, start_and_exit, usual_kept};
+pub use crate::written::written_policy;

@@ -44,6 +44,9 @@ fn has_more(
 {
     let mut different = Vec::new(alloc);
     for observation in observed {
+        if different.len() > limit {
+            return Ok(true);
+        }
         if observation.number != number || !is_new(kept, &different, observation) {
             continue;
         }

@@ -8,30 +8,48 @@ use seccompiler::{
 };
 use std::alloc::{AllocError, Global};
 
-/// The text of a policy, in the format of `docs/JSON.md`: one entry a line, filters in byte order of their
-/// names.
+/// The text of a policy that has a filter beside others, in the format of `docs/JSON.md`: one entry a line, filters in byte order
+/// of their names.
 ///
 /// It consists of printable ASCII and line feeds. Any other character of a name is written by its number.
 ///
 /// # Errors
 ///
 /// `AllocError` if memory runs out.
-pub fn policy_text(alloc: Global, filters: &JsonFilterMap) -> Result<Vec<u8>, AllocError> {
+pub fn policy_text(
+    alloc: Global,
+    others: &JsonFilterMap,
+    name: &str,
+    filter: &JsonFilter,
+) -> Result<Vec<u8>, AllocError> {
     let mut text = Vec::new(alloc);
-    text.extend_from_slice(b"{")?;
-    let mut mark: &[u8] = b"\n    ";
-    for (name, filter) in &filters.0 {
-        text.extend_from_slice(mark)?;
-        push_string(&mut text, name.as_str())?;
-        push_filter(&mut text, filter)?;
+    let mut mark: &[u8] = b"{\n    ";
+    let mut is_there = false;
+    for (other_name, other) in &others.0 {
+        if !is_there && name < other_name.as_str() {
+            push_filter(&mut text, mark, name, filter)?;
+            mark = b",\n    ";
+            is_there = true;
+        }
+        push_filter(&mut text, mark, other_name.as_str(), other)?;
         mark = b",\n    ";
+    }
+    if !is_there {
+        push_filter(&mut text, mark, name, filter)?;
     }
     text.extend_from_slice(b"\n}\n")?;
     Ok(text)
 }
 
-// Adds what stands behind the name of a filter.
-fn push_filter(text: &mut Vec<u8>, filter: &JsonFilter) -> Result<(), AllocError> {
+// Adds a filter with its name, behind a mark.
+fn push_filter(
+    text: &mut Vec<u8>,
+    mark: &[u8],
+    name: &str,
+    filter: &JsonFilter,
+) -> Result<(), AllocError> {
+    text.extend_from_slice(mark)?;
+    push_string(text, name)?;
     text.extend_from_slice(b": {\n        \"mismatch_action\": ")?;
     push_action(text, filter.mismatch_action)?;
     text.extend_from_slice(b",\n        \"match_action\": ")?;
@@ -114,12 +132,12 @@ fn push_numbered(text: &mut Vec<u8>, name: &[u8], number: u64) -> Result<(), All
 }
 
 // Adds a number.
-fn push_number(text: &mut Vec<u8>, number: u64) -> Result<(), AllocError> {
+pub(crate) fn push_number(text: &mut Vec<u8>, number: u64) -> Result<(), AllocError> {
     text.extend_from_slice(Buffer::new().format(number).as_bytes())
 }
 
 // Adds a string.
-fn push_string(text: &mut Vec<u8>, string: &str) -> Result<(), AllocError> {
+pub(crate) fn push_string(text: &mut Vec<u8>, string: &str) -> Result<(), AllocError> {
     text.extend_from_slice(b"\"")?;
     for character in string.chars() {
         push_character(text, character)?;

@@ -47,6 +47,30 @@ pub fn usual_kept(alloc: Global, arch: TargetArch) -> Result<Vec<Kept>, AllocErr
     Ok(kept)
 }
 
+/// An argument that is kept since it is asked for: 32 bits of it, if a negative number was observed that 32 bits hold, as the
+/// kernel takes such a one as 32 bits; else all 64.
+pub fn asked_kept(observed: &[Observation], number: u32, arg_index: u8) -> Kept {
+    let mut arg_len = SeccompCmpArgLen::Qword;
+    for observation in observed {
+        if observation.number == number && is_negative(observation, arg_index) {
+            arg_len = SeccompCmpArgLen::Dword;
+        }
+    }
+    Kept {
+        number,
+        arg_index,
+        arg_len,
+    }
+}
+
+// Whether an argument was observed as a negative number that 32 bits hold.
+fn is_negative(observation: &Observation, arg_index: u8) -> bool {
+    match observation.arguments.get(usize::from(arg_index)) {
+        Some(Some(value)) => *value > u64::MAX - (1 << 31),
+        _ => false,
+    }
+}
+
 /// The calls by which a program starts, ends, and returns from a signal handler, and those that a jailer makes.
 ///
 /// # Errors

@@ -147,6 +147,8 @@ SUGGESTIONS = [
     unknown(entries('{"syscall":"%s"}' % name), "a.filter[0].syscall", f'"{name}"', near)
     for name, near in [
         ("fnctl", "fcntl"),
+        ("fstatat", "newfstatat"),
+        ("send", "sendto"),
         ("READ", None),
         ("re", None),
         ("red", "read"),

@@ -1,7 +1,8 @@
 //! Makes a policy that allows the calls that a program made.
 //!
 //! [`read_trace`] reads a program's calls from `strace`, the kernel's log or the audit system, [`learn`] makes a
-//! policy of them, and [`written_policy`] writes it as JSON, or [`profile_text`] as a profile of a container runtime. `docs/LEARNING.md` goes through this step by step.
+//! policy of them, and [`written_policy`] writes it as JSON, or [`profile_text`] as a profile of a container
+//! runtime.
 //!
 //! ```
 //! use seccomp_learn::{learn, read_trace};

@@ -29,7 +29,7 @@ CASES = [
     rejects("call close > /dev/full", "", FULL, OUTPUT),
     # `call --record` writes the members in order.
     *[writes(f"call --record {call} 3 4294967298 0 0 0 0x0123456789abcdef", "", FCNTL)
-      for call in ("fcntl", "72", "0x48", "0072")],
+      for call in ("fcntl", "72", "0x48")],
     # It takes the call of its architecture.
     writes("call --record -a aarch64 close", "", record_of(57, AARCH64)),
     writes("call --record close --arch riscv64", "", record_of(57, RISCV64)),
@@ -40,6 +40,9 @@ CASES = [
     rejects("call --record nocall", "", NO_CALL.format("x86_64", "nocall"), TOOL),
     rejects("call --record -a arm64 open", "", NO_CALL.format("aarch64", "open"), TOOL),
     rejects("call --record ''", "", NO_CALL.format("x86_64", ""), TOOL),
+    # A number that begins with 0 is octal in C.
+    rejects("call --record 0072", "", NO_CALL.format("x86_64", "0072"), TOOL),
+    rejects("call 00", "", NO_CALL_AT_ALL.format("00"), TOOL),
     rejects("call --record -- -1", "", NO_CALL.format("x86_64", "-1"), TOOL),
     rejects("call --record 4294967296", "", NO_CALL.format("x86_64", "4294967296"), TOOL),
     # A fault of its writer.

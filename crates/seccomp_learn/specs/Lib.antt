@@ -1,5 +1,6 @@
 -- The definitions that the contracts cite: which records are as calls were observed, and what more than a limit of values is.
 pub mod Observed
+pub mod Learned
 pub mod Written
 -- Between the functions.
 pub mod Parts

@@ -4,8 +4,10 @@ ghost use Rattle.std.specs.Prelude.{◌≡◌, ◌↔◌, ◌⊎◌, ℕ, List, 
 ghost use Rattle.seccompiler.specs.JsonPolicyOf.{IsPolicyOf};
 ghost use Rattle.seccompiler.specs.JsonSteps.{IsPolicyRefusal};
 ghost use Rattle.seccompiler.specs.Policy.{Filter, Matches};
+ghost use Rattle.seccomp_learn.specs.Learned.{IsLearnedWithin};
 ghost use Rattle.seccomp_learn.specs.Observed.{IsAsNamed};
 
+use crate::limits::within;
 use crate::observation::{Kept, Observation};
 use crate::rules::{in_order, push_observed};
 use seccompiler::{JsonCompiler, JsonFilter, JsonFrontendError, SeccompFilter, TargetArch};
@@ -61,4 +63,35 @@ pub fn learn(
         // Nothing is wrong with its entries: they are the old policy's, or of calls that have names.
         Err(_) => Err(JsonFrontendError::OutOfMemory),
     }
+}
+
+/// A learned policy, and what it keeps.
+#[derive(Debug, Drop)]
+pub struct Lesson {
+    /// The policy.
+    pub learned: Learned,
+    /// The arguments whose values it keeps.
+    pub kept: Vec<Kept>,
+}
+
+/// Makes a policy as [`learn`] does, which keeps the arguments that are wanted, except those of calls that were observed with
+/// more than `limit` different values: such a call is allowed with any arguments.
+///
+/// # Errors
+///
+/// Those of [`learn`].
+pub fn learn_within(
+    alloc: Global,
+    arch: TargetArch,
+    observed: &[Observation],
+    wanted: &[Kept],
+    limit: usize,
+    old: JsonFilter,
+) -> Result<Lesson, JsonFrontendError>
+    ensures learned { IfOk result (IsLearnedWithin arch limit wanted.now observed.now old) }
+    ensures refused { IfErr result (IsPolicyRefusal arch old) }
+{
+    let kept = within(alloc, wanted, observed, limit)?;
+    let learned = learn(alloc, arch, observed, &kept, old)?;
+    Ok(Lesson { learned, kept })
 }

@@ -2,5 +2,4 @@
 -- and the file beside the folder lists them.
 pub mod Pairs
 pub mod Readings
-pub mod Found
 pub mod Named

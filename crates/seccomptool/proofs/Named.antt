@@ -10,7 +10,7 @@ use Rattle.seccompiler.specs.JsonFilters.{AreFound}
 use Rattle.seccompiler.specs.JsonShape.{Has, Under}
 use Rattle.seccomp_command_line.proofs.ByName.{names_ordered}
 use Rattle.seccomptool.specs.Named.{AreNamed}
-use Rattle.seccomptool.proofs.Found.{each_there, complete}
+use Rattle.seccomp_command_line.proofs.Found.{each_there, complete}
 use Rattle.seccomptool.proofs.Pairs.{all_second, same_under}
 
 module _ {X Y : Type 0} (P : Data → X → Type 0) (find : List ℕ → Option X) (d : Data) (found : AreFound P find d)

@@ -36,8 +36,10 @@ use Rattle.seccomptool.specs.declared.sides.Side.{Side}
 use Rattle.seccomptool.specs.declared.stats.FilterStats.{FilterStats}
 use Rattle.seccomptool.specs.declared.stats.measure.Measure.{Measure}
 use Rattle.seccomptool.specs.declared.words.Call.{Call}
+use Rattle.seccomptool.specs.declared.words.Calls.{Calls}
+use Rattle.seccomptool.specs.declared.words.Calls.TheVariants.{One, Records, Log}
 use Rattle.seccomptool.specs.declared.words.Command.{Command}
-use Rattle.seccomptool.specs.declared.words.Command.TheVariants.{Compile, Show, Check, Codes, Explain, Call as CallOf, Diff as DiffOf}
+use Rattle.seccomptool.specs.declared.words.Command.TheVariants.{Compile, Show, Check, Codes, Explain, Call as CallOf, Diff as DiffOf, Learn}
 use Rattle.seccomptool.specs.declared.words.Inputs.{Inputs}
 use Rattle.seccomptool.specs.declared.words.Names.{Names}
 use Rattle.seccomptool.specs.Check.{IsCheckOf, IsRefusal, verdict_where}
@@ -47,6 +49,7 @@ use Rattle.seccomptool.specs.Compile.{ArePrograms, IsProgramUnder}
 use Rattle.seccomptool.specs.Diff.{IsDiff, verdict_in}
 use Rattle.seccomptool.specs.Explain.{IsOfPolicy, IsOfProfile}
 use Rattle.seccomptool.specs.Kinds.{IsTakenAs}
+use Rattle.seccomptool.specs.Learn.{IsLesson}
 use Rattle.seccomptool.specs.Record.{IsCall, IsRecordOf}
 use Rattle.seccomptool.specs.Run.{AreReturned, IsProgramOf, IsRefusedProgram}
 use Rattle.seccomptool.specs.Stats.{AreStats, IsMeasureOf, IsProfileMeasure}
@@ -125,11 +128,12 @@ IsCheck arch reading denied allowed given v =
 abbrev pub records_in : List ℕ → List (List ℕ)
 records_in bytes = first_chunks 64 (length bytes / 64) bytes
 
--- P holds of the records that are asked about: that of a call, or those of these bytes.
-abbrev pub OnRecords : TargetArch → Option Call → (bytes : List ℕ) → (List (List ℕ) → Type 0) → Type 0
-OnRecords arch (Some call) bytes P =
+-- P holds of the records that are asked about: that of a call, those of these bytes, or those of calls that lines tell of.
+abbrev pub OnRecords : TargetArch → Calls → (bytes : List ℕ) → (List (List ℕ) → Type 0) → Type 0
+OnRecords arch (One call) bytes P =
     (record_of : List ℕ) × IsRecordOf arch call.name.now call.arguments record_of × P (records_in record_of)
-OnRecords arch None bytes P = P (records_in bytes)
+OnRecords arch Records bytes P = P (records_in bytes)
+OnRecords arch Log bytes P = (records : List (List ℕ)) × P records
 
 -- What is given decides so on the records: a policy's filter or a profile, and why; or a program.
 abbrev pub IsExplainedAs : TargetArch → Subject → (asked : Option (List ℕ)) → (given : List ℕ) → (records : List (List ℕ)) → Type 0
@@ -176,10 +180,12 @@ IsCarriedOut (Compile arch reading strict filter layout format quiet) given none
 IsCarriedOut (Show arch reading filter layout measured) given none v = IsShown arch reading layout measured given × (v ≡ Same)
 IsCarriedOut (Check arch reading denied allowed) given none v = IsCheck arch reading denied allowed.items given v
 IsCarriedOut Codes none other v = v ≡ Same
-IsCarriedOut (Explain arch reading filter format call) given bytes v =
-    OnRecords arch call bytes (IsExplained arch reading (text_of filter) given) × (v ≡ Same)
+IsCarriedOut (Explain arch reading filter format calls) given bytes v =
+    OnRecords arch calls bytes (IsExplained arch reading (text_of filter) given) × (v ≡ Same)
 IsCarriedOut (CallOf arch call recorded) none other v = IsCalled arch call recorded × (v ≡ Same)
 IsCarriedOut (DiffOf terms reading names counted quiet) old new v = IsCompared terms reading names counted old new v
+IsCarriedOut (Learn arch learning) trace policy v =
+    IsLesson arch learning.most learning.start (text_of learning.name) policy × (v ≡ Same)
 
 -- It is carried out on some bytes.
 abbrev pub IsPerformed : Command → Verdict → Type 0

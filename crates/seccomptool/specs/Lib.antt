@@ -13,6 +13,7 @@ pub mod Stats
 pub mod Check
 pub mod Reasons
 pub mod Explain
+pub mod Learn
 pub mod Record
 pub mod Findings
 pub mod Rulings

@@ -2,8 +2,10 @@
 
 pub mod format;
 pub(crate) mod lines;
+mod log;
+pub(crate) mod made;
 pub mod reason;
-mod search;
+pub(crate) mod search;
 
 ghost use Rattle.std.specs.Prelude.{◌≡◌, All, IfOk, OnOk, option_map};
 ghost use Rattle.std.specs.List.{AllZip};

@@ -16,6 +16,8 @@ pub(crate) enum Failure {
     First(io::Error),
     /// The second one can't be opened or read.
     Second(io::Error),
+    /// Another one can't be opened or read, that of this path.
+    Further(String, io::Error),
     /// The records end inside a record, after so many bytes of it.
     ShortRecord(usize),
     /// The output is a terminal, and no text.
@@ -26,6 +28,16 @@ pub(crate) enum Failure {
     Output(io::Error),
     /// What the command reads has this fault.
     Engine(FaultAt),
+}
+
+impl Failure {
+    // That what stands at a path can't be opened or read.
+    pub(crate) fn at(alloc: Global, path: &str, error: io::Error) -> Failure {
+        match String::from_str(alloc, path) {
+            Ok(path) => Failure::Further(path, error),
+            Err(_) => Failure::First(io::Error::from(ErrorKind::OutOfMemory)),
+        }
+    }
 }
 
 // Tells a failure on standard error: the program, the file that it is in, and the error, in one line.
@@ -57,11 +69,19 @@ fn failure_line(
     let (place, told) = told(alloc, failure)?;
     let front = match place {
         Place::Nowhere => Vec::new(alloc),
-        Place::First => front_of(alloc, inputs.first.unwrap_or("-"))?,
+        Place::First => front_of(alloc, first_path(failure, inputs))?,
         Place::Second => front_of(alloc, inputs.second.unwrap_or("-"))?,
         Place::Output => front_of(alloc, asked.output.unwrap_or("standard output"))?,
     };
     line_of(alloc, &front, told.as_str())
+}
+
+// The path of what is at fault in the first one of what is read.
+fn first_path<'a>(failure: &'a Failure, inputs: Inputs<'a>) -> &'a str {
+    match failure {
+        Failure::Further(path, _) => path.as_str(),
+        _ => inputs.first.unwrap_or("-"),
+    }
 }
 
 // The line of what is wrong with what `front` names.
@@ -90,6 +110,7 @@ fn told(alloc: Global, failure: &Failure) -> Result<(Place, String), AllocError>
     let told = match failure {
         Failure::First(error) => return told_by_system(alloc, Place::First, error),
         Failure::Second(error) => return told_by_system(alloc, Place::Second, error),
+        Failure::Further(_, error) => return told_by_system(alloc, Place::First, error),
         Failure::Output(error) => return told_by_system(alloc, Place::Output, error),
         Failure::Engine(fault) => {
             let error = &fault.error;

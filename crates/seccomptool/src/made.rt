@@ -2,7 +2,7 @@
 
 ghost use Rattle.std.specs.Prelude.{◌≡◌, IfErr, IfOk};
 ghost use Rattle.seccomptool.specs.Chosen.{text_of};
-ghost use Rattle.seccomptool.specs.Commands.{IsAccepted, IsCalled, IsCheck, IsCheckedProgram, IsCompared, IsCompiled, IsExplained, IsExplainedAs, IsFilterCompiled, IsMeasuredAs, IsProfileCompiled, IsRejectedFor, IsShown, IsShownAs, OnRecords, records_in};
+ghost use Rattle.seccomptool.specs.Commands.{IsAccepted, IsCalled, IsCheck, IsCheckedProgram, IsCompared, IsCompiled, IsFilterCompiled, IsMeasuredAs, IsProfileCompiled, IsRejectedFor, IsShown, IsShownAs};
 ghost use Rattle.seccomptool.specs.declared.findings.Verdict.TheVariants.{Same};
 
 use crate::check::profile::{CheckedProfile, profile_checked};
@@ -16,9 +16,6 @@ use crate::diff::lines::{lines_by_name, pair_lines};
 use crate::diff::scope::Scope;
 use crate::diff::{Diff, diff_of};
 use crate::error::{FaultAt, ToolError};
-use crate::explain::format::LineFormat;
-use crate::explain::lines::explained_lines;
-use crate::explain::{explain_policy, explain_profile};
 use crate::failure::rejection;
 use crate::findings::{Terms, Verdict};
 use crate::kind::{Reading, Subject, subject_of};
@@ -28,7 +25,6 @@ use crate::profile::notes::{profile_notes, uncompiled};
 use crate::progress::Progress;
 use crate::record::{called_record, calls_text, known_calls};
 use crate::run::program::program_of;
-use crate::run::{outcomes_text, returned};
 use crate::show;
 use crate::show::programs_in;
 use crate::sides::Side;
@@ -315,80 +311,6 @@ pub(crate) fn codes_made(alloc: Global) -> Result<Made, FaultAt>
 {
     let text = codes_text(alloc)?;
     Ok(Made::plain(alloc, text))
-}
-
-pub(crate) fn explain_made(
-    alloc: Global,
-    arch: TargetArch,
-    reading: &Reading,
-    filter: Option<&str>,
-    format: LineFormat,
-    call: Option<Call<'_>>,
-    given: &[u8],
-    records: &[u8],
-) -> Result<Made, FaultAt>
-    ensures { IfOk result (λ made. OnRecords arch call.entry records.now (IsExplained arch reading.now (text_of filter.entry) given.now) × (made.verdict ≡ Same)) }
-{
-    match call {
-        Some(call) => {
-            let record = called_record(alloc, arch, call.name, &call.arguments)?;
-            explain_records(alloc, arch, reading, filter, format, given, &record)
-        }
-        None => explain_records(alloc, arch, reading, filter, format, given, records),
-    }
-}
-
-fn explain_records(
-    alloc: Global,
-    arch: TargetArch,
-    reading: &Reading,
-    filter: Option<&str>,
-    format: LineFormat,
-    given: &[u8],
-    records: &[u8],
-) -> Result<Made, FaultAt>
-    ensures { IfOk result (λ made. IsExplained arch reading.now (text_of filter.entry) given.now (records_in records.now) × (made.verdict ≡ Same)) }
-{
-    let subject = subject_of(alloc, reading, given)?;
-    let (records, rest) = records.as_chunks::<64>();
-    let text = explained_text(alloc, arch, subject, filter, format, given, records)?;
-    Ok(Made {
-        text,
-        rest: rest.len(),
-        verdict: Verdict::Same,
-        notes: Vec::new(alloc),
-    })
-}
-
-// What is decided on records, and why.
-fn explained_text(
-    alloc: Global,
-    arch: TargetArch,
-    subject: Subject<'_>,
-    filter: Option<&str>,
-    format: LineFormat,
-    given: &[u8],
-    records: &[[u8; 64]],
-) -> Result<Vec<u8>, ToolError>
-    ensures { IfOk result (λ text. IsExplainedAs arch subject.entry (text_of filter.entry) given.now records.now) }
-{
-    match subject {
-        Subject::Policy => {
-            let explanation = explain_policy(alloc, arch, filter, given, records)?;
-            Ok(explained_lines(alloc, arch, format, &explanation)?)
-        }
-        Subject::Profile(container) => {
-            refuse_name(alloc, filter)?;
-            let explanation = explain_profile(alloc, arch, container, given, records)?;
-            Ok(explained_lines(alloc, arch, format, &explanation)?)
-        }
-        Subject::Program => {
-            refuse_name(alloc, filter)?;
-            let program = program_of(alloc, given)?;
-            let outcomes = returned(alloc, &program, records)?;
-            Ok(outcomes_text(alloc, format, &outcomes)?)
-        }
-    }
 }
 
 pub(crate) fn call_made(

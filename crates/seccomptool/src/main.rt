@@ -13,6 +13,7 @@ mod failure;
 mod findings;
 mod kind;
 mod layouts;
+mod learn;
 mod made;
 mod notes;
 mod numbers;

@@ -1,22 +1,30 @@
 // Numbers as they are written in words.
 
-ghost use Rattle.std.specs.Prelude.{◌≡◌, ℕ, ◌^◌, ◌<◌, ◌≤◌, IfSome, IfNone};
+ghost use Rattle.std.specs.Prelude.{◌≡◌, ℕ, ◌^◌, ◌<◌, ◌≤◌, ◌↔◌, IfSome, IfNone, IsTrue};
 ghost use Rattle.std.specs.Str.Parse.{IsNumeral, digits_value};
-ghost use Rattle.seccomptool.specs.Numbers.{IsNumber, IsWritten};
+ghost use Rattle.seccomptool.specs.Numbers.{IsNumber, IsOctal, IsWritten};
 
-// The number that a text of decimal digits writes, or of hexadecimal ones behind `0x`, where 64 bits hold
-// it.
+// The number that a text of decimal digits writes, or of hexadecimal ones after `0x`, if 64 bits hold it. Numbers that begin with a
+// 0 are octal in C, so none is read.
 pub(crate) fn read_number(text: &str) -> Option<u64>
     ensures read { IfSome result (IsNumber text.now) }
     ensures unread { IfNone result ((n : ℕ) → IsNumber text.now n → ⊥) }
 {
     match text.strip_prefix("0x") {
         Some(digits) => read_digits(digits, 16),
+        None if is_octal(text) => None,
         None => read_digits(text, 10),
     }
 }
 
-// The number that digits write, where 64 bits hold it.
+// Whether a text is written as octal numbers are in C.
+fn is_octal(text: &str) -> bool
+    ensures { IsTrue result ↔ IsOctal text.now }
+{
+    text.len() > 1 && text.as_bytes()[0] == b'0'
+}
+
+// The number that digits write, if 64 bits hold it.
 fn read_digits(text: &str, radix: u32) -> Option<u64>
     requires some { 2 ≤ radix }
     requires few { radix ≤ 36 }

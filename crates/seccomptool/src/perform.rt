@@ -5,11 +5,11 @@ ghost use Rattle.seccompiler.specs.Reads.{Reads};
 ghost use Rattle.seccomptool.specs.Commands.{IsCarriedOut, KeepsOutput};
 
 use crate::error::{FaultAt, Place};
+use crate::explain::made::explain_made;
 use crate::failure::Failure;
 use crate::findings::Verdict;
-use crate::made::{
-    Made, call_made, check_made, codes_made, compile_made, diff_made, explain_made, show_made,
-};
+use crate::learn::made::learn_made;
+use crate::made::{Made, call_made, check_made, codes_made, compile_made, diff_made, show_made};
 use crate::progress::Progress;
 use crate::readable::readable;
 use crate::shell::writes_bytes;
@@ -191,10 +191,13 @@ fn made_by<G: Progress>(
             reading,
             filter,
             format,
-            call,
-        } => explain_made(
-            alloc, *arch, reading, *filter, *format, *call, first, second,
-        ),
+            calls,
+        } => {
+            let log = inputs.second.unwrap_or("-");
+            explain_made(
+                alloc, *arch, reading, *filter, *format, *calls, log, first, second,
+            )
+        }
         Command::Call {
             arch,
             call,
@@ -209,5 +212,8 @@ fn made_by<G: Progress>(
         } => diff_made(
             alloc, *terms, reading, *names, *scope, *quiet, inputs, first, second, progress,
         ),
+        Command::Learn { arch, learning } => {
+            learn_made(alloc, *arch, learning, path, first, second)
+        }
     }
 }

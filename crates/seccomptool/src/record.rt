@@ -101,7 +101,7 @@ pub(crate) fn calls_text(
 }
 
 // The number of the call of this name or number.
-fn call_number(target: TargetArch, call: &str) -> Option<u32>
+pub(crate) fn call_number(target: TargetArch, call: &str) -> Option<u32>
     ensures called { IfSome result (IsCall target call.now) }
     ensures uncalled { IfNone result ((n : ℕ) → IsCall target call.now n → ⊥) }
 {

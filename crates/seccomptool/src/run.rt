@@ -10,10 +10,12 @@ ghost use Rattle.seccomp_compare.specs.Machine.{IsChecked};
 ghost use Rattle.seccomptool.specs.Run.{AreReturned};
 
 use crate::explain::format::LineFormat;
+use crate::explain::lines::NumberedCall;
+use crate::explain::search::word_at;
 use crate::findings::lines::Word;
 use seccomp_compare::machine;
-use seccompiler::BpfProgramRef;
 use seccompiler::machine::Outcome;
+use seccompiler::{BpfProgramRef, TargetArch};
 use std::alloc::{AllocError, Global};
 
 /// What a program returns for records, one for each, in order.
@@ -37,24 +39,39 @@ pub fn returned(
 
 /// The lines of what is returned: the action of a value by its name in a policy: `allow`, `log`,
 /// `trap`, `kill_thread`, `kill_process` and `user_notif`, a space and the low 16 bits in decimal after
-/// `errno` and `trace`; a value that is none of these is written in hexadecimal digits after `0x`. By `LineFormat::Word` the value
-/// in 8 hexadecimal digits, a space, and the steps.
+/// `errno` and `trace`; a value that is none of these is written in hexadecimal digits after `0x`. The call follows, by its name
+/// and number. By `LineFormat::Word` the value in 8 hexadecimal digits, a space, and the steps.
 pub(crate) fn outcomes_text(
     alloc: Global,
+    target: TargetArch,
     format: LineFormat,
+    records: &[[u8; 64]],
     outcomes: &[Outcome],
 ) -> Result<Vec<u8>, AllocError> {
     let mut text = Vec::new(alloc);
-    for outcome in outcomes {
+    for (record, outcome) in records.iter().zip(outcomes) {
         let Outcome { word, steps } = *outcome;
         let line = match format {
-            LineFormat::Path => {
-                let action = Word(word);
-                format!(in alloc; "{action}\n")?
-            }
+            LineFormat::Path => outcome_line(alloc, target, record, word)?,
             LineFormat::Word => format!(in alloc; "{word:08x} {steps}\n")?,
         };
         text.extend_from_slice(line.as_bytes())?;
     }
     Ok(text)
+}
+
+// The line of what is returned for a record, for people.
+fn outcome_line(
+    alloc: Global,
+    target: TargetArch,
+    record: &[u8; 64],
+    word: u32,
+) -> Result<String, AllocError> {
+    let action = Word(word);
+    if word_at(record, 4) != target.get_audit_value() {
+        return Ok(format!(in alloc; "{action}: another architecture\n")?);
+    }
+    let number = word_at(record, 0);
+    let call = NumberedCall { target, number };
+    Ok(format!(in alloc; "{action}: {call}\n")?)
 }

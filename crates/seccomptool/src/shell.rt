@@ -12,7 +12,7 @@ use crate::findings::Verdict;
 use crate::output::{is_same, write_whole};
 use crate::perform::{Done, perform};
 use crate::progress::Progress;
-use crate::source::open;
+use crate::source::{Source, open, open_all};
 use crate::words::{Asked, Command, Inputs, read};
 use clap::error::ErrorKind;
 use seccomp_command_line::readable::{TextKind, readable};
@@ -176,7 +176,7 @@ fn carried_out<G: Progress>(
     if is_onto(rt, asked, inputs) {
         return Err(Failure::Onto);
     }
-    let first = open(rt, inputs.first).map_err(Failure::First)?;
+    let first = first_of(rt, command, inputs)?;
     let second = open(rt, inputs.second).map_err(Failure::Second)?;
     let Some(path) = asked.output else {
         let mut out = io::writer(rt);
@@ -207,11 +207,36 @@ fn carried_out<G: Progress>(
     }
 }
 
+// The first one of what a command reads: all traces of `learn`.
+fn first_of<R: Files + Input + AllocGlobal>(
+    rt: &R,
+    command: &Command<'_>,
+    inputs: Inputs<'_>,
+) -> Result<Source<R::File, R::Reader>, Failure> {
+    match command {
+        Command::Learn { learning, .. } if !learning.further.is_empty() => {
+            let first = inputs.first.unwrap_or("-");
+            Ok(Source::Bytes(open_all(rt, first, &learning.further)?))
+        }
+        _ => open(rt, inputs.first).map_err(Failure::First),
+    }
+}
+
 // Whether the file that is written is the one that is read.
 fn is_onto(rt: &(impl Files + AllocGlobal), asked: &Asked<'_>, inputs: Inputs<'_>) -> bool {
-    match (inputs.first, asked.output) {
-        (Some(first), Some(output)) => first != "-" && is_same(rt, first, output),
-        _ => false,
+    let Some(output) = asked.output else {
+        return false;
+    };
+    if let Command::Learn { learning, .. } = &asked.command {
+        for path in &learning.further {
+            if *path != "-" && is_same(rt, path, output) {
+                return true;
+            }
+        }
+    }
+    match inputs.first {
+        Some(first) => first != "-" && is_same(rt, first, output),
+        None => false,
     }
 }
 

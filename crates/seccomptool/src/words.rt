@@ -1,5 +1,6 @@
 // The words that the program is called with.
 
+mod learning;
 mod matches;
 mod options;
 mod program;
@@ -10,6 +11,7 @@ use crate::diff::scope::Scope;
 use crate::explain::format::LineFormat;
 use crate::findings::Terms;
 use crate::kind::Reading;
+use crate::learn::Learning;
 use crate::words::matches::asked_in;
 use crate::words::program::program;
 use clap::error::ErrorKind;
@@ -74,8 +76,8 @@ pub enum Command<'a> {
         filter: Option<&'a str>,
         /// How a line is written.
         format: LineFormat,
-        /// The call; those of the records if there is none.
-        call: Option<Call<'a>>,
+        /// The calls that it is asked about.
+        calls: Calls<'a>,
     },
     /// Print the name and the number of a call, or write its record.
     Call {
@@ -99,6 +101,13 @@ pub enum Command<'a> {
         /// Whether the numbers of warnings are left out.
         quiet: bool,
     },
+    /// Write a policy of the calls that a trace has.
+    Learn {
+        /// The architecture.
+        arch: TargetArch,
+        /// How the trace is learned from.
+        learning: Learning<'a>,
+    },
 }
 
 /// The names of the filters of two sides, if they are asked for.
@@ -119,12 +128,23 @@ pub struct Call<'a> {
     pub arguments: [u64; 6],
 }
 
+/// The calls that `explain` is asked about.
+#[derive(Clone, Copy)]
+pub enum Calls<'a> {
+    /// This one.
+    One(Call<'a>),
+    /// Those of records.
+    Records,
+    /// Those that lines of a log or of a trace tell of.
+    Log,
+}
+
 /// The paths of what a command reads; `-` is standard input.
 #[derive(Clone, Copy)]
 pub struct Inputs<'a> {
-    /// A policy, a profile or a program; of two that are compared the old one.
+    /// A policy, a profile, a program or a trace; of two that are compared the old one.
     pub first: Option<&'a str>,
-    /// Records; of two that are compared the new one.
+    /// Records or a log; of two that are compared the new one; the policy that a trace's calls are added to.
     pub second: Option<&'a str>,
 }
 
@@ -165,9 +185,10 @@ impl<T: Drop> From<AllocFailed<T>> for Misuse {
 ///
 /// `clap`'s: help and the version if they are asked for, and its own error of arguments that are no
 /// command. `ValueValidation` if an ARG or the value of `--most` is no number, if `explain` is given both CALL and
-/// `--records`, if the value of `--kernel` is no version, if `call` is given `--output` without `--record`, and if two files
-/// would both be read from standard input: what is explained and records, or both of what is compared. `OutOfMemory` may come in
-/// place of any.
+/// `--records` or `--log`, or both of these, if the value of `--kernel` is no version, if `call` is given `--output` without
+/// `--record`, if the values of `learn`'s `--otherwise`, `--args` or `--values` are none, if `learn` is given `--into` and
+/// `--otherwise` or `--profile`, or `--name` and `--profile`, and if two files would both be read from standard input: what is
+/// explained and records or a log, both of what is compared, or a trace and the policy. `OutOfMemory` may come in place of any.
 pub(crate) fn read<'a>(alloc: Global, words: &'a [String]) -> Result<Asked<'a>, clap::Error> {
     let mut program = program(alloc)?;
     let matches = program.try_get_matches_from_mut(words)?;

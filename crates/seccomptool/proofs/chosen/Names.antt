@@ -17,7 +17,7 @@ use Rattle.seccompiler.specs.JsonTypes.{JsonFilter}
 use Rattle.seccomp_command_line.proofs.ByName.{by_text, names_ordered}
 use Rattle.seccomptool.specs.declared.error.ToolError.{ToolError}
 use Rattle.seccomptool.specs.Chosen.{HasOnlyName, HoldsOnly, IsChosen}
-use Rattle.seccomptool.proofs.Found.{complete, each_there}
+use Rattle.seccomp_command_line.proofs.Found.{complete, each_there}
 
 -- Filters under their names.
 abbrev pub Named : Type 0

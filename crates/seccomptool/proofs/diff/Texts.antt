@@ -10,7 +10,7 @@ use Rattle.seccomptool.specs.declared.diff.NamedFound.{NamedFound}
 use Rattle.seccomptool.specs.Diff.{AreByName, HasFilter, IsFoundIn, name_bytes}
 use Rattle.seccomptool.specs.DiffParts.{AreAllNames, IsFoundUnder}
 use Rattle.seccomptool.specs.Sides.{Policies}
-use Rattle.seccomptool.proofs.Found.{there, nowhere}
+use Rattle.seccomp_command_line.proofs.Found.{there, nowhere}
 
 module _ (target : TargetArch) (text : List ℕ) (find : Policies) (h : OfValue text (ArePoliciesOf target find)) where
   -- What is found under a name is what the text has there.

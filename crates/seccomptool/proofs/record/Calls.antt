@@ -17,9 +17,9 @@ no_prefix text digits same numeral = let all = subst (IsNumeral 10) same numeral
 
 -- A text is one number.
 one_number : (text : List ℕ) (n m : ℕ) → IsNumber text n → IsNumber text m → n ≡ m
-one_number text n m (decimal a) (decimal b) = a.value ∙ sym b.value
-one_number text n m (decimal a) (hexadecimal digits same b) = absurd (no_prefix text digits same a.digits)
-one_number text n m (hexadecimal digits same a) (decimal b) = absurd (no_prefix text digits same b.digits)
+one_number text n m (decimal _ a) (decimal _ b) = a.value ∙ sym b.value
+one_number text n m (decimal _ a) (hexadecimal digits same b) = absurd (no_prefix text digits same a.digits)
+one_number text n m (hexadecimal digits same a) (decimal _ b) = absurd (no_prefix text digits same b.digits)
 one_number text n m (hexadecimal digits same a) (hexadecimal others too b) = let e : digits ≡ others = cc in
     a.value ∙ ap (digits_value 16) e ∙ sym b.value
 

@@ -3,11 +3,12 @@
 use crate::explain::format::LineFormat;
 use crate::explain::reason::{Miss, Reason};
 use crate::explain::{Explained, Explanation, NamedFilter, Why};
-use crate::findings::lines::CallName;
+use crate::findings::parts::name_of;
 use seccomp_command_line::hexadecimal::eight_digits;
 use seccomp_command_line::readable::{TextKind, push_readable};
 use seccompiler::{SeccompAction, TargetArch};
 use std::alloc::{AllocError, Global};
+use std::fmt;
 
 /// The lines of records, one for each.
 ///
@@ -26,21 +27,17 @@ pub(crate) fn explained_lines(
         push_action(alloc, &mut text, format, action)?;
         match (why, format, &explanation.filter) {
             (Why::Filter(reason), LineFormat::Path, Some(filter)) => {
-                push_path(alloc, &mut text, filter, reason)?
+                push_path(alloc, &mut text, target, filter, reason)?
             }
             (Why::Filter(reason), _, _) => push(&mut text, format!(in alloc; "{reason}")?)?,
             (Why::Elsewhere, _, _) => text.extend_from_slice(b"another architecture")?,
-            (Why::Profile { entry: None, .. }, _, _) => text.extend_from_slice(b"defaultAction")?,
-            (
-                Why::Profile {
-                    number,
-                    entry: Some(place),
-                },
-                _,
-                _,
-            ) => {
-                let call = CallName { target, number };
-                push(&mut text, format!(in alloc; "syscalls[{place}] ({call})")?)?
+            (Why::Profile { number, entry }, _, _) => {
+                let call = NumberedCall { target, number };
+                let told = match entry {
+                    None => format!(in alloc; "defaultAction of {call}")?,
+                    Some(place) => format!(in alloc; "syscalls[{place}] of {call}")?,
+                };
+                push(&mut text, told)?
             }
         }
         text.push(b'\n')?;
@@ -61,7 +58,7 @@ fn push_action(
 ) -> Result<(), AllocError> {
     match format {
         LineFormat::Path => {
-            push(text, name_of(alloc, action)?)?;
+            push(text, action_name(alloc, action)?)?;
             text.extend_from_slice(b": ")
         }
         LineFormat::Word => {
@@ -72,7 +69,7 @@ fn push_action(
 }
 
 // An action by its name.
-fn name_of(alloc: Global, action: SeccompAction) -> Result<String, AllocError> {
+fn action_name(alloc: Global, action: SeccompAction) -> Result<String, AllocError> {
     let (name, number) = match action {
         SeccompAction::Allow => return String::from_str(alloc, "allow"),
         SeccompAction::KillThread => return String::from_str(alloc, "kill_thread"),
@@ -89,37 +86,41 @@ fn name_of(alloc: Global, action: SeccompAction) -> Result<String, AllocError> {
 fn push_path(
     alloc: Global,
     text: &mut Vec<u8>,
+    target: TargetArch,
     filter: &NamedFilter,
     reason: Reason,
 ) -> Result<(), AllocError> {
     match reason {
+        Reason::AnotherArchitecture => text.extend_from_slice(b"another architecture"),
+        Reason::NoEntry { number } => {
+            let call = NumberedCall { target, number };
+            push(text, format!(in alloc; "no entry of {call}")?)
+        }
         Reason::NoMatch {
             entries,
+            number,
             nearest,
-            ..
-        } => push_miss(alloc, text, filter, entries, nearest),
-        Reason::Entry { place, .. } => {
-            push_entry(alloc, text, filter, place)?;
-            push_call(text, filter, place)
+        } => {
+            let call = NumberedCall { target, number };
+            let Miss { entry, condition } = nearest;
+            text.extend_from_slice(b"no match: ")?;
+            push_entry(alloc, text, filter, entry)?;
+            push(
+                text,
+                format!(in alloc; ".args[{condition}] of {call} does not hold")?,
+            )?;
+            push_others(alloc, text, entries)
         }
-        reason => push(text, format!(in alloc; "{reason}")?),
+        Reason::Entry { place, number, .. } => {
+            let call = NumberedCall { target, number };
+            push_entry(alloc, text, filter, place)?;
+            push(text, format!(in alloc; " of {call}")?)
+        }
     }
 }
 
-// Adds the nearest miss of so many entries.
-fn push_miss(
-    alloc: Global,
-    text: &mut Vec<u8>,
-    filter: &NamedFilter,
-    entries: usize,
-    nearest: Miss,
-) -> Result<(), AllocError> {
-    let Miss { entry, condition } = nearest;
-    text.extend_from_slice(b"no match: ")?;
-    push_entry(alloc, text, filter, entry)?;
-    push(text, format!(in alloc; ".args[{condition}]")?)?;
-    push_call(text, filter, entry)?;
-    text.extend_from_slice(b" does not hold")?;
+// Adds that an entry is the nearest of so many, if there are several.
+fn push_others(alloc: Global, text: &mut Vec<u8>, entries: usize) -> Result<(), AllocError> {
     if entries == 1 {
         return Ok(());
     }
@@ -140,14 +141,19 @@ fn push_entry(
     push(text, format!(in alloc; ".filter[{place}]")?)
 }
 
-// Adds the name of an entry's call.
-fn push_call(text: &mut Vec<u8>, filter: &NamedFilter, place: usize) -> Result<(), AllocError> {
-    match filter.filter.rules.get(place) {
-        Some(entry) => {
-            text.extend_from_slice(b" (")?;
-            text.extend_from_slice(entry.syscall.as_bytes())?;
-            text.extend_from_slice(b")")
+/// A call, by its name and number, or by its number alone if the architecture has no name for it.
+#[derive(Clone, Copy)]
+pub(crate) struct NumberedCall {
+    pub(crate) target: TargetArch,
+    pub(crate) number: u32,
+}
+
+impl fmt::Display for NumberedCall {
+    fn fmt<W: fmt::Write>(&self, f: &mut fmt::Formatter<W>) -> fmt::Result {
+        let number = self.number;
+        match name_of(self.target, number) {
+            Some(name) => write!(f, "{name} ({number})"),
+            None => write!(f, "call {number}"),
         }
-        None => Ok(()),
     }
 }

@@ -1,8 +1,9 @@
 // What clap's matches ask for.
 
+use super::learning::learn_in;
 use super::values::{
-    allowed_in, arch_in, arguments_in, call_in, format_in, given_arch, layout_in, line_format_in,
-    path_in, reading_in, subjects_in, terms_in,
+    allowed_in, arch_in, arguments_in, calls_in, format_in, given_arch, layout_in, line_format_in,
+    output_in, path_in, reading_in, subjects_in, terms_in,
 };
 use super::{Asked, Call, Command, Inputs, Misuse, Names};
 use crate::diff::scope::Scope;
@@ -19,6 +20,7 @@ pub(super) fn asked_in<'a>(alloc: Global, name: &str, found: &ArgMatches<'a>) ->
         "show" => show_in(alloc, found),
         "explain" => explain_in(alloc, found),
         "diff" => diff_in(alloc, found),
+        "learn" => learn_in(alloc, found),
         "call" => call_of(alloc, found),
         _ => Err(Misuse::Told("no command is given")),
     }
@@ -36,14 +38,6 @@ fn on<'a>(
         inputs: vec![in alloc; Inputs { first, second }]?,
         output: None,
     })
-}
-
-// The file that is written, which is standard output where it is `-`.
-fn output_in<'a>(found: &ArgMatches<'a>) -> Option<&'a str> {
-    match found.get_str("output") {
-        Some("-") => None,
-        output => output,
-    }
 }
 
 fn check_in<'a>(alloc: Global, found: &ArgMatches<'a>) -> Read<'a> {
@@ -91,15 +85,15 @@ fn show_in<'a>(alloc: Global, found: &ArgMatches<'a>) -> Read<'a> {
 
 fn explain_in<'a>(alloc: Global, found: &ArgMatches<'a>) -> Read<'a> {
     let subject = path_in(found, "subject");
-    let (call, records) = call_in(found, subject)?;
+    let (calls, second) = calls_in(found, subject)?;
     let command = Command::Explain {
         arch: arch_in(found),
         reading: reading_in(alloc, found)?,
         filter: found.get_str("filter"),
         format: line_format_in(found),
-        call,
+        calls,
     };
-    on(alloc, command, Some(subject), records)
+    on(alloc, command, Some(subject), second)
 }
 
 fn diff_in<'a>(alloc: Global, found: &ArgMatches<'a>) -> Read<'a> {

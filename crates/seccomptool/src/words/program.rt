@@ -87,6 +87,8 @@ const FILES: &str = "The files, or - for standard input";
 
 const OUTPUT: &str = "Write the program to FILE instead of standard output";
 
+const LEARNED: &str = "Write to FILE instead of standard output";
+
 const STRICT: &str = "Reject a profile that names calls which the architecture doesn't have";
 
 const STATS: &str = "Print how long the programs are, and how many steps they take";
@@ -96,6 +98,30 @@ const RECORDS: &str = "Without CALL, read call records from FILE instead of stan
 const MORE: &str = "Report only calls of which NEW permits more than OLD";
 
 const RECORD: &str = "Write the record to FILE instead of standard output";
+
+const LOG: &str = "Explain the calls that lines of a log or of strace in FILE are about";
+
+const NAME: &str = "The name of the filter; `main`, or with --into the policy's only one";
+
+const OTHERWISE: &str =
+    "What other calls get: kill_process (the default), kill_thread, trap, log, allow, errno:N or trace:N";
+
+const INTO: &str = "Add to a filter of this policy; its other filters stay";
+
+const PROFILE: &str = "Write a profile of a container runtime instead of a policy";
+
+const ARGS: &str =
+    "Keep the values of these arguments of a call, as in ioctl:1 or openat:2,3; all without INDEX";
+
+const VALUES: &str =
+    "The most different values to keep of a call; one with more is allowed with any arguments";
+
+const RUNNABLE: &str = "Allow the calls by which programs start and end too";
+
+const UNDERSTOOD: &str = "Reject a trace with lines that aren't understood";
+
+const TRACES: &str =
+    "What strace, the kernel's log or audit wrote, or call records; - for standard input";
 
 const QUIET: Row<'static> = ("quiet", Nothing, "Don't print the number of warnings");
 
@@ -137,10 +163,11 @@ static SHOW: [Row<'static>; 4] = [
     ("subject", File("SUBJECT"), FILE),
 ];
 
-static EXPLAIN: [Row<'static>; 6] = [
+static EXPLAIN: [Row<'static>; 7] = [
     ("filter", Value("FILTER"), ONE_FILTER),
     ("format", OneOf("FORMAT", LINE_FORMATS, "path"), LINE_FORMAT),
     ("records", Value("FILE"), RECORDS),
+    ("log", Value("FILE"), LOG),
     ("subject", Place("SUBJECT", true), FILE),
     ("call", Place("CALL", false), "The call's name or number"),
     ("arguments", Places("ARG", 6), ARGUMENTS),
@@ -153,6 +180,20 @@ static DIFF: [Row<'static>; 6] = [
     QUIET,
     ("old", Place("OLD", true), OLD),
     ("new", Place("NEW", true), NEW),
+];
+
+static LEARN: [Row<'static>; 11] = [
+    ("arch", OneOf("ARCH", ARCHITECTURES, "x86_64"), ARCH),
+    ("name", Value("NAME"), NAME),
+    ("otherwise", Value("ACTION"), OTHERWISE),
+    ("into", Value("POLICY"), INTO),
+    ("profile", Nothing, PROFILE),
+    ("args", Several("CALL[:INDEX,..]", &[]), ARGS),
+    ("values", OneOf("N", &[], "16"), VALUES),
+    ("runnable", Nothing, RUNNABLE),
+    ("strict", Nothing, UNDERSTOOD),
+    ("output", Value("FILE"), LEARNED),
+    ("trace", Files("TRACE"), TRACES),
 ];
 
 static CALL: [Row<'static>; 5] = [
@@ -171,13 +212,15 @@ pub(super) fn program<'a>(alloc: Global) -> Built<'a> {
     let show = "Print programs, with notes on their instructions";
     let explain = "Print what is decided for calls, and why";
     let diff = "Print the calls that OLD and NEW decide differently";
+    let learn = "Print a policy of the calls that a trace has";
     let call = "Print the name and the number of a call, or write its struct seccomp_data";
-    let commands: [(&'a str, &'a str, &'a [Row<'a>], &'a [Row<'a>]); 6] = [
+    let commands: [(&'a str, &'a str, &'a [Row<'a>], &'a [Row<'a>]); 7] = [
         ("check", check, &COMMON, &CHECK),
         ("compile", compile, &COMMON, &COMPILE),
         ("show", show, &COMMON, &SHOW),
         ("explain", explain, &COMMON, &EXPLAIN),
         ("diff", diff, &COMMON, &DIFF),
+        ("learn", learn, &[], &LEARN),
         ("call", call, &[], &CALL),
     ];
     let mut command = top(alloc)?;

@@ -2,7 +2,7 @@
 //
 // Where an option takes some names alone, clap lets no other pass, and one that isn't given has a name of its own.
 
-use super::{Call, Inputs, Misuse};
+use super::{Call, Calls, Inputs, Misuse};
 use crate::compile::format::ProgramFormat;
 use crate::explain::format::LineFormat;
 use crate::findings::Terms;
@@ -20,12 +20,20 @@ const NO_ARGUMENT: &str =
     "an ARG isn't a number from -9223372036854775808 to 18446744073709551615, decimal or hexadecimal after 0x";
 
 const BOTH: &str =
-    "SUBJECT and records can't both be read from standard input: give CALL or --records";
+    "SUBJECT and records can't both be read from standard input: give CALL, --records or --log";
 
 const NO_KERNEL: &str = "the value of --kernel isn't a version of two numbers, such as 6.1";
 
 const NO_MOST: &str =
     "the value of --most isn't a number from 0 to 18446744073709551615, decimal or hexadecimal after 0x";
+
+// The file that is written, which is standard output where it is `-`.
+pub(super) fn output_in<'a>(found: &ArgMatches<'a>) -> Option<&'a str> {
+    match found.get_str("output") {
+        Some("-") => None,
+        output => output,
+    }
+}
 
 // The path that is given, or standard input.
 pub(super) fn path_in<'a>(found: &ArgMatches<'a>, id: &str) -> &'a str {
@@ -114,23 +122,42 @@ pub(super) fn terms_in(found: &ArgMatches<'_>) -> Result<Terms, Misuse> {
     })
 }
 
-// The call that is asked about, or else the path of the records; both what is explained and records may not be standard input.
-pub(super) fn call_in<'a>(
+// The calls that are asked about, and the path of records or of a log; both what is explained and these may not be standard input.
+pub(super) fn calls_in<'a>(
     found: &ArgMatches<'a>,
     subject: &str,
-) -> Result<(Option<Call<'a>>, Option<&'a str>), Misuse> {
+) -> Result<(Calls<'a>, Option<&'a str>), Misuse> {
     let arguments = arguments_in(found)?;
+    let (log, records) = (found.get_str("log"), found.get_str("records"));
     let Some(name) = found.get_str("call") else {
-        let records = path_in(found, "records");
-        if records == "-" && subject == "-" {
-            return Err(Misuse::Told(BOTH));
-        }
-        return Ok((None, Some(records)));
+        return lines_in(subject, log, records);
     };
-    if found.get_str("records").is_some() {
+    if records.is_some() {
         return Err(Misuse::Told("CALL and --records can't both be given"));
     }
-    Ok((Some(Call { name, arguments }), None))
+    if log.is_some() {
+        return Err(Misuse::Told("CALL and --log can't both be given"));
+    }
+    Ok((Calls::One(Call { name, arguments }), None))
+}
+
+// The log, or else the records.
+fn lines_in<'a>(
+    subject: &str,
+    log: Option<&'a str>,
+    records: Option<&'a str>,
+) -> Result<(Calls<'a>, Option<&'a str>), Misuse> {
+    let (calls, path) = match (log, records) {
+        (Some(_), Some(_)) => {
+            return Err(Misuse::Told("--records and --log can't both be given"));
+        }
+        (Some(path), None) => (Calls::Log, path),
+        (None, records) => (Calls::Records, records.unwrap_or("-")),
+    };
+    if path == "-" && subject == "-" {
+        return Err(Misuse::Told(BOTH));
+    }
+    Ok((calls, Some(path)))
 }
 
 // The arguments of a call, with zeros behind them.

@@ -1,7 +1,7 @@
 use Rattle.std.proofs.Common.{◌≡◌, Some, string_bytes, subst, sym}
 use Rattle.std.specs.BTreeMap.{get_by_text}
 use Rattle.seccompiler.specs.JsonAnswers.{ArePoliciesOf, HasPolicy}
-use Rattle.seccomptool.proofs.Found.{there}
+use Rattle.seccomp_command_line.proofs.Found.{there}
 use Rattle.seccomptool.proofs.compile.compiled.Goals as goal
 
 pub returns-in-Ok-clause-compiled : goal.returns-in-Ok-clause-compiled

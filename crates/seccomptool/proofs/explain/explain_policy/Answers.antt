@@ -1,7 +1,7 @@
 use Rattle.std.proofs.Common.{refl, string_bytes}
 use Rattle.std.specs.BTreeMap.{get_by_text}
 use Rattle.seccompiler.specs.JsonShape.{IsFilter}
-use Rattle.seccomptool.proofs.Found.{there}
+use Rattle.seccomp_command_line.proofs.Found.{there}
 use Rattle.seccomptool.proofs.explain.Filters.{taken}
 use Rattle.seccomptool.proofs.explain.explain_policy.Goals as goal
 

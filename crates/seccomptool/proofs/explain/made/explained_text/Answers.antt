@@ -1,7 +1,7 @@
 use Rattle.std.proofs.Common.{subst, sym}
 use Rattle.seccomptool.specs.Chosen.{text_of}
 use Rattle.seccomptool.specs.Commands.{IsExplainedAs}
-use Rattle.seccomptool.proofs.made.explained_text.Goals as goal
+use Rattle.seccomptool.proofs.explain.made.explained_text.Goals as goal
 
 pub returns-in_ok-explained_lines-in-Policy : goal.returns-in_ok-explained_lines-in-Policy
 returns-in_ok-explained_lines-in-Policy c =

@@ -1,0 +1,22 @@
+-- What a learned policy is.
+use Rattle.std.specs.Prelude.{◌≡◌, ◌↔◌, ◌⊎◌, ℕ, List, All, Any, Contains}
+use Rattle.seccompiler.specs.declared.backend.TargetArch.{TargetArch}
+use Rattle.seccompiler.specs.JsonPolicyOf.{IsPolicyOf}
+use Rattle.seccompiler.specs.JsonTypes.{JsonFilter}
+use Rattle.seccompiler.specs.Policy.{Filter, Matches}
+use Rattle.seccomp_learn.specs.declared.observation.Kept.{Kept}
+use Rattle.seccomp_learn.specs.declared.observation.Observation.{Observation}
+use Rattle.seccomp_learn.specs.declared.policy.Lesson.{Lesson}
+use Rattle.seccomp_learn.specs.Observed.{HasMoreValues, IsAsNamed}
+
+-- The policy matches what the old one matches, each call as it was observed, and nothing else; it has the old one's actions. It
+-- keeps each argument that is wanted, unless its call was observed with more different values than the limit.
+pub record IsLearnedWithin (arch : TargetArch) (limit : ℕ) (wanted : List Kept) (observed : List Observation) (old : JsonFilter)
+    (lesson : Lesson) : Type 0 where
+  pub policy : IsPolicyOf arch lesson.learned.json lesson.learned.filter
+  pub mismatch_action : lesson.learned.json.mismatch_action ≡ old.mismatch_action
+  pub match_action : lesson.learned.json.match_action ≡ old.match_action
+  pub matches : (before : Filter) → IsPolicyOf arch old before → (r : List ℕ)
+      → Matches lesson.learned.filter r ↔ (Matches before r ⊎ Any (IsAsNamed arch lesson.kept.items r) observed)
+  pub among : All (Contains wanted) lesson.kept.items
+  pub left_out : All (λ each. Contains lesson.kept.items each ⊎ HasMoreValues limit wanted observed each.number) wanted

@@ -1,2 +1,0 @@
--- Lemmas for the functions of `made`.
-pub mod Taken

@@ -1,0 +1,122 @@
+// What `explain` makes of what is given, and of the calls that it is asked about.
+
+ghost use Rattle.std.specs.Prelude.{◌≡◌, IfOk};
+ghost use Rattle.seccomptool.specs.Chosen.{text_of};
+ghost use Rattle.seccomptool.specs.Commands.{IsExplained, IsExplainedAs, OnRecords, records_in};
+ghost use Rattle.seccomptool.specs.declared.findings.Verdict.TheVariants.{Same};
+
+use super::format::LineFormat;
+use super::lines::explained_lines;
+use super::log::{headed, log_of};
+use super::{explain_policy, explain_profile};
+use crate::chosen::refuse_name;
+use crate::error::{FaultAt, ToolError};
+use crate::findings::Verdict;
+use crate::kind::{Reading, Subject, subject_of};
+use crate::learn::notes::strange_note;
+use crate::made::Made;
+use crate::record::called_record;
+use crate::run::program::program_of;
+use crate::run::{outcomes_text, returned};
+use crate::words::Calls;
+use seccompiler::TargetArch;
+use std::alloc::Global;
+
+pub(crate) fn explain_made(
+    alloc: Global,
+    arch: TargetArch,
+    reading: &Reading,
+    filter: Option<&str>,
+    format: LineFormat,
+    calls: Calls<'_>,
+    path: &str,
+    given: &[u8],
+    bytes: &[u8],
+) -> Result<Made, FaultAt>
+    ensures { IfOk result (λ made. OnRecords arch calls.entry bytes.now (IsExplained arch reading.now (text_of filter.entry) given.now) × (made.verdict ≡ Same)) }
+{
+    match calls {
+        Calls::One(call) => {
+            let record = called_record(alloc, arch, call.name, &call.arguments)?;
+            explain_records(alloc, arch, reading, filter, format, given, &record)
+        }
+        Calls::Records => explain_records(alloc, arch, reading, filter, format, given, bytes),
+        Calls::Log => explain_log(alloc, arch, reading, filter, format, path, given, bytes),
+    }
+}
+
+fn explain_records(
+    alloc: Global,
+    arch: TargetArch,
+    reading: &Reading,
+    filter: Option<&str>,
+    format: LineFormat,
+    given: &[u8],
+    records: &[u8],
+) -> Result<Made, FaultAt>
+    ensures { IfOk result (λ made. IsExplained arch reading.now (text_of filter.entry) given.now (records_in records.now) × (made.verdict ≡ Same)) }
+{
+    let subject = subject_of(alloc, reading, given)?;
+    let (records, rest) = records.as_chunks::<64>();
+    let text = explained_text(alloc, arch, subject, filter, format, given, records)?;
+    Ok(Made {
+        text,
+        rest: rest.len(),
+        verdict: Verdict::Same,
+        notes: Vec::new(alloc),
+    })
+}
+
+// The calls that lines of a log or a trace tell of, each after who made it.
+fn explain_log(
+    alloc: Global,
+    arch: TargetArch,
+    reading: &Reading,
+    filter: Option<&str>,
+    format: LineFormat,
+    path: &str,
+    given: &[u8],
+    lines: &[u8],
+) -> Result<Made, FaultAt>
+    ensures { IfOk result (λ made. ((records : List (List ℕ)) × IsExplained arch reading.now (text_of filter.entry) given.now records) × (made.verdict ≡ Same)) }
+{
+    let log = log_of(alloc, arch, lines)?;
+    let made = explain_records(alloc, arch, reading, filter, format, given, &log.records)?;
+    Ok(Made {
+        text: headed(alloc, &log.heads, &made.text)?,
+        rest: 0,
+        verdict: made.verdict,
+        notes: strange_note(alloc, path, log.strange, log.first_strange)?,
+    })
+}
+
+// What is decided on records, and why.
+fn explained_text(
+    alloc: Global,
+    arch: TargetArch,
+    subject: Subject<'_>,
+    filter: Option<&str>,
+    format: LineFormat,
+    given: &[u8],
+    records: &[[u8; 64]],
+) -> Result<Vec<u8>, ToolError>
+    ensures { IfOk result (λ text. IsExplainedAs arch subject.entry (text_of filter.entry) given.now records.now) }
+{
+    match subject {
+        Subject::Policy => {
+            let explanation = explain_policy(alloc, arch, filter, given, records)?;
+            Ok(explained_lines(alloc, arch, format, &explanation)?)
+        }
+        Subject::Profile(container) => {
+            refuse_name(alloc, filter)?;
+            let explanation = explain_profile(alloc, arch, container, given, records)?;
+            Ok(explained_lines(alloc, arch, format, &explanation)?)
+        }
+        Subject::Program => {
+            refuse_name(alloc, filter)?;
+            let program = program_of(alloc, given)?;
+            let outcomes = returned(alloc, &program, records)?;
+            Ok(outcomes_text(alloc, arch, format, records, &outcomes)?)
+        }
+    }
+}

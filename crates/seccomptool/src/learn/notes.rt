@@ -1,0 +1,121 @@
+// What is noted of a trace.
+
+use super::{LearnedFilter, Learning};
+use crate::error::ToolError;
+use crate::findings::parts::name_of;
+use crate::notes::note;
+use seccomp_learn::{Kept, Trace};
+use seccompiler::TargetArch;
+use std::alloc::{AllocError, Global};
+
+// That a trace has lines that aren't understood, if it has some, as an error.
+pub(super) fn refuse_strange(alloc: Global, trace: &Trace) -> Result<(), ToolError> {
+    let told = match trace.first_strange {
+        _ if trace.strange == 0 => return Ok(()),
+        Some(line) => format!(in alloc; "line {line} isn't understood")?,
+        None => behind_records(alloc, trace.strange)?,
+    };
+    Err(ToolError::Fault(told))
+}
+
+// The notes on a trace of this path, and on what is learned from it.
+pub(super) fn notes_of(
+    alloc: Global,
+    arch: TargetArch,
+    learning: &Learning<'_>,
+    path: &str,
+    trace: &Trace,
+    wanted: &[Kept],
+    learned: &LearnedFilter,
+) -> Result<Vec<u8>, AllocError> {
+    let mut notes = strange_note(alloc, path, trace.strange, trace.first_strange)?;
+    let foreign = match trace.foreign {
+        0 => Vec::new(alloc),
+        1 => note(alloc, path, b"1 call is of another architecture")?,
+        count => {
+            let told = format!(in alloc; "{count} calls are of other architectures")?;
+            note(alloc, path, told.as_bytes())?
+        }
+    };
+    notes.extend_from_slice(&foreign)?;
+    notes.extend_from_slice(&unnamed_note(alloc, arch, path, &trace.unnamed)?)?;
+    for name in given_up(alloc, arch, wanted, &learned.lesson.kept)? {
+        let most = learning.most;
+        let told = format!(in alloc; "{name} is allowed with any arguments, since more than {most} different values were seen")?;
+        notes.extend_from_slice(&note(alloc, path, told.as_bytes())?)?;
+    }
+    Ok(notes)
+}
+
+// The note on lines that aren't understood, if there are some: how many, and the first.
+pub(crate) fn strange_note(
+    alloc: Global,
+    path: &str,
+    strange: usize,
+    first: Option<usize>,
+) -> Result<Vec<u8>, AllocError> {
+    let told = match first {
+        _ if strange == 0 => return Ok(Vec::new(alloc)),
+        Some(line) if strange == 1 => format!(in alloc; "1 line isn't understood: line {line}")?,
+        Some(line) => format!(in alloc; "{strange} lines aren't understood, the first is line {line}")?,
+        None => behind_records(alloc, strange)?,
+    };
+    note(alloc, path, told.as_bytes())
+}
+
+// That bytes follow the last record.
+fn behind_records(alloc: Global, bytes: usize) -> Result<String, AllocError> {
+    if bytes == 1 {
+        return String::from_str(alloc, "1 byte follows the last record");
+    }
+    Ok(format!(in alloc; "{bytes} bytes follow the last record")?)
+}
+
+// The note on names and numbers that no call has, if there are some.
+fn unnamed_note(
+    alloc: Global,
+    arch: TargetArch,
+    path: &str,
+    unnamed: &[String],
+) -> Result<Vec<u8>, AllocError> {
+    if unnamed.is_empty() {
+        return Ok(Vec::new(alloc));
+    }
+    let mut told = format!(in alloc; "{arch} has no call of these names or numbers")?.into_bytes();
+    let mut mark: &[u8] = b": ";
+    for name in unnamed {
+        told.extend_from_slice(mark)?;
+        told.extend_from_slice(name.as_bytes())?;
+        mark = b", ";
+    }
+    note(alloc, path, &told)
+}
+
+// The names of calls that are allowed with any arguments, since more values of them were seen than are kept.
+fn given_up(
+    alloc: Global,
+    arch: TargetArch,
+    wanted: &[Kept],
+    kept: &[Kept],
+) -> Result<Vec<&'static str>, AllocError> {
+    let mut names = Vec::new(alloc);
+    let mut before = None;
+    for each in wanted {
+        if has_number(kept, each.number) || before == Some(each.number) {
+            continue;
+        }
+        before = Some(each.number);
+        names.push(name_of(arch, each.number).unwrap_or("a call"))?;
+    }
+    Ok(names)
+}
+
+// Whether an argument of the call is among these.
+fn has_number(kept: &[Kept], number: u32) -> bool {
+    for each in kept {
+        if each.number == number {
+            return true;
+        }
+    }
+    false
+}

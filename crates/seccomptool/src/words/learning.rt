@@ -1,0 +1,167 @@
+// What `learn` is asked for.
+
+use super::values::{arch_in, output_in};
+use super::{Asked, Command, Inputs, Misuse};
+use crate::learn::{AskedArguments, Learning, Start};
+use crate::numbers::read_number;
+use clap::ArgMatches;
+use seccompiler::SeccompAction;
+use std::alloc::{AllocError, Global};
+
+const NO_ACTION: &str =
+    "the value of --otherwise isn't allow, kill_process, kill_thread, log, trap, errno:N or trace:N";
+
+const NO_ARGUMENTS: &str =
+    "the value of --args isn't CALL or CALL:INDEX,.. with indices from 0 to 5";
+
+const NO_VALUES: &str =
+    "the value of --values isn't a number from 0 to 18446744073709551615, decimal or hexadecimal after 0x";
+
+// What the matches of `learn` ask for.
+pub(super) fn learn_in<'a>(alloc: Global, found: &ArgMatches<'a>) -> Result<Asked<'a>, Misuse> {
+    if let Some(told) = refusal(found) {
+        return Err(Misuse::Told(told));
+    }
+    let Some(most) = read_number(found.get_str("values").unwrap_or("")) else {
+        return Err(Misuse::Told(NO_VALUES));
+    };
+    let learning = Learning {
+        start: start_in(found)?,
+        name: found.get_str("name"),
+        arguments: arguments_in(alloc, found)?,
+        most: most as usize,
+        runnable: found.get_flag("runnable"),
+        strict: found.get_flag("strict"),
+        as_profile: found.get_flag("profile"),
+        further: further_in(alloc, found)?,
+    };
+    let inputs = Inputs {
+        first: first_of(traces_in(found)),
+        second: found.get_str("into"),
+    };
+    Ok(Asked {
+        command: Command::Learn {
+            arch: arch_in(found),
+            learning,
+        },
+        inputs: vec![in alloc; inputs]?,
+        output: output_in(found),
+    })
+}
+
+// Why options can't be given together, if two can't.
+fn refusal(found: &ArgMatches<'_>) -> Option<&'static str> {
+    let is_named = found.get_str("name").is_some();
+    let is_profile = found.get_flag("profile");
+    let into = found.get_str("into");
+    if into.is_some() && found.get_str("otherwise").is_some() {
+        return Some("--otherwise can't be given with --into");
+    }
+    if into.is_some() && is_profile {
+        return Some("--profile can't be given with --into");
+    }
+    if is_named && is_profile {
+        return Some("--profile can't be given with --name");
+    }
+    if into == Some("-") && has_input(traces_in(found)) {
+        return Some("TRACE and POLICY can't both be read from standard input");
+    }
+    None
+}
+
+// The traces.
+fn traces_in<'a, 'b>(found: &'b ArgMatches<'a>) -> &'b [&'a str] {
+    found.get_strs("trace").unwrap_or(&[])
+}
+
+// Whether standard input is among these paths.
+fn has_input(paths: &[&str]) -> bool {
+    for path in paths {
+        if *path == "-" {
+            return true;
+        }
+    }
+    false
+}
+
+// The first trace.
+fn first_of<'a>(paths: &[&'a str]) -> Option<&'a str> {
+    match paths {
+        [first, ..] => Some(first),
+        [] => Some("-"),
+    }
+}
+
+// The traces after the first one.
+fn further_in<'a>(alloc: Global, found: &ArgMatches<'a>) -> Result<Vec<&'a str>, AllocError> {
+    let mut further = Vec::new(alloc);
+    for path in traces_in(found).iter().skip(1) {
+        further.push(*path)?;
+    }
+    Ok(further)
+}
+
+// What the calls are added to.
+fn start_in(found: &ArgMatches<'_>) -> Result<Start, Misuse> {
+    if found.get_str("into").is_some() {
+        return Ok(Start::Into);
+    }
+    match action_of(found.get_str("otherwise").unwrap_or("kill_process")) {
+        Some(action) => Ok(Start::Otherwise(action)),
+        None => Err(Misuse::Told(NO_ACTION)),
+    }
+}
+
+// The action that a text names.
+fn action_of(text: &str) -> Option<SeccompAction> {
+    match text {
+        "allow" => Some(SeccompAction::Allow),
+        "kill_process" => Some(SeccompAction::KillProcess),
+        "kill_thread" => Some(SeccompAction::KillThread),
+        "log" => Some(SeccompAction::Log),
+        "trap" => Some(SeccompAction::Trap),
+        _ => numbered_action(text),
+    }
+}
+
+// The action that a text names with its number, which 16 bits hold.
+fn numbered_action(text: &str) -> Option<SeccompAction> {
+    let (name, number) = text.split_once(':')?;
+    let number = u32::from(u16::try_from(read_number(number)?).ok()?);
+    match name {
+        "errno" => Some(SeccompAction::Errno(number)),
+        "trace" => Some(SeccompAction::Trace(number)),
+        _ => None,
+    }
+}
+
+// The arguments whose values are kept.
+fn arguments_in<'a>(
+    alloc: Global,
+    found: &ArgMatches<'a>,
+) -> Result<Vec<AskedArguments<'a>>, Misuse> {
+    let mut all = Vec::new(alloc);
+    for text in found.get_strs("args").unwrap_or(&[]) {
+        match arguments_of(text) {
+            Some(arguments) => all.push(arguments)?,
+            None => return Err(Misuse::Told(NO_ARGUMENTS)),
+        }
+    }
+    Ok(all)
+}
+
+// The arguments that a text names.
+fn arguments_of(text: &str) -> Option<AskedArguments<'_>> {
+    let Some((call, list)) = text.split_once(':') else {
+        return Some(AskedArguments {
+            call: text,
+            indices: [true; 6],
+        });
+    };
+    let mut indices = [false; 6];
+    for index in list.split(',') {
+        let index = usize::try_from(read_number(index)?).ok()?;
+        *indices.get_mut(index)? = true;
+    }
+    Some(AskedArguments { call, indices })
+}

@@ -133,16 +133,17 @@ strace: Process 78 attached
 IN_FRONTS = ("exit", "futex", "geteuid", "getgid", "getpgrp", "getpid", "getppid", "getuid", "read", "rt_sigreturn", "write")
 
 # A line of Linux's log, with what stands in front of it there, or in front of the same of the audit system.
-FILTERED = "audit(1700000000.123:456): auid=0 uid=0 gid=0 ses=1 subj=unconfined pid={} comm=\"{}\" exe=\"/usr/bin/{}\" sig={} arch={} syscall={} compat=0 ip=0x7f code={}"
+FILTERED = ('audit(1700000000.123:456): auid=0 uid=0 gid=0 ses=1 subj=unconfined pid={} comm="{}" exe="/usr/bin/{}" sig={} arch={} '
+            "syscall={} compat=0 ip=0x7f code={}\n")
 
 
 def filtered(call, program="call", process=1234, arch="c000003e", code="0x80000000", front="audit: type=1326 "):
     """Returns the line of a call that a filter has answered."""
-    return front + FILTERED.format(process, program, program, 31 if code == "0x80000000" else 0, arch, call, code) + "\n"
+    return front + FILTERED.format(process, program, program, 31 if code == "0x80000000" else 0, arch, call, code)
 
 
 # Of Linux's log, by dmesg and by journalctl; of the audit system; by ausearch, with names for numbers.
-MADE = "success=yes exit=0 a0=1 a1=5401 a2=7ffd0 a3=0 items=0 ppid=1 pid=1236 auid=0 uid=0 gid=0 comm=\"stty\" exe=\"/usr/bin/stty\""
+MADE = 'success=yes exit=0 a0=1 a1=5401 a2=7ffd0 a3=0 items=0 ppid=1 pid=1236 auid=0 uid=0 gid=0 comm="stty" exe="/usr/bin/stty"'
 LOGGED = (
     filtered(246) + filtered(272, front="[   12.345678] audit: type=1326 ")
     + filtered(272, front="Nov 14 22:13:20 host kernel: audit: type=1326 ") + filtered(165, front="type=SECCOMP msg=")
@@ -207,7 +208,7 @@ ONE_STRANGE = "getpid() = 5\n" * 11 + "hello\n"
 # Calls of other architectures, 32-bit ones of x86 among them.
 FOREIGN = filtered(5, arch="40000003") + filtered(63, arch="c00000b7") + SHORT
 
-# What x86_64 has no call of, each named once: an unknown name, numbers that no call has, one of x32; and names that steer a terminal.
+# What x86_64 has no call of, each named once: an unknown name, and numbers that no call has, one of them of x32.
 UNNAMED = "foo(1) = 0\n" + filtered(999) + "foo(2) = 0\n" + filtered(1073741824) + "syscall_0x3e7(0x1) = 0\n" + SHORT
 NO_SUCH = "x86_64 has no call of these names or numbers: foo, 999, 1073741824, syscall_0x3e7"
 
@@ -256,8 +257,8 @@ HOSTILE_TOLD = r"a\x07\x1b[2J\x7f\xc2\x9b\xe2\x80\xae\xe2\x80\x8b"
 FILES = {
     "named.trace": NAMED, "raw.trace": RAW, "short.trace": SHORT, "other.trace": OTHER, "fronts.trace": FRONTS, "logged.log": LOGGED,
     "strange.trace": STRANGE, "one-strange.trace": ONE_STRANGE, "foreign.trace": FOREIGN, "unnamed.trace": UNNAMED, "many.trace": MANY,
-    "later.trace": LATER, "learned.bin": RECORDS, "rest.bin": RECORDS + b"12345", "origin.json": ORIGIN, "denies.json": DENIES, "allows-all.json": ALLOWS,
-    "whole.json": learned("close", "fcntl", "getpid", name='"a"'),
+    "later.trace": LATER, "learned.bin": RECORDS, "rest.bin": RECORDS + b"12345", "origin.json": ORIGIN, "denies.json": DENIES,
+    "allows-all.json": ALLOWS, "whole.json": learned("close", "fcntl", "getpid", name='"a"'),
 }
 
 CASES = [

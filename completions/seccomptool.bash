@@ -29,9 +29,9 @@ _seccomptool_value() {
     local line names
     while IFS= read -r line; do
         names=" ${line%%<*}"
-        if [[ $line =~ ^\ +(-[A-Za-z], )?--[a-z-]+\ \<[A-Z]+\> && $names =~ \ "$1"[,\ ] ]]; then
+        if [[ $line =~ ^\ +(-[A-Za-z], )?--[a-z-]+\ \<[A-Z]+[^\>]*\> && $names =~ \ "$1"[,\ ] ]]; then
             line=${line#*<}
-            printf '<%s>\n' "${line%%>*}"
+            printf '<%s>\n' "${line%%[^A-Z]*}"
             [[ $line != *'[possible values: '* ]] || sed -E 's/.*\[possible values: ([^]]*)\].*/\1/; s/,//g' <<< "$line"
         fi
     done
@@ -73,7 +73,7 @@ _seccomptool_add_filters() {
 _seccomptool_add_of() {
     case $1 in
     FILTER) _seccomptool_add_filters "$2" ;;
-    FILE | NEW | OLD | SUBJECT) _seccomptool_add_files ;;
+    FILE | NEW | OLD | POLICY | SUBJECT | TRACE) _seccomptool_add_files ;;
     esac
     [[ -z $1 ]] || ! grep -q "^ *[<[]$1[]>].* - for standard input" <<< "$3" || _seccomptool_add -
 }

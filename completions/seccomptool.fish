@@ -23,8 +23,8 @@ function __seccomptool_values
 end
 
 function __seccomptool_options
-    __seccomptool_help (commandline -opc)[2] | sed -nE 's/^ +(-[A-Za-z]), (--[a-z-]+)( <[A-Z]+>)? *(.*)/\1\t\4\n\2\t\4/p; t
-        s/^ +(--[a-z-]+)( <[A-Z]+>)? *(.*)/\1\t\3/p'
+    __seccomptool_help (commandline -opc)[2] | sed -nE 's/^ +(-[A-Za-z]), (--[a-z-]+)( <[^>]+>)? *(.*)/\1\t\4\n\2\t\4/p; t
+        s/^ +(--[a-z-]+)( <[^>]+>)? *(.*)/\1\t\3/p'
 end
 
 # Whether the word is of this kind: a command, a value, an option or a file.

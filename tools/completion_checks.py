@@ -40,10 +40,10 @@ COMP_WORDS=("$@") && COMP_CWORD=$(($# - 1)) && "_$name"
 """
 
 # An option of a help, its short form, what it takes, and the values that are listed.
-OPTION = re.compile(r"^ +(?:(-\w), )?(--[a-z][a-z-]*)(?: <(\w+)>)?(?:.*\[possible values: ([^]]*)\])?", re.M)
+OPTION = re.compile(r"^ +(?:(-\w), )?(--[a-z][a-z-]*)(?: <([A-Z]+)[^>]*>)?(?:.*\[possible values: ([^]]*)\])?", re.M)
 
 # The arguments that are files.
-FILES = ("FILE", "NEW", "OLD", "POLICY", "SUBJECT")
+FILES = ("FILE", "NEW", "OLD", "POLICY", "SUBJECT", "TRACE")
 
 # A filter's name that does something if a shell expands it, and one that is quoted.
 FILTERS = ("$(touch made)", "a b", "main")

@@ -241,7 +241,7 @@ TOOLS = {
 # Words of seccomptool that read standard input, whose reading is refused for want of memory.
 READING = [
     "compile -f a", "compile", "compile --layout linear", "show", "show --layout linear", "show --stats", "check",
-    "explain -f log actions.json",
+    "explain -f log actions.json", "explain -f log actions.json --log -", "learn",
 ]
 
 # Commands that can't be run: the filter, the command, the status, and the error number.

@@ -188,8 +188,8 @@ def try_runtime(results, program, folder, runtime, architectures):
     results.compare(f"{what}: shown", (file.stat().st_size // 8, False, "", 0), (out.count("\n"), "unknown" in out, err, status))
     numbers = NUMBERS[name, architectures]
     for call, action in [*EXPLAINED, *zip((X32, ABOVE), numbers)]:
-        found = run([TOOL, "explain", file, *call.split()], folder)
-        results.compare(f"{what}: {call}", (action + "\n", "", 0), found)
+        out, err, status = run([TOOL, "explain", file, *call.split()], folder)
+        results.compare(f"{what}: {call}", (action, "", 0), (out.partition(": ")[0], err, status))
     # It differs from the profile at most on numbers from those of x32 on, and there by one of both.
     lines = [f"  x32 calls {X32} to {2**32 - 1}: kill_thread -> {action}, more: {call}(0x0, 0x0, 0x0, 0x0, 0x0, 0x0)\n"
              for call, action in zip((X32, ABOVE), numbers) if action != "kill_thread"]

@@ -315,12 +315,12 @@ class Bench:
         return code if isinstance(code, str) else code[7:7 + length_of(condition)]
 
     def ran(self, rest):
-        """Returns what `seccomptool explain` prints of a program."""
+        """Returns the action that `seccomptool explain` prints of a program, or why it isn't taken."""
         text, _, record = rest.partition(" for ")
         (self.folder / "row.bpf").write_bytes(instructions(text))
         (self.folder / "row.bin").write_bytes(record_of(record or "0"))
         _, output, errors = run("./seccomptool explain --records row.bin row.bpf", self.folder)
-        return (output + errors).strip().removeprefix("seccomptool: row.bpf: ")
+        return output.partition(": ")[0] or errors.strip().removeprefix("seccomptool: row.bpf: ")
 
     def held(self, rest):
         """Returns whether a condition holds for all of some values, or for none; else what each gives."""

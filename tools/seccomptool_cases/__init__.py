@@ -6,14 +6,15 @@ from the program's output.
 """
 
 from . import (
-    call, calls, check, compile, compiled_profiles, conditions, counts, diff, entries, explain, gone, hostile, initializers, oci, outputs,
-    profile_checks, profile_faults, profile_stats, program_diffs, programs, show, stats, subjects, warnings, words
+    call, calls, check, compile, compiled_profiles, conditions, counts, diff, entries, explain, gone, hostile, initializers, learn, logs, oci,
+    outputs, profile_checks, profile_faults, profile_stats, program_diffs, programs, show, stats, subjects, warnings, words
 )
 from .forms import Case
 
 FILES = {
     **explain.FILES, **compile.FILES, **diff.FILES, **programs.FILES, **program_diffs.FILES, **subjects.FILES, **compiled_profiles.FILES, **oci.FILES,
-    **profile_faults.FILES, **initializers.FILES, **counts.FILES, **profile_checks.FILES, **hostile.FILES, **outputs.FILES
+    **profile_faults.FILES, **initializers.FILES, **counts.FILES, **profile_checks.FILES, **hostile.FILES, **outputs.FILES, **learn.FILES,
+    **logs.FILES
 }
 
 
@@ -28,9 +29,9 @@ CASES = [
     *[
         case
         for it in (
-            show, check, warnings, conditions, calls, entries, explain, programs, stats, call, counts, program_diffs,
+            show, check, warnings, conditions, calls, entries, explain, logs, programs, stats, call, counts, program_diffs,
             compiled_profiles, initializers, profile_faults, oci, profile_checks, profile_stats, words, gone, hostile, outputs,
-            subjects
+            subjects, learn
         )
         for case in it.CASES
     ],

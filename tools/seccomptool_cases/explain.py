@@ -54,26 +54,26 @@ FILES = {
 
 # Calls of x86_64 by their numbers and first three arguments, and the lines of the policy on them.
 LINES = [
-    (288, (0, 0, 0), "allow: a.filter[0] (accept4)\n"),
-    (72, (9, 2, 1), "allow: a.filter[1] (fcntl)\n"),
-    (72, (9, 1, 1), "allow: a.filter[2] (fcntl)\n"),
-    (72, (9, 2, 0), "allow: a.filter[5] (fcntl)\n"),
+    (288, (0, 0, 0), "allow: a.filter[0] of accept4 (288)\n"),
+    (72, (9, 2, 1), "allow: a.filter[1] of fcntl (72)\n"),
+    (72, (9, 1, 1), "allow: a.filter[2] of fcntl (72)\n"),
+    (72, (9, 2, 0), "allow: a.filter[5] of fcntl (72)\n"),
     (72, (9, 3, 1),
-     "errno 1: no match: a.filter[1].args[0] (fcntl) does not hold, the nearest of 3 entries\n"),
-    (3, (3, 0, 0), "allow: a.filter[3] (close)\n"),
-    (3, (2, 0, 0), "allow: a.filter[4] (close)\n"),
-    (0, (0, 0, 0), "errno 1: no entry of call 0\n"),
+     "errno 1: no match: a.filter[1].args[0] of fcntl (72) does not hold, the nearest of 3 entries\n"),
+    (3, (3, 0, 0), "allow: a.filter[3] of close (3)\n"),
+    (3, (2, 0, 0), "allow: a.filter[4] of close (3)\n"),
+    (0, (0, 0, 0), "errno 1: no entry of read (0)\n"),
     (4294967295, (0, 0, 0), "errno 1: no entry of call 4294967295\n"),
 ]
 
 # The same of the other policy: the nearest miss is that of the condition with the greatest index, and the first of these.
 NEAR_LINES = [
-    (72, (9, 1, 0), r"trace 2: n\x07.filter[0] (fcntl)" "\n"),
+    (72, (9, 1, 0), r"trace 2: n\x07.filter[0] of fcntl (72)" "\n"),
     (72, (9, 2, 0),
-     r"trap: no match: n\x07.filter[1].args[1] (fcntl) does not hold, the nearest of 3 entries" "\n"),
+     r"trap: no match: n\x07.filter[1].args[1] of fcntl (72) does not hold, the nearest of 3 entries" "\n"),
     (72, (9, 4, 0),
-     r"trap: no match: n\x07.filter[0].args[0] (fcntl) does not hold, the nearest of 3 entries" "\n"),
-    (3, (2, 0, 0), r"trap: no match: n\x07.filter[3].args[0] (close) does not hold" "\n"),
+     r"trap: no match: n\x07.filter[0].args[0] of fcntl (72) does not hold, the nearest of 3 entries" "\n"),
+    (3, (2, 0, 0), r"trap: no match: n\x07.filter[3].args[0] of close (3) does not hold" "\n"),
 ]
 
 # The same of the first policy in numbers, for scripts.
@@ -91,8 +91,8 @@ WORD_LINES = [
 
 ANOTHER = "kill_process: another architecture\n"
 TWO_RECORDS = record_of(1, X86_64) + record_of(72, 0)
-TWO_LINES = "log: no entry of call 1\n" + ANOTHER
-EXAMPLE_LINES = "log: no entry of call 72\n" * 3 + "log: no entry of call 5\n" + ANOTHER
+TWO_LINES = "log: no entry of write (1)\n" + ANOTHER
+EXAMPLE_LINES = "log: no entry of fcntl (72)\n" * 3 + "log: no entry of fstat (5)\n" + ANOTHER
 
 SHORT = "The input ends inside a record, after 1 bytes of it.\n"
 NO_FILTER = "No filter has this name: b.\n"

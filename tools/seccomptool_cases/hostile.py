@@ -67,7 +67,7 @@ CASES = [
     *[writes("show --stats", named(it), LOGS_STEPS.replace("filter a", "filter " + told(it))) for it in NAMES],
     writes("compile -q --format listing", named(FIRST), listed(told(FIRST), TREE)),
     writes(f"compile -q --format listing -f {WORD}", named(FIRST), listed(told(FIRST), TREE)),
-    writes("explain hostile-filter.json", record_of(1, X86_64), "log: no entry of call 1\n"),
+    writes("explain hostile-filter.json", record_of(1, X86_64), "log: no entry of write (1)\n"),
     Case("diff -q hostile-filter.json hostile-filter.json", 0, f"filter {told(FIRST)}: same\n", ""),
     Case("diff -q hostile-filter.json logs.json", 1, f"filter {told(FIRST)}: only in OLD\nfilter a: only in NEW\n", ""),
     Case("diff -q logs.json hostile-filter.json", 1, f"filter a: only in OLD\nfilter {told(FIRST)}: only in NEW\n", ""),
@@ -108,8 +108,8 @@ CASES = [
     *[Case(f"a{it}b", 2, "", f"error: unrecognized subcommand 'a{told(it)}b'\n..") for it in UNQUOTED],
     Case(f"{WORD}", 2, "", f"error: unrecognized subcommand '{told(FIRST)}'\n.."),
     *[Case(f"{it} -a {WORD}", 2, "", f"error: invalid value '{told(FIRST)}' for '--arch <ARCH>'\n..")
-      for it in ("check", "compile", "show", "explain", "diff", "call")],
+      for it in ("check", "compile", "show", "explain", "diff", "learn", "call")],
     *[Case(f"{it} --{WORD}", 2, "", f"error: unexpected argument '--{told(FIRST)}' found\n..")
-      for it in ("check", "compile", "show", "explain", "diff", "call")],
+      for it in ("check", "compile", "show", "explain", "diff", "learn", "call")],
     Case(f"check --allow {WORD}", 2, "", f"error: invalid value '{told(FIRST)}' for '--allow <CODE>'\n.."),
 ]

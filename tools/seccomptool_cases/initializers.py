@@ -8,7 +8,7 @@ import shlex
 from .compile import TREE
 from .forms import INPUT, LOGS, TOOL, Case, rejects, writes
 from .program_diffs import OTHERS_SAME, SAME
-from .programs import OF_READ, RECORDS
+from .programs import EXPLAINED, OF_READ, RECORDS
 
 EXAMPLES = pathlib.Path(__file__).resolve().parent.parent.parent / "examples"
 
@@ -90,10 +90,10 @@ CASES = [
     *[writes("compile -", text, OF_READ) for text in FORMS],
     *[rewritten(words, f"rewritten-{k}") for k, words in enumerate([*subjects(), "longest.bpf"])],
     # Each command takes them, as it takes bytes.
-    writes("explain read.c read", "", "allow\n"),
+    writes("explain read.c read", "", "allow: read (0)\n"),
     writes("explain --format word read.c 1", "", "00050001 3\n"),
-    writes("explain read.c --records -", RECORDS, "allow\nerrno 1\nallow\n"),
-    writes("explain - read", LINES, "allow\n"),
+    writes("explain read.c --records -", RECORDS, EXPLAINED),
+    writes("explain - read", LINES, "allow: read (0)\n"),
     writes("show --stats read.c", "", "program: 4 instructions, at most 3 steps, 3 passing\n"),
     writes("show read.c", "", "   0  ld [0]                      ; the call number\n.."),
     writes("check read.c read.bpf", "", ""),

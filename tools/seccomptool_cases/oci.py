@@ -14,6 +14,7 @@ from .forms import CLOSED, FOLDER, FULL, INPUT, LOGS, MISSING, NO_OBJECT, OUTPUT
 from .compiled_profiles import FITTING, LARGE, PARSING, TOO_LONG, entry, profile, when
 from .profile_faults import NO_PROFILE
 from .profiles import PROFILES, STRICTEST_FIRST, numbers_of
+from .records import called
 
 # The actions of profiles by their names in a policy; those of the first two have a number.
 ACTIONS = {"ERRNO": "errno", "TRACE": "trace", "KILL": "kill_thread", "KILL_THREAD": "kill_thread", "KILL_PROCESS": "kill_process",
@@ -84,7 +85,8 @@ def arch_of(words):
 def line_of(given, words, call, arguments):
     """Returns the line of `explain` on a call of a profile."""
     action, place = decision(given, words, call, arguments)
-    return f"{action}: defaultAction\n" if place is None else f"{action}: syscalls[{place}] ({call})\n"
+    reason = "defaultAction" if place is None else f"syscalls[{place}]"
+    return f"{action}: {reason} of {called(call, arch_of(words))}\n"
 
 
 def record_of(arch, number, arguments):
@@ -122,11 +124,10 @@ def compare_profiles(results, run):
             results.compare(f"{what}: {asked} of records", (0, lines, ""), run(asked, records))
         status, program, _ = run(f"compile --oci -q {words} {file_of(place)}", "")
         results.compare(f"{what}: compile", (0, 0), (status, len(program) % 8))
-        actions = "".join(f"{wanted}\n" for _, _, wanted in rows)
         program = program.encode("utf-8", "surrogateescape")
-        for (call, arguments, wanted), line in zip(rows, actions.splitlines(True)):
+        for call, arguments, wanted in rows:
             asked = f"explain -a {arch} - {call} {' '.join(map(str, arguments))}"
-            results.compare(f"{what}: {asked}", (0, line, ""), run(asked, program))
+            results.compare(f"{what}: {asked}", (0, f"{wanted}: {called(call, arch)}\n", ""), run(asked, program))
 
 
 # A line of `diff`: a call or a range, both actions, which one permits more, and an example.
@@ -194,24 +195,28 @@ def misused(words, told):
     return Case(words, 2, "", f"error: {told}\n..")
 
 
+# What is explained of the examples' records.
+EXAMPLE_LINES = ("errno 1: defaultAction of fcntl (72)\n" * 3 + "errno 1: defaultAction of fstat (5)\n"
+                 "kill_process: another architecture\n")
+
 READS = "profile: different\n  read: errno 1 -> allow, more: read(0x0, 0x0, 0x0, 0x0, 0x0, 0x0)\n"
 
 # Cases of files that are known as profiles, and of no container.
 KNOWN = [
     # Options, files and standard input.
-    writes("explain --oci reads-profile.json read", "", "allow: syscalls[0] (read)\n"),
-    writes("explain reads-profile.json --oci -a amd64 0", "", "allow: syscalls[0] (read)\n"),
-    writes("explain --oci - write", json.dumps(profile(entry("read"))), "errno 1: defaultAction\n"),
+    writes("explain --oci reads-profile.json read", "", "allow: syscalls[0] of read (0)\n"),
+    writes("explain reads-profile.json --oci -a amd64 0", "", "allow: syscalls[0] of read (0)\n"),
+    writes("explain --oci - write", json.dumps(profile(entry("read"))), "errno 1: defaultAction of write (1)\n"),
     writes("explain --oci --format word reads-profile.json read", "", "7fff0000 syscalls[0] (read)\n"),
     writes("explain --oci --format word reads-profile.json write", "", "00050001 defaultAction\n"),
     writes("explain --oci --format word reads-profile.json --records examples/records.bin", "",
            "00050001 defaultAction\n" * 4 + "80000000 another architecture\n"),
     writes("explain --oci reads-profile.json < examples/records.bin", "",
-           "errno 1: defaultAction\n" * 4 + "kill_process: another architecture\n"),
+           EXAMPLE_LINES),
     writes("explain --oci reads-profile.json", "", ""),
     # Names that the architecture doesn't have are no reason, and aren't listed.
-    writes("explain --oci unknown-profile.json read", "", "allow: syscalls[0] (read)\n"),
-    writes("explain --oci - open", json.dumps(profile(entry("read"), entry("no_such_call open"))), "allow: syscalls[1] (open)\n"),
+    writes("explain --oci unknown-profile.json read", "", "allow: syscalls[0] of read (0)\n"),
+    writes("explain --oci - open", json.dumps(profile(entry("read"), entry("no_such_call open"))), "allow: syscalls[1] of open (2)\n"),
     writes("diff --oci unknown-profile.json reads-profile.json", "", "profile: same\n"),
     differ("reads-profile.json -", "profile: different\n  read: allow -> log, less: read(0x0, 0x0, 0x0, 0x0, 0x0, 0x0)\n",
            json.dumps(profile(entry("read", "SCMP_ACT_LOG")))),
@@ -264,7 +269,7 @@ OBJECT = LOGS[len('{"a":'):-1]
 CASES = [
     *KNOWN,
     *map(unnamed, KNOWN),
-    writes("explain reads-profile.json --oci --kernel=6.1 --cap CAP_KILL 0", "", "allow: syscalls[0] (read)\n"),
+    writes("explain reads-profile.json --oci --kernel=6.1 --cap CAP_KILL 0", "", "allow: syscalls[0] of read (0)\n"),
     # With `--oci` nothing else is a profile.
     rejects("explain --oci logs.json read", "", NO_PROFILE, TOOL + "logs.json: "),
     rejects("explain --oci - read", "{", PARSING),
@@ -273,20 +278,20 @@ CASES = [
     fails("reads-profile.json -", PARSING, INPUT, "{"),
     fails("- reads-profile.json", PARSING, INPUT, "{"),
     # Without it, a policy is one whatever its filters are named.
-    writes("explain default-action.json read", "", "log: no entry of call 0\n"),
+    writes("explain default-action.json read", "", "log: no entry of read (0)\n"),
     writes("diff -q default-action.json default-action.json", "", "filter defaultAction: same\n"),
-    writes("explain - read", COMMENTED, "allow: a.filter[0] (read)\n"),
+    writes("explain - read", COMMENTED, "allow: a.filter[0] of read (0)\n"),
     # It has no filter with a name. Each text that has none of the key's bytes, or another value, is a policy.
     rejects("explain --filter a reads-profile.json read", "", NO_NAME, TOOL + "reads-profile.json: "),
     Case("diff reads-profile.json:a reads-profile.json", 2, "", TOOL + "reads-profile.json: " + NO_NAME),
     rejects("explain - read", r'{"default\u0041ction": "SCMP_ACT_ALLOW"}', WRONG_DEFAULT),
-    writes("explain --oci - read", r'{"default\u0041ction": "SCMP_ACT_ALLOW"}', "allow: defaultAction\n"),
+    writes("explain --oci - read", r'{"default\u0041ction": "SCMP_ACT_ALLOW"}', "allow: defaultAction of read (0)\n"),
     rejects("explain - read", '{"defaultAction": null}', WRONG_DEFAULT),
     rejects("explain - read", json.dumps({"linux": profile()}), FRONTEND + "Json filter has a wrong shape: linux.\n"),
     rejects("explain - read", json.dumps([profile()]), NO_OBJECT),
     rejects("explain - read", '{"defaultAction": "SCMP_ACT_ALLOW"', FRONTEND + "Error parsing Json: .."),
     # Of a key that stands twice the last one counts.
-    writes("explain - read", REPEATED % (OBJECT, '"SCMP_ACT_LOG"'), "log: defaultAction\n"),
+    writes("explain - read", REPEATED % (OBJECT, '"SCMP_ACT_LOG"'), "log: defaultAction of read (0)\n"),
     rejects("explain - read", REPEATED % ('"SCMP_ACT_LOG"', OBJECT), FRONTEND + "Repeated key in Json.\n"),
     # What is no command.
     rejects("explain --oci --filter=a reads-profile.json read", "", NO_NAME, TOOL + "reads-profile.json: "),

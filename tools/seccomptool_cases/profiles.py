@@ -4,12 +4,10 @@ An entry whose action is the default one says nothing. The first entry without c
 of those whose conditions are met. A number of x32 kills the thread on x86_64, but 0xffffffff, which is no number, doesn't.
 """
 
-import pathlib
 import re
 
 from .compiled_profiles import entry, profile, when
-
-TOP = pathlib.Path(__file__).resolve().parent.parent.parent
+from .records import numbers_on
 
 # The actions of filters from the strictest on (seccomp(2)).
 STRICTEST_FIRST = ("kill_process", "kill_thread", "trap", "errno", "trace", "log", "allow")
@@ -120,5 +118,4 @@ PROFILES = [
 def numbers_of(words):
     """Returns the calls of the architecture that the words name, by their names."""
     named = re.search(r"-a (\w+)", words)
-    text = (TOP / f"crates/seccomp_tables/src/{named[1] if named else 'x86_64'}.rt").read_text(encoding="utf-8")
-    return {name: int(number) for name, number in re.findall(r'\("([a-z0-9_]+)", ([0-9]+)\)', text)}
+    return numbers_on(named[1] if named else "x86_64")

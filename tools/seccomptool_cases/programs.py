@@ -40,6 +40,9 @@ LONGEST = program(*[(LOAD, 0, 0, 60)] * 4095, returns(ALLOW))
 
 RECORDS = record_of(0, X86_64) + record_of(1, X86_64) + record_of(0, RISCV64)
 
+# What is explained of them: whatever a program returns for the last one, it is of another architecture.
+EXPLAINED = "allow: read (0)\nerrno 1: write (1)\nallow: another architecture\n"
+
 FILES = {
     "read.bpf": OF_READ,
     "bit.bpf": OF_BIT,
@@ -84,23 +87,23 @@ def misused(words, told="error: .."):
 
 CASES = [
     # What a program returns for a call, by name or number, with arguments; and for records.
-    writes("explain read.bpf read", "", "allow\n"),
-    writes("explain read.bpf 1", "", "errno 1\n"),
-    writes("explain -a riscv64 read.bpf read", "", "errno 1\n"),
-    writes("explain bit.bpf ioctl 0 2", "", "allow\n"),
-    writes("explain bit.bpf ioctl 2 0x100000001", "", "errno 1\n"),
-    writes("explain set.bpf read", "", "allow\n"),
-    writes("explain set.bpf 0x40000000", "", "errno 1\n"),
+    writes("explain read.bpf read", "", "allow: read (0)\n"),
+    writes("explain read.bpf 1", "", "errno 1: write (1)\n"),
+    writes("explain -a riscv64 read.bpf read", "", "errno 1: read (63)\n"),
+    writes("explain bit.bpf ioctl 0 2", "", "allow: ioctl (16)\n"),
+    writes("explain bit.bpf ioctl 2 0x100000001", "", "errno 1: ioctl (16)\n"),
+    writes("explain set.bpf read", "", "allow: read (0)\n"),
+    writes("explain set.bpf 0x40000000", "", "errno 1: call 1073741824\n"),
     writes("explain --format word set.bpf 3221225472", "", "00050001 3\n"),
-    writes("explain longest.bpf 0", "", "allow\n"),
-    writes("explain - read", OF_READ, "allow\n"),
-    writes("explain read.bpf --records calls.bin", "", "allow\nerrno 1\nallow\n"),
-    writes("explain --records=- read.bpf", RECORDS, "allow\nerrno 1\nallow\n"),
-    writes("explain read.bpf", RECORDS, "allow\nerrno 1\nallow\n"),
+    writes("explain longest.bpf 0", "", "allow: read (0)\n"),
+    writes("explain - read", OF_READ, "allow: read (0)\n"),
+    writes("explain read.bpf --records calls.bin", "", EXPLAINED),
+    writes("explain --records=- read.bpf", RECORDS, EXPLAINED),
+    writes("explain read.bpf", RECORDS, EXPLAINED),
     writes("explain read.bpf", "", ""),
-    writes("explain - --records calls.bin", OF_READ, "allow\nerrno 1\nallow\n"),
-    *[writes(f"explain returns-{word:x}.bpf read", "", action + "\n") for word, action in ACTIONS.items()],
-    writes("explain read.bpf write 1 2 3 4 5 6", "", "errno 1\n"),
+    writes("explain - --records calls.bin", OF_READ, EXPLAINED),
+    *[writes(f"explain returns-{word:x}.bpf read", "", f"{action}: read (0)\n") for word, action in ACTIONS.items()],
+    writes("explain read.bpf write 1 2 3 4 5 6", "", "errno 1: write (1)\n"),
     # Programs that aren't taken.
     *[rejects("explain - read", given, told + "\n") for given, told in UNFIT],
     rejects("explain missing.bpf read", "", MISSING, TOOL + "missing.bpf: "),
@@ -111,7 +114,7 @@ CASES = [
     rejects("explain read.bpf --records missing.bin", "", MISSING, TOOL + "missing.bin: "),
     rejects("explain read.bpf", Failing(RECORDS), RESET),
     rejects("explain read.bpf nosyscall", "", "No call of x86_64 has this name or number: nosyscall.\n", TOOL),
-    Case("explain read.bpf --records cut.bin", 2, "allow\nerrno 1\n",
+    Case("explain read.bpf --records cut.bin", 2, "allow: read (0)\nerrno 1: write (1)\n",
          TOOL + "cut.bin: The input ends inside a record, after 63 bytes of it.\n"),
     # An output that takes nothing.
     rejects("explain read.bpf read > /dev/full", "", FULL, OUTPUT),

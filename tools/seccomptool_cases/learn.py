@@ -1,0 +1,480 @@
+"""What `learn` has to do: the policies of traces, what is kept of arguments, what is noted, and the errors.
+
+The texts are written by hand, from the layout that docs/JSON.md shows and the rules of docs/TOOL.md. The forms of lines are those of
+strace 6.1, of Linux's log (kernel/audit.c, kernel/auditsc.c) and of ausearch.
+"""
+
+import json
+import re
+import shlex
+
+from program_cases import FRONTEND
+from running import TOP
+
+from .forms import CLOSED, FOLDER, FULL, INPUT, MISSING, NO_OBJECT, OUTPUT, RESET, TOOL, Case, Failing, rejects, writes
+from .records import AARCH64, RISCV64, X86_64, numbers_on, record_of
+
+# A program's calls by strace: arguments are numbers, names, and texts that look like the end of a call.
+NAMED = r"""execve("/usr/bin/cat", ["cat", "a, b)"], 0x7ffd0 /* 20 vars */) = 0
+brk(NULL)                               = 0x55d0
+openat(AT_FDCWD, "a, b)", O_RDONLY)     = 3
+fcntl(3, F_GETFL)                       = 0x8000 (flags O_RDONLY|O_LARGEFILE)
+socket(AF_INET, SOCK_STREAM, IPPROTO_IP) = 4
+connect(4, {sa_family=AF_INET, sin_port=htons(80), sin_addr=inet_addr("127.0.0.1")}, 16) = -1 ECONNREFUSED (Connection refused)
+read(3, "\") = 0, \\", 4096)            = 5
+openat(AT_FDCWD, "more", O_RDONLY)      = -1 ENOENT (No such file or directory)
+close(3)                                = 0
+exit_group(0)                           = ?
++++ exited with 0 +++
+"""
+
+# The same calls as a policy.
+OF_NAMED = """{
+    "main": {
+        "mismatch_action": "kill_process",
+        "match_action": "allow",
+        "filter": [
+            { "syscall": "brk" },
+            { "syscall": "close" },
+            { "syscall": "connect" },
+            { "syscall": "execve" },
+            { "syscall": "exit_group" },
+            { "syscall": "fcntl" },
+            { "syscall": "openat" },
+            { "syscall": "read" },
+            { "syscall": "socket" }
+        ]
+    }
+}
+"""
+
+# Calls whose arguments are numbers: hexadecimal, decimal, with their names, with what a descriptor is, or octal. One argument 1 of
+# `fcntl` has a high half, and one of `socket` isn't known.
+RAW = """77 fcntl(0x3, 0x3, 0)                = 0x8000
+77 fcntl(4</tmp/a, b>, 0x2 /* F_SETFD */, 0x1) = 0
+77 fcntl(0x3, 0x100000003) = -1 EINVAL (Invalid argument)
+77 fcntl(5, 010)                        = -1 EBADF (Bad file descriptor)
+77 ioctl(0x1, 0x5401, 0x7ffd0)          = 0
+77 prctl(0xf, 0x7ffd0)                  = 0
+77 socket(0x2, 0x80801, 0x6)            = 5
+77 socket(10, 2, 0)                     = 6
+77 socket(0x2, 0x1|0x80000, 0)          = 7
+77 close(-1)                            = -1 EBADF (Bad file descriptor)
+"""
+
+# Conditions on 32 bits of an argument, in the order of their values.
+OF_RAW = """{
+    "main": {
+        "mismatch_action": "kill_process",
+        "match_action": "allow",
+        "filter": [
+            { "syscall": "close" },
+            { "syscall": "fcntl", "args": [{ "index": 1, "type": "dword", "op": "eq", "val": 2 }] },
+            { "syscall": "fcntl", "args": [{ "index": 1, "type": "dword", "op": "eq", "val": 3 }] },
+            { "syscall": "fcntl", "args": [{ "index": 1, "type": "dword", "op": "eq", "val": 8 }] },
+            { "syscall": "ioctl", "args": [{ "index": 1, "type": "dword", "op": "eq", "val": 21505 }] },
+            { "syscall": "prctl", "args": [{ "index": 0, "type": "dword", "op": "eq", "val": 15 }] },
+            { "syscall": "socket", "args": [{ "index": 0, "type": "dword", "op": "eq", "val": 2 }, { "index": 2, "type": "dword", "op": "eq", "val": 0 }] },
+            { "syscall": "socket", "args": [{ "index": 0, "type": "dword", "op": "eq", "val": 2 }, { "index": 1, "type": "dword", "op": "eq", "val": 526337 }, { "index": 2, "type": "dword", "op": "eq", "val": 6 }] },
+            { "syscall": "socket", "args": [{ "index": 0, "type": "dword", "op": "eq", "val": 10 }, { "index": 1, "type": "dword", "op": "eq", "val": 2 }, { "index": 2, "type": "dword", "op": "eq", "val": 0 }] }
+        ]
+    }
+}
+"""
+
+# The same calls as a profile: 32 bits are compared under a mask.
+OF_RAW_AS_PROFILE = """{
+    "defaultAction": "SCMP_ACT_KILL_PROCESS",
+    "architectures": ["SCMP_ARCH_X86_64"],
+    "syscalls": [
+        {
+            "names": [
+                "close"
+            ],
+            "action": "SCMP_ACT_ALLOW"
+        },
+        { "names": ["fcntl"], "action": "SCMP_ACT_ALLOW", "args": [{ "index": 1, "value": 4294967295, "valueTwo": 2, "op": "SCMP_CMP_MASKED_EQ" }] },
+        { "names": ["fcntl"], "action": "SCMP_ACT_ALLOW", "args": [{ "index": 1, "value": 4294967295, "valueTwo": 3, "op": "SCMP_CMP_MASKED_EQ" }] },
+        { "names": ["fcntl"], "action": "SCMP_ACT_ALLOW", "args": [{ "index": 1, "value": 4294967295, "valueTwo": 8, "op": "SCMP_CMP_MASKED_EQ" }] },
+        { "names": ["ioctl"], "action": "SCMP_ACT_ALLOW", "args": [{ "index": 1, "value": 4294967295, "valueTwo": 21505, "op": "SCMP_CMP_MASKED_EQ" }] },
+        { "names": ["prctl"], "action": "SCMP_ACT_ALLOW", "args": [{ "index": 0, "value": 4294967295, "valueTwo": 15, "op": "SCMP_CMP_MASKED_EQ" }] },
+        { "names": ["socket"], "action": "SCMP_ACT_ALLOW", "args": [{ "index": 0, "value": 4294967295, "valueTwo": 2, "op": "SCMP_CMP_MASKED_EQ" }, { "index": 2, "value": 4294967295, "valueTwo": 0, "op": "SCMP_CMP_MASKED_EQ" }] },
+        { "names": ["socket"], "action": "SCMP_ACT_ALLOW", "args": [{ "index": 0, "value": 4294967295, "valueTwo": 2, "op": "SCMP_CMP_MASKED_EQ" }, { "index": 1, "value": 4294967295, "valueTwo": 526337, "op": "SCMP_CMP_MASKED_EQ" }, { "index": 2, "value": 4294967295, "valueTwo": 6, "op": "SCMP_CMP_MASKED_EQ" }] },
+        { "names": ["socket"], "action": "SCMP_ACT_ALLOW", "args": [{ "index": 0, "value": 4294967295, "valueTwo": 10, "op": "SCMP_CMP_MASKED_EQ" }, { "index": 1, "value": 4294967295, "valueTwo": 2, "op": "SCMP_CMP_MASKED_EQ" }, { "index": 2, "value": 4294967295, "valueTwo": 0, "op": "SCMP_CMP_MASKED_EQ" }] }
+    ]
+}
+"""
+
+# Its entries of calls after `getpid` in byte order.
+OTHERS_OF_RAW = [it.strip().rstrip(",") for it in OF_RAW.splitlines() if re.search(r'"(ioctl|prctl|socket)"', it)]
+
+# Two calls without numbers that are kept, the second twice.
+SHORT = "getpid() = 5\nclose(1) = 0\nclose(2) = 0\n"
+OTHER = "getuid() = 0\nclose(3) = 0\n"
+
+# What stands in front of a call, and lines that tell of none.
+FRONTS = """[pid   77] getpid() = 77
+77  1700000000.000001 getppid() = 1
+12:00:00.000001 getuid() = 0
+[00007f0000001234] getgid() = 0
+[pid 77] 12:00:00 [00007f0000001234] geteuid() = 0
+[  39] getpgrp() = 1
+78 read(0, <unfinished ...>
+78 <... read resumed>"", 1) = 0
+77 --- SIGCHLD {si_signo=SIGCHLD, si_code=CLD_EXITED, si_pid=78} ---
+77 +++ killed by SIGSYS (core dumped) +++
+strace: Process 78 attached
+
+77 rt_sigreturn({mask=[]}) = 0
+77 write(4<socket:[123]>, "a", 1) = 1\r
+77 futex(0x7f00, FUTEX_WAIT_PRIVATE, 0, NULL <unfinished ...>) = ?
+77 syscall_0x27(0x1) = 77
+77 exit(0) = ?"""
+IN_FRONTS = ("exit", "futex", "geteuid", "getgid", "getpgrp", "getpid", "getppid", "getuid", "read", "rt_sigreturn", "write")
+
+# A line of Linux's log, with what stands in front of it there, or in front of the same of the audit system.
+FILTERED = ('audit(1700000000.123:456): auid=0 uid=0 gid=0 ses=1 subj=unconfined pid={} comm="{}" exe="/usr/bin/{}" sig={} arch={} '
+            "syscall={} compat=0 ip=0x7f code={}\n")
+
+
+def filtered(call, program="call", process=1234, arch="c000003e", code="0x80000000", front="audit: type=1326 "):
+    """Returns the line of a call that a filter has answered."""
+    return front + FILTERED.format(process, program, program, 31 if code == "0x80000000" else 0, arch, call, code)
+
+
+# Of Linux's log, by dmesg and by journalctl; of the audit system; by ausearch, with names for numbers.
+MADE = 'success=yes exit=0 a0=1 a1=5401 a2=7ffd0 a3=0 items=0 ppid=1 pid=1236 auid=0 uid=0 gid=0 comm="stty" exe="/usr/bin/stty"'
+LOGGED = (
+    filtered(246) + filtered(272, front="[   12.345678] audit: type=1326 ")
+    + filtered(272, front="Nov 14 22:13:20 host kernel: audit: type=1326 ") + filtered(165, front="type=SECCOMP msg=")
+    + f"type=SYSCALL msg=audit(1700000000.125:458): arch=c000003e syscall=16 {MADE}\x1dARCH=x86_64 SYSCALL=ioctl\n"
+    "type=PROCTITLE msg=audit(1700000000.125:458): proctitle=73747479\n----\ntime->Tue Nov 14 22:13:20 2023\n"
+    "type=SYSCALL msg=audit(11/14/2023 22:13:20.125:459) : arch=x86_64 syscall=openat success=no exit=ENOENT(No such file)\n"
+)
+
+RECORDS = record_of(72, X86_64, 3, 2, 1) + record_of(0, X86_64, 1, 2, 3) + record_of(72, X86_64, 3, 2**32 + 2, 1)
+RECORDS += record_of(16, X86_64, 0, 2**64 - 1)
+
+
+def entry(call, *conditions):
+    """Returns the text of an entry of a call with conditions, each an index, a type and a value."""
+    args = ", ".join(f'{{ "index": {index}, "type": "{size}", "op": "eq", "val": {value} }}' for index, size, value in conditions)
+    return f'{{ "syscall": "{call}"' + (f', "args": [{args}]' if args else "") + " }"
+
+
+def filter_of(name, entries, otherwise='"kill_process"', match='"allow"'):
+    """Returns the text of a filter in a policy, with the texts of its entries."""
+    lines = ",".join(f"\n            {it}" for it in entries)
+    return (f'\n    {name}: {{\n        "mismatch_action": {otherwise},\n        "match_action": {match},\n'
+            f'        "filter": [{lines}\n        ]\n    }}')
+
+
+def policy_of(*filters):
+    """Returns the text of a policy."""
+    return "{" + ",".join(filters) + "\n}\n"
+
+
+def learned(*entries, name='"main"', otherwise='"kill_process"'):
+    """Returns the text of a policy of one filter; an entry may be a call's name."""
+    entries = [it if it.startswith("{") else entry(it) for it in entries]
+    return policy_of(filter_of(name, entries, otherwise))
+
+
+def of_dword(call, index, *values):
+    """Returns the texts of entries of a call, each with a value of 32 bits of an argument."""
+    return [entry(call, (index, "dword", it)) for it in values]
+
+
+def noted(words, output, *notes, place=TOOL, given=""):
+    """Returns the case of words that write this output, and note lines of a place."""
+    return Case("learn " + words, 0, output, "".join(f"{place}{it}\n" for it in notes), given)
+
+
+def fails(words, told, place=TOOL, given=""):
+    """Returns the case of words that write nothing and tell this line of a place."""
+    return Case("learn " + words, 2, "", f"{place}{told}\n" if not told.endswith("\n") else place + told, given)
+
+
+def misused(words, told="error: .."):
+    """Returns the case of words that are no command."""
+    return Case("learn " + words, 2, "", told)
+
+
+# Lines that aren't understood: no call, one that breaks off, no UTF-8, and a line of a log without the call.
+STRANGE = b'getpid() = 5\nhello\nread(3, "abc\nclose(\xff) = 0\naudit: type=1326 audit(1:1): arch=c000003e pid=1\nHello(1) = 0\ngetuid() = 0\n'
+FIRST_STRANGE = "5 lines aren't understood, the first is line 2"
+ONE_STRANGE = "getpid() = 5\n" * 11 + "hello\n"
+
+# Calls of other architectures, 32-bit ones of x86 among them.
+FOREIGN = filtered(5, arch="40000003") + filtered(63, arch="c00000b7") + SHORT
+
+# What x86_64 has no call of, each named once: an unknown name, and numbers that no call has, one of them of x32.
+UNNAMED = "foo(1) = 0\n" + filtered(999) + "foo(2) = 0\n" + filtered(1073741824) + "syscall_0x3e7(0x1) = 0\n" + SHORT
+NO_SUCH = "x86_64 has no call of these names or numbers: foo, 999, 1073741824, syscall_0x3e7"
+
+# More values than are kept: 17 of `ioctl`, 16 of `fcntl`.
+MANY = "".join(f"ioctl(0x1, {it:#x}, 0) = 0\n" for it in range(1, 18)) + "".join(f"fcntl(1, {it}, 0) = 0\n" for it in range(16, 0, -1))
+OF_MANY = learned(*of_dword("fcntl", 1, *range(1, 17)), "ioctl")
+MORE = "{} is allowed with any arguments, since more than {} different values were seen"
+
+# What a policy of two filters has, which stays; and the same as it is written.
+ORIGIN = json.dumps({
+    "z\u00e9\n": {"default_action": {"errno": 38}, "filter_action": "allow", "filter": [
+        {"syscall": "write", "comment": "left out"}, {"syscall": "getuid"}, {"syscall": "write"},
+        {"syscall": "fcntl", "args": [{"index": 1, "type": "dword", "op": "eq", "val": 3}, {"index": 5, "type": "qword", "op": "ge", "val": 1}]}]},
+    "a": {"mismatch_action": "allow", "match_action": {"trace": 7}, "filter": [
+        {"syscall": "write", "args": [{"index": 0, "type": "qword", "op": {"masked_eq": 3}, "val": 1}, {"index": 1, "type": "qword", "op": "ne", "val": 2}]},
+        {"syscall": "accept"}]},
+    "m": {"mismatch_action": "trap", "match_action": "log", "filter": []},
+})
+OF_A = filter_of('"a"', [
+    '{ "syscall": "write", "args": [{ "index": 0, "type": "qword", "op": { "masked_eq": 3 }, "val": 1 }, '
+    '{ "index": 1, "type": "qword", "op": "ne", "val": 2 }] }', entry("accept")], '"allow"', '{ "trace": 7 }')
+OF_M = filter_of('"m"', [], '"trap"', '"log"')
+WITH_FCNTL = ('{ "syscall": "fcntl", "args": [{ "index": 1, "type": "dword", "op": "eq", "val": 3 }, '
+              '{ "index": 5, "type": "qword", "op": "ge", "val": 1 }] }')
+LATER = "getppid() = 1\ngetuid() = 0\nfcntl(1, 0x3) = 0\nfcntl(1, 0x2) = 0\n"
+OF_ORIGIN = policy_of(OF_A, OF_M, filter_of(r'"z\u00e9\u000a"', [
+    *of_dword("fcntl", 1, 2, 3), WITH_FCNTL, *map(entry, ("getppid", "getuid", "write"))], '{ "errno": 38 }'))
+NAME = shlex.quote("z\u00e9\n")
+
+DENIES = '{"a":{"mismatch_action":"allow","match_action":{"errno":1},"filter":[]}}'
+ALLOWS = DENIES.replace('{"errno":1}', '"allow"')
+NOT_ALLOW = "The filter's match_action isn't allow, so it doesn't list what is allowed."
+
+NO_ACTION = "error: the value of --otherwise isn't allow, kill_process, kill_thread, log, trap, errno:N or trace:N\n.."
+NO_ARGS = "error: the value of --args isn't CALL or CALL:INDEX,.. with indices from 0 to 5\n.."
+NO_VALUES = "error: the value of --values isn't a number from 0 to 18446744073709551615, decimal or hexadecimal after 0x\n.."
+BOTH = "error: TRACE and POLICY can't both be read from standard input\n.."
+
+# The calls by which programs start and end.
+RUNNABLE = ("execve", "exit", "exit_group", "restart_syscall", "rt_sigaction", "rt_sigprocmask", "rt_sigreturn", "write")
+
+# A name that steers a terminal, without white space, which ends a word of a log.
+HOSTILE = "a\x07\x1b[2J\x7f\u009b\u202e\u200b"
+HOSTILE_TOLD = r"a\x07\x1b[2J\x7f\xc2\x9b\xe2\x80\xae\xe2\x80\x8b"
+
+FILES = {
+    "named.trace": NAMED, "raw.trace": RAW, "short.trace": SHORT, "other.trace": OTHER, "fronts.trace": FRONTS, "logged.log": LOGGED,
+    "strange.trace": STRANGE, "one-strange.trace": ONE_STRANGE, "foreign.trace": FOREIGN, "unnamed.trace": UNNAMED, "many.trace": MANY,
+    "later.trace": LATER, "learned.bin": RECORDS, "rest.bin": RECORDS + b"12345", "origin.json": ORIGIN, "denies.json": DENIES,
+    "allows-all.json": ALLOWS, "whole.json": learned("close", "fcntl", "getpid", name='"a"'),
+}
+
+CASES = [
+    # Calls of each form of a trace, in order, each once.
+    writes("learn named.trace", "", OF_NAMED),
+    writes("learn", NAMED, OF_NAMED),
+    writes("learn -", NAMED, OF_NAMED),
+    writes("learn raw.trace", "", OF_RAW),
+    writes("learn fronts.trace", "", learned(*IN_FRONTS)),
+    writes("learn logged.log", "", learned(*of_dword("ioctl", 1, 0x5401), "kexec_load", "mount", "openat", "unshare")),
+    writes("learn examples/traces/denied.log", "", learned("clone", "kexec_load")),
+    writes("learn learned.bin", "", learned(*of_dword("fcntl", 1, 2), *of_dword("ioctl", 1, 2**32 - 1), "read")),
+    writes("learn", RECORDS, learned(*of_dword("fcntl", 1, 2), *of_dword("ioctl", 1, 2**32 - 1), "read")),
+    writes("learn", "", learned()),
+    writes("learn", "\n\n", learned()),
+    # A call is allowed with any arguments if they weren't known once.
+    writes("learn", "ioctl(1, 0x5401, 0) = 0\nioctl(1, TIOCGWINSZ, {}) = 0\nioctl(1, 0x5402, 0) = 0\n", learned("ioctl")),
+    writes("learn", "fcntl(3, 3) = 0\nfcntl(3, 0x3) = 0\nfcntl(4, 03) = 0\n", learned(*of_dword("fcntl", 1, 3))),
+    # The names are those of the architecture.
+    writes("learn -a aarch64", filtered(63, arch="c00000b7") + "read(0) = 0\n", learned("read")),
+    writes("learn -a arm64", record_of(25, AARCH64, 1, 3), learned(*of_dword("fcntl", 1, 3))),
+    writes("learn --arch=riscv64", record_of(25, RISCV64, 1, 3), learned(*of_dword("fcntl", 1, 3))),
+    noted("-a aarch64", learned("openat"), "aarch64 has no call of these names or numbers: open", place=INPUT,
+          given="open(0) = 0\nopenat(0) = 0\n"),
+    # Several traces are one.
+    writes("learn short.trace other.trace", "", learned("close", "getpid", "getuid")),
+    writes("learn other.trace - short.trace", "getppid() = 1\n", learned("close", "getpid", "getppid", "getuid")),
+    writes("learn other.trace short.trace short.trace", "", learned("close", "getpid", "getuid")),
+    noted("short.trace strange.trace", learned("close", "getpid", "getuid"),
+          "short.trace: 5 lines aren't understood, the first is line 5"),
+    # The name and the action.
+    writes("learn --name a short.trace", "", learned("close", "getpid", name='"a"')),
+    writes(f"learn --name {NAME} short.trace", "", learned("close", "getpid", name=r'"z\u00e9\u000a"')),
+    writes(f"learn --name='a\"\\' short.trace", "", learned("close", "getpid", name=r'"a\"\\"')),
+    writes(f"learn --name {shlex.quote(chr(0x1f600) + chr(0x7f))} short.trace", "", learned("close", "getpid", name=r'"\ud83d\ude00\u007f"')),
+    *[writes(f"learn --otherwise {it} short.trace", "", learned("close", "getpid", otherwise=f'"{it}"'))
+      for it in ("kill_process", "kill_thread", "trap", "log")],
+    *[writes(f"learn --otherwise={kind}:{number} short.trace", "", learned("close", "getpid", otherwise=f'{{ "{kind}": {number} }}'))
+      for kind, number in (("errno", 0), ("errno", 1), ("errno", 38), ("trace", 7), ("errno", 65535))],
+    # The calls by which programs start and end, beside those that the trace has.
+    writes("learn --runnable short.trace", "", learned(*sorted(("close", "getpid", *RUNNABLE)))),
+    writes("learn --runnable named.trace", "", learned(*sorted({*re.findall(r"^[a-z_]+", NAMED, re.M), *RUNNABLE}))),
+    writes("learn --runnable -a aarch64", "", learned(*RUNNABLE)),
+    # Arguments that are asked for: whole, or 32 bits if the trace has a negative number.
+    writes("learn --args close:0 short.trace", "", learned(entry("close", (0, "qword", 1)), entry("close", (0, "qword", 2)), "getpid")),
+    writes("learn --args close short.trace", "", learned(entry("close", (0, "qword", 1)), entry("close", (0, "qword", 2)), "getpid")),
+    writes("learn --args=3:0 short.trace", "", learned(entry("close", (0, "qword", 1)), entry("close", (0, "qword", 2)), "getpid")),
+    writes("learn --args close:1 short.trace", "", learned("close", "getpid")),
+    writes("learn --args getuid short.trace", "", learned("close", "getpid")),
+    writes("learn --args close", "close(-1) = -1 EBADF\nclose(1) = 0\n", learned(*of_dword("close", 0, 1, 2**32 - 1))),
+    writes("learn --args close", "close(-4294967295) = 0\nclose(0x100000001) = 0\n",
+           learned(entry("close", (0, "qword", 2**32 + 1)), entry("close", (0, "qword", 2**64 - 2**32 + 1)))),
+    writes("learn --args mmap:2,3 --args ioctl:2", "mmap(NULL, 4096, 0x1, 0x2, 3, 0) = 0x7f\nmmap(0, 1, 0x1, 0x2, 4, 0) = 0\nioctl(7, 0x5401, 8) = 0\n",
+           learned(entry("ioctl", (1, "dword", 0x5401), (2, "qword", 8)), entry("mmap", (2, "qword", 1), (3, "qword", 2)))),
+    writes("learn --args read:0,5", record_of(0, X86_64, 1, 2, 3, 4, 5, 6), learned(entry("read", (0, "qword", 1), (5, "qword", 6)))),
+    writes("learn --args getpid:5", "getpid() = 1\n", learned("getpid")),
+    # Values up to as many as are kept, of all kept arguments of a call together.
+    noted("many.trace", OF_MANY, "many.trace: " + MORE.format("ioctl", 16)),
+    noted("--values 0x10 many.trace", OF_MANY, "many.trace: " + MORE.format("ioctl", 16)),
+    writes("learn --values 17 many.trace", "", learned(*of_dword("fcntl", 1, *range(1, 17)), *of_dword("ioctl", 1, *range(1, 18)))),
+    noted("--values=2", learned("fcntl", "prctl"), *(MORE.format(it, 2) for it in ("fcntl", "prctl")), place=INPUT,
+          given="".join(f"fcntl(1, {it}) = 0\n" for it in range(3)) + "".join(f"prctl({it}) = 0\n" for it in range(3))),
+    Case("learn --values 0 raw.trace", 0, learned("close", "fcntl", "ioctl", "prctl", "socket"), "..", ""),
+    noted("--values 2", learned("socket"), MORE.format("socket", 2), place=INPUT,
+          given="socket(1, 1, 0) = 3\nsocket(1, 1, 0) = 4\nsocket(1, 2, 0) = 4\nsocket(1, 1, 1) = 5\n"),
+    writes("learn --values 2", "socket(1, 1, 0) = 3\nsocket(1, 1, 0) = 4\nsocket(1, 2, 0) = 4\n", learned(
+        *[entry("socket", (0, "dword", 1), (1, "dword", it), (2, "dword", 0)) for it in (1, 2)])),
+    noted("--values 2 --args close", learned("close"), MORE.format("close", 2), place=INPUT,
+          given="".join(f"close({it}) = 0\n" for it in range(3))),
+    # What isn't understood is noted, and with --strict nothing is written.
+    noted("strange.trace", learned("getpid", "getuid"), "strange.trace: " + FIRST_STRANGE),
+    noted("one-strange.trace", learned("getpid"), "one-strange.trace: 1 line isn't understood: line 12"),
+    noted("", learned("getpid"), "1 line isn't understood: line 12", place=INPUT, given=ONE_STRANGE),
+    noted("rest.bin", learned(*of_dword("fcntl", 1, 2), *of_dword("ioctl", 1, 2**32 - 1), "read"), "rest.bin: 5 bytes follow the last record"),
+    fails("--strict strange.trace", "strange.trace: line 2 isn't understood"),
+    fails("--strict -", "line 12 isn't understood", INPUT, ONE_STRANGE),
+    fails("--strict rest.bin", "rest.bin: 5 bytes follow the last record"),
+    fails("--strict short.trace strange.trace", "short.trace: line 5 isn't understood"),
+    writes("learn --strict raw.trace", "", OF_RAW),
+    # Calls of other architectures, and such as the architecture hasn't.
+    noted("foreign.trace", learned("close", "getpid"), "foreign.trace: 2 calls are of other architectures"),
+    noted("examples/records.bin", learned(*of_dword("fcntl", 1, 2, 3), "fstat"),
+          "examples/records.bin: 1 call is of another architecture"),
+    noted("--strict unnamed.trace", learned("close", "getpid"), "unnamed.trace: " + NO_SUCH),
+    noted("", learned("getpid"), "x86_64 has no call of these names or numbers: " + HOSTILE_TOLD, place=INPUT,
+          given=filtered(HOSTILE) + "getpid() = 1\n"),
+    # Notes in their order.
+    noted("--values 0x2", learned("close", "getpid", "ioctl"), "1 line isn't understood: line 1", "2 calls are of other architectures",
+          NO_SUCH, MORE.format("ioctl", 2), place=INPUT,
+          given="hello\nioctl(1, 1) = 0\nioctl(1, 2) = 0\n" + FOREIGN + UNNAMED + "ioctl(1, 3) = 0\n"),
+    # Into a filter of a policy, whose other filters stay: its entries, each once, but those that another one covers.
+    writes(f"learn --into origin.json --name {NAME} later.trace", "", OF_ORIGIN),
+    writes(f"learn --name={NAME} --into=- later.trace", ORIGIN, OF_ORIGIN),
+    writes(f"learn --into origin.json --name {NAME}", LATER, OF_ORIGIN),
+    writes("learn --into whole.json raw.trace", "", learned("close", "fcntl", "getpid", *OTHERS_OF_RAW, name='"a"')),
+    writes("learn --into whole.json -", "", learned("close", "fcntl", "getpid", name='"a"')),
+    writes("learn --into whole.json --name a --runnable empty", "", learned(*sorted(("close", "fcntl", "getpid", *RUNNABLE)), name='"a"')),
+    # It is the same again, and in either order.
+    Case(f"learn --into origin.json --name {NAME} later.trace | ./seccomptool learn --into - --name {NAME} later.trace", 0, OF_ORIGIN, ""),
+    Case("learn raw.trace | ./seccomptool learn --into - raw.trace", 0, OF_RAW, ""),
+    Case("learn short.trace | ./seccomptool learn --into - other.trace", 0, learned("close", "getpid", "getuid"), ""),
+    Case("learn other.trace | ./seccomptool learn --into - short.trace", 0, learned("close", "getpid", "getuid"), ""),
+    # A policy that is learned is one for other commands, and permits what the trace has and the old policy permits, and no more.
+    Case("learn raw.trace | ./seccomptool explain - fcntl 9 3 1", 0, "allow: main.filter[2] of fcntl (72)\n", ""),
+    Case("learn raw.trace | ./seccomptool explain - fcntl 9 4", 0,
+         "kill_process: no match: main.filter[1].args[0] of fcntl (72) does not hold, the nearest of 3 entries\n", ""),
+    Case("learn --otherwise errno:1 raw.trace | ./seccomptool explain - clone", 0, "errno 1: no entry of clone (56)\n", ""),
+    Case("learn --runnable raw.trace | ./seccomptool check --deny-warnings", 0, "", ""),
+    Case("learn --name a short.trace | ./seccomptool diff -q whole.json -", 1,
+         "filter a: different\n  fcntl: allow -> kill_process, less: fcntl(0x0, 0x0, 0x0, 0x0, 0x0, 0x0)\n", ""),
+    Case("learn --into whole.json other.trace | ./seccomptool diff -q whole.json -", 1,
+         "filter a: different\n  getuid: kill_process -> allow, more: getuid(0x0, 0x0, 0x0, 0x0, 0x0, 0x0)\n", ""),
+    Case("learn --into whole.json short.trace | ./seccomptool diff -q whole.json -", 0, "filter a: same\n", ""),
+    # As a profile, which decides the same.
+    writes("learn --profile raw.trace", "", OF_RAW_AS_PROFILE),
+    writes("learn --profile", "", '{\n    "defaultAction": "SCMP_ACT_KILL_PROCESS",\n    "architectures": ["SCMP_ARCH_X86_64"],\n    "syscalls": [\n    ]\n}\n'),
+    writes("learn --profile --otherwise errno:38 -a aarch64", "fcntl(1, 1) = 0\n", """{
+    "defaultAction": "SCMP_ACT_ERRNO",
+    "defaultErrnoRet": 38,
+    "architectures": ["SCMP_ARCH_AARCH64"],
+    "syscalls": [
+        { "names": ["fcntl"], "action": "SCMP_ACT_ALLOW", "args": [{ "index": 1, "value": 4294967295, "valueTwo": 1, "op": "SCMP_CMP_MASKED_EQ" }] }
+    ]
+}
+"""),
+    writes("learn --profile --otherwise trace:7 -a riscv64 --args close", "close(5) = 0\nread(0) = 0\ngetpid() = 1\n", """{
+    "defaultAction": "SCMP_ACT_TRACE",
+    "defaultErrnoRet": 7,
+    "architectures": ["SCMP_ARCH_RISCV64"],
+    "syscalls": [
+        {
+            "names": [
+                "getpid",
+                "read"
+            ],
+            "action": "SCMP_ACT_ALLOW"
+        },
+        { "names": ["close"], "action": "SCMP_ACT_ALLOW", "args": [{ "index": 0, "value": 5, "op": "SCMP_CMP_EQ" }] }
+    ]
+}
+"""),
+    *[Case(f"learn --profile --otherwise {it} | ./seccomptool explain --oci - read", 0, f"{it}: defaultAction of read (0)\n", "")
+      for it in ("kill_process", "kill_thread", "trap", "log")],
+    Case("learn --profile raw.trace | ./seccomptool explain - fcntl 9 3", 0, "allow: syscalls[2] of fcntl (72)\n", ""),
+    Case("learn --profile raw.trace | ./seccomptool explain - fcntl 9 0x100000003", 0, "allow: syscalls[2] of fcntl (72)\n", ""),
+    Case("learn --profile raw.trace | ./seccomptool explain - socket 2 526337 0", 0, "allow: syscalls[6] of socket (41)\n", ""),
+    Case("learn --profile raw.trace | ./seccomptool explain - socket 2 526337 5", 0, "kill_process: defaultAction of socket (41)\n", ""),
+    # Into a file, which is replaced whole or not at all.
+    Case("learn -o learned.json raw.trace && cat learned.json; rm learned.json", 0, OF_RAW, ""),
+    Case("learn --output=- short.trace", 0, learned("close", "getpid"), ""),
+    Case("learn --strict strange.trace -o older.json; status=$?; ls older.json 2> /dev/null; (exit $status)", 2, "",
+         TOOL + "strange.trace: line 2 isn't understood\n"),
+    # Files and streams that fail.
+    fails("missing.trace", "missing.trace: " + MISSING),
+    fails("short.trace missing.trace", "missing.trace: " + MISSING),
+    fails("examples", "examples: " + FOLDER),
+    fails("short.trace --into missing.json", "missing.json: " + MISSING),
+    fails("short.trace --into examples", "examples: " + FOLDER),
+    rejects("learn", Failing(SHORT), RESET),
+    rejects("learn --into - short.trace", Failing(ORIGIN), RESET),
+    rejects("learn short.trace > /dev/full", "", FULL, OUTPUT),
+    rejects("learn short.trace >&-", "", CLOSED, OUTPUT),
+    fails(shlex.quote(HOSTILE), f"{HOSTILE_TOLD}: {MISSING}"),
+    # What is wrong with a policy that is added to.
+    Case("learn --into no-json.json short.trace", 2, "", f"{TOOL}no-json.json: {FRONTEND}Error parsing Json: .."),
+    fails("--into list.json short.trace", "list.json: " + NO_OBJECT),
+    fails("--into no-filter.json short.trace", f"no-filter.json: {FRONTEND}Json filter has a wrong shape: a."),
+    fails("--into unknown-call.json short.trace", f"unknown-call.json: {FRONTEND}Invalid syscall name: nosyscall for given arch: x86_64."),
+    fails("--into allows-all.json short.trace", f"allows-all.json: {FRONTEND}`match_action` and `mismatch_action` are equal."),
+    fails("--into denies.json short.trace", "denies.json: " + NOT_ALLOW),
+    fails("--into origin.json --name m short.trace", "origin.json: " + NOT_ALLOW),
+    fails("--into logs.json --name b short.trace", "logs.json: No filter has this name: b."),
+    fails("--into filters-b-a.json short.trace", "filters-b-a.json: Name one of its filters: a, b."),
+    fails("--into none.json short.trace", "none.json: The policy has no filters."),
+    fails(f"--into logs.json --name {shlex.quote(HOSTILE)} short.trace", f"logs.json: No filter has this name: {HOSTILE_TOLD}."),
+    # Words that are no command.
+    misused("--otherwise log --into logs.json short.trace", "error: --otherwise can't be given with --into\n.."),
+    misused("--profile --into logs.json short.trace", "error: --profile can't be given with --into\n.."),
+    misused("--profile --name a short.trace", "error: --profile can't be given with --name\n.."),
+    *[misused(f"--otherwise={it} short.trace", NO_ACTION) for it in (
+        "deny", "errno", "errno:", "errno:a", "errno:-1", "errno:4294967296", "trace", "log:1", "Log", "errno 1", "1", "''")],
+    *[misused(f"--args={it} short.trace", NO_ARGS) for it in (
+        "close:6", "close:", "close:a", "close:1,", "close:,1", "close:1,,2", "close:-1", "close:256", "close:0,6")],
+    *[misused(f"--values={it} short.trace", NO_VALUES) for it in ("", "-1", "ten", "18446744073709551616", "0x", "1.0")],
+    misused("--into -", BOTH),
+    misused("--into - -", BOTH),
+    misused("--into - short.trace -", BOTH),
+    misused("--into logs.json --into logs.json short.trace"),
+    misused("-f a short.trace", "error: unexpected argument '-f' found\n.."),
+    misused("-a x32 short.trace", "error: invalid value 'x32' for '--arch <ARCH>'\n.."),
+    misused("--runnable=yes short.trace"),
+    misused("-o"),
+    rejects("learn --args nocall short.trace", "", "No call of x86_64 has this name or number: nocall.\n", TOOL),
+    rejects("learn --args open:1 -a riscv64 short.trace", "", "No call of riscv64 has this name or number: open.\n", TOOL),
+    rejects(f"learn --args {shlex.quote(HOSTILE)} short.trace", "", f"No call of x86_64 has this name or number: {HOSTILE_TOLD}.\n", TOOL),
+]
+
+TRACES = TOP / "examples/traces"
+
+# A call of the examples' traces, and of those whose arguments are kept by default what they are asked for.
+CALL = re.compile(r"^\d+ +(?:[\d.:]+ )?([a-z0-9_]+)\(", re.M)
+ASKED = re.compile(r"^\d+ +(?:[\d.:]+ )?(?:(fcntl|ioctl)\([^,]+, |(prctl)\()(0x[0-9a-f]+|\d+)[,)]", re.M)
+
+
+def compare_traces(results, run):
+    """Asks the program, by a function that runs it with a text, for policies of the examples' traces: they have the calls of these and
+    what `fcntl`, `ioctl` and `prctl` are asked for, and allow each line."""
+    for path in sorted(TRACES.glob("*.trace")):
+        text, words = path.read_text(encoding="utf-8"), f"learn --strict examples/traces/{path.name}"
+        status, output, errors = run(words, "")
+        entries = json.loads(output)["main"]["filter"] if status == 0 else []
+        results.compare(words, (0, "", sorted(set(CALL.findall(text)))), (status, errors, sorted({it["syscall"] for it in entries})))
+        asked = {(first or second, int(value, 0)) for first, second, value in ASKED.findall(text)}
+        kept = {(it["syscall"], it["args"][0]["val"]) for it in entries if it["syscall"] in ("fcntl", "ioctl", "prctl")}
+        results.compare(f"{words}: what calls are asked for", (asked,), (kept,))
+        words = f"explain - --log examples/traces/{path.name}"
+        status, lines, errors = run(words, output)
+        decided = [line.partition(":")[0] for line in lines.splitlines()]
+        results.compare(f"{words} of its own policy", (0, "", ["allow"] * len(CALL.findall(text))), (status, errors, decided))

@@ -1,0 +1,115 @@
+"""What `explain --log` has to do: what is decided of the calls that lines of a log or a trace tell of, and who made them."""
+
+from .explain import POLICY
+from .forms import FOLDER, FULL, INPUT, MISSING, OUTPUT, RESET, TOOL, Case, Failing, rejects
+from .learn import FIRST_STRANGE, HOSTILE, HOSTILE_TOLD, filtered
+from .programs import OF_READ
+
+# Lines of Linux's log about calls of two programs, one of 32-bit x86 and one whose number has no name.
+DENIED = (
+    filtered(288, "nginx", 7) + filtered(72, "nginx", 8, code="0x7ffc0000") + filtered(5, "old", 9, arch="40000003")
+    + filtered(500, "call", 10)
+)
+ON_DENIED = """nginx[7]: allow: a.filter[0] of accept4 (288)
+nginx[8]: errno 1: no match: a.filter[1].args[0] of fcntl (72) does not hold, the nearest of 3 entries
+old[9]: kill_process: another architecture
+call[10]: errno 1: no entry of call 500
+"""
+
+# Lines of the audit system, with the first four arguments in hexadecimal digits; without a process, and without both.
+AUDITED = """type=SYSCALL msg=audit(1700000000.125:458): arch=c000003e syscall=72 a0=9 a1=2 a2=1 a3=0 items=0 pid=1236 comm="stty"
+type=CWD msg=audit(1700000000.125:458): cwd="/"
+type=SYSCALL msg=audit(1700000000.126:459): arch=c000003e syscall=3 a0=ffffffffffffffff a1=0 a2=0 a3=0 comm="stty"
+type=SYSCALL msg=audit(1700000000.127:460): arch=c000003e syscall=3 a0=2 a1=0 a2=0 a3=0
+"""
+ON_AUDITED = """stty[1236]: allow: a.filter[1] of fcntl (72)
+stty: allow: a.filter[3] of close (3)
+allow: a.filter[4] of close (3)
+"""
+
+# Lines of strace: an argument that isn't a number is taken as 0.
+TRACED = """77 accept4(3, NULL, NULL, SOCK_CLOEXEC) = 4
+77 fcntl(9, 0x1) = 0
+77 fcntl(9, F_GETFL) = 0
+77 --- SIGCHLD {si_signo=SIGCHLD} ---
+77 close(0x3) = 0
+"""
+ON_TRACED = """allow: a.filter[0] of accept4 (288)
+allow: a.filter[2] of fcntl (72)
+errno 1: no match: a.filter[1].args[0] of fcntl (72) does not hold, the nearest of 3 entries
+allow: a.filter[3] of close (3)
+"""
+WORDS_OF_TRACED = """7fff0000 entry 0, rule 0 of call 288
+7fff0000 entry 2, rule 1 of call 72
+00050001 no match among 3 entries of call 72
+7fff0000 entry 3, rule 0 of call 3
+"""
+
+ON_AARCH64 = """call[1234]: errno 1: no match: a.filter[1].args[0] of fcntl (25) does not hold, the nearest of 3 entries
+x[1]: kill_process: another architecture
+allow: a.filter[3] of close (57)
+"""
+
+# The calls of FRONTS of learn.py, none of which the policy has an entry of.
+OF_FRONTS = ("getpid (39)", "getppid (110)", "getuid (102)", "getgid (104)", "geteuid (107)", "getpgrp (111)", "read (0)", "rt_sigreturn (15)",
+             "write (1)", "futex (202)", "getpid (39)", "exit (60)")
+
+FILES = {"denied.log": DENIED, "audited.log": AUDITED, "traced.trace": TRACED}
+
+
+def explains(words, output, given=""):
+    """Returns the case of words that explain lines so."""
+    return Case("explain " + words, 0, output, "", given)
+
+
+def misused(words, told="error: .."):
+    """Returns the case of words that are no command."""
+    return Case("explain " + words, 2, "", told)
+
+
+CASES = [
+    explains("explained.json --log denied.log", ON_DENIED),
+    explains("explained.json -f a --log=-", ON_DENIED, DENIED),
+    explains("--log denied.log -", ON_DENIED, POLICY),
+    explains("explained.json --log audited.log", ON_AUDITED),
+    explains("explained.json --log traced.trace", ON_TRACED),
+    explains("explained.json --log traced.trace --format word", WORDS_OF_TRACED),
+    explains("explained.json --log fronts.trace", "".join(f"errno 1: no entry of {it}\n" for it in OF_FRONTS)),
+    explains("explained.json --log -", ""),
+    explains("explained.json --log -", ON_TRACED + ON_AUDITED + ON_DENIED, TRACED + AUDITED + DENIED),
+    explains("explained.json --log examples/traces/denied.log",
+             "call[1234]: errno 1: no entry of kexec_load (246)\nredis-server[1235]: errno 1: no entry of clone (56)\n"),
+    # The lines are of the architecture's calls; what strace prints is of it too.
+    explains("-a aarch64 explained.json --log -", ON_AARCH64, filtered(25, arch="c00000b7") + filtered(72, "x", 1) + "close(3) = 0\n"),
+    # By a profile and by a program.
+    explains("reads-profile.json --log denied.log", """nginx[7]: errno 1: defaultAction of accept4 (288)
+nginx[8]: errno 1: defaultAction of fcntl (72)
+old[9]: kill_process: another architecture
+call[10]: errno 1: defaultAction of call 500
+"""),
+    explains("--oci --log - reads-profile.json", "cat[5]: allow: syscalls[0] of read (0)\n", filtered(0, "cat", 5)),
+    explains("read.bpf --log denied.log", """nginx[7]: errno 1: accept4 (288)
+nginx[8]: errno 1: fcntl (72)
+old[9]: errno 1: another architecture
+call[10]: errno 1: call 500
+"""),
+    explains("--log traced.trace -", "errno 1: accept4 (288)\nerrno 1: fcntl (72)\nerrno 1: fcntl (72)\nerrno 1: close (3)\n", OF_READ),
+    # What isn't understood is noted, and the rest explained.
+    Case("explain logs.json --log strange.trace", 0, "log: no entry of getpid (39)\nlog: no entry of getuid (102)\n",
+         f"{TOOL}strange.trace: {FIRST_STRANGE}\n"),
+    Case("explain logs.json --log -", 0, "log: no entry of getpid (39)\n", INPUT + "1 line isn't understood: line 2\n", "getpid() = 1\nhello\n"),
+    # A program's name is printed with its characters that steer a terminal by number.
+    explains("logs.json --log -", f"{HOSTILE_TOLD}[5]: log: no entry of read (0)\n", filtered(0, HOSTILE, 5)),
+    explains("logs.json --log -", f"x[{HOSTILE_TOLD}]: log: no entry of read (0)\n", filtered(0, "x", HOSTILE)),
+    # Files and words that are wrong.
+    rejects("explain logs.json --log missing.log", "", MISSING, TOOL + "missing.log: "),
+    rejects("explain logs.json --log examples", "", FOLDER, TOOL + "examples: "),
+    rejects("explain missing.json --log denied.log", "", MISSING, TOOL + "missing.json: "),
+    rejects("explain logs.json --log -", Failing(TRACED), RESET),
+    rejects("explain -f b logs.json --log denied.log", "", "No filter has this name: b.\n", TOOL + "logs.json: "),
+    rejects("explain logs.json --log denied.log > /dev/full", "", FULL, OUTPUT),
+    misused("logs.json read --log denied.log", "error: CALL and --log can't both be given\n.."),
+    misused("logs.json --records 63-bytes --log denied.log", "error: --records and --log can't both be given\n.."),
+    misused("- --log -"),
+    misused("logs.json --log"),
+]

@@ -51,8 +51,8 @@
  * chains, rules, conditions, and how many of each
  *     A filter without JSON. A chain stands for the rules of one system call, and counts them. The array
  *     `rules` has the rules of all chains, those of the first chain first, then those of the second.
- *     Likewise each rule counts its conditions, and `conditions` has those of all rules. So whoever sorts
- *     chains has to sort rules and conditions with them. seccompiler_rules.h takes rules in any order.
+ *     Likewise each rule counts its conditions, and `conditions` has those of all rules. If you sort chains,
+ *     sort rules and conditions with them. seccompiler_rules.h takes rules in any order.
  *
  * mismatch_kind, mismatch_data, match_kind, match_data
  *     The action for calls that no chain matches, and the one for calls that a chain matches. A kind is
@@ -72,9 +72,10 @@
  *     returned. It is UTF-8 and ends in a NUL byte; if no code is returned it is empty. If the buffer
  *     is too short, the message is cut after the last whole character that fits with the NUL byte. Bytes
  *     after the NUL byte are left as they were, and a buffer of 0 bytes is left alone. 256 bytes are enough
- *     for each message that has no name and no value of the policy. Control characters, and those that turn
- *     the direction of writing or are invisible, are written as \x and two digits for each of their bytes. So a
- *     message is one line and steers no terminal. If memory runs out for it, it is that of seccompiler_strerror.
+ *     for each message that has no name and no value of the policy. Control characters, and those that change
+ *     the direction of text or are invisible, are written as \x and two digits for each of their bytes. So a
+ *     message is one line and steers no terminal. If memory runs out for the message, it is that of
+ *     seccompiler_strerror.
  *
  * If a function takes a pointer and a length, the pointer isn't null, even for a length of 0. The functions
  * are proved over references of Rust, which are never null, so the proofs say nothing of a null pointer. A
@@ -220,8 +221,8 @@ struct seccompiler_condition {
  *     main_thread.filter[1].syscall: unknown system call "fnctl" on x86_64; did you mean "fcntl"?
  *
  * If the policy isn't JSON in UTF-8, or nests too deep, it begins with "Error parsing Json: ". What follows
- * names the error and its place, and isn't proved. Of a repeated key it has no place. The message of NO_ROOM has
- * the program's length.
+ * names the error and its place, and isn't proved. A repeated key has no place. The message of NO_ROOM has the
+ * program's length.
  */
 int64_t seccompiler_compile(const char *policy, size_t policy_length, uint32_t architecture,
                             const char *name, size_t name_length, uint32_t layout,

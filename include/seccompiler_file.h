@@ -2,7 +2,7 @@
 /*
  * Compiles a filter of a policy's file.
  *
- * This function is NOT PROVED. It reads the file, and has seccompiler_compile compile its text. Nothing of this file is in
+ * This function is NOT PROVED. It reads the file, and compiles its text by seccompiler_compile. Nothing of this file is in
  * the library.
  *
  * It is C99, C11 and C++17, with the extensions of GNU and without. It needs no feature test macro.

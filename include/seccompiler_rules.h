@@ -2,7 +2,7 @@
 /*
  * A filter that is built up rule by rule, in any order, for seccompiler_compile_rules.
  *
- * These functions are NOT PROVED. They hold a filter's arrays in the order that the library takes, and ask the library
+ * These functions are NOT PROVED. They keep a filter's arrays in the order that the library takes, and call the library
  * for all else. Nothing of this file is in the library. They allocate nothing; the library does, as seccompiler.h says.
  *
  * EXAMPLE
@@ -20,8 +20,8 @@
  * A call gets the match action, here SECCOMP_RET_ALLOW, if one of its rules holds, and else the mismatch action, here
  * SECCOMP_RET_ERRNO with EPERM. A rule holds if all its conditions do. One without conditions always holds.
  *
- * Rules count from 0 in the order in which they are added, and so do the conditions of a rule. The first error is kept,
- * and nothing is added from then on: so only the last call needs to be looked at. Its message has the place:
+ * Rules are numbered from 0 in the order in which they are added, and so are the conditions of a rule. The first error
+ * is kept, and nothing is added after it, so check only the last call. Its message has the place:
  *
  *     rule 1, fnctl: Unknown system call.
  *     rule 2, 72, condition 0: The argument of a condition is above 5.
@@ -39,9 +39,9 @@
 #include "seccompiler.h"
 #include "seccompiler_install.h"
 
-/* Where arrays that seccompiler_compile_rules rejects with SECCOMPILER_BAD_ORDER are out of order: the index of the first
- * chain whose number isn't above the one before, or `count` if the numbers ascend. Whoever moves a chain moves its rules,
- * and their conditions, with it. */
+/* Finds the chain for which seccompiler_compile_rules returns SECCOMPILER_BAD_ORDER. Returns the index of the first chain
+ * whose number isn't above the one before, or `count` if the numbers ascend. If you move a chain, move its rules and
+ * their conditions with it. */
 static inline size_t seccompiler_unordered_chain(const struct seccompiler_chain *chains, size_t count)
 {
     for (size_t k = 1; k < count; k++)
@@ -118,7 +118,7 @@ static inline int64_t seccompiler_rules_fail(struct seccompiler_rules *filter, i
     return code;
 }
 
-/* Gives up the rules of a chain from this place on, since the chain always matches. */
+/* Removes the rules of a chain, from this place on, since the chain always matches. */
 static inline void seccompiler_rules_drop(struct seccompiler_rules *filter, struct seccompiler_chain *chain, size_t rule,
                                           size_t condition)
 {
@@ -212,8 +212,8 @@ static inline int64_t seccompiler_rules_add_list(struct seccompiler_rules *filte
 }
 
 /*
- * Adds a rule for the call of this name. Behind it stand up to 64 conditions, made by seccompiler_argument or
- * seccompiler_masked_argument, and in front of them how many: as int, 0 to 64.
+ * Adds a rule for the call of this name. `count` says how many conditions follow, 0 to 64. They are made by
+ * seccompiler_argument or seccompiler_masked_argument.
  *
  * Returns 0, or the filter's first error.
  */
@@ -230,7 +230,7 @@ static inline int64_t seccompiler_rules_add(struct seccompiler_rules *filter, co
     return answer;
 }
 
-/* The same for the call of a number, such as SYS_write, or one that no name stands for. */
+/* The same for the call of a number, such as SYS_write, or one that has no name. */
 static inline int64_t seccompiler_rules_add_number(struct seccompiler_rules *filter, int64_t number, int count, ...)
 {
     char call[24];

@@ -1,6 +1,6 @@
 /*
- * Makes the call `getpid` as a 32-bit program does, by the interrupt 0x80 of x86, and prints what it returned: that is
- * this process's number. Where the kernel has no 32-bit calls, a signal ends the process. tools/try-jail builds it.
+ * Makes the call `getpid` as a 32-bit program does, by the interrupt 0x80 of x86, and prints what it returned: the number
+ * of this process. If the kernel has no 32-bit calls, a signal ends the process. tools/try-jail builds it.
  */
 
 #include <stdio.h>

@@ -1,9 +1,9 @@
 /*
  * Writes the seccomp programs that a command installs, or that a running process has, to files.
  *
- * A command is traced with its children, threads and other processes alike. Each call of seccomp(2) or prctl(2) that
- * installs a program gives a file, in the order in which the kernel took them; calls that it rejects give none. Of a
- * running process the kernel tells the programs of one thread (PTRACE_SECCOMP_GET_FILTER), the oldest first.
+ * A command is traced with its children, both threads and processes. Each call of seccomp(2) or prctl(2) that installs
+ * a program gives a file, in the order in which the kernel took them; calls that it rejects give none. For a running
+ * process the kernel returns the programs of one thread (PTRACE_SECCOMP_GET_FILTER), the oldest first.
  *
  * SPDX-License-Identifier: Apache-2.0 OR BSD-3-Clause
  */
@@ -56,7 +56,7 @@ static const char help[] =
 static const char *prefix = "caught";
 static unsigned written;
 
-/* What is known of a thread: the program that the call it is in installs, and the call's flags. */
+/* What is known of a thread: the program that its current call installs, and the call's flags. */
 struct thread {
     pid_t id;
     int installs;
@@ -68,7 +68,7 @@ struct thread {
 
 static struct thread *threads;
 
-/* Prints a name with bytes that a terminal may take for something else by number. */
+/* Prints a name. Bytes that may steer a terminal are written as numbers. */
 static void print_name(const char *name)
 {
     for (; *name; name++) {
@@ -193,7 +193,7 @@ static int read_memory(pid_t id, uint64_t from, void *to, size_t size)
     return 0;
 }
 
-/* The numbers of the two calls on an architecture, and how its programs' addresses are. */
+/* The numbers of the two calls on an architecture, and whether its addresses have 32 bits. */
 static const struct {
     uint32_t arch, prctl, seccomp, is_32_bits;
 } numbers[] = {
@@ -309,7 +309,7 @@ static int follow(void)
     return written ? CAUGHT : NONE;
 }
 
-/* Waits until the tracer is there, and runs the command; why it can't be run goes to the pipe. */
+/* Waits for the tracer, and runs the command. If it can't be run, writes the errno to the pipe. */
 static void run_command(char **command, int ready, int why)
 {
     char byte;

@@ -1,7 +1,7 @@
 /*
  * Calls the functions of include/seccompiler_rules.h and include/seccompiler_file.h, as C and as C++. Filters whose rules are
  * added in any order have to decide as the rules do one by one, and errors have their places. tools/check-library builds it
- * with each compiler. Prints what is otherwise, and as its last line 'N passed, M failed'.
+ * with each compiler. Prints each difference, and as its last line 'N passed, M failed'.
  */
 #include <linux/audit.h>
 
@@ -23,7 +23,7 @@ static void is(int64_t answer, int64_t wanted, const char *said, const char *wha
         printf("%s: %lld, %s\n  and not %lld, %s\n", what, (long long)answer, message, (long long)wanted, said);
 }
 
-/* A number below `below`, by chance, the same in each run. */
+/* A random number below `below`, the same in each run. */
 static uint32_t chance(uint32_t below)
 {
     static uint32_t state = 1;
@@ -32,7 +32,7 @@ static uint32_t chance(uint32_t below)
     return (state >> 8) % below;
 }
 
-/* ---- rules by chance: some calls, and up to three conditions on small arguments */
+/* ---- random rules: some calls, and up to three conditions on small arguments */
 
 enum { RULES = 12, CALLS = 4, CONDITIONS = 3 };
 

@@ -1,9 +1,8 @@
 /*
- * Calls the library for C as a program in C does: each function, each code, each text, with the figures
- * of the README and of docs/LAYOUTS.md; and each call that takes memory with all of its requests for
- * memory refused, and with each in turn. tools/check-library-rows.h has what is asked and answered,
- * tools/check-library builds and runs it. Prints each answer that is another than it should be, and as
- * its last line 'N passed, M failed'.
+ * Calls the library for C as a program in C does: each function, each code, each text, with the figures of the README
+ * and of docs/LAYOUTS.md. Each call that takes memory is made with all of its requests refused, and with each in turn.
+ * tools/check-library-rows.h has the questions and the answers, and tools/check-library builds and runs this. Prints
+ * each wrong answer, and as its last line 'N passed, M failed'.
  */
 #include "check-library-rows.h"
 

@@ -1,5 +1,6 @@
-"""The Rust crate of the package, tried where cargo is installed; a part of tools/check-package."""
+"""The Rust crate of the package, tried if cargo is installed; a part of tools/check-package."""
 
+import html
 import pathlib
 import re
 import shutil
@@ -17,10 +18,13 @@ REGISTRY = pathlib.Path("/usr/share/cargo/registry")
 DEBIAN = f'[source.crates-io]\nreplace-with = "debian"\n[source.debian]\ndirectory = "{REGISTRY}"\n'
 WANTING = {"libc": ("libc", 'libc = "0.2"\n'), "deserialize": ("serde", 'serde = "1"\n')}
 IN_KERNEL = {"kernel", "threads"}
+# What the front page of the crate's documentation says of hosts, and the terms that it explains.
+HOSTS = r"The crate runs on Linux on (\w+), [^.]*\. Hosts of (\w+) and (\w+) are missing"
+TERMS = ["condition", "rule", "filter", "match action", "mismatch action", "BPF program", "installs"]
 
 
 def cargo_environment():
-    """Returns the environment for cargo, in which the kit isn't found, or None where cargo isn't installed."""
+    """Returns the environment for cargo, in which the kit isn't found, or None if cargo isn't installed."""
     if shutil.which("rustc") is None:
         return None
     top = pathlib.Path(subprocess.check_output(["rustc", "--print", "sysroot"], text=True).strip())
@@ -80,10 +84,29 @@ def check_alone(results, unpacked, folder, environment):
             out, err, status = run(["cargo", command, "--offline", "--features", "json"], alone, **environment, **more)
             found = "isn't found" in err and "SECCOMPILER_LIB" in err and "rt lib" in err, status
             results.compare(f"cargo {command} without a library: {err[-500:]}", (True, wanted), found)
+    check_front_page(results, alone, named)
+
+
+def check_front_page(results, alone, named):
+    """Compares the hosts that the front page of the documentation names with those for which the build script links the library,
+    and looks for the terms."""
+    path = alone / "target/doc/seccompiler/index.html"
+    page = path.read_text(encoding="utf-8") if path.exists() else ""
+    text = " ".join(html.unescape(re.sub(r"<[^>]*>", "", page)).split())
+    script = next((alone / "target/debug/build").glob("seccompiler-*/build-script-build"), alone / "none")
+    links = {}
+    for host in ("x86_64", "aarch64", "riscv64"):
+        out, _, status = run([script], alone, CARGO_CFG_TARGET_OS="linux", CARGO_CFG_TARGET_ARCH=host, **named)
+        links[host] = status, "rustc-link-search" in out
+    hosts = re.search(HOSTS, text)
+    said = {host: (0, place == 0) for place, host in enumerate(hosts.groups())} if hosts else "none"
+    results.compare("the hosts that the crate's front page names", said, links)
+    explained = re.findall(r"<em>([^<]*)</em>", page)
+    results.compare("the terms that the crate's front page explains", TERMS, explained)
 
 
 def check_style(results, place, environment):
-    """Looks at the crate, its tests and the jailer over it by rustfmt and clippy, where they are installed."""
+    """Looks at the crate, its tests and the jailer over it by rustfmt and clippy, if they are installed."""
     top = TOP / "rust/seccompiler"
     sources = [it for part in ("*.rs", "src/*.rs", "tests/*.rs") for it in top.glob(part)]
     sources += (TOP / "examples/jail-rs/src").glob("*.rs")

@@ -1,9 +1,9 @@
 /*
- * Calls that stand before the C library's in a built program, and fall short as the environment says.
+ * Calls that a built program makes in place of the C library's, and that fall short as the environment says.
  * tools/running.py builds and preloads them.
  *
  * GRANTED: so many requests for memory are granted, and each after them is refused.
- * REFUSED: the request for memory of this number, counted from 1, is refused alone.
+ * REFUSED: only the request for memory of this number, counted from 1, is refused.
  * TOLD: a byte is written to this descriptor when the first request is refused.
  * DESCRIPTOR, AT_ONCE, BYTES and ERROR: a call that reads from this descriptor, or writes to it, passes at
  * most AT_ONCE bytes; after BYTES bytes in all each fails with this error number. Without ERROR none fails.
@@ -45,7 +45,7 @@ void *realloc(void *block, size_t size) {
     return is_refused() ? NULL : given(block, size);
 }
 
-/* How many bytes a call of this size may pass, or -1 where it fails. */
+/* How many bytes a call of this size may pass, or -1 if it fails. */
 static ssize_t passes(int descriptor, size_t size) {
     static ssize_t passed;
     ssize_t most = (ssize_t)size, at_once = number("AT_ONCE", 0), left = number("BYTES", 0) - passed;

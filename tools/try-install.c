@@ -1,7 +1,7 @@
 /*
- * Tries seccompiler_install on the running kernel, and prints a line of each answer that isn't as it has to
- * be: tools/try-jail builds it as C and as C++. Each case runs in a process of its own, since filters stay.
- * The last line is 'N passed, M failed'; the status is 1 where anything fails.
+ * Tries seccompiler_install on the running kernel, and prints a line for each case that fails. tools/try-jail
+ * builds it as C and as C++. Each case runs in a process of its own, since filters stay. The last line is
+ * 'N passed, M failed'; the exit status is 1 if a case fails.
  */
 
 #include <seccompiler_install.h>
@@ -11,12 +11,12 @@
 #include <string.h>
 #include <sys/wait.h>
 
-/* What an earlier filter answers a call with, in place of the kernel: an error number that no kernel gives. */
+/* The errno with which an earlier filter answers a call in place of the kernel. No kernel returns it. */
 #define OWN_ERROR 1000
 
 enum { PROGRAM = 4 };
 
-/* Makes the program that answers the call of this number with an error number, and allows the rest. */
+/* Makes the program that answers the call of this number with an errno, and allows the rest. */
 static void make(struct sock_filter program[PROGRAM], unsigned int number, unsigned int error)
 {
     static const struct sock_filter parts[PROGRAM] = {

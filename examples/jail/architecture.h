@@ -1,8 +1,8 @@
 /*
- * The word of the architecture that a program is built for, as the kernel gives it to a filter, and its name.
+ * The AUDIT_ARCH_* value of the architecture that a program is built for, and the architecture's name.
  *
- * Filters are compiled for three architectures, and these lines are the same on each. The archive that
- * programs link is built for x86_64 alone, so for now no other is reached.
+ * Filters are compiled for three architectures. The archive that programs link is built only for x86_64, so for now
+ * only the first of these branches is used.
  */
 
 #ifndef ARCHITECTURE_H

@@ -48,7 +48,7 @@ static _Noreturn void fail(const char *word, const char *reason)
     exit(FAILED);
 }
 
-/* Reads a number of 64 bits; a sign turns it around, as in -1. If the word is none, ends with the reason. */
+/* Reads a number of 64 bits; a sign negates it, as in -1. If the word isn't a number, ends with the reason. */
 static unsigned long number_of(const char *word, const char *reason)
 {
     char *end;

@@ -72,7 +72,7 @@ struct options {
     int closes;
 };
 
-/* A file, the text of a policy that it is, and what is asked for. */
+/* A file, its text if it is a policy, and what is asked for. */
 struct policy {
     const char *path;
     char *text;
@@ -80,7 +80,7 @@ struct policy {
     struct options options;
 };
 
-/* What is to be installed: so many instructions of the array, of the filter of this name. */
+/* A program to install: the first `length` instructions of the array, and the name of its filter. */
 struct program {
     struct sock_filter instructions[BPF_MAXINSNS];
     unsigned short length;
@@ -102,7 +102,7 @@ static void begin(const char *what)
     fputs(": ", stderr);
 }
 
-/* Reports what stands in the way of something, and ends with this exit status. */
+/* Reports why something can't be done, and ends with this exit status. */
 static _Noreturn void fail_for(int status, const char *what, const char *why)
 {
     begin(what);
@@ -188,7 +188,7 @@ static struct program *compile_each(struct policy *policy, char *names, size_t *
 /* The bytes of a program, and one more: so much of a file is read, however long it is. */
 static char bytes_of_program[BPF_MAXINSNS * sizeof(struct sock_filter) + 1];
 
-/* Takes the instructions that so many bytes are. If they are none, or more than the kernel takes, ends. */
+/* Takes the instructions of so many bytes. If these aren't whole instructions, or are more than the kernel takes, ends. */
 static void take_program(size_t length, const char *path, struct program *program)
 {
     const size_t most = sizeof bytes_of_program - 1;
@@ -281,7 +281,7 @@ static size_t read_output(char **words, const char *path)
     return length;
 }
 
-/* Has seccomptool compile a profile, with so many of the words as options. */
+/* Compiles a profile by seccomptool, with so many of the words as options. */
 static void compile_profile(char **words, size_t count, const char *path, struct program *program)
 {
     static char *const front[] = {"seccomptool", "compile", "--oci", "-a", ARCHITECTURE_NAME};

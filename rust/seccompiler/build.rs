@@ -1,16 +1,17 @@
 //! Finds the proved library for C, and links it.
 //!
-//! It is looked for, in this order,
+//! If the environment variable `SECCOMPILER_LIB` is set, the library is in the folder that it names. Otherwise these
+//! folders are searched, in this order:
 //!
-//! 1. in the folder that the environment variable `SECCOMPILER_LIB` names;
-//! 2. where this crate lies in a package or an installation: `lib` at its top;
-//! 3. where this crate lies in the repository: where `rt lib` puts it;
-//! 4. where pkg-config finds `seccompiler`.
+//! 1. `lib` of the package or the installation that this crate is part of;
+//! 2. the folder into which `rt lib` writes, if this crate is part of the repository;
+//! 3. the folder that pkg-config prints for `seccompiler`.
 //!
-//! A package has `libseccompiler.a`, which is whole. What `rt lib` makes, `libseccompiler_c.a`, wants an archive of the
-//! kit as well, through which it asks for memory: in the folder that `RATTLE_KIT` names, or in the kit of `rt`.
+//! A package has `libseccompiler.a`, which is whole. `rt lib` makes `libseccompiler_c.a`, which also needs an archive of
+//! the kit, by which it asks for memory. That is in the folder that `RATTLE_KIT` names, or in the kit of `rt`.
 //!
-//! If it isn't found, a warning says what to do, and only what links fails: `cargo check`, `doc` and `clippy` don't.
+//! If the library isn't found, a warning says what to do. Then only linking fails: `cargo check`, `doc` and `clippy`
+//! work.
 
 use std::env;
 use std::path::{Path, PathBuf};
@@ -24,12 +25,12 @@ const INSTALLED: &str = "../../../../lib";
 const BUILT: &str = "../../crates/seccompiler_c/out";
 
 const ADVICE: &str = "\
-The proved library for C isn't found, which this crate is a layer over. Either
-  - set SECCOMPILER_LIB to the folder of a package that has libseccompiler.a, as /usr/local/lib;
+This crate uses the proved library for C, which isn't found. Either
+  - set SECCOMPILER_LIB to the folder of a package that has libseccompiler.a, such as /usr/local/lib;
   - or set PKG_CONFIG_PATH so that `pkg-config --variable=libdir seccompiler` prints that folder;
   - or, with the Rattle kit, run `rt lib` in crates/seccompiler_c of the repository.";
 
-/// Returns what a command prints in one line, where it can be run and ends well.
+/// Returns the line that a command prints, if it can be run and succeeds.
 fn printed(command: &str, words: &[&str]) -> Option<String> {
     let ran = Command::new(command).args(words).output().ok()?;
     let line = String::from_utf8(ran.stdout).ok()?.trim().to_string();
@@ -45,7 +46,7 @@ fn kit() -> Option<PathBuf> {
     Some(top.join("c")).filter(|folder| folder.join("liblibc_c.a").exists())
 }
 
-/// Returns the folders where the library may be, the first one first.
+/// Returns the folders in which the library may be, in the order in which they are searched.
 fn places() -> Vec<PathBuf> {
     if let Some(named) = env::var_os("SECCOMPILER_LIB") {
         return vec![PathBuf::from(named)];
@@ -69,7 +70,7 @@ fn link(folder: &Path, archive: &str) {
 fn link_library() -> Result<(), String> {
     let target = |part| env::var(part).unwrap_or_default();
     if target("CARGO_CFG_TARGET_OS") != "linux" || target("CARGO_CFG_TARGET_ARCH") != "x86_64" {
-        return Err("The proved library runs on Linux on x86_64 alone.".to_string());
+        return Err("The proved library runs only on Linux on x86_64.".to_string());
     }
     let places = places();
     for folder in &places {
@@ -79,8 +80,8 @@ fn link_library() -> Result<(), String> {
         }
         if folder.join(BARE).exists() {
             let kit = kit().ok_or(
-                "The archive of `rt lib` wants liblibc_c.a of the Rattle kit: `rt` has to be on the path, \
-                 or RATTLE_KIT to name the kit's folder.",
+                "The archive of `rt lib` needs liblibc_c.a of the Rattle kit: put `rt` on the path, or set \
+                 RATTLE_KIT to the kit's folder.",
             )?;
             link(folder, BARE);
             link(&kit, "liblibc_c.a");
@@ -104,7 +105,7 @@ fn main() {
         for line in text.lines() {
             println!("cargo:warning={line}");
         }
-        // rustc looks for it as soon as it makes more than metadata.
+        // rustc searches for it when it makes more than metadata.
         println!("cargo:rustc-link-lib=static=seccompiler");
     }
 }

@@ -1,4 +1,4 @@
-//! The two calls that the standard library doesn't make for a program. All that is `unsafe` in the jailer stands here.
+//! The two calls that the standard library doesn't offer. All `unsafe` code of the jailer is here.
 
 use std::ffi::{c_int, c_long};
 use std::io;

@@ -25,11 +25,11 @@ pub const MOST_BYTES: usize = 8 * 4096;
 
 /// What keeps a command from being run.
 pub enum Failure {
-    /// The arguments ask for nothing.
+    /// The arguments are none of the forms.
     Words,
     /// A file can't be read, or descriptors can't be closed.
     File(OsString, io::Error),
-    /// The file has so many bytes, which are no instructions, or more than the kernel takes.
+    /// The file has so many bytes, which aren't whole instructions, or are more than the kernel takes.
     Program(OsString, usize),
     /// `seccomptool` can't be run.
     Tool(io::Error),
@@ -43,13 +43,13 @@ pub enum Failure {
     NoFilter(OsString, OsString),
     /// The policy has none or several, and none was named.
     NotOne(OsString, &'static str),
-    /// The kernel doesn't take the program of the filter of this name, and what it may take.
+    /// The kernel rejects the program of the filter of this name, with a hint on why.
     Install(OsString, OsString, seccompiler::Error, &'static str),
     /// The command can't be run.
     Command(OsString, io::Error),
 }
 
-/// Returns a text whose bytes that aren't printable ASCII are written as numbers, since they may steer a terminal.
+/// Returns the text with each byte that isn't printable ASCII as a number, since it may steer a terminal.
 fn shown(text: &OsStr) -> String {
     let byte = |byte: &u8| match byte {
         b' '..=b'~' => char::from(*byte).to_string(),

@@ -1,9 +1,9 @@
 //! `jail-rs`: runs a command under seccomp filters, as `examples/jail/jail.c` does, whose `--help` says how.
 //!
 //! The filters are installed in the order in which they are named, so each but the last has to allow `prctl` and
-//! `seccomp`; if one answers `seccomp` with errno 0, the next one isn't installed, and nothing reports it. They hold
-//! for the last steps of this program already: it makes `rt_sigprocmask`, `rt_sigaction` and `execve`, and if that
-//! fails, `write` and `exit_group`.
+//! `seccomp`. If one answers `seccomp` with errno 0, the next one isn't installed, and nothing reports it. They also
+//! hold for the last steps of this program: it makes `rt_sigprocmask`, `rt_sigaction` and `execve`, and if that fails,
+//! `write` and `exit_group`.
 
 #![deny(unsafe_code)]
 
@@ -117,7 +117,7 @@ fn compiled_profile(options: &[OsString], path: &OsStr) -> Result<Vec<u8>, Failu
     }
 }
 
-/// Installs the programs for all threads, one after the other. Each holds for what installs the next.
+/// Installs the programs for all threads, one after the other. Each also filters the calls that install the next.
 fn install(path: &OsStr, programs: &Programs, flags: c_ulong) -> Result<(), Failure> {
     let mut hint = "";
     for (name, program) in programs {
@@ -136,14 +136,14 @@ fn options(mut words: &[OsString]) -> (Options, &[OsString]) {
         flags,
         closes,
     };
-    while let [word, behind @ ..] = words {
+    while let [word, rest @ ..] = words {
         match word.as_bytes() {
             b"--tree" => options.layout = Layout::Tree,
             b"--log" => options.flags = SECCOMP_FILTER_FLAG_LOG,
             b"--close-fds" => options.closes = true,
             _ => break,
         }
-        words = behind;
+        words = rest;
     }
     (options, words)
 }
@@ -164,7 +164,7 @@ type Jailed<'a> = (&'a OsStr, Programs, &'a [OsString]);
 /// Takes filters of a policy.
 fn of_policy(words: &[OsString], layout: Layout) -> Result<Jailed<'_>, Failure> {
     let words = match words {
-        [front, behind @ ..] if front == "--" => behind,
+        [front, rest @ ..] if front == "--" => rest,
         [front, ..] if front.as_bytes().starts_with(b"--") => return Err(Failure::Words),
         _ => words,
     };
@@ -206,7 +206,7 @@ fn of_profile(words: &[OsString]) -> Result<Jailed<'_>, Failure> {
     Ok((path, program_of(path, &bytes)?, command))
 }
 
-/// Does what the arguments ask for. If it goes well this program is gone, and the command in its place.
+/// Does what the arguments ask for. If it succeeds, the command has replaced this program.
 fn jail(words: &[OsString]) -> Result<(), Failure> {
     let (options, words) = options(words);
     let (path, programs, command) = match words {
@@ -215,8 +215,8 @@ fn jail(words: &[OsString]) -> Result<(), Failure> {
         {
             return Err(Failure::Words)
         }
-        [first, behind @ ..] if first == "--program" => of_program(behind)?,
-        [first, behind @ ..] if first == "--oci" => of_profile(behind)?,
+        [first, rest @ ..] if first == "--program" => of_program(rest)?,
+        [first, rest @ ..] if first == "--oci" => of_profile(rest)?,
         _ => of_policy(words, options.layout)?,
     };
     if options.closes {

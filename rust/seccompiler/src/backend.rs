@@ -1,4 +1,4 @@
-//! What filters are made of: architectures, operators, lengths, actions, and why there is no filter.
+//! Architectures, operators, lengths and actions of filters, and the errors.
 
 use crate::library;
 use std::error;
@@ -96,7 +96,7 @@ impl TryFrom<&str> for TargetArch {
     ///
     /// # Errors
     ///
-    /// `InvalidTargetArch` with the text, where it is none of the three names.
+    /// `InvalidTargetArch` with the text, if it is none of the three names.
     fn try_from(name: &str) -> Result<Self, BackendError> {
         let all = [
             ("x86_64", TargetArch::x86_64),
@@ -185,7 +185,7 @@ pub enum SeccompAction {
 }
 
 impl SeccompAction {
-    /// Returns the action's kind, as `linux/seccomp.h` has it, and its data, which is 0 where it has none.
+    /// Returns the action's kind, as `linux/seccomp.h` has it, and its data, or 0 if it has none.
     pub(crate) fn kind_and_data(&self) -> (u32, u32) {
         match *self {
             SeccompAction::Allow => (0x7fff_0000, 0),

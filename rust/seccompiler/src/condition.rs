@@ -14,14 +14,14 @@ pub struct SeccompCondition {
 }
 
 impl SeccompCondition {
-    /// Makes the condition that the argument of this index compares so with the value.
+    /// Makes a condition: the argument of this index is compared with the value by the operator.
     ///
-    /// With `Dword` the low 4 bytes of the argument, of the value and of a mask count, and the upper
-    /// bytes of the argument may be anything.
+    /// With `Dword` only the low 4 bytes of the argument, of the value and of a mask count. The upper bytes may be
+    /// anything.
     ///
     /// # Errors
     ///
-    /// `InvalidArgumentNumber` where the index is above 5.
+    /// `InvalidArgumentNumber` if the index is above 5.
     ///
     /// # Examples
     ///

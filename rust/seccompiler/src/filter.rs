@@ -19,12 +19,12 @@ pub struct SeccompFilter {
 impl SeccompFilter {
     /// Makes a filter of rules under the numbers of system calls.
     ///
-    /// It matches a call where one of the rules under its number does, and always where there is an empty list of
-    /// rules. A call of another architecture than `target_arch` kills the process.
+    /// It matches a call if one of the rules under the call's number does, or if the list of rules there is empty. A call
+    /// of another architecture than `target_arch` kills the process.
     ///
     /// # Errors
     ///
-    /// `IdenticalActions` where the two actions are the same, with the same data.
+    /// `IdenticalActions` if the two actions are the same, with the same data.
     ///
     /// # Examples
     ///
@@ -67,9 +67,9 @@ impl SeccompFilter {
     /// # Errors
     ///
     /// - `InvalidSyscallNumber` with the least number that is below 0 or above 4294967295;
-    /// - `FilterTooLarge` with the program's length, where that is more than 4096; of a tree, whose length isn't
-    ///   counted then, with 4097;
-    /// - `OutOfMemory` where memory runs out.
+    /// - `FilterTooLarge` if the program would have more than 4096 instructions: with its length in the linear layout,
+    ///   with 4097 in the tree layout, in which a length above 4096 isn't counted;
+    /// - `OutOfMemory` if memory runs out.
     ///
     /// # Examples
     ///
@@ -96,7 +96,7 @@ impl SeccompFilter {
     /// Returns what the filter decides for a call record, without making a program: `SECCOMP_RET_*` with its data.
     ///
     /// A call record is the 64 bytes of a `struct seccomp_data` of `linux/seccomp.h`, little-endian. The answer is
-    /// the match action where the filter matches the call, the mismatch action where it doesn't, and
+    /// the match action if the filter matches the call, the mismatch action if it doesn't, and
     /// `SECCOMP_RET_KILL_PROCESS` for a record of another architecture.
     ///
     /// An addition.
@@ -104,7 +104,7 @@ impl SeccompFilter {
     /// # Errors
     ///
     /// - `InvalidSyscallNumber` with the least number that is below 0 or above 4294967295;
-    /// - `OutOfMemory` where memory runs out.
+    /// - `OutOfMemory` if memory runs out.
     ///
     /// # Examples
     ///
@@ -135,7 +135,7 @@ impl SeccompFilter {
         }
     }
 
-    /// Returns what a code means that stands for another fault of the filter.
+    /// Returns the error that a code stands for, unless the filter is too large.
     fn rejection(&self, code: i64) -> BackendError {
         let is_outside = |number: &&i64| u32::try_from(**number).is_err();
         match self.rules.keys().find(is_outside) {

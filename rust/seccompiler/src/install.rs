@@ -11,15 +11,15 @@ const EINVAL: i32 = 22;
 
 /// Installs a program for the calling thread.
 ///
-/// New privileges are ruled out first, by `prctl(PR_SET_NO_NEW_PRIVS, 1, 0, 0, 0)`, which can't be undone; nor can
-/// a program be taken off.
+/// First it sets no_new_privs of the thread, by `prctl(PR_SET_NO_NEW_PRIVS, 1, 0, 0, 0)`. Neither this nor the program
+/// can be taken back.
 ///
 /// # Errors
 ///
-/// - `EmptyFilter` where the program has no instructions. Nothing was done then.
-/// - `Prctl` where new privileges can't be ruled out, with the kernel's errno.
-/// - `Seccomp` where the kernel doesn't take the program, with its errno: `EINVAL` for more than 4096 instructions,
-///   which is also the answer, with nothing done, for more than 65535, which no kernel can be handed.
+/// - `EmptyFilter` if the program has no instructions. Then neither call was made.
+/// - `Prctl` if no_new_privs can't be set, with the kernel's errno.
+/// - `Seccomp` if the kernel rejects the program, with its errno: `EINVAL` for more than 4096 instructions. For more than
+///   65535, which can't be passed to a kernel, it is `EINVAL` too, and neither call was made.
 ///
 /// # Examples
 ///
@@ -45,8 +45,8 @@ pub fn apply_filter(bpf_filter: BpfProgramRef<'_>) -> Result<()> {
 ///
 /// # Errors
 ///
-/// Those of [`apply_filter`]; and `ThreadSync` where a thread can't take the program, as it has a filter that the
-/// calling thread doesn't have. No thread has taken the program then.
+/// Those of [`apply_filter`]; and `ThreadSync` if a thread has a filter that the calling thread doesn't have. Then no
+/// thread got the program.
 pub fn apply_filter_all_threads(bpf_filter: BpfProgramRef<'_>) -> Result<()> {
     apply_filter_with_flags(bpf_filter, SECCOMP_FILTER_FLAG_TSYNC)
 }
@@ -57,8 +57,8 @@ pub fn apply_filter_all_threads(bpf_filter: BpfProgramRef<'_>) -> Result<()> {
 ///
 /// # Errors
 ///
-/// Those of [`apply_filter`]; and `ThreadSync` if `seccomp` returns a positive number, which with
-/// `SECCOMP_FILTER_FLAG_TSYNC` is that of a thread, and with `SECCOMP_FILTER_FLAG_NEW_LISTENER` a descriptor.
+/// Those of [`apply_filter`]; and `ThreadSync` if `seccomp` returns a positive number. With
+/// `SECCOMP_FILTER_FLAG_TSYNC` that is the number of a thread, and with `SECCOMP_FILTER_FLAG_NEW_LISTENER` a descriptor.
 pub fn apply_filter_with_flags(bpf_filter: BpfProgramRef<'_>, flags: c_ulong) -> Result<()> {
     if bpf_filter.is_empty() {
         return Err(Error::EmptyFilter);
@@ -66,7 +66,7 @@ pub fn apply_filter_with_flags(bpf_filter: BpfProgramRef<'_>, flags: c_ulong) ->
     let Ok(length) = u16::try_from(bpf_filter.len()) else {
         return Err(Error::Seccomp(io::Error::from_raw_os_error(EINVAL)));
     };
-    sys::rule_out_new_privileges().map_err(Error::Prctl)?;
+    sys::set_no_new_privs().map_err(Error::Prctl)?;
     match sys::set_mode_filter(bpf_filter, length, flags) {
         Ok(0) => Ok(()),
         Ok(thread) => Err(Error::ThreadSync(thread)),

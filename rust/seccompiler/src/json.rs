@@ -19,10 +19,10 @@ const MESSAGE_PER_BYTE: usize = 4;
 /// Room for a message that shows nothing of the policy.
 const SHORT_MESSAGE: usize = 256;
 
-/// How the messages of texts begin that are no JSON.
+/// How a message begins if the text isn't JSON.
 const NO_JSON: [&str; 2] = ["Error parsing Json: ", "Repeated key"];
 
-/// Why a text gives no filters, by kinds of causes.
+/// Why a text gives no filters.
 ///
 /// The crate's error has three variants too, but can't be named outside of it.
 #[derive(Debug)]
@@ -30,9 +30,9 @@ const NO_JSON: [&str; 2] = ["Error parsing Json: ", "Repeated key"];
 pub enum JsonFrontendError {
     /// The reader failed.
     Read(io::Error),
-    /// The text is no JSON in UTF-8, nests too deep, or repeats a key: a sentence that says so.
+    /// The text isn't JSON in UTF-8, nests too deep, or repeats a key. The sentence says which.
     Json(String),
-    /// The text is JSON, and not a policy for the architecture: the path of the place, and what is wrong there.
+    /// The text is JSON, but not a policy for the architecture: the path of the place, and what is wrong there.
     Policy(String),
 }
 
@@ -60,10 +60,10 @@ impl fmt::Display for JsonFrontendError {
 ///
 /// # Errors
 ///
-/// - `JsonFrontend` where the reader fails, or the policy is rejected: it is no JSON, has another form, names an
-///   unknown system call, or one of its filters is none.
-/// - `Backend` with `FilterTooLarge` where a program would have more than 4096 instructions, of the first such
-///   filter by name; with `OutOfMemory` where memory runs out.
+/// - `JsonFrontend` if the reader fails, or if the policy is rejected: it isn't JSON, has the wrong form, names an
+///   unknown system call, or has a filter with a fault;
+/// - `Backend` with `FilterTooLarge` if a program would have more than 4096 instructions, for the first such filter by
+///   name; with `OutOfMemory` if memory runs out.
 ///
 /// # Examples
 ///
@@ -133,8 +133,8 @@ pub fn compile_from_json_in<R: Read>(
     Ok(programs)
 }
 
-/// The members of an object that a JSON text is, each as it stands there, without the commas between. The library has
-/// accepted the text: so it is whole, and needs no other look.
+/// The members of the object that a JSON text is, each as it stands there, without the commas between. The library has
+/// accepted the text, so it is whole and isn't checked again.
 struct Members<'a>(&'a [u8]);
 
 impl<'a> Iterator for Members<'a> {
@@ -184,7 +184,7 @@ impl<'a> Policy<'a> {
         })
     }
 
-    /// Returns the policy that has this member of another one alone, which was accepted. So each filter is read three times,
+    /// Returns the policy that has only this member of another one, which was accepted. So each filter is read three times,
     /// however many there are.
     fn of_member(member: &[u8], arch: TargetArch) -> Result<Self> {
         let mut text = reserved(member.len() + 2)?;
@@ -199,7 +199,7 @@ impl<'a> Policy<'a> {
         })
     }
 
-    /// Asks whether the library accepts all filters. Whether there is one with the empty name doesn't matter, nor how large.
+    /// Asks whether the library accepts all filters. It doesn't matter whether one has the empty name, or how large it is.
     fn accept(&mut self, layout: Layout) -> Result<()> {
         let filter = Named {
             policy: &self.text,
@@ -214,7 +214,7 @@ impl<'a> Policy<'a> {
 
     /// Returns the name of the first filter.
     fn name(&mut self) -> Result<String> {
-        // A name stands in the text, and a byte 0 behind it here.
+        // A name is part of the text, and a byte 0 follows it here.
         let mut room = filled(0, self.text.len().saturating_add(1))?;
         let answer = sys::filter_name(&self.text, 0, &mut room, &mut self.message);
         match usize::try_from(answer) {
@@ -240,7 +240,7 @@ impl<'a> Policy<'a> {
 
     /// Returns the error of a code, of which the message is written.
     fn rejection(&self, code: i64) -> Error {
-        // The message ends in a byte 0, and behind it is what was there before: zeros.
+        // The message ends in a byte 0, and only zeros follow, which were there before.
         let end = self.message.iter().rposition(|byte| *byte != 0);
         let message = match library::text(&self.message[..end.map_or(0, |last| last + 1)]) {
             Ok(message) => message,
@@ -262,6 +262,6 @@ impl<'a> Policy<'a> {
 
 /// Returns the length that the message of a filter that is too large names.
 fn too_large(message: &str) -> Option<usize> {
-    let (_, behind) = message.split_once("BPF instructions: ")?;
-    behind.split_once('.')?.0.parse().ok()
+    let (_, rest) = message.split_once("BPF instructions: ")?;
+    rest.split_once('.')?.0.parse().ok()
 }

@@ -1,38 +1,37 @@
 //! The interface of the crate `seccompiler` 0.5.0, over a proved compiler of seccomp filters.
 //!
-//! Seccomp is the kernel's filter of system calls: a program of classic BPF is installed for a thread or a process,
-//! runs at each of its system calls, and says whether the call is made. This crate makes such programs of filters, and
+//! With seccomp the kernel filters system calls: a BPF program is installed for a thread or a process, runs at each of
+//! its system calls, and returns an action, such as to allow the call. This crate compiles filters to BPF programs and
 //! installs them.
 //!
-//! - A [`SeccompCondition`] compares one argument of a call with a value.
-//! - A [`SeccompRule`] is a list of conditions, and matches a call where all of them hold.
-//! - A [`SeccompFilter`] has rules under the numbers of system calls, and two actions: one for calls that are
-//!   matched by a rule under their number, and one for all others. An empty list of rules matches its call always.
-//! - A [`BpfProgram`] is made of a filter by `try_into`, and [`apply_filter`] or [`apply_filter_all_threads`] hands it
-//!   to the kernel.
-//! - `compile_from_json`, with the feature `json`, makes programs of a JSON text.
+//! - A *condition* ([`SeccompCondition`]) compares one argument of a call with a value.
+//! - A *rule* ([`SeccompRule`]) is a list of conditions. It matches a call if all of them hold.
+//! - A *filter* ([`SeccompFilter`]) has rules under the numbers of system calls. A call gets the *match action* if one
+//!   of the rules under its number matches it, or if the list of rules there is empty. Any other call gets the
+//!   *mismatch action*.
+//! - A *BPF program* ([`BpfProgram`]) is compiled from a filter by `try_into`. [`apply_filter`] *installs* it for the
+//!   calling thread, and [`apply_filter_all_threads`] for all threads of the process.
+//! - `compile_from_json`, with the feature `json`, compiles the filters of a JSON text.
 //!
-//! The types hold data. What is accepted, decided and compiled is asked of the project's library for C, which is linked
-//! in, and of whose functions it is proved what they answer. Of this crate nothing is proved: that it hands over what it
-//! holds, declares the library's functions as their header does, and calls the kernel, is for its reader to see, and
-//! is tested.
+//! The project's library for C, which is linked in, decides what is accepted and compiles it. What its functions return
+//! is proved. Nothing of this crate is proved. It passes data to the library, declares the library's functions as
+//! their header does, and calls the kernel. This is tested, and short enough to read.
 //!
 //! # What differs from the crate
 //!
 //! Names, types and traits are those of the crate, and programs are equal byte for byte. But:
 //!
-//! - **An entry of a JSON filter without `args` matches its call always.** In the crate it has no effect beside entries
-//!   with `args` for the same call. This may permit more: `seccomptool check` warns of such calls.
-//! - A program of exactly 4096 instructions, which is the most that a kernel takes, is made; the crate rejects it.
+//! - **An entry of a JSON filter without `args` always matches its call.** In the crate it has no effect if the call also
+//!   has entries with `args`. This may permit more: `seccomptool check` warns of such calls.
+//! - A program of exactly 4096 instructions, the most that a kernel takes, is compiled; the crate rejects it.
 //! - A number of a system call that is below 0 or above 4294967295 is the error
 //!   [`BackendError::InvalidSyscallNumber`]; the crate panics.
-//! - Where memory runs out, calls that return a `Result` return [`BackendError::OutOfMemory`]; the crate aborts.
-//!   So a `match` on [`BackendError`] without a last arm `_` wants arms for these two.
-//! - The error of the JSON front end, `JsonFrontendError`, has a name, and its three variants are these causes: the
-//!   reader, the text, the policy. Texts of a wrong form are the library's own, and of several faults another one may be
-//!   named first. Forms of JSON filters that the crate takes beside the documented ones, as `{"allow": null}`, are
-//!   rejected.
-//! - [`apply_filter`] rejects a program of more than 65535 instructions, where the crate cuts off its end.
+//! - If memory runs out, calls that return a `Result` return [`BackendError::OutOfMemory`]; the crate aborts.
+//!   So a `match` on [`BackendError`] without an arm `_` needs arms for these two.
+//! - The error of the JSON front end can be named, `JsonFrontendError`. Its three variants are the causes: the reader,
+//!   the text, the policy. The library writes the messages of policies, and may report another one of several faults.
+//!   Forms of JSON filters that the crate takes and doesn't document, such as `{"allow": null}`, are rejected.
+//! - [`apply_filter`] rejects a program of more than 65535 instructions; the crate cuts off its end.
 //! - `Deserialize` of [`SeccompCmpOp`], [`SeccompCmpArgLen`] and [`SeccompAction`] comes with the feature `serde`, which
 //!   is off by default, and not with `json`.
 //!
@@ -41,13 +40,15 @@
 //!
 //! # Features and hosts
 //!
-//! `json` has `compile_from_json`, and `serde` has `Deserialize` of operators, lengths and actions. The library is built
-//! for Linux on x86_64. On other hosts, such as aarch64 and riscv64, and without the library, `cargo check`, `doc` and
-//! `clippy` work, and what links fails. Filters may be for all three.
+//! `json` has `compile_from_json`, and `serde` has `Deserialize` of operators, lengths and actions.
+//!
+//! The crate runs on Linux on x86_64, for which the library's archive is built. Hosts of aarch64 and riscv64 are missing:
+//! on them, and if the library isn't found, `cargo check`, `doc` and `clippy` work, and linking fails. Filters are
+//! compiled for x86_64, aarch64 and riscv64.
 //!
 //! # Examples
 //!
-//! Only output to standard output and standard error is written, and what ends the process:
+//! This filter allows output to standard output and standard error, and the end of the process:
 //!
 //! ```
 //! use seccompiler::{
@@ -72,7 +73,7 @@
 //! # Ok::<(), seccompiler::BackendError>(())
 //! ```
 //!
-//! `seccompiler::apply_filter(&program)?` installs it.
+//! `seccompiler::apply_filter(&program)?` installs the program.
 
 #![deny(missing_docs, unsafe_op_in_unsafe_fn, unsafe_code)]
 #![warn(clippy::undocumented_unsafe_blocks)]

@@ -1,7 +1,7 @@
 //! What is asked of the library, and what its codes mean here.
 //!
-//! The types of this crate hold data. Whether they are accepted, what they decide and which program they have is
-//! the library's to say.
+//! The types of this crate hold data. The library says whether they are accepted, what they decide and which program
+//! they have.
 
 use crate::backend::{BackendError, SeccompAction, TargetArch};
 use crate::program::{sock_filter, BpfProgram, Layout, BLANK};
@@ -19,8 +19,8 @@ const EMPTY_RULE: i64 = -16;
 const EQUAL_ACTIONS: i64 = -17;
 pub(crate) const BAD_NUMBER: i64 = -19;
 
-/// A filter that has no fault of its own, but that its actions are equal: so the library takes no memory for it, and
-/// says so where it finds no other fault.
+/// A filter whose only fault is that its actions are equal. So the library takes no memory for it, and reports this
+/// fault if it finds no other.
 const EQUAL: Arrays<'static> = Arrays {
     chains: &[],
     rules: &[],
@@ -30,20 +30,18 @@ const EQUAL: Arrays<'static> = Arrays {
     architecture: TargetArch::x86_64.audit_arch(),
 };
 
-/// Returns what a code means that stands for no fault of a whole filter.
+/// Returns the error that a code stands for. The errors of all other codes have data of the filter.
 pub(crate) fn rejection(code: i64) -> BackendError {
     match code {
         OUT_OF_MEMORY => BackendError::OutOfMemory,
         BAD_ARGUMENT => BackendError::InvalidArgumentNumber,
         EMPTY_RULE => BackendError::EmptyRule,
         EQUAL_ACTIONS => BackendError::IdenticalActions,
-        _ => unreachable!(
-            "the library gives the code {code}, which stands for nothing that was asked"
-        ),
+        _ => unreachable!("the library returned {code}, which its header doesn't list here"),
     }
 }
 
-/// Asks for the first fault of a filter; `last` is the code of one that it has, behind those that are asked for.
+/// Asks for the first fault of a filter. `last` is the code of a fault that it has, which comes after those asked for.
 fn accept(filter: Arrays<'_>, last: i64) -> Result<(), BackendError> {
     match sys::compile_rules(filter, Layout::Linear as u32, &mut []) {
         code if code == last => Ok(()),
@@ -67,7 +65,7 @@ pub(crate) fn accept_rule(conditions: &[Condition]) -> Result<(), BackendError> 
     accept(filter, EQUAL_ACTIONS)
 }
 
-/// Returns the code of the rule of these conditions, without a return behind it.
+/// Returns the code of the rule of these conditions. No return follows it.
 pub(crate) fn rule_code(conditions: &[Condition]) -> Result<BpfProgram, BackendError> {
     // A condition takes at most 6 instructions, a rule 2 more, and 3 more for each 248 of its conditions' or fewer.
     let most = conditions.len().saturating_mul(7).saturating_add(2);
@@ -84,7 +82,7 @@ pub(crate) fn accept_actions(
     matched: &SeccompAction,
 ) -> Result<(), BackendError> {
     let filter = Arrays {
-        // No number of a call, and the fault behind that of equal actions.
+        // No call has this number, a fault that comes after that of equal actions.
         chains: &[Chain {
             number: -1,
             rules: 0,
@@ -119,7 +117,7 @@ pub(crate) fn reserved<T>(count: usize) -> Result<Vec<T>, BackendError> {
     }
 }
 
-/// Returns the text of bytes in UTF-8, which what the library writes is; what isn't is replaced.
+/// Returns the text of bytes in UTF-8, as the library writes them. Other bytes are replaced.
 pub(crate) fn text(bytes: &[u8]) -> Result<String, BackendError> {
     let text = String::from_utf8_lossy(bytes);
     let mut copy = String::new();

@@ -24,9 +24,9 @@ pub(crate) const BLANK: sock_filter = sock_filter {
 pub struct sock_filter {
     /// The operation.
     pub code: u16,
-    /// How many instructions a tested jump skips where its test is true.
+    /// How many instructions a tested jump skips if its test is true.
     pub jt: u8,
-    /// How many instructions a tested jump skips where its test is false.
+    /// How many instructions a tested jump skips if its test is false.
     pub jf: u8,
     /// The operand.
     pub k: u32,
@@ -73,8 +73,8 @@ impl fmt::Display for ProgramError {
 
 /// Says whether a program may be run.
 ///
-/// It may where it has 1 to 4096 instructions, each is one of the seven kinds that compiled programs are made of,
-/// loads aligned 32 bits of a call record and jumps to places of the program, and the last one returns.
+/// It may if it has 1 to 4096 instructions of the seven kinds that compiled programs consist of, and the last one
+/// returns. Each load takes 4 aligned bytes of a call record, and each jump leads to a place of the program.
 ///
 /// An addition.
 ///
@@ -100,7 +100,7 @@ pub fn check(program: BpfProgramRef<'_>) -> bool {
 ///
 /// # Errors
 ///
-/// `NotChecked` where the program doesn't pass [`check`].
+/// `NotChecked` if the program doesn't pass [`check`].
 ///
 /// # Examples
 ///
@@ -136,7 +136,7 @@ impl Calls {
         }
     }
 
-    /// Returns the set of all calls of an architecture, the numbers included that no call has.
+    /// Returns the set of all calls of an architecture, including numbers that no call has.
     #[must_use]
     pub fn of_arch(arch: TargetArch) -> Self {
         Calls::of_numbers(arch, 0, u32::MAX)
@@ -148,8 +148,8 @@ impl Calls {
         Calls::of_numbers(arch, number, number)
     }
 
-    /// Returns the set of the calls of the numbers from `least` to `greatest` of an architecture, both included; it is
-    /// empty where `greatest` is less.
+    /// Returns the set of the calls of the numbers from `least` to `greatest` of an architecture, both included. It is
+    /// empty if `greatest` is less.
     #[must_use]
     pub fn of_numbers(arch: TargetArch, least: u32, greatest: u32) -> Self {
         Calls {
@@ -160,14 +160,14 @@ impl Calls {
     }
 }
 
-/// What is asked of the values that two programs return for a call.
+/// What two programs are compared for: a relation of the values that they return for a call.
 ///
 /// An addition.
 #[derive(Clone, Copy, Debug, PartialEq, Eq)]
 pub enum Relation {
     /// Both are the same.
     Alike = 0,
-    /// The first one's action permits as much as the second one's, or less; its data don't count.
+    /// The first one's action permits as much as the second one's, or less. Their data don't count.
     ///
     /// From the least: killing the process, killing the thread, trap, errno, user notification, trace, log,
     /// allow, as `seccomp(2)` ranks them.
@@ -181,22 +181,22 @@ pub enum Relation {
 pub enum Comparison {
     /// The relation holds for each call of the set.
     Holds,
-    /// It doesn't for the call of this record, which is in the set.
+    /// It doesn't hold for the call of this record, which is in the set.
     Fails([u8; 64]),
-    /// As many sets of calls were looked at as was allowed, and neither was found.
+    /// The comparison looked at as many sets of calls as it may, and found neither answer.
     Undecided,
 }
 
 /// Compares what two programs, of whichever compilers, return for each call of a set.
 ///
-/// The calls are split into sets of which is known what the programs return, and `most` such sets are looked at at
-/// most: most pairs of programs take some for each test.
+/// It splits the calls into sets of which it knows what the programs return, and looks at `most` such sets at most.
+/// Most pairs of programs take some sets for each test.
 ///
 /// An addition.
 ///
 /// # Errors
 ///
-/// `NotChecked` where one of the programs doesn't pass [`check`], `OutOfMemory` where memory runs out.
+/// `NotChecked` if one of the programs doesn't pass [`check`], `OutOfMemory` if memory runs out.
 ///
 /// # Examples
 ///
@@ -235,13 +235,11 @@ pub fn compare(
     }
 }
 
-/// Returns what a code means that stands for the fault of a program.
+/// Returns the error that a code stands for.
 fn fault(code: i64) -> ProgramError {
     match code {
         NOT_CHECKED => ProgramError::NotChecked,
         OUT_OF_MEMORY => ProgramError::OutOfMemory,
-        _ => unreachable!(
-            "the library gives the code {code}, which stands for nothing that was asked"
-        ),
+        _ => unreachable!("the library returned {code}, which its header doesn't list here"),
     }
 }

@@ -8,18 +8,18 @@ use crate::sys::Condition;
 use std::alloc::{self, Layout};
 use std::slice;
 
-/// A rule for a system call, which matches a call where all of its conditions hold.
+/// A rule for a system call, which matches a call if all of its conditions hold.
 #[derive(Clone, Debug, PartialEq, Eq)]
 pub struct SeccompRule {
     conditions: Vec<SeccompCondition>,
 }
 
 impl SeccompRule {
-    /// Makes the rule of these conditions.
+    /// Makes a rule of these conditions.
     ///
     /// # Errors
     ///
-    /// `EmptyRule` where there are none. What matches a call always is an empty list of rules.
+    /// `EmptyRule` if there are none. To match every call of a number, give the filter an empty list of rules.
     ///
     /// # Examples
     ///
@@ -35,7 +35,7 @@ impl SeccompRule {
     /// # Ok::<(), BackendError>(())
     /// ```
     pub fn new(conditions: Vec<SeccompCondition>) -> Result<Self, BackendError> {
-        // Each condition was accepted, so what is left to ask is whether there is one.
+        // Each condition was accepted, so only whether there is one is left to ask.
         let first = conditions.first().map(SeccompCondition::entry);
         library::accept_rule(first.as_ref().map_or(&[], slice::from_ref))?;
         Ok(SeccompRule { conditions })
@@ -48,10 +48,10 @@ impl SeccompRule {
 }
 
 impl From<SeccompRule> for BpfProgram {
-    /// Returns the rule's code, without a return behind it, so it is no whole program.
+    /// Returns the rule's code. No return follows it, so it isn't a whole program.
     ///
-    /// Run from its first instruction it leaves at its end where the rule matches, and one instruction further where it
-    /// doesn't. Where memory runs out the process is aborted, as it is by the crate.
+    /// Run from its first instruction, it leaves at its end if the rule matches, and one instruction further if it
+    /// doesn't. If memory runs out the process is aborted, as by the crate.
     fn from(rule: SeccompRule) -> Self {
         let entries = rule.conditions.iter().map(SeccompCondition::entry);
         let entries: Vec<Condition> = entries.collect();

@@ -1,10 +1,9 @@
 //! The functions of `include/seccompiler.h`, and the two system calls that install a program.
 //!
-//! All that is `unsafe` in this crate stands here. The functions of the library ask nothing of their
-//! callers but what the header says of arguments: that a pointer isn't null, is aligned for its type and has
-//! the length that is given beside it, all of it written before; and that nothing else reads or writes meanwhile
-//! what a function writes. So each call below hands over references and slices, which are borrowed for the call.
-//! That the declarations are those of the header is for their reader to see.
+//! All `unsafe` code of this crate is here. The functions of the library require only what the header says of arguments.
+//! A pointer isn't null, is aligned for its type, and points to as many initialized elements as are passed with it; and
+//! nothing else reads or writes what a function writes during the call. So each call below passes references and slices,
+//! which are borrowed for the call. No tool checks that the declarations are those of the header: compare them.
 
 use crate::program::sock_filter;
 #[cfg(feature = "json")]
@@ -18,15 +17,15 @@ use std::io;
 pub(crate) struct Chain {
     /// The call's number.
     pub number: i64,
-    /// How many of the rules, behind those of the chains before, are this chain's.
+    /// How many rules this chain has: they come after those of the chains before.
     pub rules: usize,
 }
 
-/// `struct seccompiler_rule`: how many of the conditions, behind those of the rules before, are this rule's.
+/// `struct seccompiler_rule`: a rule, whose conditions come after those of the rules before.
 #[derive(Clone, Copy)]
 #[repr(C)]
 pub(crate) struct Rule {
-    /// How many they are.
+    /// How many conditions it has.
     pub conditions: usize,
 }
 
@@ -358,8 +357,8 @@ const SYS_SECCOMP: c_long = 317;
 #[cfg(not(target_arch = "x86_64"))]
 const SYS_SECCOMP: c_long = 277;
 
-/// Rules out new privileges for the calling thread.
-pub(crate) fn rule_out_new_privileges() -> io::Result<()> {
+/// Sets no_new_privs of the calling thread.
+pub(crate) fn set_no_new_privs() -> io::Result<()> {
     let (on, off): (c_ulong, c_ulong) = (1, 0);
     // SAFETY: this `prctl` takes four numbers, and reads and writes no memory.
     match unsafe { prctl(PR_SET_NO_NEW_PRIVS, on, off, off, off) } {
@@ -369,7 +368,7 @@ pub(crate) fn rule_out_new_privileges() -> io::Result<()> {
 }
 
 /// Installs the program, of which `length` is the length, with these flags of `seccomp(2)`. Returns what the kernel
-/// returns where that is no error.
+/// returns, if that isn't an error.
 pub(crate) fn set_mode_filter(
     program: &[sock_filter],
     length: u16,

@@ -140,7 +140,7 @@ fn chains_stand_in_ascending_order() {
     assert_eq!(BpfProgram::try_from(filter(rules())), Ok(expected));
 }
 
-/// The code of each operator, of a rule of one condition behind the two jumps in front of it.
+/// The code of each operator: a rule of one condition, after its two jumps.
 #[test]
 fn each_operator_has_its_code() {
     let (v, w) = (0x1111_2222, 0x3333_4444);
@@ -219,7 +219,7 @@ fn each_operator_has_its_code() {
     }
 }
 
-/// 42 conditions of 6 instructions each close a group of 252, behind which a relay of three jumps stands.
+/// 42 conditions of 6 instructions each close a group of 252, and a relay of three jumps follows it.
 #[test]
 fn a_long_rule_has_relays() {
     let masked = condition(0, &Qword, &MaskedEq(0), 0);

@@ -34,7 +34,7 @@ fn apart(test: impl FnOnce() + Send + 'static) {
     thread::spawn(test).join().expect("the test passes");
 }
 
-/// The program that answers `getcwd` with an errno where these conditions hold.
+/// The program that answers `getcwd` with an errno if these conditions hold.
 fn denying(errno: u32, conditions: Vec<SeccompCondition>, layout: Layout) -> BpfProgram {
     let rules = match conditions.is_empty() {
         true => vec![],

@@ -38,7 +38,7 @@ fn denying(errno: u32) -> BpfProgram {
     filter.expect("a filter").try_into().expect("a program")
 }
 
-/// Sends its number and its errno, and again the errno when it is asked; with a filter of its own where it shall.
+/// Sends its number and its errno, and both again when it is asked. If an errno is given, it first installs a filter.
 fn thread_of_its_own(own: Option<u32>, tell: &Sender<(i64, Option<i32>)>, ask: &Receiver<()>) {
     if let Some(errno) = own {
         apply_filter(&denying(errno)).expect("the kernel takes it");

@@ -51,10 +51,12 @@ fn push_call(
     };
     log.heads.push(head_of(alloc, told)?)?;
     log.records.extend_from_slice(&number.to_le_bytes())?;
-    log.records.extend_from_slice(&told.arch_word.to_le_bytes())?;
+    log.records
+        .extend_from_slice(&told.arch_word.to_le_bytes())?;
     log.records.extend_from_slice(&0u64.to_le_bytes())?;
     for argument in told.arguments {
-        log.records.extend_from_slice(&argument.unwrap_or(0).to_le_bytes())?;
+        log.records
+            .extend_from_slice(&argument.unwrap_or(0).to_le_bytes())?;
     }
     Ok(true)
 }
@@ -62,7 +64,9 @@ fn push_call(
 // Who made a call.
 fn head_of(alloc: Global, told: &Told<'_>) -> Result<String, AllocError> {
     let Told {
-        program, process, ..
+        program,
+        process,
+        ..
     } = *told;
     if program.is_empty() {
         return Ok(String::new(alloc));
@@ -74,11 +78,7 @@ fn head_of(alloc: Global, told: &Told<'_>) -> Result<String, AllocError> {
 }
 
 // The lines of a text, each after its head.
-pub(super) fn headed(
-    alloc: Global,
-    heads: &[String],
-    text: &[u8],
-) -> Result<Vec<u8>, AllocError> {
+pub(super) fn headed(alloc: Global, heads: &[String], text: &[u8]) -> Result<Vec<u8>, AllocError> {
     let mut all = Vec::new(alloc);
     for (head, line) in heads.iter().zip(text.split(|byte| *byte == b'\n')) {
         all.extend_from_slice(head.as_bytes())?;

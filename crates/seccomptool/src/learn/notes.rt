@@ -41,7 +41,9 @@ pub(super) fn notes_of(
     notes.extend_from_slice(&unnamed_note(alloc, arch, path, &trace.unnamed)?)?;
     for name in given_up(alloc, arch, wanted, &learned.lesson.kept)? {
         let most = learning.most;
-        let told = format!(in alloc; "{name} is allowed with any arguments, since more than {most} different values were seen")?;
+        let told = format!(in alloc;
+            "{name} is allowed with any arguments, since more than {most} different values were seen"
+        )?;
         notes.extend_from_slice(&note(alloc, path, told.as_bytes())?)?;
     }
     Ok(notes)
@@ -57,7 +59,9 @@ pub(crate) fn strange_note(
     let told = match first {
         _ if strange == 0 => return Ok(Vec::new(alloc)),
         Some(line) if strange == 1 => format!(in alloc; "1 line isn't understood: line {line}")?,
-        Some(line) => format!(in alloc; "{strange} lines aren't understood, the first is line {line}")?,
+        Some(line) => format!(in alloc;
+            "{strange} lines aren't understood, the first is line {line}"
+        )?,
         None => behind_records(alloc, strange)?,
     };
     note(alloc, path, told.as_bytes())

@@ -4,11 +4,11 @@ pub(crate) mod made;
 pub(crate) mod notes;
 mod wanted;
 
-ghost use Rattle.std.specs.Prelude.{◌≡◌, IfOk, string_bytes};
-ghost use Rattle.seccompiler.specs.declared.backend.SeccompAction.TheVariants.{Allow};
+ghost use Rattle.std.specs.Prelude.{IfOk, string_bytes};
 ghost use Rattle.seccomp_learn.specs.Written.{HasFilter};
 ghost use Rattle.seccomptool.specs.Chosen.{IsChosen, text_of};
 ghost use Rattle.seccomptool.specs.Learn.{IsBase, IsLearned};
+ghost use Rattle.seccomptool.specs.declared.learn.Start.TheVariants.{Into};
 
 use crate::chosen::chosen_name;
 use crate::error::ToolError;
@@ -118,7 +118,7 @@ fn base_of(
             },
             others: JsonFilterMap(BTreeMap::new(alloc)),
         }),
-        Start::Into => allowing(alloc, base_in(alloc, asked, policy)?),
+        Start::Into => base_into(alloc, asked, policy),
     }
 }
 
@@ -137,11 +137,11 @@ fn base_in(alloc: Global, asked: Option<&str>, policy: &[u8]) -> Result<Base, To
     }
 }
 
-// The same filter, if it allows what it lists.
-fn allowing(alloc: Global, base: Base) -> Result<Base, ToolError>
-    ensures same { IfOk result (λ own. own ≡ base) }
-    ensures allows { IfOk result (λ own. own.filter.match_action ≡ Allow) }
+// The filter that is asked for, or a policy's only one, if it allows what it lists.
+fn base_into(alloc: Global, asked: Option<&str>, policy: &[u8]) -> Result<Base, ToolError>
+    ensures { IfOk result (λ base. IsBase Into (text_of asked.entry) policy.now base.filter) }
 {
+    let base = base_in(alloc, asked, policy)?;
     match base.filter.match_action {
         SeccompAction::Allow => Ok(base),
         _ => {

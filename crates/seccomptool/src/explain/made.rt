@@ -1,6 +1,6 @@
 // What `explain` makes of what is given, and of the calls that it is asked about.
 
-ghost use Rattle.std.specs.Prelude.{◌≡◌, IfOk};
+ghost use Rattle.std.specs.Prelude.{◌≡◌, ℕ, IfOk, List};
 ghost use Rattle.seccomptool.specs.Chosen.{text_of};
 ghost use Rattle.seccomptool.specs.Commands.{IsExplained, IsExplainedAs, OnRecords, records_in};
 ghost use Rattle.seccomptool.specs.declared.findings.Verdict.TheVariants.{Same};

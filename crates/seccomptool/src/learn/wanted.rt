@@ -32,12 +32,12 @@ fn push_asked(
     let Some(number) = call_number(arch, asked.call) else {
         return Err(ToolError::UnknownCall(String::from_str(alloc, asked.call)?, arch));
     };
-    let mut index = 0;
+    let mut index: u8 = 0;
     for is_asked in asked.indices {
         if is_asked && !is_there(wanted, number, index) {
             wanted.push(asked_kept(observed, number, index))?;
         }
-        index += 1;
+        index = index.saturating_add(1);
     }
     Ok(())
 }

@@ -36,7 +36,7 @@ pub(super) fn learn_in<'a>(alloc: Global, found: &ArgMatches<'a>) -> Result<Aske
         further: further_in(alloc, found)?,
     };
     let inputs = Inputs {
-        first: first_of(traces_in(found)),
+        first: first_of(found.get_strs("trace").unwrap_or(&[])),
         second: found.get_str("into"),
     };
     Ok(Asked {
@@ -63,15 +63,10 @@ fn refusal(found: &ArgMatches<'_>) -> Option<&'static str> {
     if is_named && is_profile {
         return Some("--profile can't be given with --name");
     }
-    if into == Some("-") && has_input(traces_in(found)) {
+    if into == Some("-") && has_input(found.get_strs("trace").unwrap_or(&[])) {
         return Some("TRACE and POLICY can't both be read from standard input");
     }
     None
-}
-
-// The traces.
-fn traces_in<'a, 'b>(found: &'b ArgMatches<'a>) -> &'b [&'a str] {
-    found.get_strs("trace").unwrap_or(&[])
 }
 
 // Whether standard input is among these paths.
@@ -95,7 +90,7 @@ fn first_of<'a>(paths: &[&'a str]) -> Option<&'a str> {
 // The traces after the first one.
 fn further_in<'a>(alloc: Global, found: &ArgMatches<'a>) -> Result<Vec<&'a str>, AllocError> {
     let mut further = Vec::new(alloc);
-    for path in traces_in(found).iter().skip(1) {
+    for path in found.get_strs("trace").unwrap_or(&[]).iter().skip(1) {
         further.push(*path)?;
     }
     Ok(further)

@@ -17,6 +17,7 @@ import sys
 from commands import ENVIRONMENT, TOP, run
 from jail_running import EXAMPLES, TOOL, step
 from running_kernel import SECCOMP
+from seccomptool_cases.forms import named
 
 ALLOW = struct.pack("<HBBI", 6, 0, 0, 0x7FFF0000)
 LOAD = struct.pack("<HBBI", 0x20, 0, 0, 0)
@@ -189,9 +190,9 @@ def try_runtime(results, program, folder, runtime, architectures):
     numbers = NUMBERS[name, architectures]
     for call, action in [*EXPLAINED, *zip((X32, ABOVE), numbers)]:
         out, err, status = run([TOOL, "explain", file, *call.split()], folder)
-        results.compare(f"{what}: {call}", (action, "", 0), (out.partition(": ")[0], err, status))
+        results.compare(f"{what}: {call}", (named(action), "", 0), (out.partition(": ")[0], err, status))
     # It differs from the profile at most on numbers from those of x32 on, and there by one of both.
-    lines = [f"  x32 calls {X32} to {2**32 - 1}: kill_thread -> {action}, more: {call}(0x0, 0x0, 0x0, 0x0, 0x0, 0x0)\n"
+    lines = [f"  x32 calls {X32} to {2**32 - 1}: kill_thread -> {named(action)}, more: {call}(0x0, 0x0, 0x0, 0x0, 0x0, 0x0)\n"
              for call, action in zip((X32, ABOVE), numbers) if action != "kill_thread"]
     wanted = [("profile: different\n" + line, "", 1) for line in lines] or [("profile: same\n", "", 0)]
     out, err, status = run([TOOL, "diff", "-q", PROFILE, file], folder)

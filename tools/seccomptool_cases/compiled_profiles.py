@@ -9,7 +9,7 @@ import json
 import re
 
 from .forms import (
-    CLOSED, FOLDER, FULL, INPUT, MISSING, OUTPUT, RESET, TOOL, Case, Failing, fails_to_read_and_write, rejects, writes
+    CLOSED, FOLDER, FULL, INPUT, MISSING, OUTPUT, RESET, TOOL, Case, Failing, fails_to_read_and_write, named, rejects, writes
 )
 from .records import called
 
@@ -34,10 +34,10 @@ def when(index, operator, value, *two):
 
 def compiles(words, given, *decided, told=""):
     """Returns the cases of a profile whose program returns these actions for calls, such as `("read 5", "allow")`."""
-    named = re.search(r"(?:-a |--arch[ =])(\w+)", words)
-    arch = named[1] if named else "x86_64"
+    given_arch = re.search(r"(?:-a |--arch[ =])(\w+)", words)
+    arch = given_arch[1] if given_arch else "x86_64"
     return [
-        Case(f"{f'compile {words}'.strip()} | ./seccomptool explain -a {arch} - {call}", 0, f"{action}: {called(call.split()[0], arch)}\n", told,
+        Case(f"{f'compile {words}'.strip()} | ./seccomptool explain -a {arch} - {call}", 0, f"{named(action)}: {called(call.split()[0], arch)}\n", told,
              given if isinstance(given, str) else json.dumps(given))
         for call, action in decided
     ]

@@ -45,7 +45,7 @@ SAME = "filter a: same\n"
 READS = "  read: log -> allow, more: read(0x0, 0x0, 0x0, 0x0, 0x0, 0x0)\n"
 READS_5 = "  read: log -> allow, more: read(0x5, 0x0, 0x0, 0x0, 0x0, 0x0)\n"
 NO_LONGER_READS = "  read: allow -> log, less: read(0x0, 0x0, 0x0, 0x0, 0x0, 0x0)\n"
-OTHER_ERRNO = "  read: errno 1 -> errno 2, otherwise: read(0x0, 0x0, 0x0, 0x0, 0x0, 0x0)\n"
+OTHER_ERRNO = "  read: errno 1 (EPERM) -> errno 2 (ENOENT), otherwise: read(0x0, 0x0, 0x0, 0x0, 0x0, 0x0)\n"
 NAMES = "filter a: same\nfilter b: only in OLD\nfilter c: only in NEW\n"
 
 # The fault of `unknown-call.json`.

@@ -1,5 +1,7 @@
 """What the cases of several commands name."""
 
+import errno
+
 from program_cases import FRONTEND
 from running import Case, Failing
 
@@ -27,6 +29,18 @@ STEERS = LOGS.replace('"a"', r'"a\u009b"')
 
 # The words that choose each layout.
 LAYOUTS = (" --layout linear", " --layout=tree")
+
+
+# Of several names of a number the one by which the kernel's headers define the others, or the only one that they have; and one that
+# Python doesn't know (asm-generic/errno.h).
+DEFINED = {11: "EAGAIN", 35: "EDEADLK", 95: "EOPNOTSUPP", 133: "EHWPOISON"}
+
+
+def named(action):
+    """Returns an action as it is printed for people: an errno has its name after it, if there is one of this number."""
+    kind, _, number = action.partition(" ")
+    name = {**errno.errorcode, **DEFINED}.get(int(number)) if kind == "errno" else None
+    return f"{action} ({name})" if name else action
 
 
 def writes(words, given, output):

@@ -10,7 +10,7 @@ import struct
 
 from program_cases import FRONTEND
 
-from .forms import CLOSED, FOLDER, FULL, INPUT, LOGS, MISSING, NO_OBJECT, OUTPUT, RESET, TOOL, Case, Failing, rejects, writes
+from .forms import CLOSED, FOLDER, FULL, INPUT, LOGS, MISSING, NO_OBJECT, OUTPUT, RESET, TOOL, Case, Failing, named, rejects, writes
 from .compiled_profiles import FITTING, LARGE, PARSING, TOO_LONG, entry, profile, when
 from .profile_faults import NO_PROFILE
 from .profiles import PROFILES, STRICTEST_FIRST, numbers_of
@@ -86,7 +86,7 @@ def line_of(given, words, call, arguments):
     """Returns the line of `explain` on a call of a profile."""
     action, place = decision(given, words, call, arguments)
     reason = "defaultAction" if place is None else f"syscalls[{place}]"
-    return f"{action}: {reason} of {called(call, arch_of(words))}\n"
+    return f"{named(action)}: {reason} of {called(call, arch_of(words))}\n"
 
 
 def record_of(arch, number, arguments):
@@ -127,11 +127,11 @@ def compare_profiles(results, run):
         program = program.encode("utf-8", "surrogateescape")
         for call, arguments, wanted in rows:
             asked = f"explain -a {arch} - {call} {' '.join(map(str, arguments))}"
-            results.compare(f"{what}: {asked}", (0, f"{wanted}: {called(call, arch)}\n", ""), run(asked, program))
+            results.compare(f"{what}: {asked}", (0, f"{named(wanted)}: {called(call, arch)}\n", ""), run(asked, program))
 
 
 # A line of `diff`: a call or a range, both actions, which one permits more, and an example.
-LINE = re.compile(r"  (?:(?:other|x32) calls \d+ to \d+|\w+): ([\w ]+) -> ([\w ]+), (more|less|otherwise): (\w+)\((.+)\)")
+LINE = re.compile(r"  (?:(?:other|x32) calls \d+ to \d+|\w+): ([\w ()]+) -> ([\w ()]+), (more|less|otherwise): (\w+)\((.+)\)")
 
 
 def is_example(line, words, old, new, numbers):
@@ -143,7 +143,7 @@ def is_example(line, words, old, new, numbers):
     both = [decision(it, words, call, arguments)[0] for it in (old, new)]
     ranks = [STRICTEST_FIRST.index(it.split()[0]) for it in both]
     kind = "more" if ranks[1] > ranks[0] else "less" if ranks[1] < ranks[0] else "otherwise"
-    return (*both, kind) == (found[1], found[2], found[3]) and both[0] != both[1] and (call in numbers or call.isdigit())
+    return (*map(named, both), kind) == (found[1], found[2], found[3]) and both[0] != both[1] and (call in numbers or call.isdigit())
 
 
 def compare_pairs(results, run):
@@ -196,17 +196,17 @@ def misused(words, told):
 
 
 # What is explained of the examples' records.
-EXAMPLE_LINES = ("errno 1: defaultAction of fcntl (72)\n" * 3 + "errno 1: defaultAction of fstat (5)\n"
+EXAMPLE_LINES = ("errno 1 (EPERM): defaultAction of fcntl (72)\n" * 3 + "errno 1 (EPERM): defaultAction of fstat (5)\n"
                  "kill_process: another architecture\n")
 
-READS = "profile: different\n  read: errno 1 -> allow, more: read(0x0, 0x0, 0x0, 0x0, 0x0, 0x0)\n"
+READS = "profile: different\n  read: errno 1 (EPERM) -> allow, more: read(0x0, 0x0, 0x0, 0x0, 0x0, 0x0)\n"
 
 # Cases of files that are known as profiles, and of no container.
 KNOWN = [
     # Options, files and standard input.
     writes("explain --oci reads-profile.json read", "", "allow: syscalls[0] of read (0)\n"),
     writes("explain reads-profile.json --oci -a amd64 0", "", "allow: syscalls[0] of read (0)\n"),
-    writes("explain --oci - write", json.dumps(profile(entry("read"))), "errno 1: defaultAction of write (1)\n"),
+    writes("explain --oci - write", json.dumps(profile(entry("read"))), "errno 1 (EPERM): defaultAction of write (1)\n"),
     writes("explain --oci --format word reads-profile.json read", "", "7fff0000 syscalls[0] (read)\n"),
     writes("explain --oci --format word reads-profile.json write", "", "00050001 defaultAction\n"),
     writes("explain --oci --format word reads-profile.json --records examples/records.bin", "",

@@ -135,7 +135,7 @@ CASES = [
     differs("allows-read.json writes.bpf --only-more", MORE + WRITES + OTHERS_NO_MORE),
     same("--only-more allows-read.json reads-x32.bpf", NO_MORE + OTHERS_NO_MORE),
     same("--only-more errno-2-only.json errno-1.bpf", NO_MORE + OTHERS_NO_MORE),
-    differs("errno-2-only.json errno-1.bpf", DIFFERENT + "  read: errno 2 -> errno 1, otherwise: read" + NONE + ".."),
+    differs("errno-2-only.json errno-1.bpf", DIFFERENT + "  read: errno 2 (ENOENT) -> errno 1 (EPERM), otherwise: read" + NONE + ".."),
     # No set may be looked at, or few.
     Case("diff -q --most 0 logs.json logs.bpf", 3, UNDECIDED + "  read: undecided\n  write: undecided\n..", ""),
     same("--most 0x10 --only-more allows-read.json reads.bpf", NO_MORE + OTHERS_NO_MORE),

@@ -13,6 +13,8 @@ ALLOW, ERRNO_1 = 0x7FFF0000, 0x00050001
 ACTIONS = {
     0x7FFF0000: "allow", 0x7FFC0000: "log", 0x7FC00000: "user_notif", 0x00030000: "trap",
     0x00000000: "kill_thread", 0x80000000: "kill_process", 0x00050000: "errno 0", 0x0005FFFF: "errno 65535",
+    0x00050026: "errno 38 (ENOSYS)", 0x0005000B: "errno 11 (EAGAIN)", 0x00050085: "errno 133 (EHWPOISON)", 0x00050086: "errno 134",
+    0x00050029: "errno 41", 0x7FF00026: "trace 38",
     0x7FF00007: "trace 7", 0x7FFF0001: "0x7fff0001", 0x00030001: "0x30001", 0x00000001: "0x1",
 }
 
@@ -88,12 +90,12 @@ def misused(words, told="error: .."):
 CASES = [
     # What a program returns for a call, by name or number, with arguments; and for records.
     writes("explain read.bpf read", "", "allow: read (0)\n"),
-    writes("explain read.bpf 1", "", "errno 1: write (1)\n"),
-    writes("explain -a riscv64 read.bpf read", "", "errno 1: read (63)\n"),
+    writes("explain read.bpf 1", "", "errno 1 (EPERM): write (1)\n"),
+    writes("explain -a riscv64 read.bpf read", "", "errno 1 (EPERM): read (63)\n"),
     writes("explain bit.bpf ioctl 0 2", "", "allow: ioctl (16)\n"),
-    writes("explain bit.bpf ioctl 2 0x100000001", "", "errno 1: ioctl (16)\n"),
+    writes("explain bit.bpf ioctl 2 0x100000001", "", "errno 1 (EPERM): ioctl (16)\n"),
     writes("explain set.bpf read", "", "allow: read (0)\n"),
-    writes("explain set.bpf 0x40000000", "", "errno 1: call 1073741824\n"),
+    writes("explain set.bpf 0x40000000", "", "errno 1 (EPERM): call 1073741824\n"),
     writes("explain --format word set.bpf 3221225472", "", "00050001 3\n"),
     writes("explain longest.bpf 0", "", "allow: read (0)\n"),
     writes("explain - read", OF_READ, "allow: read (0)\n"),
@@ -103,7 +105,7 @@ CASES = [
     writes("explain read.bpf", "", ""),
     writes("explain - --records calls.bin", OF_READ, EXPLAINED),
     *[writes(f"explain returns-{word:x}.bpf read", "", f"{action}: read (0)\n") for word, action in ACTIONS.items()],
-    writes("explain read.bpf write 1 2 3 4 5 6", "", "errno 1: write (1)\n"),
+    writes("explain read.bpf write 1 2 3 4 5 6", "", "errno 1 (EPERM): write (1)\n"),
     # Programs that aren't taken.
     *[rejects("explain - read", given, told + "\n") for given, told in UNFIT],
     rejects("explain missing.bpf read", "", MISSING, TOOL + "missing.bpf: "),

@@ -23,7 +23,7 @@ filter 4 b\x0a
    0  ld [4]                      ; the architecture
    1  jeq #0xc00000b7, 3, 2       ; aarch64
    2  ret #0x80000000             ; kill the process
-   3  ret #0x50001                ; errno 1
+   3  ret #0x50001                ; errno 1 (EPERM)
 """
 
 LOGS_AS_TREE = r"""filter 4 a
@@ -34,7 +34,7 @@ LOGS_AS_TREE = r"""filter 4 a
 filter 4 b\x0a
    0  ld [4]                      ; the architecture
    1  jeq #0xc00000b7, 2, 3       ; aarch64
-   2  ret #0x50001                ; errno 1
+   2  ret #0x50001                ; errno 1 (EPERM)
    3  ret #0x80000000             ; kill the process
 """
 
@@ -88,14 +88,14 @@ LOGS_SHOWN = """filter 4 a
 READ_SHOWN = """   0  ld [0]                      ; the call number
    1  jeq #0x0, 2, 3              ; read
    2  ret #0x7fff0000             ; allow
-   3  ret #0x50001                ; errno 1
+   3  ret #0x50001                ; errno 1 (EPERM)
 """
 
 BIT_SHOWN = """   0  ld [24]                     ; the low half of argument 1
    1  and #0x2                    ; argument 1, low half
    2  jgt #0x1, 3, 4              ; argument 1, low half & 0x2
    3  ret #0x7fff0000             ; allow
-   4  ret #0x50001                ; errno 1
+   4  ret #0x50001                ; errno 1 (EPERM)
 """
 
 # Each load of a record, the other jumps, and what the words of seccomp(2) stand for that no policy has.
@@ -143,7 +143,7 @@ ARCHITECTURES_SHOWN = """   0  ld [4]                      ; the architecture
   17  and #0xc0000000             ; the call number & 0x7fffffff
   18  jeq #0x0, 19, 20            ; the call number & 0x40000000
   19  ret #0x7fff0000             ; allow
-  20  ret #0x50001                ; errno 1
+  20  ret #0x50001                ; errno 1 (EPERM)
 """
 
 # Both filters of this policy are at fault: `a` is none, and the actions of `b` are equal.

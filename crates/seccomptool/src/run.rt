@@ -39,8 +39,9 @@ pub fn returned(
 
 /// The lines of what is returned: the action of a value by its name in a policy: `allow`, `log`,
 /// `trap`, `kill_thread`, `kill_process` and `user_notif`, a space and the low 16 bits in decimal after
-/// `errno` and `trace`; a value that is none of these is written in hexadecimal digits after `0x`. The call follows, by its name
-/// and number. By `LineFormat::Word` the value in 8 hexadecimal digits, a space, and the steps.
+/// `errno` and `trace`, and the name of an errno that has one in brackets; a value that is none of these is written in
+/// hexadecimal digits after `0x`. The call follows, by its name and number. By `LineFormat::Word` the value in 8 hexadecimal
+/// digits, a space, and the steps.
 pub(crate) fn outcomes_text(
     alloc: Global,
     target: TargetArch,

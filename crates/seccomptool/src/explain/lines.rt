@@ -3,6 +3,7 @@
 use crate::explain::format::LineFormat;
 use crate::explain::reason::{Miss, Reason};
 use crate::explain::{Explained, Explanation, NamedFilter, Why};
+use crate::findings::lines::Word;
 use crate::findings::parts::name_of;
 use seccomp_command_line::hexadecimal::eight_digits;
 use seccomp_command_line::readable::{TextKind, push_readable};
@@ -70,16 +71,8 @@ fn push_action(
 
 // An action by its name.
 fn action_name(alloc: Global, action: SeccompAction) -> Result<String, AllocError> {
-    let (name, number) = match action {
-        SeccompAction::Allow => return String::from_str(alloc, "allow"),
-        SeccompAction::KillThread => return String::from_str(alloc, "kill_thread"),
-        SeccompAction::KillProcess => return String::from_str(alloc, "kill_process"),
-        SeccompAction::Log => return String::from_str(alloc, "log"),
-        SeccompAction::Trap => return String::from_str(alloc, "trap"),
-        SeccompAction::Errno(number) => ("errno", number % 0x1_0000),
-        SeccompAction::Trace(number) => ("trace", number % 0x1_0000),
-    };
-    Ok(format!(in alloc; "{name} {number}")?)
+    let word = Word(action.into());
+    format!(in alloc; "{word}")
 }
 
 // Adds a filter's reason by paths in the policy.

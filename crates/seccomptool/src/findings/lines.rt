@@ -6,6 +6,7 @@ use crate::findings::parts::{X32, name_of};
 use crate::findings::{Answer, Finding, Part, Verdict};
 use seccomp_command_line::readable::{TextKind, push_readable};
 use seccomp_compare::{Relation, rank};
+use seccomp_oci::error_name;
 use seccompiler::TargetArch;
 use std::alloc::{AllocError, Global};
 use std::fmt;
@@ -101,7 +102,7 @@ fn kind_of(old: u32, new: u32) -> &'static str {
     }
 }
 
-/// A value that a program returns, by its action.
+/// A value that a program returns, by its action, and an errno by its name too, if it has one.
 #[derive(Clone, Copy)]
 pub(crate) struct Word(pub u32);
 
@@ -117,7 +118,10 @@ impl fmt::Display for Word {
             KILL_THREAD => f.write_str("kill_thread"),
             KILL_PROCESS => f.write_str("kill_process"),
             _ => match word & ACTION {
-                ERRNO => write!(f, "errno {data}"),
+                ERRNO => match error_name(data) {
+                    Some(name) => write!(f, "errno {data} ({name})"),
+                    None => write!(f, "errno {data}"),
+                },
                 TRACE => write!(f, "trace {data}"),
                 _ => write!(f, "0x{word:x}"),
             },

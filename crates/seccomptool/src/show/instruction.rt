@@ -1,5 +1,6 @@
 // An instruction in words, and what a load and a returned value stand for.
 
+use crate::findings::lines::Word;
 use seccomp_compare::machine::JUMP_IF_SET;
 use seccompiler::bpf::{JUMP, JUMP_AT_LEAST, JUMP_EQUAL, JUMP_GREATER, LOAD, MASK, RETURN};
 use seccompiler::sock_filter;
@@ -58,16 +59,17 @@ pub(crate) fn load_meaning(alloc: Global, k: u32) -> Result<String, AllocError> 
 
 // The action that a returned word stands for, in words; nothing where it stands for none.
 pub(crate) fn word_meaning(alloc: Global, word: u32) -> Result<String, AllocError> {
-    let number = word % 0x1_0000;
-    match (word / 0x1_0000, number) {
+    match (word / 0x1_0000, word % 0x1_0000) {
         (0x7fff, 0) => String::from_str(alloc, "allow"),
         (0x0000, 0) => String::from_str(alloc, "kill the thread"),
         (0x8000, 0) => String::from_str(alloc, "kill the process"),
         (0x7ffc, 0) => String::from_str(alloc, "log"),
         (0x0003, 0) => String::from_str(alloc, "trap"),
         (0x7fc0, 0) => String::from_str(alloc, "notify the supervisor"),
-        (0x0005, _) => format!(in alloc; "errno {number}"),
-        (0x7ff0, _) => format!(in alloc; "trace {number}"),
+        (0x0005 | 0x7ff0, _) => {
+            let word = Word(word);
+            format!(in alloc; "{word}")
+        }
         _ => Ok(String::new(alloc)),
     }
 }

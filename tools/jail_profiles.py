@@ -44,7 +44,7 @@ OF_EXAMPLE = [
 
 # What seccomptool notes of profiles: names that the architecture doesn't have, and flags.
 NOTES = re.compile(
-    r"\A(seccomptool: .*: not system calls of x86_64, left out \(\d+\): .*\n)?"
+    r"\A(seccomptool: .*: \d+ names? that x86_64 has no call for (?:is|are) left out\n)?"
     r"(seccomptool: .*: flags to set when the program is installed \(\d+\): .*\n)?"
 )
 

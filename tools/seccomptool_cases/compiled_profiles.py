@@ -43,10 +43,17 @@ def compiles(words, given, *decided, told=""):
     ]
 
 
+def counted(number, arch="x86_64"):
+    """Returns what is told of so many names that are left out."""
+    return f"{number} {'name' if number == 1 else 'names'} that {arch} has no call for {'is' if number == 1 else 'are'} left out"
+
+
 def left_out(words, given, names, *decided, arch="x86_64"):
-    """Returns the cases of a profile of which these names are left out."""
-    told = f"{INPUT}not system calls of {arch}, left out ({len(names)}): {', '.join(names)}\n"
-    return compiles(words, given, *decided, told=told)
+    """Returns the cases of a profile of which these names are left out: by number, and by name with `-v`."""
+    told = INPUT + counted(len(names), arch)
+    return [*compiles(words, given, *decided, told=f"{told}\n"),
+            *[case for option in ("-v", "--verbose")
+              for case in compiles(f"{words} {option}".strip(), given, *decided[:1], told=f"{told}: {', '.join(names)}\n")]]
 
 
 def flagged(words, given, told, *decided):
@@ -165,7 +172,7 @@ CASES = [
     *[case for more, those, others in CRITERIA for action, all_words in (("allow", those), ("errno 1", others)) for words in all_words
       for case in compiles(f"--oci {words}", profile(entry("read", **more)), ("read", action))],
     # Names that the architecture doesn't have, of entries that apply.
-    *left_out("", profile(entry("waitpid read mmap2"), entry("mmap2 Read read")), ["waitpid", "mmap2", "mmap2", "Read"], READ, OTHER),
+    *left_out("", profile(entry("waitpid read mmap2"), entry("mmap2 Read read")), ["waitpid", "mmap2", "Read"], READ, OTHER),
     *left_out("", profile({"names": ["no\ncall", "a\\b", "\u009b", "\u00b5", ""], "action": "SCMP_ACT_ALLOW"}),
               ["no\\x0acall", "a\\x5cb", "\\xc2\\x9b", "\u00b5", ""], ("read", "errno 1")),
     *left_out("", profile(entry("waitpid", includes={"caps": ["CAP_KILL"]}), entry("mmap2", excludes={"arches": ["arm64"]})),
@@ -175,9 +182,10 @@ CASES = [
     *left_out("-a arm64", profile(entry("open openat")), ["open"], ("openat", "allow"), ("read", "errno 1"), arch="aarch64"),
     *left_out("--arch riscv64", profile(entry("open riscv_hwprobe")), ["open"], ("riscv_hwprobe", "allow"), ("read", "errno 1"),
               arch="riscv64"),
-    *compiles("unknown-profile.json", "", READ, OTHER,
-              told=TOOL + "unknown-profile.json: not system calls of x86_64, left out (2): mmap2, waitpid\n"),
+    *compiles("unknown-profile.json", "", READ, OTHER, told=TOOL + f"unknown-profile.json: {counted(2)}\n"),
+    *compiles("-v unknown-profile.json", "", READ, told=TOOL + f"unknown-profile.json: {counted(2)}: mmap2, waitpid\n"),
     *compiles("-q unknown-profile.json", "", READ, OTHER),
+    *compiles("-q -v unknown-profile.json", "", READ),
     # Flags, in the profile's order and as often as they stand there, after the names.
     *compiles("", profile(entry("read"), flags=[]), READ),
     *flagged("", profile(entry("read"), flags=["SECCOMP_FILTER_FLAG_LOG"]), "(1): SECCOMP_FILTER_FLAG_LOG", READ),
@@ -191,17 +199,19 @@ CASES = [
              "(1): SECCOMP_FILTER_FLAG_SPEC_ALLOW", READ),
     *compiles("./log-profile.json", "", READ, OTHER, told=TOOL + f"./log-profile.json: {FLAGS} (1): SECCOMP_FILTER_FLAG_LOG\n"),
     *compiles("flags-profile.json", "", READ, OTHER,
-              told=TOOL + "flags-profile.json: not system calls of x86_64, left out (1): mmap2\n"
+              told=TOOL + f"flags-profile.json: {counted(1)}\n"
               + TOOL + f"flags-profile.json: {FLAGS} (2): SECCOMP_FILTER_FLAG_TSYNC, SECCOMP_FILTER_FLAG_LOG\n"),
     *compiles("--quiet flags-profile.json", "", READ, OTHER),
     *compiles("-a arm64", profile(entry("open openat"), flags=["SECCOMP_FILTER_FLAG_TSYNC"]), ("openat", "allow"), ("read", "errno 1"),
-              told=INPUT + "not system calls of aarch64, left out (1): open\n"
+              told=INPUT + counted(1, "aarch64") + "\n"
               + INPUT + f"{FLAGS} (1): SECCOMP_FILTER_FLAG_TSYNC\n"),
     # With --strict they are no error, but names are.
     *flagged("--oci --strict", profile(entry("read"), flags=["SECCOMP_FILTER_FLAG_LOG"]), "(1): SECCOMP_FILTER_FLAG_LOG", READ),
     rejects("compile --oci --strict flags-profile.json", "", "not system calls of x86_64 (1): mmap2\n",
             TOOL + "flags-profile.json: "),
-    # With --strict names are rejected.
+    # With --strict names are rejected, each once.
+    rejects("compile --strict", json.dumps(profile(entry("waitpid mmap2 read"), entry("mmap2"))),
+            "not system calls of x86_64 (2): waitpid, mmap2\n"),
     rejects("compile --oci --strict unknown-profile.json", "", "not system calls of x86_64 (2): mmap2, waitpid\n",
             TOOL + "unknown-profile.json: "),
     rejects("compile --oci --strict -q unknown-profile.json", "", "not system calls of x86_64 (2): mmap2, waitpid\n",

@@ -299,5 +299,6 @@ CASES = [
     misused("explain --oci - --records -", "SUBJECT and records can't both be read from standard input: give CALL or --records"),
     misused("explain --oci --kernel 6 reads-profile.json read", "the value of --kernel isn't a version of two numbers, such as 6.1"),
     misused("diff --oci --kernel 6 reads-profile.json reads-profile.json", "the value of --kernel isn't a version of two numbers, such as 6.1"),
+    Case("show --verbose reads-profile.json", 2, "", "error: unexpected argument '--verbose' found\n.."),
     Case("compile --format json reads-profile.json", 2, "", "error: invalid value 'json' for '--format <FORMAT>'\n.."),
 ]

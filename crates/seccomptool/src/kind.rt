@@ -17,6 +17,8 @@ pub struct Reading {
     pub of_profiles: bool,
     /// The container in which a profile is.
     pub container: Container,
+    /// Whether the names are listed that are left out of a profile.
+    pub listed: bool,
 }
 
 /// What is given.

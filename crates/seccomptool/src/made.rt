@@ -88,7 +88,8 @@ pub(crate) fn compile_made(
         Subject::Policy => policy_made(alloc, arch, filter, layout, format, quiet, path, given),
         Subject::Profile(container) => {
             refuse_name(alloc, filter)?;
-            profile_made(alloc, arch, container, strict, format, quiet, path, given)
+            let listed = reading.listed;
+            profile_made(alloc, arch, container, strict, format, quiet, listed, path, given)
         }
         Subject::Program => {
             refuse_name(alloc, filter)?;
@@ -127,6 +128,7 @@ fn profile_made(
     strict: bool,
     format: ProgramFormat,
     quiet: bool,
+    listed: bool,
     path: &str,
     profile: &[u8],
 ) -> Result<Made, FaultAt>
@@ -139,7 +141,7 @@ fn profile_made(
     let notes = if quiet {
         Vec::new(alloc)
     } else {
-        profile_notes(alloc, arch, path, &compiled.left_out, &compiled.flags)?
+        profile_notes(alloc, arch, path, listed, &compiled.left_out, &compiled.flags)?
     };
     let program = NamedProgram {
         name: String::from_str(alloc, "profile")?,
@@ -255,7 +257,8 @@ pub(crate) fn check_made(
     ensures { IfOk result (λ made. IsCheck arch reading.now denied allowed.now given.now made.verdict) }
 {
     let subject = subject_of(alloc, reading, given)?;
-    match accepted(alloc, arch, subject, denied, allowed, path, given) {
+    let listed = reading.listed;
+    match accepted(alloc, arch, subject, listed, denied, allowed, path, given) {
         Ok(made) => Ok(made),
         Err(fault) if fault.is_out_of_memory() => Err(fault.into()),
         Err(fault) => Ok(Made {
@@ -272,6 +275,7 @@ fn accepted(
     alloc: Global,
     arch: TargetArch,
     subject: Subject<'_>,
+    listed: bool,
     denied: bool,
     allowed: &[Code],
     path: &str,
@@ -291,7 +295,8 @@ fn accepted(
             let front = front_of(alloc, path)?;
             let checked = profile_checked(alloc, arch, container, allowed, &front, given)?;
             let CheckedProfile { compiled, report } = checked;
-            let notes = profile_notes(alloc, arch, path, &compiled.left_out, &compiled.flags)?;
+            let notes =
+                profile_notes(alloc, arch, path, listed, &compiled.left_out, &compiled.flags)?;
             Ok(Made {
                 text: report.text,
                 rest: 0,

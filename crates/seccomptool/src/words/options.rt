@@ -82,6 +82,7 @@ fn option<'a>(arg: Arg<'a>, name: &'a str) -> Arg<'a> {
         "filter" => arg.short('f'),
         "output" => arg.short('o'),
         "quiet" => arg.short('q'),
+        "verbose" => arg.short('v'),
         _ => arg,
     }
 }

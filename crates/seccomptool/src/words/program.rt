@@ -123,6 +123,12 @@ const UNDERSTOOD: &str = "Reject a trace with lines that aren't understood";
 const TRACES: &str =
     "What strace, the kernel's log or audit wrote, or call records; - for standard input";
 
+const VERBOSE: Row<'static> = (
+    "verbose",
+    Nothing,
+    "List the names of a profile that are left out",
+);
+
 const QUIET: Row<'static> = ("quiet", Nothing, "Don't print the number of warnings");
 
 const IN_LAYOUT: Row<'static> = ("layout", OneOf("LAYOUT", LAYOUTS, "tree"), LAYOUT);
@@ -135,14 +141,15 @@ static COMMON: [Row<'static>; 4] = [
     ("kernel", Value("KERNEL"), KERNEL),
 ];
 
-static CHECK: [Row<'static>; 4] = [
+static CHECK: [Row<'static>; 5] = [
     ("deny-warnings", Nothing, DENIED),
     ("allow", Several("CODE", CODES), ALLOWED),
     ("list", Nothing, LIST),
+    VERBOSE,
     ("subject", Files("SUBJECT"), FILES),
 ];
 
-static COMPILE: [Row<'static>; 7] = [
+static COMPILE: [Row<'static>; 8] = [
     ("filter", Value("FILTER"), ONE_FILTER),
     IN_LAYOUT,
     (
@@ -152,6 +159,7 @@ static COMPILE: [Row<'static>; 7] = [
     ),
     ("output", Value("FILE"), OUTPUT),
     QUIET,
+    VERBOSE,
     ("strict", Nothing, STRICT),
     ("subject", File("SUBJECT"), FILE),
 ];

@@ -189,7 +189,7 @@ fn argument_of(text: &str) -> Option<u64> {
 }
 
 // How what is given is read: whether as profiles, and in the container of the capabilities that `--cap` names, and of the kernel
-// that `--kernel` names.
+// that `--kernel` names; and whether names that are left out are listed.
 pub(super) fn reading_in(alloc: Global, found: &ArgMatches<'_>) -> Result<Reading, Misuse> {
     let kernel = match found.get_str("kernel") {
         None => None,
@@ -209,5 +209,6 @@ pub(super) fn reading_in(alloc: Global, found: &ArgMatches<'_>) -> Result<Readin
             kernel,
             runtime: Runtime::Crun,
         },
+        listed: found.get_flag("verbose"),
     })
 }

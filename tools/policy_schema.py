@@ -32,7 +32,7 @@ READING, GIVEN_A_FILE = "list", "run"
 OF_TOOL = ("compile", "show", "check", "explain", "diff")
 WITH_VALUES = (
     "-a", "--arch", "--allow", "-f", "--filter", "-o", "--output", "--layout", "--format", "--most", "--records", "--log",
-    "--cap", "--kernel"
+    "--cap", "--kernel", "--runtime"
 )
 HELP = ("-h", "--help")
 

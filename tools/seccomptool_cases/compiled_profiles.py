@@ -97,9 +97,11 @@ SYS_ADMIN, BOTH = "--cap CAP_SYS_ADMIN", "--cap CAP_CHOWN --cap=CAP_SYS_ADMIN"
 TWO_CAPS = ["CAP_SYS_ADMIN", "CAP_CHOWN"]
 FROM, BEFORE = ("", "--kernel 4.8", "--kernel 4.19", "--kernel=5.0"), ("--kernel 4.7", "--kernel 3.99", "--kernel 0.0")
 CRITERIA = [
-    ({"includes": {"caps": ["CAP_SYS_ADMIN"]}}, (SYS_ADMIN, BOTH), ("", "--cap CAP_CHOWN", "--cap cap_sys_admin")),
-    ({"includes": {"caps": TWO_CAPS}}, (BOTH,), ("", SYS_ADMIN, "--cap CAP_CHOWN")),
-    ({"excludes": {"caps": ["CAP_SYS_ADMIN"]}}, ("", "--cap CAP_CHOWN", "--cap SYS_ADMIN"), (SYS_ADMIN, BOTH)),
+    ({"includes": {"caps": ["CAP_SYS_ADMIN"]}},
+     (SYS_ADMIN, BOTH, *(f"--cap {it}" for it in ("cap_sys_admin", "SYS_ADMIN", "Sys_Admin", "CAP_CHOWN,CAP_SYS_ADMIN", "sys_admin,chown"))),
+     ("", "--cap CAP_CHOWN", "--cap chown,SYS_CHROOT")),
+    ({"includes": {"caps": TWO_CAPS}}, (BOTH, "--cap sys_admin,chown", "--cap chown --cap SYS_ADMIN,KILL"), ("", SYS_ADMIN, "--cap CAP_CHOWN")),
+    ({"excludes": {"caps": ["CAP_SYS_ADMIN"]}}, ("", "--cap CAP_CHOWN"), (SYS_ADMIN, BOTH, "--cap SYS_ADMIN")),
     ({"excludes": {"caps": TWO_CAPS}}, ("", "--cap CAP_KILL"), (SYS_ADMIN, "--cap CAP_CHOWN", BOTH)),
     ({"includes": {"arches": ["amd64", "s390x"]}}, ("", "-a amd64"), ("-a arm64", "-a riscv64")),
     ({"includes": {"arches": ["arm64", "x86_64", "AMD64"]}}, ("-a aarch64",), ("", "--arch riscv64")),

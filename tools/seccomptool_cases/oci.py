@@ -71,9 +71,22 @@ def decision(given, words, name, arguments):
     ]
     settling = [it for it in concerning if not it[2]][:1]
     counting = [it[:2] for it in settling or concerning if not it[2] or are_met(it[2], arguments)]
-    if not counting and arch == "amd64" and isinstance(name, int) and X32 <= name < 2**32 - 1:
-        return "kill_thread", None
+    if not counting and arch == "amd64" and isinstance(name, int) and X32 <= name:
+        return ("kill_thread" if name < 2**32 - 1 else default), None
+    if is_new_for_runc(given, words, name, default, caps, version_of(kernel and kernel[1])):
+        default = "errno 38"
     return min(counting, key=lambda it: STRICTEST_FIRST.index(it[0].split()[0]), default=(default, None))
+
+
+def is_new_for_runc(given, words, name, default, caps, kernel):
+    """Returns whether the runtime is runc, and answers a call with ENOSYS if no entry decides it: one with a greater number than
+    each that an entry names, if the default action lets no call through."""
+    if "--runtime runc" not in words or default.split()[0] in ("allow", "log", "trace"):
+        return False
+    numbers, arch = numbers_of(words), GO_NAMES[arch_of(words)]
+    greatest = max((numbers.get(it, 0) for one in given.get("syscalls") or [] if applies(one, arch, caps, kernel)
+                    for it in one.get("names") or [one.get("name")]), default=0)
+    return 0 < greatest < (name if isinstance(name, int) else numbers[name])
 
 
 def arch_of(words):
@@ -270,6 +283,9 @@ CASES = [
     *KNOWN,
     *map(unnamed, KNOWN),
     writes("explain reads-profile.json --oci --kernel=6.1 --cap CAP_KILL 0", "", "allow: syscalls[0] of read (0)\n"),
+    # A runtime is of a profile, as a container is: a policy and a program are what they are.
+    writes("explain --runtime runc explained.json 0", "", "errno 1 (EPERM): no entry of read (0)\n"),
+    writes("explain --runtime=runc reads-profile.json read --cap=kill", "", "allow: syscalls[0] of read (0)\n"),
     # With `--oci` nothing else is a profile.
     rejects("explain --oci logs.json read", "", NO_PROFILE, TOOL + "logs.json: "),
     rejects("explain --oci - read", "{", PARSING),
@@ -299,6 +315,17 @@ CASES = [
     misused("explain --oci - --records -", "SUBJECT and records can't both be read from standard input: give CALL or --records"),
     misused("explain --oci --kernel 6 reads-profile.json read", "the value of --kernel isn't a version of two numbers, such as 6.1"),
     misused("diff --oci --kernel 6 reads-profile.json reads-profile.json", "the value of --kernel isn't a version of two numbers, such as 6.1"),
+    *[misused(f"{it} reads-profile.json", f'the value of --cap names no capability: "{name}"{meant}') for it, name, meant in (
+        ("compile --cap SYS_ADMN", "SYS_ADMN", '; did you mean "CAP_SYS_ADMIN"?'),
+        ("check --cap cap_sys_ptracee", "cap_sys_ptracee", '; did you mean "CAP_SYS_PTRACE"?'),
+        ("show --cap CAP_KILL,chwon", "chwon", '; did you mean "CAP_CHOWN"?'),
+        ("compile --cap CAP_KILL --cap all", "all", ""), ("compile --cap ''", "", ""), ("compile --cap CAP_KILL,", "", ""),
+        ("compile --cap 'CAP_KILL CAP_BPF'", "CAP_KILL CAP_BPF", ""), ("compile --cap KILLCAP_", "KILLCAP_", ""),
+        (f"compile --cap {'A' * 65}", "A" * 65, ""))],
+    misused("diff --cap CAP_NOTHING reads-profile.json reads-profile.json", 'the value of --cap names no capability: "CAP_NOTHING"'),
+    Case("compile --runtime podman reads-profile.json", 2, "",
+         "error: invalid value 'podman' for '--runtime <RUNTIME>'\n  [possible values: crun, runc]\n.."),
+    Case("compile --runtime crun --runtime runc reads-profile.json", 2, "", "error: .."),
     Case("show --verbose reads-profile.json", 2, "", "error: unexpected argument '--verbose' found\n.."),
     Case("compile --format json reads-profile.json", 2, "", "error: invalid value 'json' for '--format <FORMAT>'\n.."),
 ]

@@ -36,6 +36,7 @@ SOCKETS = profile(
 MOUNTS = profile(entry("mount umount2", includes=caps("CAP_SYS_ADMIN")),
                  entry("mount umount2", "SCMP_ACT_ERRNO", errnoRet=1, excludes=caps("CAP_SYS_ADMIN")), **ENOSYS)
 TRACED = profile(entry("ptrace", includes={"minKernel": "4.8"}), entry("ptrace", "SCMP_ACT_LOG", excludes={"minKernel": "4.8"}))
+NEW = profile(entry("read close"), entry("mount", includes=caps("CAP_SYS_ADMIN")))
 ARCHES = profile(entry("open", includes={"arches": ["amd64"]}), entry("openat", excludes={"arches": ["amd64"]}), **ENOSYS)
 
 # What a profile shows, the words of its container, the profile, and calls with their arguments and its decisions.
@@ -99,6 +100,16 @@ PROFILES = [
      [("read", (), "allow"), (0x40000000, (), "kill_thread"), (LOW, (), "allow")]),
     ("x32 is of x86_64 alone", "-a aarch64", profile(entry("read"), **ENOSYS),
      [("read", (), "allow"), (0x40000000, (), "errno 38"), (LOW, (), "errno 38")]),
+    ("a runtime that does no more than libseccomp", "--runtime crun", NEW, [("stat", (), "errno 1"), (4000, (), "errno 1")]),
+    ("calls above all that are named, as runc answers them", "--runtime runc", NEW,
+     [("read", (), "allow"), ("write", (), "errno 1"), ("close", (), "allow"), ("stat", (), "errno 38"), ("fchmodat2", (), "errno 38"),
+      (4000, (), "errno 38"), (0x40000000, (), "kill_thread"), (LOW, (), "errno 1")]),
+    ("entries that apply say which are named", "--runtime runc --cap CAP_SYS_ADMIN", NEW, [("stat", (), "errno 1"), (4000, (), "errno 38")]),
+    ("all numbers above on another architecture", "-a aarch64 --runtime runc", NEW,
+     [("read", (), "allow"), ("write", (), "errno 38"), ("close", (), "allow"), (0x40000000, (), "errno 38"), (LOW, (), "errno 38")]),
+    ("not if the default action lets them through", "--runtime runc", profile(entry("read", "SCMP_ACT_TRAP"), default="SCMP_ACT_LOG"),
+     [("read", (), "trap"), ("stat", (), "log"), (4000, (), "log")]),
+    ("nor if no call is named", "--runtime runc", profile(), [("read", (), "errno 1"), (4000, (), "errno 1")]),
     ("without a capability", "", MOUNTS, [("mount", (), "errno 1"), ("umount2", (), "errno 1"), ("read", (), "errno 38")]),
     ("with it", "--cap CAP_SYS_ADMIN", MOUNTS, [("mount", (), "allow"), ("umount2", (), "allow"), ("read", (), "errno 38")]),
     ("sockets, as Podman's profile has them", "", SOCKETS,

@@ -91,6 +91,7 @@ CASES = [
     misused("diff --layout tree logs.json 63-bytes"),
     misused("compile --oci reads-profile.json reads-profile.json"),
     misused("compile --oci --cap"),
+    misused("compile --runtime"),
     misused("compile --oci --strict=yes reads-profile.json"),
     misused("compile --oci --kernel 6.1 --kernel 6.2 reads-profile.json"),
     misused("compile -a x32 reads-profile.json", "error: invalid value 'x32' for '--arch <ARCH>'\n.."),

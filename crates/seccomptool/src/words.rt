@@ -1,5 +1,6 @@
 // The words that the program is called with.
 
+mod container;
 mod learning;
 mod matches;
 mod options;
@@ -160,9 +161,12 @@ pub struct Asked<'a> {
 }
 
 // Why the matches of clap ask for nothing.
+#[derive(Drop)]
 enum Misuse {
     // This is wrong with them.
     Told(&'static str),
+    // This is wrong with a name among them.
+    Named(String),
     // Memory ran out.
     OutOfMemory,
 }
@@ -185,7 +189,8 @@ impl<T: Drop> From<AllocFailed<T>> for Misuse {
 ///
 /// `clap`'s: help and the version if they are asked for, and its own error of arguments that are no
 /// command. `ValueValidation` if an ARG or the value of `--most` is no number, if `explain` is given both CALL and
-/// `--records` or `--log`, or both of these, if the value of `--kernel` is no version, if `call` is given `--output` without
+/// `--records` or `--log`, or both of these, if the value of `--kernel` is no version
+/// or that of `--cap` no capability, if `call` is given `--output` without
 /// `--record`, if the values of `learn`'s `--otherwise`, `--args` or `--values` are none, if `learn` is given `--into` and
 /// `--otherwise` or `--profile`, or `--name` and `--profile`, and if two files would both be read from standard input: what is
 /// explained and records or a log, both of what is compared, or a trace and the policy. `OutOfMemory` may come in place of any.
@@ -198,6 +203,7 @@ pub(crate) fn read<'a>(alloc: Global, words: &'a [String]) -> Result<Asked<'a>, 
     match asked_in(alloc, name, found) {
         Ok(asked) => Ok(asked),
         Err(Misuse::Told(message)) => Err(misused(&mut program, message)),
+        Err(Misuse::Named(message)) => Err(misused(&mut program, message.as_str())),
         Err(Misuse::OutOfMemory) => Err(clap::Error::from(AllocError)),
     }
 }

@@ -16,6 +16,8 @@ const PROGRAM_FORMATS: &[&str] = &["raw", "listing", "c"];
 
 const LINE_FORMATS: &[&str] = &["path", "word"];
 
+const RUNTIMES: &[&str] = &["crun", "runc"];
+
 const CODES: &[&str] = &[
     "fake-success",
     "errno-too-large",
@@ -75,7 +77,9 @@ const ARGUMENTS: &str = "The call's arguments; those that aren't given are 0";
 
 const ARCH: &str = "The architecture";
 
-const CAP: &str = "A capability of a profile's container, such as CAP_SYS_ADMIN";
+const CAP: &str = "Capabilities of a profile's container, such as CAP_SYS_ADMIN,CAP_BPF";
+
+const RUNTIME: &str = "The runtime of a profile's container";
 
 const DENIED: &str = "End with exit status 1 if there is a warning";
 
@@ -134,11 +138,12 @@ const QUIET: Row<'static> = ("quiet", Nothing, "Don't print the number of warnin
 const IN_LAYOUT: Row<'static> = ("layout", OneOf("LAYOUT", LAYOUTS, "tree"), LAYOUT);
 
 // Those of every command that takes subjects.
-static COMMON: [Row<'static>; 4] = [
+static COMMON: [Row<'static>; 5] = [
     ("arch", OneOf("ARCH", ARCHITECTURES, "x86_64"), ARCH),
     ("oci", Nothing, OCI),
     ("cap", Several("CAP", &[]), CAP),
     ("kernel", Value("KERNEL"), KERNEL),
+    ("runtime", OneOf("RUNTIME", RUNTIMES, "crun"), RUNTIME),
 ];
 
 static CHECK: [Row<'static>; 5] = [

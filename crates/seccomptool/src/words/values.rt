@@ -2,6 +2,7 @@
 //
 // Where an option takes some names alone, clap lets no other pass, and one that isn't given has a name of its own.
 
+use super::container::container_in;
 use super::{Call, Calls, Inputs, Misuse};
 use crate::compile::format::ProgramFormat;
 use crate::explain::format::LineFormat;
@@ -10,7 +11,6 @@ use crate::kind::Reading;
 use crate::numbers::read_number;
 use clap::ArgMatches;
 use seccomp_compare::Relation;
-use seccomp_oci::{Container, Runtime, kernel_of};
 use seccomp_tree::Layout;
 use seccomp_warnings::Code;
 use seccompiler::TargetArch;
@@ -21,8 +21,6 @@ const NO_ARGUMENT: &str =
 
 const BOTH: &str =
     "SUBJECT and records can't both be read from standard input: give CALL, --records or --log";
-
-const NO_KERNEL: &str = "the value of --kernel isn't a version of two numbers, such as 6.1";
 
 const NO_MOST: &str =
     "the value of --most isn't a number from 0 to 18446744073709551615, decimal or hexadecimal after 0x";
@@ -188,27 +186,11 @@ fn argument_of(text: &str) -> Option<u64> {
     Some(u64::MAX - number + 1)
 }
 
-// How what is given is read: whether as profiles, and in the container of the capabilities that `--cap` names, and of the kernel
-// that `--kernel` names; and whether names that are left out are listed.
+// How what is given is read: whether as profiles, and in which container; and whether names that are left out are listed.
 pub(super) fn reading_in(alloc: Global, found: &ArgMatches<'_>) -> Result<Reading, Misuse> {
-    let kernel = match found.get_str("kernel") {
-        None => None,
-        Some(text) => match kernel_of(text) {
-            None => return Err(Misuse::Told(NO_KERNEL)),
-            kernel => kernel,
-        },
-    };
-    let mut caps = Vec::new(alloc);
-    for cap in found.get_strs("cap").unwrap_or(&[]) {
-        caps.push(String::from_str(alloc, cap)?)?;
-    }
     Ok(Reading {
         of_profiles: found.get_flag("oci"),
-        container: Container {
-            caps,
-            kernel,
-            runtime: Runtime::Crun,
-        },
+        container: container_in(alloc, found)?,
         listed: found.get_flag("verbose"),
     })
 }

@@ -11,9 +11,9 @@ DENIED = (
     + filtered(500, "call", 10)
 )
 ON_DENIED = """nginx[7]: allow: a.filter[0] of accept4 (288)
-nginx[8]: errno 1: no match: a.filter[1].args[0] of fcntl (72) does not hold, the nearest of 3 entries
+nginx[8]: errno 1 (EPERM): no match: a.filter[1].args[0] of fcntl (72) does not hold, the nearest of 3 entries
 old[9]: kill_process: another architecture
-call[10]: errno 1: no entry of call 500
+call[10]: errno 1 (EPERM): no entry of call 500
 """
 
 # Lines of the audit system, with the first four arguments in hexadecimal digits; without a process, and without both.
@@ -36,7 +36,7 @@ TRACED = """77 accept4(3, NULL, NULL, SOCK_CLOEXEC) = 4
 """
 ON_TRACED = """allow: a.filter[0] of accept4 (288)
 allow: a.filter[2] of fcntl (72)
-errno 1: no match: a.filter[1].args[0] of fcntl (72) does not hold, the nearest of 3 entries
+errno 1 (EPERM): no match: a.filter[1].args[0] of fcntl (72) does not hold, the nearest of 3 entries
 allow: a.filter[3] of close (3)
 """
 WORDS_OF_TRACED = """7fff0000 entry 0, rule 0 of call 288
@@ -45,7 +45,7 @@ WORDS_OF_TRACED = """7fff0000 entry 0, rule 0 of call 288
 7fff0000 entry 3, rule 0 of call 3
 """
 
-ON_AARCH64 = """call[1234]: errno 1: no match: a.filter[1].args[0] of fcntl (25) does not hold, the nearest of 3 entries
+ON_AARCH64 = """call[1234]: errno 1 (EPERM): no match: a.filter[1].args[0] of fcntl (25) does not hold, the nearest of 3 entries
 x[1]: kill_process: another architecture
 allow: a.filter[3] of close (57)
 """
@@ -74,26 +74,26 @@ CASES = [
     explains("explained.json --log audited.log", ON_AUDITED),
     explains("explained.json --log traced.trace", ON_TRACED),
     explains("explained.json --log traced.trace --format word", WORDS_OF_TRACED),
-    explains("explained.json --log fronts.trace", "".join(f"errno 1: no entry of {it}\n" for it in OF_FRONTS)),
+    explains("explained.json --log fronts.trace", "".join(f"errno 1 (EPERM): no entry of {it}\n" for it in OF_FRONTS)),
     explains("explained.json --log -", ""),
     explains("explained.json --log -", ON_TRACED + ON_AUDITED + ON_DENIED, TRACED + AUDITED + DENIED),
     explains("explained.json --log examples/traces/denied.log",
-             "call[1234]: errno 1: no entry of kexec_load (246)\nredis-server[1235]: errno 1: no entry of clone (56)\n"),
+             "call[1234]: errno 1 (EPERM): no entry of kexec_load (246)\nredis-server[1235]: errno 1 (EPERM): no entry of clone (56)\n"),
     # The lines are of the architecture's calls; what strace prints is of it too.
     explains("-a aarch64 explained.json --log -", ON_AARCH64, filtered(25, arch="c00000b7") + filtered(72, "x", 1) + "close(3) = 0\n"),
     # By a profile and by a program.
-    explains("reads-profile.json --log denied.log", """nginx[7]: errno 1: defaultAction of accept4 (288)
-nginx[8]: errno 1: defaultAction of fcntl (72)
+    explains("reads-profile.json --log denied.log", """nginx[7]: errno 1 (EPERM): defaultAction of accept4 (288)
+nginx[8]: errno 1 (EPERM): defaultAction of fcntl (72)
 old[9]: kill_process: another architecture
-call[10]: errno 1: defaultAction of call 500
+call[10]: errno 1 (EPERM): defaultAction of call 500
 """),
     explains("--oci --log - reads-profile.json", "cat[5]: allow: syscalls[0] of read (0)\n", filtered(0, "cat", 5)),
-    explains("read.bpf --log denied.log", """nginx[7]: errno 1: accept4 (288)
-nginx[8]: errno 1: fcntl (72)
-old[9]: errno 1: another architecture
-call[10]: errno 1: call 500
+    explains("read.bpf --log denied.log", """nginx[7]: errno 1 (EPERM): accept4 (288)
+nginx[8]: errno 1 (EPERM): fcntl (72)
+old[9]: errno 1 (EPERM): another architecture
+call[10]: errno 1 (EPERM): call 500
 """),
-    explains("--log traced.trace -", "errno 1: accept4 (288)\nerrno 1: fcntl (72)\nerrno 1: fcntl (72)\nerrno 1: close (3)\n", OF_READ),
+    explains("--log traced.trace -", "errno 1 (EPERM): accept4 (288)\nerrno 1 (EPERM): fcntl (72)\nerrno 1 (EPERM): fcntl (72)\nerrno 1 (EPERM): close (3)\n", OF_READ),
     # What isn't understood is noted, and the rest explained.
     Case("explain logs.json --log strange.trace", 0, "log: no entry of getpid (39)\nlog: no entry of getuid (102)\n",
          f"{TOOL}strange.trace: {FIRST_STRANGE}\n"),

@@ -43,7 +43,7 @@ LONGEST = program(*[(LOAD, 0, 0, 60)] * 4095, returns(ALLOW))
 RECORDS = record_of(0, X86_64) + record_of(1, X86_64) + record_of(0, RISCV64)
 
 # What is explained of them: whatever a program returns for the last one, it is of another architecture.
-EXPLAINED = "allow: read (0)\nerrno 1: write (1)\nallow: another architecture\n"
+EXPLAINED = "allow: read (0)\nerrno 1 (EPERM): write (1)\nallow: another architecture\n"
 
 FILES = {
     "read.bpf": OF_READ,
@@ -116,7 +116,7 @@ CASES = [
     rejects("explain read.bpf --records missing.bin", "", MISSING, TOOL + "missing.bin: "),
     rejects("explain read.bpf", Failing(RECORDS), RESET),
     rejects("explain read.bpf nosyscall", "", "No call of x86_64 has this name or number: nosyscall.\n", TOOL),
-    Case("explain read.bpf --records cut.bin", 2, "allow: read (0)\nerrno 1: write (1)\n",
+    Case("explain read.bpf --records cut.bin", 2, "allow: read (0)\nerrno 1 (EPERM): write (1)\n",
          TOOL + "cut.bin: The input ends inside a record, after 63 bytes of it.\n"),
     # An output that takes nothing.
     rejects("explain read.bpf read > /dev/full", "", FULL, OUTPUT),

@@ -89,7 +89,9 @@ pub(crate) fn compile_made(
         Subject::Profile(container) => {
             refuse_name(alloc, filter)?;
             let listed = reading.listed;
-            profile_made(alloc, arch, container, strict, format, quiet, listed, path, given)
+            profile_made(
+                alloc, arch, container, strict, format, quiet, listed, path, given,
+            )
         }
         Subject::Program => {
             refuse_name(alloc, filter)?;
@@ -141,7 +143,14 @@ fn profile_made(
     let notes = if quiet {
         Vec::new(alloc)
     } else {
-        profile_notes(alloc, arch, path, listed, &compiled.left_out, &compiled.flags)?
+        profile_notes(
+            alloc,
+            arch,
+            path,
+            listed,
+            &compiled.left_out,
+            &compiled.flags,
+        )?
     };
     let program = NamedProgram {
         name: String::from_str(alloc, "profile")?,
@@ -295,8 +304,14 @@ fn accepted(
             let front = front_of(alloc, path)?;
             let checked = profile_checked(alloc, arch, container, allowed, &front, given)?;
             let CheckedProfile { compiled, report } = checked;
-            let notes =
-                profile_notes(alloc, arch, path, listed, &compiled.left_out, &compiled.flags)?;
+            let notes = profile_notes(
+                alloc,
+                arch,
+                path,
+                listed,
+                &compiled.left_out,
+                &compiled.flags,
+            )?;
             Ok(Made {
                 text: report.text,
                 rest: 0,

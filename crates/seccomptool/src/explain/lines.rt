@@ -3,7 +3,7 @@
 use crate::explain::format::LineFormat;
 use crate::explain::reason::{Miss, Reason};
 use crate::explain::{Explained, Explanation, NamedFilter, Why};
-use crate::findings::lines::Word;
+use crate::findings::lines::{CallName, Word};
 use crate::findings::parts::name_of;
 use seccomp_command_line::hexadecimal::eight_digits;
 use seccomp_command_line::readable::{TextKind, push_readable};
@@ -33,17 +33,31 @@ pub(crate) fn explained_lines(
             (Why::Filter(reason), _, _) => push(&mut text, format!(in alloc; "{reason}")?)?,
             (Why::Elsewhere, _, _) => text.extend_from_slice(b"another architecture")?,
             (Why::Profile { number, entry }, _, _) => {
-                let call = NumberedCall { target, number };
-                let told = match entry {
-                    None => format!(in alloc; "defaultAction of {call}")?,
-                    Some(place) => format!(in alloc; "syscalls[{place}] of {call}")?,
-                };
-                push(&mut text, told)?
+                let reason = profile_reason(alloc, target, format, number, entry)?;
+                push(&mut text, reason)?
             }
         }
         text.push(b'\n')?;
     }
     Ok(text)
+}
+
+// By which entry of a profile a call is decided.
+fn profile_reason(
+    alloc: Global,
+    target: TargetArch,
+    format: LineFormat,
+    number: u32,
+    entry: Option<usize>,
+) -> Result<String, AllocError> {
+    let call = NumberedCall { target, number };
+    let name = CallName { target, number };
+    Ok(match (format, entry) {
+        (LineFormat::Path, None) => format!(in alloc; "defaultAction of {call}")?,
+        (LineFormat::Path, Some(place)) => format!(in alloc; "syscalls[{place}] of {call}")?,
+        (LineFormat::Word, None) => format!(in alloc; "defaultAction")?,
+        (LineFormat::Word, Some(place)) => format!(in alloc; "syscalls[{place}] ({name})")?,
+    })
 }
 
 fn push(text: &mut Vec<u8>, more: String) -> Result<(), AllocError> {

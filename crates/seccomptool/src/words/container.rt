@@ -53,7 +53,9 @@ fn caps_in(alloc: Global, found: &ArgMatches<'_>) -> Result<Vec<String>, Misuse>
 fn no_capability(alloc: Global, name: &str) -> Result<String, AllocError> {
     let shown = readable(alloc, name, TextKind::Name)?;
     match near_capability(alloc, name)? {
-        Some(near) => format!(in alloc; "the value of --cap names no capability: \"{shown}\"; did you mean \"{near}\"?"),
+        Some(near) => format!(in alloc;
+            "the value of --cap names no capability: \"{shown}\"; did you mean \"{near}\"?"
+        ),
         None => format!(in alloc; "the value of --cap names no capability: \"{shown}\""),
     }
 }
@@ -69,8 +71,11 @@ fn near_capability(alloc: Global, name: &str) -> Result<Option<&'static str>, Al
     let mut least = (name.len() / 3).max(1) + 1;
     for cap in capabilities() {
         let short = cap.strip_prefix("CAP_").unwrap_or(*cap);
-        let distance = osa_distance(alloc, name.as_str(), cap)?
-            .min(osa_distance(alloc, name.as_str(), short)?);
+        let distance = osa_distance(alloc, name.as_str(), cap)?.min(osa_distance(
+            alloc,
+            name.as_str(),
+            short,
+        )?);
         if distance < least {
             least = distance;
             best = Some(*cap);

@@ -152,11 +152,11 @@ def is_example(line, words, old, new, numbers):
     found = LINE.fullmatch(line)
     if not found:
         return False
-    call, arguments = found[4], tuple(int(it, 16) for it in found[5].split(", "))
+    call, arguments = int(found[4]) if found[4].isdigit() else found[4], tuple(int(it, 16) for it in found[5].split(", "))
     both = [decision(it, words, call, arguments)[0] for it in (old, new)]
     ranks = [STRICTEST_FIRST.index(it.split()[0]) for it in both]
     kind = "more" if ranks[1] > ranks[0] else "less" if ranks[1] < ranks[0] else "otherwise"
-    return (*map(named, both), kind) == (found[1], found[2], found[3]) and both[0] != both[1] and (call in numbers or call.isdigit())
+    return (*map(named, both), kind) == (found[1], found[2], found[3]) and both[0] != both[1] and (isinstance(call, int) or call in numbers)
 
 
 def compare_pairs(results, run):
@@ -312,7 +312,7 @@ CASES = [
     # What is no command.
     rejects("explain --oci --filter=a reads-profile.json read", "", NO_NAME, TOOL + "reads-profile.json: "),
     misused("diff --oci - -", "OLD and NEW can't both be read from standard input"),
-    misused("explain --oci - --records -", "SUBJECT and records can't both be read from standard input: give CALL or --records"),
+    misused("explain --oci - --records -", "SUBJECT and records can't both be read from standard input: give CALL, --records or --log"),
     misused("explain --oci --kernel 6 reads-profile.json read", "the value of --kernel isn't a version of two numbers, such as 6.1"),
     misused("diff --oci --kernel 6 reads-profile.json reads-profile.json", "the value of --kernel isn't a version of two numbers, such as 6.1"),
     *[misused(f"{it} reads-profile.json", f'the value of --cap names no capability: "{name}"{meant}') for it, name, meant in (

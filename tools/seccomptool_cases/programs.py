@@ -125,7 +125,7 @@ CASES = [
     misused(""),
     misused("read.bpf read 1a"),
     misused("read.bpf read --records calls.bin", "error: CALL and --records can't both be given\n.."),
-    misused("-", "error: SUBJECT and records can't both be read from standard input: give CALL or --records\n.."),
+    misused("-", "error: SUBJECT and records can't both be read from standard input: give CALL, --records or --log\n.."),
     # With `--format word` the return value and the steps: three instructions after the load, or two.
     writes("explain --format word read.bpf read", "", "7fff0000 3\n"),
     writes("explain read.bpf 1 --format=word", "", "00050001 3\n"),

@@ -41,7 +41,7 @@ CASES = [
     writes("compile -q --filter= --layout linear", NAMED, LINEAR),
     writes("compile -q -f '' --layout linear", NAMED, LINEAR),
     writes("call --record read", "", record_of(0, X86_64)),
-    writes("call --record 0 1 0x2 0xaBc 007 18446744073709551615 0xffffffffffffffff", "",
+    writes("call --record 0 1 0x2 0xaBc 7 18446744073709551615 0xffffffffffffffff", "",
            record_of(0, X86_64, 1, 2, 0xABC, 7, GREATEST, GREATEST)),
     writes("call --record 0 1 -- -1 -0x10 -9223372036854775808", "",
            record_of(0, X86_64, 1, GREATEST, 2**64 - 16, 2**63)),
@@ -80,7 +80,7 @@ CASES = [
     misused("explain < empty"),
     misused("explain logs.json read --records 63-bytes", "error: CALL and --records can't both be given\n.."),
     misused("explain -",
-            "error: SUBJECT and records can't both be read from standard input: give CALL or --records\n.."),
+            "error: SUBJECT and records can't both be read from standard input: give CALL, --records or --log\n.."),
     misused("explain - --records -"),
     misused("diff logs.json"),
     misused("diff -- -: -", "error: OLD and NEW can't both be read from standard input\n.."),
@@ -107,6 +107,7 @@ CASES = [
     misused("call --record read -1", "error: unexpected argument '-1' found\n.."),
     misused("explain logs.json read 1a", NO_NUMBER),
     *[misused(f"call --record read {arguments}", NO_NUMBER) for arguments in (
+        "0577", "0b1", "-- -07",
         "''", "0x", "0X1", "+1", "0x+1", "1a", "0xg", "18446744073709551616", "0x10000000000000000",
         "-- -0", "-- -9223372036854775809", "-- --1", "-- -", "-- +1")],
     # An output that takes nothing.

@@ -39,7 +39,8 @@ use Rattle.seccomptool.specs.declared.words.Call.{Call}
 use Rattle.seccomptool.specs.declared.words.Calls.{Calls}
 use Rattle.seccomptool.specs.declared.words.Calls.TheVariants.{One, Records, Log}
 use Rattle.seccomptool.specs.declared.words.Command.{Command}
-use Rattle.seccomptool.specs.declared.words.Command.TheVariants.{Compile, Show, Check, Codes, Explain, Call as CallOf, Diff as DiffOf, Learn}
+use Rattle.seccomptool.specs.declared.words.Command.TheVariants.{Compile, Show, Check, Codes, Explain, Call as CallOf, Diff as DiffOf}
+use Rattle.seccomptool.specs.declared.words.Command.TheVariants.{Learn}
 use Rattle.seccomptool.specs.declared.words.Inputs.{Inputs}
 use Rattle.seccomptool.specs.declared.words.Names.{Names}
 use Rattle.seccomptool.specs.Check.{IsCheckOf, IsRefusal, verdict_where}
@@ -128,7 +129,7 @@ IsCheck arch reading denied allowed given v =
 abbrev pub records_in : List ℕ → List (List ℕ)
 records_in bytes = first_chunks 64 (length bytes / 64) bytes
 
--- P holds of the records that are asked about: that of a call, those of these bytes, or those of calls that lines tell of.
+-- P holds of the records that are asked about: that of a call, those of these bytes, or those of calls that lines are about.
 abbrev pub OnRecords : TargetArch → Calls → (bytes : List ℕ) → (List (List ℕ) → Type 0) → Type 0
 OnRecords arch (One call) bytes P =
     (record_of : List ℕ) × IsRecordOf arch call.name.now call.arguments record_of × P (records_in record_of)

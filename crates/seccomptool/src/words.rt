@@ -136,7 +136,7 @@ pub enum Calls<'a> {
     One(Call<'a>),
     /// Those of records.
     Records,
-    /// Those that lines of a log or of a trace tell of.
+    /// Those that lines of a log or of a trace are about.
     Log,
 }
 

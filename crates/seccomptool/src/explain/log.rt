@@ -1,10 +1,10 @@
-// The calls that lines of a log or of a trace tell of.
+// The calls that lines of a log or of a trace are about.
 
 use seccomp_learn::{Line, Told, line_of, told_number};
 use seccompiler::TargetArch;
 use std::alloc::{AllocError, Global};
 
-/// What lines tell of.
+/// The calls that lines are about.
 #[derive(Drop)]
 pub(super) struct Log {
     /// The records of the calls, one after the other.
@@ -17,7 +17,7 @@ pub(super) struct Log {
     pub first_strange: Option<usize>,
 }
 
-// The calls that these lines tell of; a call whose name no call of the architecture has is not understood.
+// The calls that these lines are about; a call whose name no call of the architecture has is not understood.
 pub(super) fn log_of(alloc: Global, arch: TargetArch, text: &[u8]) -> Result<Log, AllocError> {
     let mut log = Log {
         records: Vec::new(alloc),

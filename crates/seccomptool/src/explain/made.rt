@@ -67,7 +67,7 @@ fn explain_records(
     })
 }
 
-// The calls that lines of a log or a trace tell of, each after who made it.
+// The calls that lines of a log or a trace are about, each after who made it.
 fn explain_log(
     alloc: Global,
     arch: TargetArch,

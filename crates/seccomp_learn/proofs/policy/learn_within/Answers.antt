@@ -14,7 +14,7 @@ returns-clause-learned c =
       mismatch_action = own.actions.0;
       match_action = own.actions.1;
       matches = subst (λ (kept : List Kept). (before : Filter) → IsPolicyOf c.args.arch c.args.old before → (r : List ℕ)
-      → Matches c.in_ok-learned.learned.filter r ↔ (Matches before r ⊎ named kept r)) c.deref.ensures.value own.matches;
+          → Matches c.in_ok-learned.learned.filter r ↔ (Matches before r ⊎ named kept r)) c.deref.ensures.value own.matches;
       among = c.in_ok-kept.ensures.among;
       left_out = c.in_ok-kept.ensures.left_out;
     }

@@ -58,6 +58,7 @@ fn is_passed(rest: &str) -> bool {
         || rest.starts_with("> ")
         || rest.starts_with("<... ")
         || rest.starts_with("time->")
+        || rest.starts_with("???(")
 }
 
 // Whether it may be a call's name.

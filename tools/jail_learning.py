@@ -28,6 +28,9 @@ NUMBERS = {name: int(number) for name, number in re.findall(r'\("([a-z0-9_]+)", 
 # Where programs and services are.
 PATH = "/usr/sbin:/usr/bin:/sbin:/bin"
 
+# What strace prints of a thread that ends before strace knows its call: none, or one whose number is that of a process.
+ENDED = re.compile(r"^\d+ +(\?\?\?|syscall_0x)\S.*\n", re.M)
+
 # The arguments of these calls are traced as numbers.
 STRACE = ["strace", "-f", "-e", "raw=fcntl,ioctl,prctl,socket", "-o"]
 
@@ -173,8 +176,15 @@ def traced(results, name, example, prepare, folder):
         return files
     files = [f"{name}.{k}.trace" for k in (1, 2)]
     for file in files:
-        results.compare(f"strace {name}", wanted, used(words, [*STRACE, file], folder))
+        results.compare(f"strace {name}", wanted, by_strace(used, words, file, folder))
     return files
+
+
+def by_strace(used, words, file, folder):
+    """Traces a run into a file; returns what came of it."""
+    came = used(words, [*STRACE, file], folder)
+    (folder / file).write_text(ENDED.sub("", (folder / file).read_text()))
+    return came
 
 
 def learned(results, name, files, folder, *more):
@@ -201,14 +211,14 @@ def try_program(results, jailers, folder, name, files, prepare):
 
 def try_saving(results, jailer, folder, files):
     """Runs redis-server when it saves: the policy of runs that didn't save allows no process; one that learns another run does."""
-    def came_of(*front):
+    def came_of(*front, how=None):
         words, used, wanted = redis_that_saves(folder)
-        return wanted, used(words, front, folder)
+        return wanted, how(used, words, "saving.trace", folder) if how else used(words, front, folder)
 
     policy = learned(results, "saving", files, folder, "--otherwise", "errno:1")
     _, (answers, _) = came_of(*jailer.words, policy, "--")
     results.compare(f"{jailer} {policy}: no process", ("+OK", "$1", True), (*answers[:2], answers[2].startswith("-")))
-    results.compare("strace redis-server that saves", *came_of(*STRACE, "saving.trace"))
+    results.compare("strace redis-server that saves", *came_of(how=by_strace))
     wider = ["learn", "-a", MACHINE, "--strict", "--into", policy, "-o", "saves.json", "saving.trace"]
     results.compare(f"learn --into {policy}", ("", "", 0), run([TOOL, *wider], folder))
     results.compare(f"{jailer} saves.json", *came_of(*jailer.words, "saves.json", "--"))

@@ -1,7 +1,7 @@
 """What tools/try-jail runs under policies that `seccomptool learn` makes of traces.
 
 Each of PROGRAMS is traced by strace, and runs under the policy of its traces as it does without a filter. If strace or the kernel
-traces nothing here, the traces of examples/traces are taken, which were made on Debian 12. Under each policy a call that no trace has
+traces nothing here, on Debian 12 the traces of examples/traces are taken, which were made there. Under each policy a call that no trace has
 kills; `explain` says so of the line in the kernel's log, or of one of that form if that log can't be read or leaves the line out; and
 a policy that learns the line allows the call. What isn't installed is said, and left out.
 """
@@ -28,10 +28,13 @@ NUMBERS = {name: int(number) for name, number in re.findall(r'\("([a-z0-9_]+)", 
 # Where programs and services are.
 PATH = "/usr/sbin:/usr/bin:/sbin:/bin"
 
+# What strace prints of a thread that ends before strace knows its call: none, or one whose number is that of a process.
+ENDED = re.compile(r"^\d+ +(\?\?\?|syscall_0x)\S.*\n", re.M)
+
 # The arguments of these calls are traced as numbers.
 STRACE = ["strace", "-f", "-e", "raw=fcntl,ioctl,prctl,socket", "-o"]
 
-SCRIPT = "import socket; socket.socket(); print(len(open('numbers').read()))"
+SCRIPT = "import socket; s = socket.socket(); s.close(); print(len(open('numbers').read()))"
 
 NGINX = """{user}daemon off;
 pid nginx.pid;
@@ -43,6 +46,9 @@ http {{
     server {{ listen 127.0.0.1:{port}; root .; }}
 }}
 """
+
+# What is asked for last of a saving, and what redis-server answers to it, and to its end.
+THE_END, SAVED = "the end of it", ["+Background saving started", "ok"]
 
 # Calls of `call` under the policy of any of the programs, and their answers: each of the programs closes files, none loads a
 # kernel, and none makes a socket of netlink.
@@ -68,33 +74,34 @@ def by_command(words, front, folder):
 
 
 def grep(folder):
-    """Returns the command of grep, and how it is run."""
-    return ["grep", "-n", "7", "numbers"], by_command
+    """Returns the command of grep, how it is run, and what comes of it."""
+    found = "".join(f"{number}:{it}\n" for number, it in enumerate((folder / "numbers").read_text().split(), 1) if "7" in it)
+    return ["grep", "-n", "7", "numbers"], by_command, (found, "", 0)
 
 
 def python3(folder):
-    """Returns the command of Python, and how it is run."""
-    return ["python3", "-I", "-S", "-c", SCRIPT], by_command
+    """Returns the command of Python, how it is run, and what comes of it."""
+    return ["python3", "-I", "-S", "-c", SCRIPT], by_command, (f"{(folder / 'numbers').stat().st_size}\n", "", 0)
 
 
 def nginx(folder):
-    """Writes the settings of nginx; returns its command and how it is used."""
+    """Writes the settings of nginx; returns its command, how it is used, and what comes of it."""
     port = free_port()
     (folder / "nginx.conf").write_text(NGINX.format(user="user root;\n" if os.geteuid() == 0 else "", port=port))
 
     def page():
         other = http.client.HTTPConnection("127.0.0.1", port, timeout=SECONDS)
         other.request("GET", "/numbers")
-        return len(other.getresponse().read())
+        return other.getresponse().read()
 
     def stop():
         os.kill(int((folder / "nginx.pid").read_text()), signal.SIGQUIT)
 
-    return ["nginx", "-p", f"{folder}/", "-c", "nginx.conf"], used_by(port, page, stop)
+    return ["nginx", "-p", f"{folder}/", "-c", "nginx.conf"], used_by(port, page, stop), ((folder / "numbers").read_bytes(), 0)
 
 
 def redis(folder, *asked):
-    """Returns the command of redis-server, and how it is used: a value is set, and more is asked."""
+    """Returns the command of redis-server, how it is used, and what comes of it: a value is set, and more is asked."""
     port = free_port()
     (folder / "dump.rdb").unlink(missing_ok=True)
 
@@ -102,17 +109,17 @@ def redis(folder, *asked):
         return [answered(port, it) for it in ("SET a 1", "GET a", *asked)]
 
     words = ["redis-server", "--port", str(port), "--save", "", "--daemonize", "no", "--dir", str(folder)]
-    return words, used_by(port, answers, lambda: answered(port, "SHUTDOWN NOSAVE"))
+    return words, used_by(port, answers, lambda: answered(port, "SHUTDOWN NOSAVE")), (["+OK", "$1", *SAVED[:len(asked)]], 0)
 
 
 def redis_that_saves(folder):
     """Returns the same, with a saving to a file, for which redis-server starts a process."""
-    return redis(folder, "BGSAVE", "the end of it")
+    return redis(folder, "BGSAVE", THE_END)
 
 
 def answered(port, asked):
     """Asks redis-server something; returns the first line of its answer, or how its last saving ended once it has."""
-    end, question = time.monotonic() + 10, "INFO persistence" if asked == "the end of it" else asked
+    end, question = time.monotonic() + 10, "INFO persistence" if asked == THE_END else asked
     while True:
         with socket.create_connection(("127.0.0.1", port), SECONDS) as other:
             other.sendall(f"{question}\r\n".encode())
@@ -125,7 +132,7 @@ def answered(port, asked):
 
 
 def used_by(port, use, stop):
-    """Returns what starts a service, uses it once its port answers, stops it, and returns what came of it and its exit status."""
+    """Returns what starts a service, uses it once its port answers, stops it, and returns what came of it and the exit status."""
     def by_service(words, front, folder):
         service = subprocess.Popen([*front, *words], cwd=folder, env={**ENVIRONMENT, "PATH": PATH}, stdin=subprocess.DEVNULL,
                                    stdout=subprocess.DEVNULL, stderr=subprocess.DEVNULL)
@@ -159,15 +166,25 @@ PROGRAMS = [("grep", "grep", grep), ("python3", "python", python3), ("nginx", "n
 
 
 def traced(results, name, example, prepare, folder):
-    """Traces two runs of a program; returns the files of the traces, or that of the examples if nothing is traced here."""
-    words, used = prepare(folder)
+    """Traces two runs of a program; returns the files of the traces, or that of the examples or none if nothing is traced here."""
+    words, used, wanted = prepare(folder)
+    results.compare(f"{name} without a filter", wanted, used(words, [], folder))
     if shutil.which("strace", path=PATH) is None or run([*STRACE, "true.trace", "true"], folder)[2] != 0:
-        print(f"strace traces nothing here, so the policy of {name} is that of examples/traces/{example}.trace")
-        return [EXAMPLES / f"traces/{example}.trace"]
-    wanted, files = used(words, [], folder), [f"{name}.{k}.trace" for k in (1, 2)]
+        here = run(["sh", "-c", ". /etc/os-release && echo $ID $VERSION_ID"], folder)[0]
+        files = [EXAMPLES / f"traces/{example}.trace"] if here == "debian 12\n" else []
+        print(f"strace traces nothing here, so the policy of {name} is that of {files[0].name if files else 'no trace'}")
+        return files
+    files = [f"{name}.{k}.trace" for k in (1, 2)]
     for file in files:
-        results.compare(f"strace {name}", wanted, used(words, [*STRACE, file], folder))
+        results.compare(f"strace {name}", wanted, by_strace(used, words, file, folder))
     return files
+
+
+def by_strace(used, words, file, folder):
+    """Traces a run into a file; returns what came of it."""
+    came = used(words, [*STRACE, file], folder)
+    (folder / file).write_text(ENDED.sub("", (folder / file).read_text()))
+    return came
 
 
 def learned(results, name, files, folder, *more):
@@ -184,9 +201,9 @@ def try_program(results, jailers, folder, name, files, prepare):
     """Runs a program under the policy of its traces, and calls that this allows or doesn't."""
     policy = learned(results, name, files, folder)
     for jailer in jailers:
-        words, used = prepare(folder)
+        words, used, wanted = prepare(folder)
         jailed = [*jailer.words, policy, "--"]
-        results.compare(f"{jailer} {policy}", used(words, [], folder), used(words, jailed, folder))
+        results.compare(f"{jailer} {policy}", wanted, used(words, jailed, folder))
         for call, wanted in INJECTED:
             found = run([*jailed, folder / "bin/call", *call.split()], folder)
             results.compare(f"{jailer} {policy}: {call}", ("", "", KILLED) if wanted == KILLED else (answer_of(wanted), "", 0), found)
@@ -194,17 +211,17 @@ def try_program(results, jailers, folder, name, files, prepare):
 
 def try_saving(results, jailer, folder, files):
     """Runs redis-server when it saves: the policy of runs that didn't save allows no process; one that learns another run does."""
-    def came_of(front):
-        words, used = redis_that_saves(folder)
-        return used(words, front, folder)
+    def came_of(*front, how=None):
+        words, used, wanted = redis_that_saves(folder)
+        return wanted, how(used, words, "saving.trace", folder) if how else used(words, front, folder)
 
-    policy, saved = learned(results, "saving", files, folder, "--otherwise", "errno:1"), ["+OK", "$1", "+Background saving started", "ok"]
-    answers, _ = came_of([*jailer.words, policy, "--"])
+    policy = learned(results, "saving", files, folder, "--otherwise", "errno:1")
+    _, (answers, _) = came_of(*jailer.words, policy, "--")
     results.compare(f"{jailer} {policy}: no process", ("+OK", "$1", True), (*answers[:2], answers[2].startswith("-")))
-    results.compare("strace redis-server that saves", (saved, 0), came_of([*STRACE, "saving.trace"]))
+    results.compare("strace redis-server that saves", *came_of(how=by_strace))
     wider = ["learn", "-a", MACHINE, "--strict", "--into", policy, "-o", "saves.json", "saving.trace"]
     results.compare(f"learn --into {policy}", ("", "", 0), run([TOOL, *wider], folder))
-    results.compare(f"{jailer} saves.json", (saved, 0), came_of([*jailer.words, "saves.json", "--"]))
+    results.compare(f"{jailer} saves.json", *came_of(*jailer.words, "saves.json", "--"))
 
 
 def kernel_log():
@@ -286,6 +303,8 @@ def try_learning(results, jailers, folder):
             print(f"{name} isn't installed, so no policy is learned for it")
             continue
         files = traced(results, name, example, prepare, folder)
+        if not files:
+            continue
         try_program(results, jailers, folder, name, files, prepare)
         if name == "grep":
             try_lines(results, jailers[0], folder, files)

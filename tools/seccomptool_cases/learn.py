@@ -365,7 +365,7 @@ CASES = [
     Case("learn raw.trace | ./seccomptool explain - fcntl 9 3 1", 0, "allow: main.filter[2] of fcntl (72)\n", ""),
     Case("learn raw.trace | ./seccomptool explain - fcntl 9 4", 0,
          "kill_process: no match: main.filter[1].args[0] of fcntl (72) does not hold, the nearest of 3 entries\n", ""),
-    Case("learn --otherwise errno:1 raw.trace | ./seccomptool explain - clone", 0, "errno 1 (EPERM): no entry of clone (56)\n", ""),
+    Case("learn --otherwise trap raw.trace | ./seccomptool explain - clone", 0, "trap: no entry of clone (56)\n", ""),
     Case("learn --runnable raw.trace | ./seccomptool check --deny-warnings", 0, "", ""),
     Case("learn --name a short.trace | ./seccomptool diff -q whole.json -", 1,
          "filter a: different\n  fcntl: allow -> kill_process, less: fcntl(0x0, 0x0, 0x0, 0x0, 0x0, 0x0)\n", ""),

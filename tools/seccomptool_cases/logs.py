@@ -1,9 +1,16 @@
 """What `explain --log` has to do: what is decided of the calls that lines of a log or a trace tell of, and who made them."""
 
-from .explain import POLICY
+from .compiled_profiles import entry, profile
+from .explain import POLICY as OF_ERRNO
 from .forms import FOLDER, FULL, INPUT, MISSING, OUTPUT, RESET, TOOL, Case, Failing, rejects
 from .learn import FIRST_STRANGE, HOSTILE, HOSTILE_TOLD, filtered
-from .programs import OF_READ
+from .programs import ERRNO_1, OF_READ, program, returns
+
+TRAP = 0x00030000  # linux/seccomp.h
+
+# The policy of explain.py, a profile and a program, which answer by `trap` what they don't allow. The last two allow `read`.
+POLICY = OF_ERRNO.replace('{"errno": 1}', '"trap"')
+TRAPS = OF_READ.replace(program(returns(ERRNO_1)), program(returns(TRAP)))
 
 # Lines of Linux's log about calls of two programs, one of 32-bit x86 and one whose number has no name.
 DENIED = (
@@ -11,9 +18,9 @@ DENIED = (
     + filtered(500, "call", 10)
 )
 ON_DENIED = """nginx[7]: allow: a.filter[0] of accept4 (288)
-nginx[8]: errno 1 (EPERM): no match: a.filter[1].args[0] of fcntl (72) does not hold, the nearest of 3 entries
+nginx[8]: trap: no match: a.filter[1].args[0] of fcntl (72) does not hold, the nearest of 3 entries
 old[9]: kill_process: another architecture
-call[10]: errno 1 (EPERM): no entry of call 500
+call[10]: trap: no entry of call 500
 """
 
 # Lines of the audit system, with the first four arguments in hexadecimal digits; without a process, and without both.
@@ -36,16 +43,16 @@ TRACED = """77 accept4(3, NULL, NULL, SOCK_CLOEXEC) = 4
 """
 ON_TRACED = """allow: a.filter[0] of accept4 (288)
 allow: a.filter[2] of fcntl (72)
-errno 1 (EPERM): no match: a.filter[1].args[0] of fcntl (72) does not hold, the nearest of 3 entries
+trap: no match: a.filter[1].args[0] of fcntl (72) does not hold, the nearest of 3 entries
 allow: a.filter[3] of close (3)
 """
 WORDS_OF_TRACED = """7fff0000 entry 0, rule 0 of call 288
 7fff0000 entry 2, rule 1 of call 72
-00050001 no match among 3 entries of call 72
+00030000 no match among 3 entries of call 72
 7fff0000 entry 3, rule 0 of call 3
 """
 
-ON_AARCH64 = """call[1234]: errno 1 (EPERM): no match: a.filter[1].args[0] of fcntl (25) does not hold, the nearest of 3 entries
+ON_AARCH64 = """call[1234]: trap: no match: a.filter[1].args[0] of fcntl (25) does not hold, the nearest of 3 entries
 x[1]: kill_process: another architecture
 allow: a.filter[3] of close (57)
 """
@@ -54,7 +61,10 @@ allow: a.filter[3] of close (57)
 OF_FRONTS = ("getpid (39)", "getppid (110)", "getuid (102)", "getgid (104)", "geteuid (107)", "getpgrp (111)", "read (0)", "rt_sigreturn (15)",
              "write (1)", "futex (202)", "getpid (39)", "exit (60)")
 
-FILES = {"denied.log": DENIED, "audited.log": AUDITED, "traced.trace": TRACED}
+FILES = {
+    "denied.log": DENIED, "audited.log": AUDITED, "traced.trace": TRACED, "logged.json": POLICY, "logged.bpf": TRAPS,
+    "logged-profile.json": profile(entry("read"), default="SCMP_ACT_TRAP"),
+}
 
 
 def explains(words, output, given=""):
@@ -68,32 +78,32 @@ def misused(words, told="error: .."):
 
 
 CASES = [
-    explains("explained.json --log denied.log", ON_DENIED),
-    explains("explained.json -f a --log=-", ON_DENIED, DENIED),
+    explains("logged.json --log denied.log", ON_DENIED),
+    explains("logged.json -f a --log=-", ON_DENIED, DENIED),
     explains("--log denied.log -", ON_DENIED, POLICY),
-    explains("explained.json --log audited.log", ON_AUDITED),
-    explains("explained.json --log traced.trace", ON_TRACED),
-    explains("explained.json --log traced.trace --format word", WORDS_OF_TRACED),
-    explains("explained.json --log fronts.trace", "".join(f"errno 1 (EPERM): no entry of {it}\n" for it in OF_FRONTS)),
-    explains("explained.json --log -", ""),
-    explains("explained.json --log -", ON_TRACED + ON_AUDITED + ON_DENIED, TRACED + AUDITED + DENIED),
-    explains("explained.json --log examples/traces/denied.log",
-             "call[1234]: errno 1 (EPERM): no entry of kexec_load (246)\nredis-server[1235]: errno 1 (EPERM): no entry of clone (56)\n"),
+    explains("logged.json --log audited.log", ON_AUDITED),
+    explains("logged.json --log traced.trace", ON_TRACED),
+    explains("logged.json --log traced.trace --format word", WORDS_OF_TRACED),
+    explains("logged.json --log fronts.trace", "".join(f"trap: no entry of {it}\n" for it in OF_FRONTS)),
+    explains("logged.json --log -", ""),
+    explains("logged.json --log -", ON_TRACED + ON_AUDITED + ON_DENIED, TRACED + AUDITED + DENIED),
+    explains("logged.json --log examples/traces/denied.log",
+             "call[1234]: trap: no entry of kexec_load (246)\nredis-server[1235]: trap: no entry of clone (56)\n"),
     # The lines are of the architecture's calls; what strace prints is of it too.
-    explains("-a aarch64 explained.json --log -", ON_AARCH64, filtered(25, arch="c00000b7") + filtered(72, "x", 1) + "close(3) = 0\n"),
+    explains("-a aarch64 logged.json --log -", ON_AARCH64, filtered(25, arch="c00000b7") + filtered(72, "x", 1) + "close(3) = 0\n"),
     # By a profile and by a program.
-    explains("reads-profile.json --log denied.log", """nginx[7]: errno 1 (EPERM): defaultAction of accept4 (288)
-nginx[8]: errno 1 (EPERM): defaultAction of fcntl (72)
+    explains("logged-profile.json --log denied.log", """nginx[7]: trap: defaultAction of accept4 (288)
+nginx[8]: trap: defaultAction of fcntl (72)
 old[9]: kill_process: another architecture
-call[10]: errno 1 (EPERM): defaultAction of call 500
+call[10]: trap: defaultAction of call 500
 """),
-    explains("--oci --log - reads-profile.json", "cat[5]: allow: syscalls[0] of read (0)\n", filtered(0, "cat", 5)),
-    explains("read.bpf --log denied.log", """nginx[7]: errno 1 (EPERM): accept4 (288)
-nginx[8]: errno 1 (EPERM): fcntl (72)
-old[9]: errno 1 (EPERM): another architecture
-call[10]: errno 1 (EPERM): call 500
+    explains("--oci --log - logged-profile.json", "cat[5]: allow: syscalls[0] of read (0)\n", filtered(0, "cat", 5)),
+    explains("logged.bpf --log denied.log", """nginx[7]: trap: accept4 (288)
+nginx[8]: trap: fcntl (72)
+old[9]: trap: another architecture
+call[10]: trap: call 500
 """),
-    explains("--log traced.trace -", "errno 1 (EPERM): accept4 (288)\nerrno 1 (EPERM): fcntl (72)\nerrno 1 (EPERM): fcntl (72)\nerrno 1 (EPERM): close (3)\n", OF_READ),
+    explains("--log traced.trace -", "trap: accept4 (288)\ntrap: fcntl (72)\ntrap: fcntl (72)\ntrap: close (3)\n", TRAPS),
     # What isn't understood is noted, and the rest explained.
     Case("explain logs.json --log strange.trace", 0, "log: no entry of getpid (39)\nlog: no entry of getuid (102)\n",
          f"{TOOL}strange.trace: {FIRST_STRANGE}\n"),

@@ -129,6 +129,7 @@ strace: Process 78 attached
 77 write(4<socket:[123]>, "a", 1) = 1\r
 77 futex(0x7f00, FUTEX_WAIT_PRIVATE, 0, NULL <unfinished ...>) = ?
 77 syscall_0x27(0x1) = 77
+77 ???( <unfinished ...>
 77 exit(0) = ?"""
 IN_FRONTS = ("exit", "futex", "geteuid", "getgid", "getpgrp", "getpid", "getppid", "getuid", "read", "rt_sigreturn", "write")
 

@@ -1,106 +1,198 @@
 // From profiles to the filters of which warnings are told.
 
-use crate::concerns::{comparison, is_same, share_argument};
+use crate::concerns::{comparison, is_same, number_of, share_argument};
 use crate::scope::applies;
 use crate::types::{Argument, Container, Entry, Profile};
 use seccompiler::{
-    JsonCondition, JsonFilter, JsonRule, SeccompAction, SeccompCmpArgLen, SyscallTable, TargetArch,
+    JsonCondition, JsonFilter, JsonRule, SeccompAction, SeccompCmpArgLen, TargetArch,
 };
 use std::alloc::{AllocError, Global};
+use std::collections::BTreeMap;
+
+/// A filter of which warnings are printed, and where its rules are from.
+#[derive(Drop)]
+pub struct EntryFilter {
+    /// The filter.
+    pub filter: JsonFilter,
+    /// Where each of its rules is from.
+    pub origins: Vec<Origin>,
+}
+
+/// Where a rule is from.
+#[derive(Clone, Copy, Debug)]
+pub struct Origin {
+    /// The place of its entry in the profile, from 0.
+    pub entry: usize,
+    /// The place of its only condition among those of the entry, if each of them has a rule.
+    pub condition: Option<usize>,
+    /// The number of its call.
+    pub number: u32,
+}
 
 /// The filters of a profile that `check` warns about. They are no program of the profile:
 /// [`decisions_of_profile`](crate::decisions_of_profile) gives what it decides.
 ///
-/// An entry is *effective* if it applies to the container and its action isn't the default one. Effective
-/// entries that don't allow have a filter for each action, which allows all else; entries of one action share a
-/// filter if no entry of another such action stands between them. If the default action isn't to allow, a last
-/// filter allows what any effective entry is for, and has the default action for all else. Calls that the
-/// architecture doesn't have are left out.
+/// An entry is *effective* for a call that it names if it applies to the container, its action isn't the default one, and
+/// it is the first such entry without conditions, or there is none for the call. Effective entries that don't allow have a
+/// filter for each action, which allows all else; entries of one action share a filter if no entry of another such
+/// action stands between them. If the default action isn't to allow, a last filter allows what any effective entry
+/// is for, and has the default action for all else. Calls that the architecture doesn't have are left out.
 ///
 /// # Errors
 ///
 /// `AllocError` if memory runs out.
-pub fn json_filters_of(
+pub fn entry_filters_of(
     alloc: Global,
     arch: TargetArch,
     container: &Container,
     profile: &Profile,
-) -> Result<Vec<JsonFilter>, AllocError> {
+) -> Result<Vec<EntryFilter>, AllocError> {
+    let settled = settled_by(alloc, arch, container, profile)?;
     let mut filters = Vec::new(alloc);
-    let mut all = Vec::new(alloc);
-    for entry in profile.entries.as_slice() {
-        if is_same(entry.action, profile.default) || !applies(arch, container, entry) {
-            continue;
+    let mut all = filter_of(alloc, profile.default, SeccompAction::Allow);
+    for (place, entry) in profile.entries.iter().enumerate() {
+        if says_something(arch, container, profile, entry) {
+            let calls = calls_of(alloc, arch, &settled, place, entry)?;
+            push_rules(alloc, &mut all, &calls, place, entry)?;
+            push_filter(alloc, &mut filters, &calls, place, entry)?;
         }
-        push_rules(alloc, arch, &mut all, entry)?;
-        push_filter(alloc, arch, &mut filters, entry)?;
     }
     if is_same(profile.default, SeccompAction::Allow) {
         return Ok(filters);
     }
-    filters.push(JsonFilter {
-        mismatch_action: profile.default,
-        match_action: SeccompAction::Allow,
-        rules: all,
-    })?;
+    filters.push(all)?;
     Ok(filters)
 }
 
-// Adds the rules of an entry that doesn't allow: to the last filter, where it has its action, or in one of their own.
-fn push_filter(
-    alloc: Global,
+// Whether an entry applies, and its action isn't the default one.
+fn says_something(
     arch: TargetArch,
-    filters: &mut Vec<JsonFilter>,
+    container: &Container,
+    profile: &Profile,
     entry: &Entry,
-) -> Result<(), AllocError> {
-    if is_same(entry.action, SeccompAction::Allow) {
-        return Ok(());
-    }
-    if let Some(last) = filters.last_mut() {
-        if is_same(last.match_action, entry.action) {
-            return push_rules(alloc, arch, &mut last.rules, entry);
-        }
-    }
-    let mut rules = Vec::new(alloc);
-    push_rules(alloc, arch, &mut rules, entry)?;
-    if rules.is_empty() {
-        return Ok(());
-    }
-    Ok(filters.push(JsonFilter {
-        mismatch_action: SeccompAction::Allow,
-        match_action: entry.action,
-        rules,
-    })?)
+) -> bool {
+    !is_same(entry.action, profile.default) && applies(arch, container, entry)
 }
 
-// Adds the rules of an entry.
-fn push_rules(
+// For the numbers of calls that entries without conditions concern, the place of the first one.
+fn settled_by(
     alloc: Global,
     arch: TargetArch,
-    rules: &mut Vec<JsonRule>,
+    container: &Container,
+    profile: &Profile,
+) -> Result<BTreeMap<u32, usize>, AllocError> {
+    let mut settled = BTreeMap::new(alloc);
+    for (place, entry) in profile.entries.iter().enumerate() {
+        if entry.args.is_empty() && says_something(arch, container, profile, entry) {
+            settle(arch, &mut settled, place, entry)?;
+        }
+    }
+    Ok(settled)
+}
+
+// Adds the calls of the entry at this place, if they aren't settled.
+fn settle(
+    arch: TargetArch,
+    settled: &mut BTreeMap<u32, usize>,
+    place: usize,
     entry: &Entry,
 ) -> Result<(), AllocError> {
     for name in entry.names.as_slice() {
-        let name = name.as_str();
-        if SyscallTable::new(arch).get_syscall_nr(name).is_some() {
-            push_rules_of(alloc, rules, name, entry.args.as_slice())?;
+        match number_of(arch, name.as_str()) {
+            Some(number) if !settled.contains_key(&number) => {
+                drop(settled.insert(number, place)?)
+            }
+            _ => {}
         }
     }
     Ok(())
 }
 
-// Adds the rules of a call: one of all the conditions, or one of each, where two are on one argument.
-fn push_rules_of(
+// The names and numbers of the calls for which the entry at this place is effective, each once.
+fn calls_of<'a>(
     alloc: Global,
-    rules: &mut Vec<JsonRule>,
-    name: &str,
-    args: &[Argument],
-) -> Result<(), AllocError> {
-    if !share_argument(args) {
-        return push_rule(alloc, rules, name, args);
+    arch: TargetArch,
+    settled: &BTreeMap<u32, usize>,
+    place: usize,
+    entry: &'a Entry,
+) -> Result<BTreeMap<u32, &'a str>, AllocError> {
+    let mut calls = BTreeMap::new(alloc);
+    for name in entry.names.as_slice() {
+        match number_of(arch, name.as_str()) {
+            Some(number) if is_settled_here(settled, place, number) => {
+                drop(calls.insert(number, name.as_str())?)
+            }
+            _ => {}
+        }
     }
-    for k in 0..args.len() {
-        push_rule(alloc, rules, name, &args[k..k + 1])?;
+    Ok(calls)
+}
+
+// Whether the entry at this place settles the calls of the number, or none does.
+fn is_settled_here(settled: &BTreeMap<u32, usize>, place: usize, number: u32) -> bool {
+    match settled.get(&number) {
+        Some(first) => *first == place,
+        None => true,
+    }
+}
+
+// A filter without rules.
+fn filter_of(alloc: Global, mismatch: SeccompAction, matching: SeccompAction) -> EntryFilter {
+    EntryFilter {
+        filter: JsonFilter {
+            mismatch_action: mismatch,
+            match_action: matching,
+            rules: Vec::new(alloc),
+        },
+        origins: Vec::new(alloc),
+    }
+}
+
+// Adds the rules of an entry that doesn't allow: to the last filter, if it has its action, or in one of their own.
+fn push_filter(
+    alloc: Global,
+    filters: &mut Vec<EntryFilter>,
+    calls: &BTreeMap<u32, &str>,
+    place: usize,
+    entry: &Entry,
+) -> Result<(), AllocError> {
+    if is_same(entry.action, SeccompAction::Allow) || calls.is_empty() {
+        return Ok(());
+    }
+    if let Some(last) = filters.last_mut() {
+        if is_same(last.filter.match_action, entry.action) {
+            return push_rules(alloc, last, calls, place, entry);
+        }
+    }
+    let mut own = filter_of(alloc, SeccompAction::Allow, entry.action);
+    push_rules(alloc, &mut own, calls, place, entry)?;
+    Ok(filters.push(own)?)
+}
+
+// Adds the rules of these calls of an entry: one of all the conditions, or one of each, if two are on one argument.
+fn push_rules(
+    alloc: Global,
+    filter: &mut EntryFilter,
+    calls: &BTreeMap<u32, &str>,
+    place: usize,
+    entry: &Entry,
+) -> Result<(), AllocError> {
+    let args = entry.args.as_slice();
+    let shared = share_argument(args);
+    for (number, name) in calls {
+        let mut origin = Origin {
+            entry: place,
+            condition: None,
+            number: *number,
+        };
+        if !shared {
+            push_rule(alloc, filter, origin, name, args)?;
+            continue;
+        }
+        for k in 0..args.len() {
+            origin.condition = Some(k);
+            push_rule(alloc, filter, origin, name, &args[k..k + 1])?;
+        }
     }
     Ok(())
 }
@@ -108,16 +200,18 @@ fn push_rules_of(
 // Adds a rule of a call, with all of these conditions.
 fn push_rule(
     alloc: Global,
-    rules: &mut Vec<JsonRule>,
+    filter: &mut EntryFilter,
+    origin: Origin,
     name: &str,
     args: &[Argument],
 ) -> Result<(), AllocError> {
     let conditions = conditions_of(alloc, args)?;
     let syscall = String::from_str(alloc, name)?;
-    Ok(rules.push(JsonRule {
+    filter.filter.rules.push(JsonRule {
         syscall,
         conditions,
-    })?)
+    })?;
+    Ok(filter.origins.push(origin)?)
 }
 
 // The conditions; no list of them where there are none.

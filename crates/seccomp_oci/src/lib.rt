@@ -37,7 +37,7 @@ pub use decisions::decisions_of_profile;
 pub use doubts::{Doubt, doubts_of};
 pub use errnos::error_name;
 pub use error::ProfileError;
-pub use filters::json_filters_of;
+pub use filters::{EntryFilter, Origin, entry_filters_of};
 pub use profile::profile_of;
 pub use scope::applies;
 pub use types::{Argument, Container, Criteria, Entry, Flag, Kernel, Operator, Profile, Runtime};

@@ -94,9 +94,8 @@ fn left_out_of(
 
 /// The names, of those entries of a profile that apply, that no call of the architecture has.
 ///
-/// They stand in the order of the profile's text, and as often as they stand there. No filter of
-/// [`json_filters_of`](crate::json_filters_of) has them. Such a name may be that of another architecture's call, or
-/// of one that is newer than the kernel whose names the library has.
+/// They stand in the order of the profile's text, and as often as they stand there. Such a name may be that of another
+/// architecture's call, or of one that is newer than the kernel whose names the library has.
 ///
 /// # Errors
 ///

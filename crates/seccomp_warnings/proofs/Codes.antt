@@ -23,6 +23,11 @@ each_code code.CrateDiffers = (11, omega arith, refl)
 each_code code.UnreachableEntry = (12, omega arith, refl)
 each_code code.RedundantEntry = (13, omega arith, refl)
 each_code code.UndecidedEntry = (14, omega arith, refl)
+each_code code.NoEffect = (15, omega arith, refl)
+each_code code.OpenOrder = (16, omega arith, refl)
+each_code code.RefusedByLibseccomp = (17, omega arith, refl)
+each_code code.RuntimesDiffer = (18, omega arith, refl)
+each_code code.UnknownKey = (19, omega arith, refl)
 
 module _ (name : List ℕ) where
   -- One more of a front has another name. The default is any.

@@ -13,7 +13,7 @@ use Rattle.seccomp_warnings.specs.Codes.{code_text}
 use Rattle.seccomp_warnings.specs.declared.code.Code.{Code}
 use Rattle.seccomp_warnings.specs.declared.code.Code.TheVariants as code
 
--- What is so, and what to write instead.
+-- What is so if a warning of a filter has the code, and what to write instead.
 abbrev pub said_text : Code → List ℕ
 said_text code.FakeSuccess = codes "the call isn't made, and returns 0 as if it had succeeded; write an errno from 1 to 4095"
 said_text code.ErrnoTooLarge = codes "Linux keeps only the low 16 bits, and takes 4095 for a greater number; write an errno from 1 to 4095"
@@ -44,6 +44,7 @@ said_text code.RedundantEntry = codes "each call that meets this entry meets ano
 said_text code.UndecidedEntry =
     codes "it wasn't decided whether a call needs this entry, within 300000 sets of calls, divided among the filter's entries; "
     ++ codes "use fewer masks in it"
+said_text other = []
 
 -- The way from an action or a condition to the value that a code is about.
 abbrev pub part_text : Code → List ℕ

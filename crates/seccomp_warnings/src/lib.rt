@@ -40,7 +40,7 @@ pub mod warning;
 pub use crate::call::denies_each;
 pub use crate::code::Code;
 pub use crate::report::{Report, report_by_name, report_of};
-pub use crate::text::push_lines;
+pub use crate::text::{push_lines, said_text};
 pub use crate::unlisted::Unlisted;
 pub use crate::verdict::{Verdict, verdicts_of};
 pub use crate::walk::warnings_of;

@@ -1,2 +1,2 @@
 -- Lemmas for the functions of `check`.
-pub mod SomeDeny
+pub mod Picked

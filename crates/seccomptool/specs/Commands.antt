@@ -105,8 +105,8 @@ IsShown arch reading layout measured given =
 abbrev pub IsAccepted : TargetArch → Subject → (denied : Bool) → (allowed : List Code) → (given : List ℕ) → Verdict → Type 0
 IsAccepted arch subject.Policy denied allowed text v =
     (front : List ℕ) × (report : Report) × IsCheckOf arch allowed front text report × (v ≡ verdict_where denied report.count)
-IsAccepted arch (subject.Profile container) denied allowed text v = (front : List ℕ) × (checked : CheckedProfile)
-    × IsProfileCheckOf arch container.now allowed front text checked × (v ≡ verdict_where denied checked.report.count)
+IsAccepted arch (subject.Profile container) denied allowed text v =
+    (checked : CheckedProfile) × IsProfileCheckOf arch container.now allowed text checked × (v ≡ verdict_where denied checked.report.count)
 IsAccepted arch subject.Program denied allowed bytes v = IsCheckedProgram bytes × (v ≡ Same)
 
 -- What is given is rejected for this, or memory ran out.

@@ -304,14 +304,7 @@ fn accepted(
             let front = front_of(alloc, path)?;
             let checked = profile_checked(alloc, arch, container, allowed, &front, given)?;
             let CheckedProfile { compiled, report } = checked;
-            let notes = profile_notes(
-                alloc,
-                arch,
-                path,
-                listed,
-                &compiled.left_out,
-                &compiled.flags,
-            )?;
+            let notes = profile_notes(alloc, arch, path, listed, &compiled.left_out, &[])?;
             Ok(Made {
                 text: report.text,
                 rest: 0,

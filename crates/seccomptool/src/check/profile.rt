@@ -1,15 +1,24 @@
 // The warnings of a profile of a container runtime.
 
-ghost use Rattle.std.specs.Prelude.{◌≡◌, ◌++◌, ◌↔◌, IfErr, IfOk, IsTrue, false};
-ghost use Rattle.seccomptool.specs.CheckProfile.{DenyClone3, IsProfileCheckOf, IsProfileReport, IsRefusedProfile, codes_of_base, codes_of_each, codes_of_others, has_base};
+pub(crate) mod lines;
 
+ghost use Rattle.std.specs.Prelude.{◌≡◌, ◌↔◌, [], All, Contains, IfErr, IfOk, IsTrue, false};
+ghost use Rattle.seccompiler.specs.declared.backend.TargetArch.{TargetArch};
+ghost use Rattle.seccomp_oci.specs.ProfileText.{IsProfileText};
+ghost use Rattle.seccomp_oci.specs.Types.{AllOnArguments, Container, Profile};
+ghost use Rattle.seccomptool.specs.CheckProfile.{IsProfileCheckOf, IsRefusedProfile, IsSoOfProfile, IsTold, IsTrueOf, code_of};
+
+use crate::check::profile::lines::profile_lines;
 use crate::error::ToolError;
 use crate::profile::compiled_of;
-use seccomp_oci::{CompiledProfile, Container, Profile, json_filters_of, profile_of};
-use seccomp_warnings::{Code, Report, denies_each, report_by_name};
-use seccompiler::{JsonFilter, JsonFilterMap, SeccompAction, TargetArch};
+use seccomp_oci::{
+    CompiledProfile, Container, Doubt, EntryFilter, Origin, Profile, doubts_of, entry_filters_of,
+    profile_of,
+};
+use seccomp_warnings::{Code, Report, Subject, Warning, denies_each, verdicts_of, warnings_of};
+use seccompiler::{JsonFilter, SeccompAction, TargetArch};
+use serde_json::Value;
 use std::alloc::{AllocError, Global};
-use std::collections::BTreeMap;
 
 /// A profile's program, and its warnings.
 #[derive(Drop)]
@@ -20,15 +29,56 @@ pub struct CheckedProfile {
     pub report: Report,
 }
 
-/// The warnings of a profile's text, as [`checked`](crate::check::checked) gives those of a policy: those of the filters that
-/// [`json_filters_of`] makes of it, by the names `base`, which has the default action, `deny1`, `deny2` and so on.
+/// A warning of a profile.
+#[derive(Drop)]
+pub enum ProfileWarning {
+    /// This is doubtful about it.
+    Doubtful(Doubt),
+    /// It has flags.
+    Flags,
+    /// It has this key, which is passed over.
+    UnknownKey(String),
+    /// This is true of a filter that its entries make, and about this part of the profile.
+    OfEntries(Warning, ProfilePart),
+}
+
+/// What a warning of a filter is about in the profile.
+#[derive(Clone, Copy)]
+pub enum ProfilePart {
+    /// The default action.
+    Default,
+    /// The action of the entry at this place.
+    Action(usize),
+    /// The entry that a rule is from, or a condition of it.
+    Rule(Origin),
+}
+
+// The keys that a profile has for Docker, Podman or a runtime, and two that say nothing.
+const KEYS: [&str; 11] = [
+    "defaultAction",
+    "defaultErrnoRet",
+    "defaultErrno",
+    "architectures",
+    "archMap",
+    "flags",
+    "syscalls",
+    "listenerPath",
+    "listenerMetadata",
+    "$schema",
+    "comment",
+];
+
+/// The warnings of a profile's text, except those of the allowed codes, each in a line after this prefix: what is doubtful
+/// about the profile, its flags and unknown keys, and the warnings of the filters of [`entry_filters_of`].
 ///
 /// These filters decide together, and a runtime reads the profile. So these warnings are left out beside those of the allowed
 /// codes:
 ///
-/// - of each filter those of `crate-differs`, and those of `clone-by-clone3` if one of the filters denies each `clone3`;
-/// - of `base` those of `unreachable-entry`, `redundant-entry` and `undecided-entry`;
-/// - of each other filter those of `allows-by-default`, if there is `base`.
+/// - of each filter those of `crate-differs`, those of `errno-too-large`, since there are no greater errnos in profiles that
+///   a runtime takes, and those of `clone-by-clone3` if one of the filters denies each `clone3`;
+/// - of the filter with the default action those of `unreachable-entry`, `redundant-entry` and `undecided-entry`;
+/// - of each other filter those of `allows-by-default`, if there is that one, and those of `clone-by-clone3`, if the default action
+///   denies.
 ///
 /// # Errors
 ///
@@ -41,133 +91,296 @@ pub fn profile_checked(
     front: &[u8],
     text: &[u8],
 ) -> Result<CheckedProfile, ToolError>
-    ensures report { IfOk result (IsProfileCheckOf target container.now allowed.now front.now text.now) }
+    ensures report { IfOk result (IsProfileCheckOf target container.now allowed.now text.now) }
     ensures refused { IfErr result (IsRefusedProfile target container.now false text.now) }
 {
     let compiled = compiled_of(alloc, target, container, false, text)?;
-    let filters = filters_in(alloc, target, container, text)?;
-    let report = report_on(alloc, target, allowed, front, &filters)?;
+    let profile = taken(alloc, text)?;
+    let warnings = warnings_in(alloc, target, container, allowed, &profile, text)?;
+    let report = Report {
+        text: profile_lines(alloc, target, container, front, &profile, &warnings)?,
+        count: warnings.len(),
+    };
     Ok(CheckedProfile { compiled, report })
 }
 
-// The filters of the text of a profile that is compiled, by name: an error is want of memory.
-fn filters_in(
-    alloc: Global,
-    target: TargetArch,
-    container: &Container,
-    text: &[u8],
-) -> Result<JsonFilterMap, AllocError> {
-    let Ok(profile) = profile_of(alloc, text) else {
-        return Err(AllocError);
-    };
-    let filters = json_filters_of(alloc, target, container, &profile)?;
-    by_name(alloc, &profile, filters)
-}
-
-// The filters by name: the last one is `base`, where the default action isn't to allow.
-fn by_name(
-    alloc: Global,
-    profile: &Profile,
-    filters: Vec<JsonFilter>,
-) -> Result<JsonFilterMap, AllocError> {
-    let count = filters.len();
-    let mut named = BTreeMap::new(alloc);
-    for (place, filter) in filters.into_iter().enumerate() {
-        let is_last = place == count - 1;
-        let name = if is_last && !allows(profile.default) {
-            String::from_str(alloc, "base")?
-        } else {
-            let number = place.saturating_add(1);
-            format!(in alloc; "deny{number}")?
-        };
-        drop(named.insert(name, filter)?);
-    }
-    Ok(JsonFilterMap(named))
-}
-
-fn allows(action: SeccompAction) -> bool {
-    matches!(action, SeccompAction::Allow)
-}
-
-// The warnings of these filters. They are of calls and arguments that the architecture has: an error is want of memory.
-fn report_on(
-    alloc: Global,
-    target: TargetArch,
-    allowed: &[Code],
-    front: &[u8],
-    filters: &JsonFilterMap,
-) -> Result<Report, AllocError>
-    ensures { IfOk result (IsProfileReport target allowed.now front.now filters.now) }
+// The profile of a text that is compiled: an error is want of memory.
+fn taken(alloc: Global, text: &[u8]) -> Result<Profile, AllocError>
+    ensures read { IfOk result (IsProfileText text.now) }
+    ensures arguments { IfOk result (λ p. AllOnArguments p.entries) }
 {
-    let of_each = codes_of_each(deny_clone3(filters));
-    let of_base = joined(alloc, allowed, of_each, codes_of_base())?;
-    let of_others = joined(alloc, allowed, of_each, codes_of_others(has_base(filters)))?;
-    match report_by_name(alloc, target, front, filters, "base", &of_base, &of_others) {
-        Ok(report) => Ok(report),
+    match profile_of(alloc, text) {
+        Ok(profile) => Ok(profile),
         Err(_) => Err(AllocError),
     }
 }
 
-// Whether one of the filters is `base`.
-fn has_base(filters: &JsonFilterMap) -> bool
-    ensures { result ≡ has_base filters.now }
+// The warnings of a profile, which this text has.
+fn warnings_in(
+    alloc: Global,
+    target: TargetArch,
+    container: &Container,
+    allowed: &[Code],
+    profile: &Profile,
+    text: &[u8],
+) -> Result<Vec<ProfileWarning>, AllocError>
+    requires { AllOnArguments profile.now.entries }
+    ensures { IfOk result (λ all. All (IsTold target container.now profile.now allowed.now) all.items) }
 {
-    filters.0.get("base").is_some()
+    let mut all = Vec::new(alloc);
+    push_doubts(alloc, target, container, allowed, profile, &mut all)?;
+    push_keys(alloc, allowed, text, &mut all)?;
+    push_flags(allowed, profile, &mut all)?;
+    push_of_filters(alloc, target, container, allowed, profile, &mut all)?;
+    Ok(all)
 }
 
-// Whether one of the filters denies every `clone3`.
-fn deny_clone3(filters: &JsonFilterMap) -> bool
-    ensures { IsTrue result ↔ DenyClone3 filters.now }
+// Adds a warning, if its code isn't allowed.
+fn push(
+    all: &mut Vec<ProfileWarning>,
+    allowed: &[Code],
+    warning: ProfileWarning,
+) -> Result<(), AllocError>
+    ensures { IfOk result (λ _. (arch : TargetArch) (container : Container) (p : Profile) → IsSoOfProfile arch container p warning → All (IsTold arch container p allowed.now) all.old.items → All (IsTold arch container p allowed.now) all.new.items) }
 {
-    for (_, filter) in &filters.0 {
-        if denies_each(filter, "clone3") {
+    if is_among(allowed, code_of(&warning)) {
+        return Ok(());
+    }
+    Ok(all.push(warning)?)
+}
+
+// Whether a code is among some.
+fn is_among(codes: &[Code], sought: Code) -> bool
+    ensures { IsTrue result ↔ Contains codes.now sought }
+{
+    codes.contains(&sought)
+}
+
+/// The code of a warning.
+pub(crate) fn code_of(warning: &ProfileWarning) -> Code
+    ensures { result ≡ code_of warning.now }
+{
+    match warning {
+        ProfileWarning::Doubtful(doubt) => match doubt {
+            Doubt::EqualsDefault { .. } | Doubt::Behind { .. } => Code::NoEffect,
+            Doubt::OpenOrder { .. } => Code::OpenOrder,
+            Doubt::SameConditions { .. } | Doubt::LargeErrno { .. } | Doubt::LargeDefaultErrno => {
+                Code::RefusedByLibseccomp
+            }
+            Doubt::ManyConditions { .. } => Code::RuntimesDiffer,
+        },
+        ProfileWarning::Flags => Code::RuntimesDiffer,
+        ProfileWarning::UnknownKey(_) => Code::UnknownKey,
+        ProfileWarning::OfEntries(warning, _) => warning.code,
+    }
+}
+
+// Adds what is doubtful.
+fn push_doubts(
+    alloc: Global,
+    target: TargetArch,
+    container: &Container,
+    allowed: &[Code],
+    profile: &Profile,
+    all: &mut Vec<ProfileWarning>,
+) -> Result<(), AllocError>
+    requires { AllOnArguments profile.now.entries }
+    ensures { IfOk result (λ _. All (IsTold target container.now profile.now allowed.now) all.old.items → All (IsTold target container.now profile.now allowed.now) all.new.items) }
+{
+    let doubts = doubts_of(alloc, target, container, profile)?;
+    for doubt in &doubts {
+        push(all, allowed, ProfileWarning::Doubtful(*doubt))?;
+    }
+    Ok(())
+}
+
+// Adds that there are flags, if there are.
+fn push_flags(
+    allowed: &[Code],
+    profile: &Profile,
+    all: &mut Vec<ProfileWarning>,
+) -> Result<(), AllocError>
+    ensures { IfOk result (λ _. (arch : TargetArch) (container : Container) → All (IsTold arch container profile.now allowed.now) all.old.items → All (IsTold arch container profile.now allowed.now) all.new.items) }
+{
+    if has_no_flags(profile) {
+        return Ok(());
+    }
+    push(all, allowed, ProfileWarning::Flags)
+}
+
+fn has_no_flags(profile: &Profile) -> bool
+    ensures { IsTrue result ↔ (profile.now.flags ≡ []) }
+{
+    profile.flags.is_empty()
+}
+
+// Adds the keys of a text's object that are passed over.
+fn push_keys(
+    alloc: Global,
+    allowed: &[Code],
+    text: &[u8],
+    all: &mut Vec<ProfileWarning>,
+) -> Result<(), AllocError>
+    ensures { IfOk result (λ _. (arch : TargetArch) (container : Container) (p : Profile) → All (IsTold arch container p allowed.now) all.old.items → All (IsTold arch container p allowed.now) all.new.items) }
+{
+    let Ok(value) = Value::from_slice(alloc, text) else {
+        return Err(AllocError);
+    };
+    let Value::Object(members) = &value else {
+        return Ok(());
+    };
+    for (key, _) in members.iter() {
+        if !is_key(key.as_str()) {
+            let key = String::from_str(alloc, key.as_str())?;
+            push(all, allowed, ProfileWarning::UnknownKey(key))?;
+        }
+    }
+    Ok(())
+}
+
+fn is_key(key: &str) -> bool {
+    for known in &KEYS {
+        if key == *known {
             return true;
         }
     }
     false
 }
 
-// The codes that are left out of each filter.
-fn codes_of_each(denied: bool) -> &'static [Code]
-    ensures { result.now ≡ codes_of_each denied }
+// Adds the warnings of the filters of a profile's entries.
+fn push_of_filters(
+    alloc: Global,
+    target: TargetArch,
+    container: &Container,
+    allowed: &[Code],
+    profile: &Profile,
+    all: &mut Vec<ProfileWarning>,
+) -> Result<(), AllocError>
+    ensures { IfOk result (λ _. All (IsTold target container.now profile.now allowed.now) all.old.items → All (IsTold target container.now profile.now allowed.now) all.new.items) }
 {
+    let filters = entry_filters_of(alloc, target, container, profile)?;
+    let denied = deny_clone3(&filters);
+    let has_base = !matches!(profile.default, SeccompAction::Allow);
+    let count = filters.len();
+    for (place, filter) in filters.iter().enumerate() {
+        let is_base = has_base && place + 1 == count;
+        let left_out = left_out_of(alloc, denied, profile.default, is_base)?;
+        push_of_filter(alloc, target, allowed, &left_out, filter, all)?;
+    }
+    Ok(())
+}
+
+// Whether one of the filters denies every `clone3`.
+fn deny_clone3(filters: &[EntryFilter]) -> bool {
+    for filter in filters {
+        if denies_each(&filter.filter, "clone3") {
+            return true;
+        }
+    }
+    false
+}
+
+// The codes of which nothing is said of a filter: of the one with the default action, or of another.
+fn left_out_of(
+    alloc: Global,
+    denied: bool,
+    default: SeccompAction,
+    is_base: bool,
+) -> Result<Vec<Code>, AllocError> {
+    let mut codes = vec![in alloc; Code::CrateDiffers, Code::ErrnoTooLarge]?;
     if denied {
-        &[Code::CrateDiffers, Code::CloneByClone3]
-    } else {
-        &[Code::CrateDiffers]
+        codes.push(Code::CloneByClone3)?;
+    }
+    let own: &[Code] = match default {
+        _ if is_base => &[
+            Code::UnreachableEntry,
+            Code::RedundantEntry,
+            Code::UndecidedEntry,
+        ],
+        SeccompAction::Allow => &[],
+        SeccompAction::Log => &[Code::AllowsByDefault],
+        _ => &[Code::AllowsByDefault, Code::CloneByClone3],
+    };
+    codes.extend_from_slice(own)?;
+    Ok(codes)
+}
+
+// Adds the warnings of a filter.
+fn push_of_filter(
+    alloc: Global,
+    target: TargetArch,
+    allowed: &[Code],
+    left_out: &[Code],
+    filter: &EntryFilter,
+    all: &mut Vec<ProfileWarning>,
+) -> Result<(), AllocError>
+    ensures { IfOk result (λ _. (container : Container) (p : Profile) → All (IsTold target container p allowed.now) all.old.items → All (IsTold target container p allowed.now) all.new.items) }
+{
+    let warnings = true_of(alloc, target, left_out, &filter.filter)?;
+    for warning in &warnings {
+        push_parts(target, allowed, filter, *warning, all)?;
+    }
+    Ok(())
+}
+
+// What is true of a filter.
+fn true_of(
+    alloc: Global,
+    target: TargetArch,
+    left_out: &[Code],
+    filter: &JsonFilter,
+) -> Result<Vec<Warning>, AllocError>
+    ensures { IfOk result (λ all. All (IsTrueOf target filter.now) all.items) }
+{
+    let Ok(verdicts) = verdicts_of(alloc, target, filter) else {
+        return Err(AllocError);
+    };
+    warnings_of(alloc, filter, &verdicts, left_out)
+}
+
+// Adds a warning of a filter, for each part of the profile that it is about.
+fn push_parts(
+    target: TargetArch,
+    allowed: &[Code],
+    filter: &EntryFilter,
+    warning: Warning,
+    all: &mut Vec<ProfileWarning>,
+) -> Result<(), AllocError>
+    ensures { IfOk result (λ _. IsTrueOf target filter.now.filter warning → (container : Container) (p : Profile) → All (IsTold target container p allowed.now) all.old.items → All (IsTold target container p allowed.now) all.new.items) }
+{
+    let place = match warning.subject {
+        Subject::MismatchAction(_) | Subject::MismatchCall(_) => {
+            let part = ProfilePart::Default;
+            return push(all, allowed, ProfileWarning::OfEntries(warning, part));
+        }
+        Subject::MatchAction(_) => {
+            return push_actions(target, allowed, filter, warning, all);
+        }
+        Subject::Entry(place) => place,
+        Subject::Condition(comparison) => comparison.entry,
+    };
+    match filter.origins.get(place) {
+        Some(origin) => {
+            let part = ProfilePart::Rule(*origin);
+            push(all, allowed, ProfileWarning::OfEntries(warning, part))
+        }
+        None => Ok(()),
     }
 }
 
-// The codes that are left out of `base` moreover.
-fn codes_of_base() -> &'static [Code]
-    ensures { result.now ≡ codes_of_base }
+// Adds a warning of a filter's action, for each rule.
+fn push_actions(
+    target: TargetArch,
+    allowed: &[Code],
+    filter: &EntryFilter,
+    warning: Warning,
+    all: &mut Vec<ProfileWarning>,
+) -> Result<(), AllocError>
+    ensures { IfOk result (λ _. IsTrueOf target filter.now.filter warning → (container : Container) (p : Profile) → All (IsTold target container p allowed.now) all.old.items → All (IsTold target container p allowed.now) all.new.items) }
 {
-    &[
-        Code::UnreachableEntry,
-        Code::RedundantEntry,
-        Code::UndecidedEntry,
-    ]
-}
-
-// The codes that are left out of each other filter moreover.
-fn codes_of_others(base: bool) -> &'static [Code]
-    ensures { result.now ≡ codes_of_others base }
-{
-    if base { &[Code::AllowsByDefault] } else { &[] }
-}
-
-// The codes of three lists, one behind the other.
-fn joined(
-    alloc: Global,
-    first: &[Code],
-    second: &[Code],
-    third: &[Code],
-) -> Result<Vec<Code>, AllocError>
-    ensures { IfOk result (λ all. all.items ≡ first.now ++ second.now ++ third.now) }
-{
-    let mut all = Vec::new(alloc);
-    all.extend_from_slice(first)?;
-    all.extend_from_slice(second)?;
-    all.extend_from_slice(third)?;
-    Ok(all)
+    for origin in &filter.origins {
+        let part = ProfilePart::Action(origin.entry);
+        push(all, allowed, ProfileWarning::OfEntries(warning, part))?;
+    }
+    Ok(())
 }

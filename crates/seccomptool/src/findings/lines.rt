@@ -181,9 +181,9 @@ impl fmt::Display for PartName {
 /// A call on which two sides differ: its name or number, after the `AUDIT_ARCH_*` value if that is another, its arguments,
 /// and the instruction pointer if that is to be printed.
 #[derive(Clone, Copy)]
-struct Example {
-    shown: Shown,
-    call: [u8; 64],
+pub(crate) struct Example {
+    pub(crate) shown: Shown,
+    pub(crate) call: [u8; 64],
 }
 
 impl fmt::Display for Example {

@@ -34,6 +34,11 @@ const CODES: &[&str] = &[
     "unreachable-entry",
     "redundant-entry",
     "undecided-entry",
+    "no-effect",
+    "open-order",
+    "refused-by-libseccomp",
+    "runtimes-differ",
+    "unknown-key",
 ];
 
 const AFTER: &str = "\

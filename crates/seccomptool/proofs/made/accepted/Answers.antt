@@ -10,4 +10,4 @@ returns-in_ok-report-in-Policy-clause-accepted c =
 pub returns-in_ok-notes-in-Profile-clause-accepted : goal.returns-in_ok-notes-in-Profile-clause-accepted
 returns-in_ok-notes-in-Profile-clause-accepted c =
     subst (λ k. IsAccepted c.args.arch k c.args.denied c.args.allowed.now c.args.given.now c.verdict_where.result) (sym c.in-Profile.is)
-    (_, c.in_ok-checked-in-Profile.checked, c.in_ok-checked-in-Profile.ensures.report, c.verdict_where.ensures)
+    (c.in_ok-checked-in-Profile.checked, c.in_ok-checked-in-Profile.ensures.report, c.verdict_where.ensures)

@@ -1,0 +1,14 @@
+use Rattle.std.proofs.Common.{subst, sym, ◌∙◌}
+use Rattle.std.specs.Prelude.{All, Contains}
+use Rattle.std.proofs.lemmas.Bool.{true≢false}
+use Rattle.std.proofs.lemmas.List.Elements.{All-push}
+use Rattle.seccomptool.specs.CheckProfile.{IsTold, code_of}
+use Rattle.seccomptool.proofs.check.profile.push.Goals as goal
+
+pub returns : goal.returns
+returns c = λ arch container p so told.
+    let kept : Contains c.args.allowed.now (code_of c.args.warning) → ⊥ =
+    λ there. true≢false (sym (c.is_among.ensures.1 (subst (Contains c.args.allowed.now) (sym c.code_of.ensures) there))
+    ∙ c.if-is_among.false) in
+    subst (All (IsTold arch container p c.args.allowed.now)) (sym c.in_ok-push.ensures.items)
+    (All-push (IsTold arch container p c.args.allowed.now) c.args.all.now.items c.args.warning told (record { is_so = so; kept = kept }))

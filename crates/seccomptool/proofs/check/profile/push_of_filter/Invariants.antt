@@ -1,0 +1,9 @@
+use Rattle.std.specs.Prelude.{All}
+use Rattle.seccompiler.specs.declared.backend.TargetArch.{TargetArch}
+use Rattle.seccomp_oci.specs.Types.{Container, Profile}
+use Rattle.seccomptool.specs.CheckProfile.{IsTold, IsTrueOf}
+use Rattle.seccomptool.proofs.check.profile.push_of_filter.Given as goal
+
+abbrev pub invariant-loop-warning : goal.invariant-loop-warning
+invariant-loop-warning l = (container : Container) (p : Profile) → All (IsTold l.fn.target container p l.fn.allowed) l.initial.all.items
+    → All (IsTold l.fn.target container p l.fn.allowed) l.all.items

@@ -1,6 +1,6 @@
 // Whether a text has more colons outside strings than its value has names.
 
-ghost use Rattle.std.specs.Prelude.{◌≡◌, ℕ, ◌-◌, ◌<◌, ◌≤◌, ◌↔◌, IsTrue, length};
+ghost use Rattle.std.specs.Prelude.{◌≡◌, ℕ, ◌-◌, ◌==◌, ◌<◌, ◌≤◌, ◌↔◌, IsTrue, count_by, length};
 ghost use Rattle.serde_json.specs.View.{view, items_view, members_view};
 ghost use Rattle.seccompiler.specs.ColonCount.{from_outside, from_inside};
 ghost use Rattle.seccompiler.specs.JsonRepeats.{Repeats, HasColons, names_in, names_in_items, names_in_members};
@@ -27,7 +27,13 @@ pub fn repeats_key(text: &[u8], value: &Value) -> bool
     ensures each_cut { (count : ℕ) → HasColons text.now count →
         (IsTrue result ↔ (names_in (view value.now) < count)) }
 {
-    0 < after_names(value, colons(text))
+    // Which of them stand in strings is asked only if there are more than names.
+    let all = all_colons(text);
+    let left = after_names(value, all);
+    if left == 0 {
+        return false;
+    }
+    all - left < colons(text)
 }
 
 // How many of `left` are left after one for each name in the value.
@@ -60,6 +66,19 @@ fn after_members(members: &Map<String, Value>, mut left: usize) -> usize
         left = after_names(member, left).saturating_sub(1);
     }
     left
+}
+
+// How many bytes `:` there are, in strings too.
+fn all_colons(text: &[u8]) -> usize
+    ensures { result ≡ count_by (λ b. b == 58) text.now }
+{
+    let mut found = 0;
+    for byte in text {
+        if *byte == b':' {
+            found += 1;
+        }
+    }
+    found
 }
 
 // How many bytes `:` stand outside strings.

@@ -8,6 +8,9 @@ ghost use Rattle.seccompiler.specs.JsonRepeats.{Repeats, HasColons, names_in, na
 use serde_json::Value;
 use serde_json::value::Map;
 
+// How many bytes are counted in one byte.
+const PART: usize = 255;
+
 /// Whether a text has more bytes `:` outside strings than the objects of a value have names.
 ///
 /// The text is taken as bytes outside strings and strings in quotes, in which a backslash takes the
@@ -38,24 +41,19 @@ pub fn repeats_key(text: &[u8], value: &Value) -> bool
 
 // How many of `left` are left after one for each name in the value.
 #[cycle(after)]
-fn after_names(value: &Value, left: usize) -> usize
+fn after_names(value: &Value, mut left: usize) -> usize
     ensures { result ≡ left - names_in (view value.now) }
 {
     match value {
-        Value::Array(items) => after_items(items, left),
+        Value::Array(items) => {
+            for item in items {
+                left = after_names(item, left);
+            }
+            left
+        }
         Value::Object(members) => after_members(members, left),
         Value::Null | Value::Bool(_) | Value::Number(_) | Value::String(_) => left,
     }
-}
-
-#[cycle(after)]
-fn after_items(items: &Vec<Value>, mut left: usize) -> usize
-    ensures { result ≡ left - names_in_items (items_view items.now.items) }
-{
-    for item in items {
-        left = after_names(item, left);
-    }
-    left
 }
 
 #[cycle(after)]
@@ -72,8 +70,23 @@ fn after_members(members: &Map<String, Value>, mut left: usize) -> usize
 fn all_colons(text: &[u8]) -> usize
     ensures { result ≡ count_by (λ b. b == 58) text.now }
 {
+    let mut rest = text;
+    let mut found = 0usize;
+    while !rest.is_empty() {
+        let (part, behind) = rest.split_at(rest.len().min(PART));
+        found += colons_of_part(part) as usize;
+        rest = behind;
+    }
+    found
+}
+
+// The same of so few bytes that one byte counts them, of which a processor adds many at a time.
+fn colons_of_part(part: &[u8]) -> u8
+    requires { length part.now ≤ 255 }
+    ensures { result ≡ count_by (λ b. b == 58) part.now }
+{
     let mut found = 0;
-    for byte in text {
+    for byte in part {
         if *byte == b':' {
             found += 1;
         }

@@ -1,12 +1,11 @@
 // Whether a text has more colons outside strings than its value has names.
 
 ghost use Rattle.std.specs.Prelude.{◌≡◌, ℕ, ◌-◌, ◌==◌, ◌<◌, ◌≤◌, ◌↔◌, IsTrue, count_by, length};
-ghost use Rattle.serde_json.specs.View.{view, items_view, members_view};
+ghost use Rattle.serde_json.specs.View.{view};
 ghost use Rattle.seccompiler.specs.ColonCount.{from_outside, from_inside};
-ghost use Rattle.seccompiler.specs.JsonRepeats.{Repeats, HasColons, names_in, names_in_items, names_in_members};
+ghost use Rattle.seccompiler.specs.JsonRepeats.{Repeats, HasColons, names_in};
 
 use serde_json::Value;
-use serde_json::value::Map;
 
 // How many bytes are counted in one byte.
 const PART: usize = 255;
@@ -40,7 +39,6 @@ pub fn repeats_key(text: &[u8], value: &Value) -> bool
 }
 
 // How many of `left` are left after one for each name in the value.
-#[cycle(after)]
 fn after_names(value: &Value, mut left: usize) -> usize
     ensures { result ≡ left - names_in (view value.now) }
 {
@@ -49,19 +47,13 @@ fn after_names(value: &Value, mut left: usize) -> usize
             for item in items {
                 left = after_names(item, left);
             }
-            left
         }
-        Value::Object(members) => after_members(members, left),
-        Value::Null | Value::Bool(_) | Value::Number(_) | Value::String(_) => left,
-    }
-}
-
-#[cycle(after)]
-fn after_members(members: &Map<String, Value>, mut left: usize) -> usize
-    ensures { result ≡ left - names_in_members (members_view members.now.entries) }
-{
-    for (_, member) in members.iter() {
-        left = after_names(member, left).saturating_sub(1);
+        Value::Object(members) => {
+            for (_, member) in members.iter() {
+                left = after_names(member, left).saturating_sub(1);
+            }
+        }
+        Value::Null | Value::Bool(_) | Value::Number(_) | Value::String(_) => {}
     }
     left
 }

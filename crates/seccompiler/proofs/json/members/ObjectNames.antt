@@ -1,14 +1,18 @@
--- For `has_only_names`: the names of an object, and whether they are all among some.
-use Rattle.std.proofs.Common.{◌≡◌, ℕ, List, true, false, Some, Ordering, Less, Equal, Greater, refl, sym, ap, ◌∙◌, subst, Contains}
-use Rattle.std.proofs.Common.{bytes_eq, nat_cmp, ◌↔◌, is_eq, ◌⊎◌, inl, inr}
+-- For `members_under`: what an object has under a name, and whether its names are all among some.
+use Rattle.std.proofs.Common.{◌≡◌, ℕ, List, [], ◌∷◌, true, false, cond, Option, Some, None, Ordering, Less, Equal, Greater, refl, sym, ap, ◌∙◌, subst}
+use Rattle.std.proofs.Common.{bytes_eq, nat_cmp, ◌↔◌, is_eq, ◌⊎◌, inl, inr, Contains, string_bytes}
 use Rattle.std.specs.List.{list_any}
 use Rattle.std.specs.Cmp.Lexicographic.{slice_cmp}
+use Rattle.std.specs.Option.{option_or}
+use Rattle.std.proofs.lemmas.Bool.{true≢false, cases_Bool}
 use Rattle.std.proofs.lemmas.Cmp.{nat_list_cmp_total, nat_list_eq_equiv, tied_itself}
 use Rattle.std.proofs.lemmas.Map.Text.{is_eq-slice_cmp}
 use Rattle.std.proofs.lemmas.Map.Views.{Contains-from_any, list_any-from_Contains}
 use Rattle.std.proofs.lemmas.Slice.Eq.{bytes_eq-Decides}
 use Rattle.serde_json.specs.Data.{Data, object, Members, member}
-use Rattle.serde_json.specs.Find.{get_member}
+use Rattle.serde_json.specs.Find.{get, get_member}
+use Rattle.serde_json.specs.View.{view, members_view}
+use Rattle.serde_json.proofs.Views.{Entry, member_here, member_later}
 use Rattle.seccompiler.specs.JsonShape.{HasOnly}
 
 module _ (name : List ℕ) (d : Data) (members : Members) where
@@ -56,3 +60,26 @@ module _ (name : List ℕ) (d : Data) (members : Members) where
   pub only_fails : (names : List (List ℕ)) {P : Type 0} → (HasOnly (object (member name d members)) names ↔ P)
       → list_any (bytes_eq name) names ≡ false → P → ⊥
   only_fails names so_far not h = let e = sym not ∙ ((only_step names).0 (so_far.1 h)).0 in cc
+
+-- What an object has under a name is what was found of it, or else what is under it among the members that are left.
+abbrev pub IsSought : Data → List Entry → List ℕ → Option Data → Type 0
+IsSought d left key found = get key d ≡ option_or found (get_member key (members_view left))
+
+-- A member less is left.
+pub sought_more : (d : Data) (e : Entry) (left : List Entry) (key name : List ℕ) (found next : Option Data)
+    → name ≡ string_bytes e.0 → next ≡ option_or found (cond (bytes_eq key name) (Some (view e.1)) None)
+    → IsSought d (e ∷ left) key found → IsSought d left key next
+sought_more d e left key name found next same is so_far = so_far ∙ by_case found ∙ ap (λ o. option_or o (get_member key (members_view left))) (sym is)
+  where
+    by_case : (o : Option Data) → option_or o (get_member key (members_view (e ∷ left)))
+        ≡ option_or (option_or o (cond (bytes_eq key name) (Some (view e.1)) None)) (get_member key (members_view left))
+    by_case (Some x) = refl
+    by_case None = elim (cases_Bool (bytes_eq key name)) [
+      | inl own ↦ rw own (member_here key e left ((bytes_eq-Decides key name).0 own ∙ same))
+      | inr other ↦ rw other (member_later key e left (λ own. true≢false (sym ((bytes_eq-Decides key name).1 (own ∙ sym same)) ∙ other)))
+    ]
+
+-- No member is left.
+pub sought_all : (d : Data) (key : List ℕ) (found : Option Data) → IsSought d [] key found → found ≡ get key d
+sought_all d key None is = sym is
+sought_all d key (Some x) is = sym is

@@ -12,7 +12,7 @@ returns-then-not-is_among-clause-none c =
     let names = map (λ n. n.now) c.args.names.now in
     let so_far = subst (λ es. HasOnly (object (members_view es)) names ↔ HasOnly (view c.args.value.now) names)
     c.in-Some.ensures.steps c.loop-name.invariant.only in
-    only_fails _ _ _ names so_far cc
+    only_fails (c.in-Some.name.now, c.in-Some.member.now) c.next.new.self names so_far cc
 
 pub loop-name-preserved : goal.loop-name-preserved
 loop-name-preserved c =
@@ -25,13 +25,13 @@ loop-name-preserved c =
     let sought = rw c.in-Some.ensures.steps at c.loop-name.invariant in
     let own = c.as_str-name.ensures.value in
     record {
-      only = only_left _ _ _ names so_far
+      only = only_left e left names so_far
           (ap (λ n. list_any (bytes_eq n) names) (sym own) ∙ sym c.is_among.ensures ∙ c.if-not-is_among.false);
-      first = sought_more d e left _ _ _ _ own c.first_under-first.ensures sought.first;
-      second = sought_more d e left _ _ _ _ own c.first_under-second.ensures sought.second;
-      third = sought_more d e left _ _ _ _ own c.first_under-third.ensures sought.third;
-      fourth = sought_more d e left _ _ _ _ own c.first_under-fourth.ensures sought.fourth;
-      fifth = sought_more d e left _ _ _ _ own c.first_under-fifth.ensures sought.fifth;
+      first = sought_more e left d _ _ _ _ own c.first_under-first.ensures sought.first;
+      second = sought_more e left d _ _ _ _ own c.first_under-second.ensures sought.second;
+      third = sought_more e left d _ _ _ _ own c.first_under-third.ensures sought.third;
+      fourth = sought_more e left d _ _ _ _ own c.first_under-fourth.ensures sought.fourth;
+      fifth = sought_more e left d _ _ _ _ own c.first_under-fifth.ensures sought.fifth;
     }
 
 pub returns-clause-names : goal.returns-clause-names

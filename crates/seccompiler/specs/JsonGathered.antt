@@ -27,14 +27,12 @@ is_always_at gathered number = list_any (int_eq number) gathered.always.items
 pub record HasAdded (arch : TargetArch) (entry : JsonRule) (old new : Gathered) : Type 0 where
   pub rules : (number : ℤ) → rules_at new number ≡ added (rules_for arch number entry) (rules_at old number)
   pub always : (number : ℤ) → is_always_at new number ≡ (is_always_at old number || is_always arch number entry)
-  pub ordered : IsOrdered int_cmp old.rules → IsOrdered int_cmp new.rules
 
 -- This was gathered of these entries: under each number the rules of its entries, in order; and the numbers of the
 -- entries without conditions.
 pub record AreGathered (arch : TargetArch) (entries : List JsonRule) (gathered : Gathered) : Type 0 where
   pub rules : (number : ℤ) → rules_at gathered number ≡ added (flat_map (rules_for arch number) entries) None
   pub always : (number : ℤ) → is_always_at gathered number ≡ list_any (is_always arch number) entries
-  pub ordered : IsOrdered int_cmp gathered.rules
 
 -- The chain of a number: the empty one if some entry with this number has no conditions; else the rules that were
 -- gathered under it, if there are any.
@@ -46,4 +44,4 @@ chain_of false found = found
 pub record HasChains (gathered : Gathered) (chains : BTreeMap ℤ (Vec Rule Global)) : Type 0 where
   pub each : (number : ℤ) → chain_at (chains_of chains.entries) number
       ≡ chain_of (is_always_at gathered number) (rules_at gathered number)
-  pub ordered : IsOrdered int_cmp gathered.rules → IsOrdered int_cmp chains
+  pub ordered : IsOrdered int_cmp chains

@@ -14,7 +14,7 @@ ghost use Rattle.seccompiler.specs.declared.json.types.JsonCondition.{JsonCondit
 ghost use Rattle.seccompiler.specs.JsonTypes.{JsonRule, JsonFilter};
 
 use crate::backend::{SeccompAction, SeccompCmpArgLen, SeccompCmpOp};
-use crate::json::members::{is_commented, is_object_of, number_alone, number_under};
+use crate::json::members::{is_comment, members_under, number_alone, whole_number};
 use crate::json::types::{JsonCondition, JsonFilter, JsonRule};
 use serde_json::Value;
 use std::alloc::{AllocError, Global};
@@ -114,13 +114,16 @@ fn read_condition(value: &Value) -> Option<JsonCondition>
     ensures found { IfSome result (IsCondition (view value.now)) }
     ensures none { IfNone result ((c : JsonCondition) → IsCondition (view value.now) c → ⊥) }
 {
-    if !is_object_of(value, &["index", "type", "op", "val", "comment"]) || !is_commented(value) {
+    let names = ["index", "type", "op", "val", "comment"];
+    let sought = ("index", "type", "op", "val", "comment");
+    let found = members_under(value, &names, sought)?;
+    if !is_comment(found.4) {
         return None;
     }
-    let arg_index = number_under(value, "index", GREATEST_INDEX)? as u8;
-    let arg_len = read_arg_len(value.get("type")?)?;
-    let operator = read_operator(value.get("op")?)?;
-    let value = number_under(value, "val", u64::MAX)?;
+    let arg_index = whole_number(found.0?, GREATEST_INDEX)? as u8;
+    let arg_len = read_arg_len(found.1?)?;
+    let operator = read_operator(found.2?)?;
+    let value = whole_number(found.3?, u64::MAX)?;
     Some(JsonCondition {
         arg_index,
         arg_len,
@@ -173,13 +176,17 @@ fn read_entry(alloc: Global, value: &Value) -> Result<Option<JsonRule>, AllocErr
     ensures none { IfOk result
         (λ o. IfNone o ((r : JsonRule) → IsEntry (view value.now) r → ⊥)) }
 {
-    if !is_object_of(value, &["syscall", "args", "comment"]) || !is_commented(value) {
-        return Ok(None);
-    }
-    let Some(Value::String(syscall)) = value.get("syscall") else {
+    let sought = ("syscall", "args", "comment", "comment", "comment");
+    let Some(found) = members_under(value, &["syscall", "args", "comment"], sought) else {
         return Ok(None);
     };
-    let Some(conditions) = read_args(alloc, value.get("args"))? else {
+    if !is_comment(found.2) {
+        return Ok(None);
+    }
+    let Some(Value::String(syscall)) = found.0 else {
+        return Ok(None);
+    };
+    let Some(conditions) = read_args(alloc, found.1)? else {
         return Ok(None);
     };
     let syscall = String::from_str(alloc, syscall.as_str())?;
@@ -236,14 +243,16 @@ fn read_actions(value: &Value) -> Option<(SeccompAction, SeccompAction)>
         "filter_action",
         "filter",
     ];
-    if !is_object_of(value, &names) {
-        return None;
-    }
-    let mismatch_action = read_one_action(
-        value.get("mismatch_action"),
-        value.get("default_action"),
-    )?;
-    let match_action = read_one_action(value.get("match_action"), value.get("filter_action"))?;
+    let sought = (
+        "mismatch_action",
+        "default_action",
+        "match_action",
+        "filter_action",
+        "filter",
+    );
+    let found = members_under(value, &names, sought)?;
+    let mismatch_action = read_one_action(found.0, found.1)?;
+    let match_action = read_one_action(found.2, found.3)?;
     Some((mismatch_action, match_action))
 }
 

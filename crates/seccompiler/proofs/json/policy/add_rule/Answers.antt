@@ -4,8 +4,8 @@ use Rattle.std.proofs.lemmas.Int.{to_z-of_z}
 use Rattle.seccompiler.proofs.json.policy.EntryChains.{chain_with_rule}
 use Rattle.seccompiler.proofs.json.policy.add_rule.Goals as goal
 
-pub returns-clause-chains : goal.returns-clause-chains
-returns-clause-chains c = λ q.
+pub returns : goal.returns
+returns c = λ q.
     let fits : SFits w64 c.args.number = search rules in
     let written = simp to_z-of_z at (c.in_ok-rules.ensures.update.0 c.push.new.self) in
     let here = written.0 q in

@@ -202,6 +202,9 @@ def try_ended(results, jailer, folder):
 def try_codes(results, folder):
     """Compares what `check` warns of in the filters with their codes, and all of these with the codes of docs/CHECKS.md."""
     page = (TOP / "docs/CHECKS.md").read_text(encoding="utf-8")
+    # The codes after this heading are of profiles alone, which tools/seccomptool_cases/profile_checks.py has.
+    page, heading, _ = page.partition("\n## Warnings of profiles\n")
+    results.tell("the page has warnings of profiles", bool(heading), ())
     defaults = {name: ["allows-by-default"] * (it["mismatch_action"] in ("allow", "log")) for name, it in POLICY.items()}
     codes = {name: sorted(it.codes + defaults[name]) for name, it in WARNED.items()}
     listed = sorted(re.findall(r"^### `([a-z0-9-]+)`$", page, re.M))

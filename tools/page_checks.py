@@ -16,7 +16,7 @@ usage: tools/page_checks.py
 - docs/CHECKS.md has the codes of warnings in the order of the definitions, in its table and as sections, and the first
   line of each section, without its marks, is what the code's definition says.
 - The picture in docs/ is what tools/make-picture makes of its source.
-- A line of proofs or definitions has at most 150 characters, in each crate.
+- A line of proofs or definitions has at most 140 characters, in each crate.
 
 Prints each difference, and as its last line 'N passed, M failed'.
 """
@@ -33,7 +33,7 @@ import sys
 from results import Results
 
 TOP = pathlib.Path(__file__).resolve().parent.parent
-LINE = 150
+LINE = 140
 README_WORDS = 900
 PAGES_WORDS = 32000
 CHANGES_WORDS = 900

@@ -96,7 +96,7 @@ among_bytes : (pieces : List Piece) (ending : Ending)
 among_bytes [] ending = omega arith
 among_bytes (x ∷ pieces) ending =
     let own : cond (is_colon x) 1 0 ≤ count_by (λ b. b == 58) (piece_bytes x) =
-    elim x as (λ y. cond (is_colon y) 1 0 ≤ count_by (λ b. b == 58) (piece_bytes y)) [ byte b other ↦ omega arith | quoted items ↦ omega arith ] in
+    elim x as (λ y. cond (is_colon y) 1 0 ≤ count_by (λ b. b == 58) (piece_bytes y)) [ byte b o ↦ omega arith | quoted i ↦ omega arith ] in
     rw (
       append_assoc (piece_bytes x) (flat_map piece_bytes pieces) (ending_bytes ending),
       sum_by-append (λ b. cond (b == 58) 1 0) (piece_bytes x) (flat_map piece_bytes pieces ++ ending_bytes ending),

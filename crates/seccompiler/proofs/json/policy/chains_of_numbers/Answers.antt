@@ -26,8 +26,9 @@ returns c =
     let made : IsFromIterResult int_cmp found c.in_ok-empty.empty = search rules in
     let all : take c.loop-number.number-index always ≡ always =
     take_all c.loop-number.number-index always (omega (arith, c.loop-number-test.false, ap length c.deref-number-items.ensures.value)) in
+    let own = c.in_ok-append.ensures in
     record {
-      each = chains_with_empty c.args.gathered.rules c.in_ok-empty.empty c.append.new.self found always made c.in_ok-append.ensures.inserts_all
+      each = chains_with_empty c.args.gathered.rules c.in_ok-empty.empty c.append.new.self found always made own.inserts_all
           (λ q. rw all at (c.loop-number.invariant q));
-      ordered = c.in_ok-append.ensures.ordered;
+      ordered = own.ordered;
     }

@@ -10,7 +10,7 @@ pub returns-then-left-eq0-clause-cut : goal.returns-then-left-eq0-clause-cut
 returns-then-left-eq0-clause-cut c = (_, counted_from_front c.args.text.now)
 
 pub returns-then-left-eq0-clause-repeats : goal.returns-then-left-eq0-clause-repeats
-returns-then-left-eq0-clause-repeats c = (λ told. absurd (cc), λ found. (returns-then-left-eq0-clause-each_cut c _ found.colons).1 found.more)
+returns-then-left-eq0-clause-repeats c = (λ t. absurd (cc), λ found. (returns-then-left-eq0-clause-each_cut c _ found.colons).1 found.more)
 
 pub returns-clause-each_cut : goal.returns-clause-each_cut
 returns-clause-each_cut c = λ count h.

@@ -54,8 +54,7 @@ gives w back r s = record { to = 0; accumulator = s; instruction = give w; goes 
 pub block_join : (a b : List sock_filter) (m n m' : ℕ) → IsBlock a m → IsBlock b n → m ≤ m' → length a + n ≤ m' → IsBlock (a ++ b) m'
 block_join a b m n m' ba bb le_a le_b = record {
   each = λ k i e.
-      ⊎_elim
-      (λ h. ⊎_elim
+      ⊎_elim (λ h. ⊎_elim
       (λ inside. let z : 0 + k ≡ k = omega arith in inl (subst (λ q. IsInside i q m') z (inside_shift i 0 k m m' (omega arith) inside)))
       (λ back. inr back)
       (ba.each k i h))

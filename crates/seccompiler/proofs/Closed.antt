@@ -23,8 +23,7 @@ pub get_split : (a b : List sock_filter) (k : ℕ) (i : sock_filter) → slice_g
 get_split [] b k i e = inr (k, omega arith, e)
 get_split (x ∷ a) b zero i e = inl e
 get_split (x ∷ a) b (suc k) i e =
-    ⊎_elim
-    (λ h. inl h)
+    ⊎_elim (λ h. inl h)
     (λ h. inr (h.0, omega (arith, h.1), h.2))
     (get_split a b k i e)
 

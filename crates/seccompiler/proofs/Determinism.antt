@@ -92,8 +92,7 @@ goes_on_before : (p : List sock_filter) (r : List ℕ) {place a m place' a' : �
     → Goes p r place a m place' a' → n < m → GoesOn p r place a n
 goes_on_before p r n stays fewer = absurd (omega arith)
 goes_on_before p r n (then_step {n = m} g s) fewer =
-    ⊎_elim
-    (λ before. goes_on_before p r n g before)
+    ⊎_elim (λ before. goes_on_before p r n g before)
     (λ after. let here : m ≡ n = omega arith in record { place' = _; a' = _; place'' = _; a'' = _; goes = rw here at g; step = s })
     (cases_lt n m)
 

@@ -10,8 +10,7 @@ use Rattle.seccompiler.specs.Machine.{IsRecord, word_at, number_at}
 -- a byte of a record is below 256
 byte_fits : (r : List ℕ) (k : ℕ) → IsRecord r → slice_index r k < 256
 byte_fits r k rec =
-    ⊎_elim
-    (λ within. All-get_or (λ b. b < 256) r k 0 within rec.bytes)
+    ⊎_elim (λ within. All-get_or (λ b. b < 256) r k 0 within rec.bytes)
     (λ past. let e : slice_index r k ≡ 0 = get_or_past r k 0 past in omega arith)
     (cases_lt k (length r))
 

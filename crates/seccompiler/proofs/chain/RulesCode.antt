@@ -49,8 +49,7 @@ any_front P chain q h =
 any_split : (P : Rule → Type 0) (chain : Chain) (q : Rule) → Any P (chain ++ q ∷ []) → (Any P chain) ⊎ (P q)
 any_split P chain q h =
     let len = length-append chain (q ∷ []) in
-    ⊎_elim
-    (λ lt. inl (h.0, h.1, lt, sym (get_or_append_left chain (q ∷ []) h.1 h.0 lt) ∙ h.3, h.4))
+    ⊎_elim (λ lt. inl (h.0, h.1, lt, sym (get_or_append_left chain (q ∷ []) h.1 h.0 lt) ∙ h.3, h.4))
     (λ le.
     let at : length chain ≡ h.0 = omega (arith, h.2, len) in
     let same : h.1 ≡ q = sym h.3 ∙ get_or_push chain q h.1 h.0 at in
@@ -69,8 +68,7 @@ with_return q w own fits h =
       block = block_join own (give w ∷ []) (length own + 2) 0 (length p + 1) (block_from_closed own (length own + 2) h.closed)
           (block_give w 0) (omega arith) (omega arith);
       enters = λ r rec a small.
-          ⊎_elim
-          (λ t. inl (
+          ⊎_elim (λ t. inl (
             any_here (λ x. RuleHolds x r) q t.0,
             returns_back own (give w ∷ []) r a w (leads_front own (give w ∷ []) r 0 a (length own) t.1) (0, gives w [] r _),
           ))
@@ -99,13 +97,11 @@ rules_more chain w code one q last h =
       block = block_join code one (length code + 1) (length one + 1) (length p + 1) h.block last.block
           (omega (arith, last.long)) (omega arith);
       enters = λ r rec a small.
-          ⊎_elim
-          (λ t. inl (any_front (λ x. RuleHolds x r) chain q t.0, returns_front code one r 0 a w t.1))
+          ⊎_elim (λ t. inl (any_front (λ x. RuleHolds x r) chain q t.0, returns_front code one r 0 a w t.1))
           (λ t.
           let g = leads_front code one r 0 a (length code) t.1 in
           let fits = stays_small code r small t.1.goes in
-          ⊎_elim
-          (λ u. inl (Any-push (λ x. RuleHolds x r) chain q (any_only (λ x. RuleHolds x r) q u.0), returns_back code one r a w g u.1))
+          ⊎_elim (λ u. inl (Any-push (λ x. RuleHolds x r) chain q (any_only (λ x. RuleHolds x r) q u.0), returns_back code one r a w g u.1))
           (λ u. inr (
             λ any. ⊎_elim t.0 (λ h. u.0 (any_here (λ x. RuleHolds x r) q h)) (any_split (λ x. RuleHolds x r) chain q any),
             leads_to p r 0 a _ _ (sym len) (leads_through code one r a (length one) t.1 u.1),

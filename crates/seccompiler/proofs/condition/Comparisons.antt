@@ -66,8 +66,7 @@ module _ (low v d x X Y : ℕ) (r : List ℕ) (within : low + 8 ≤ length r) (f
       let e : x % 2 ^ 32 ≡ X = omega arith in
       let same : bit_and (x % 2 ^ 32) M ≡ bit_and X M = ap (λ n. bit_and n M) e in
       let g = then_step (then_step stays (on_load p r 0 a low X refl (omega arith) small fits_X is_X)) (on_mask p r 1 X M refl fits_X) in
-      ⊎_elim
-      (λ t. inl (same ∙ t.0, arrive p r 3 (then_step g t.1) refl))
+      ⊎_elim (λ t. inl (same ∙ t.0, arrive p r 3 (then_step g t.1) refl))
       (λ t. inr (λ h. t.0 (sym same ∙ h), arrive p r (3 + d) (then_step g t.1) refl))
       (on_equal p r 2 (bit_and X M) (bit_and (v % 2 ^ 32) M) 0 d refl (omega (arith, and_le_l X M)))
 
@@ -75,11 +74,9 @@ module _ (low v d x X Y : ℕ) (r : List ℕ) (within : low + 8 ≤ length r) (f
   qword_eq =
       let p = comparison_code Qword Eq low v d in
       let g = then_step stays (on_load p r 0 a (low + 4) Y refl (omega arith) small fits_Y is_Y) in
-      ⊎_elim
-      (λ t.
+      ⊎_elim (λ t.
       let k = then_step (then_step g t.1) (on_load p r 2 Y low X refl (omega arith) fits_Y fits_X is_X) in
-      ⊎_elim
-      (λ u. inl (omega arith, arrive p r 4 (then_step k u.1) refl))
+      ⊎_elim (λ u. inl (omega arith, arrive p r 4 (then_step k u.1) refl))
       (λ u. inr (λ h. u.0 (omega arith), arrive p r (4 + d) (then_step k u.1) refl))
       (on_equal p r 3 X (v % 2 ^ 32) 0 d refl fits_X))
       (λ t. inr (λ h. t.0 (omega arith), arrive p r (4 + d) (then_step g t.1) (omega arith)))
@@ -89,11 +86,9 @@ module _ (low v d x X Y : ℕ) (r : List ℕ) (within : low + 8 ≤ length r) (f
   qword_ne =
       let p = comparison_code Qword Ne low v d in
       let g = then_step stays (on_load p r 0 a (low + 4) Y refl (omega arith) small fits_Y is_Y) in
-      ⊎_elim
-      (λ t.
+      ⊎_elim (λ t.
       let k = then_step (then_step g t.1) (on_load p r 2 Y low X refl (omega arith) fits_Y fits_X is_X) in
-      ⊎_elim
-      (λ u. inr (λ h. h (omega arith), arrive p r (4 + d) (then_step k u.1) refl))
+      ⊎_elim (λ u. inr (λ h. h (omega arith), arrive p r (4 + d) (then_step k u.1) refl))
       (λ u. inl (λ h. u.0 (omega arith), arrive p r 4 (then_step k u.1) refl))
       (on_equal p r 3 X (v % 2 ^ 32) d 0 refl fits_X))
       (λ t. inl (λ h. t.0 (omega arith), arrive p r 4 (then_step g t.1) refl))
@@ -106,14 +101,11 @@ module _ (low v d x X Y : ℕ) (r : List ℕ) (within : low + 8 ≤ length r) (f
   above test fact greater less test_low =
       let p = load (low + 4) ∷ jump_greater (v / 2 ^ 32) 3 0 ∷ jump_equal (v / 2 ^ 32) 0 (d + 2) ∷ load low ∷ test ∷ [] in
       let g = then_step stays (on_load p r 0 a (low + 4) Y refl (omega arith) small fits_Y is_Y) in
-      ⊎_elim
-      (λ t. inl (greater t.0, arrive p r 5 (then_step g t.1) refl))
+      ⊎_elim (λ t. inl (greater t.0, arrive p r 5 (then_step g t.1) refl))
       (λ t.
-      ⊎_elim
-      (λ s.
+      ⊎_elim (λ s.
       let k = then_step (then_step (then_step g t.1) s.1) (on_load p r 3 Y low X refl (omega arith) fits_Y fits_X is_X) in
-      ⊎_elim
-      (λ u. inl (u.0, arrive p r 5 (then_step k u.1) refl))
+      ⊎_elim (λ u. inl (u.0, arrive p r 5 (then_step k u.1) refl))
       (λ u. inr (u.0, arrive p r (5 + d) (then_step k u.1) refl))
       (test_low s.0))
       (λ s. inr (less (omega (arith, s.0)), arrive p r (5 + d) (then_step (then_step g t.1) s.1) (omega arith)))
@@ -127,14 +119,11 @@ module _ (low v d x X Y : ℕ) (r : List ℕ) (within : low + 8 ≤ length r) (f
   below test fact greater less test_low =
       let p = load (low + 4) ∷ jump_greater (v / 2 ^ 32) (d + 3) 0 ∷ jump_equal (v / 2 ^ 32) 0 2 ∷ load low ∷ test ∷ [] in
       let g = then_step stays (on_load p r 0 a (low + 4) Y refl (omega arith) small fits_Y is_Y) in
-      ⊎_elim
-      (λ t. inr (greater t.0, arrive p r (5 + d) (then_step g t.1) (omega arith)))
+      ⊎_elim (λ t. inr (greater t.0, arrive p r (5 + d) (then_step g t.1) (omega arith)))
       (λ t.
-      ⊎_elim
-      (λ s.
+      ⊎_elim (λ s.
       let k = then_step (then_step (then_step g t.1) s.1) (on_load p r 3 Y low X refl (omega arith) fits_Y fits_X is_X) in
-      ⊎_elim
-      (λ u. inl (u.0, arrive p r 5 (then_step k u.1) refl))
+      ⊎_elim (λ u. inl (u.0, arrive p r 5 (then_step k u.1) refl))
       (λ u. inr (u.0, arrive p r (5 + d) (then_step k u.1) refl))
       (test_low s.0))
       (λ s. inl (less (omega (arith, s.0)), arrive p r 5 (then_step (then_step g t.1) s.1) refl))
@@ -174,12 +163,10 @@ module _ (low v d x X Y : ℕ) (r : List ℕ) (within : low + 8 ≤ length r) (f
       let small_V : bit_and V M < 2 ^ 32 = omega (arith, and_le_l V M) in
       let g = then_step (then_step stays (on_load p r 0 a (low + 4) Y refl (omega arith) small fits_Y is_Y))
       (on_mask p r 1 Y N refl fits_Y) in
-      ⊎_elim
-      (λ t.
+      ⊎_elim (λ t.
       let k = then_step (then_step (then_step g t.1) (on_load p r 3 (bit_and Y N) low X refl (omega arith) small_Y fits_X is_X))
       (on_mask p r 4 X M refl fits_X) in
-      ⊎_elim
-      (λ u. inl (omega arith, arrive p r 6 (then_step k u.1) refl))
+      ⊎_elim (λ u. inl (omega arith, arrive p r 6 (then_step k u.1) refl))
       (λ u. inr (λ h. u.0 (omega arith), arrive p r (6 + d) (then_step k u.1) refl))
       (on_equal p r 5 (bit_and X M) (bit_and V M) 0 d refl small_X))
       (λ t. inr (λ h. t.0 (omega arith), arrive p r (6 + d) (then_step g t.1) (omega arith)))

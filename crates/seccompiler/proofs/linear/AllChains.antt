@@ -47,8 +47,7 @@ dispatches_more chains mismatch matched n chain code own one r rec a small (in_c
 dispatches_more chains mismatch matched n chain code own one r rec a small (in_chain found there (inr t)) =
     in_chain found (found_before chains (pos n, chain) a found there) (inr (t.0, returns_front code own r 0 a mismatch t.1))
 dispatches_more chains mismatch matched n chain code own one r rec a small (no_chain none g) =
-    ⊎_elim
-    (λ same.
+    ⊎_elim (λ same.
     let there : chain_under (chains ++ (pos n, chain) ∷ []) a ≡ Some chain =
     subst (λ k. chain_under (chains ++ (pos k, chain) ∷ []) a ≡ Some chain) same (last_same chains a chain none) in
     in_chain chain there (⊎_elim

@@ -136,8 +136,7 @@ module _ (f : Filter) where
       → (word_at r 4 ≡ arch_word → Goes (guard ++ back) r 0 0 2 3 (word_at r 4) → EndsAtDecision f (guard ++ back) r)
       → EndsAtDecision f (guard ++ back) r
   decides back r rec own =
-      ⊎_elim
-      (λ t. own t.0 t.1)
+      ⊎_elim (λ t. own t.0 t.1)
       (λ t. decided_at f (guard ++ back) r 2 0x80000000
       record { to = 2; accumulator = word_at r 4; instruction = give 0x80000000; goes = t.1; here = refl; returns = refl; value = refl }
       (other_architecture t.0 refl))

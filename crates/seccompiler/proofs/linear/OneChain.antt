@@ -84,8 +84,7 @@ module _ (n mismatch matched : ℕ) (fits : n < 2 ^ 32) (fits_mismatch : mismatc
             (omega (arith, len)) (omega (arith, len));
         enters = λ r rec.
             let g : Leads p r 0 n 1 = record { count = 1; accumulator = n; goes = then_step stays (on_number p r n refl fits) } in
-            ⊎_elim
-            (λ t. inl (inr t.0, returns_back head both r n matched g (returns_front rules last r 0 n matched t.1)))
+            ⊎_elim (λ t. inl (inr t.0, returns_back head both r n matched g (returns_front rules last r 0 n matched t.1)))
             (λ t. inr (
               λ m. ⊎_elim (λ none. absurd (cc)) t.0 m,
               returns_back head both r n mismatch g

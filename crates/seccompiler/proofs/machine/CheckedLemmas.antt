@@ -37,8 +37,7 @@ checked_if p j default some few all_passed passed = (
 pub not_last : (p : List sock_filter) (place : ℕ) (default : sock_filter) → IsChecked p
     → place < length p → ((get_or p place default).code ≡ 6 → ⊥) → place + 1 < length p
 not_last p place default checked within goes_on =
-    ⊎_elim
-    (λ before. before)
+    ⊎_elim (λ before. before)
     (λ behind. let at : length p - 1 ≡ place = omega arith in
     absurd
     (goes_on (checked.last _ (subst (λ n. slice_get p n ≡ Some (get_or p place default))

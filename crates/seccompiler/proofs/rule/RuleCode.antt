@@ -86,8 +86,7 @@ body_more q code own o k c room one body =
       closed = closed_join own code (length own + o) (length code + 2) (length (own ++ code) + 2) one.closed body.closed
           (omega (arith, body.near)) (omega arith);
       enters = λ r rec a small.
-          ⊎_elim
-          (λ t.
+          ⊎_elim (λ t.
           let g = t.1 in
           let fits = stays_small own r small g.goes in
           ⊎_elim
@@ -124,8 +123,7 @@ exits_behind front code r a fact step exits =
     let at : (y y' : ℕ) → length front + y ≡ y' → Leads code r 0 a y → Leads (front ++ code) r 0 a y' =
     λ y y' e h. leads_to (front ++ code) r 0 a _ _ e (via (front ++ code) r 0 a (length front) _ step
     (leads_from (front ++ code) r _ _ a _ z (leads_second front code r 0 a y h))) in
-    ⊎_elim
-    (λ t. inl (t.0, at (length code) _ (sym len) t.1))
+    ⊎_elim (λ t. inl (t.0, at (length code) _ (sym len) t.1))
     (λ t. inr (t.0, at (length code + 1) _ (omega arith) t.1))
     exits
 

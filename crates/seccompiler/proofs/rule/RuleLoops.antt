@@ -41,8 +41,7 @@ built_more : (q : List Condition) (code own : List sock_filter) (o : ℕ) (c : C
     → IsConditionCode c (offset_behind o) own → Built q code o
     → Built (q ++ c ∷ []) (own ++ (relay_front o ++ code)) (offset_behind o + size_of c)
 built_more q code own o c one h =
-    ⊎_elim
-    (λ lt.
+    ⊎_elim (λ lt.
     let near : o ≤ greatest_offset = omega arith in
     let e = relay_none o near in
     let own_code = subst (λ d. IsConditionCode c d own) e.1 one in
@@ -76,8 +75,7 @@ room_for : (q rest : List Condition) (code : List sock_filter) (o free : ℕ) (c
     → Built q code o → free + length code ≡ rule_length (q ++ c ∷ rest) → 2 + length (relay_front o) + size_of c ≤ free
 room_for q rest code o free c h whole =
     let sizes = total_around q rest c in
-    ⊎_elim
-    (λ lt.
+    ⊎_elim (λ lt.
     let near : o ≤ greatest_offset = omega arith in
     let none_put : length (relay_front o) ≡ 0 = ap length (relay_none o near).0 in
     omega (arith, h.body.long, relays_so_far q (c ∷ rest) o h.k h.cutting))

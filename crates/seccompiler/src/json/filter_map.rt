@@ -1,8 +1,8 @@
 // The filters of a JSON value. docs/JSON.md has the format.
 
 ghost use Rattle.std.specs.Prelude.{◌≡◌, IfOk, IfErr};
-ghost use Rattle.serde_json.specs.Data.{Data, object};
-ghost use Rattle.serde_json.specs.View.{view, members_view};
+ghost use Rattle.serde_json.specs.Data.{Data};
+ghost use Rattle.serde_json.specs.View.{view};
 ghost use Rattle.seccompiler.specs.JsonSteps.{AreFilters, IsShapeRefusal};
 ghost use Rattle.seccompiler.specs.JsonShape.{IsFilter};
 ghost use Rattle.seccompiler.specs.JsonTypes.{JsonFilter};
@@ -11,7 +11,6 @@ use crate::json::error::JsonFrontendError;
 use crate::json::parts::read_filter;
 use crate::json::types::JsonFilterMap;
 use serde_json::Value;
-use serde_json::value::Map;
 use std::alloc::Global;
 use std::collections::BTreeMap;
 
@@ -33,6 +32,7 @@ use std::collections::BTreeMap;
 /// let filters = read_filters(alloc, &value)?;
 /// let main_thread = filters.0.get("main_thread");
 /// ```
+#[tactic(auto, using(crate::proofs::json::parts::OneFilter::one_filter))]
 pub fn read_filters(alloc: Global, value: &Value) -> Result<JsonFilterMap, JsonFrontendError>
     ensures filters { IfOk result (AreFilters (view value.now)) }
     ensures refusal { IfErr result (IsShapeRefusal (view value.now)) }
@@ -40,23 +40,19 @@ pub fn read_filters(alloc: Global, value: &Value) -> Result<JsonFilterMap, JsonF
     // A value is at most one filter.
     ensures one_filter { (d : Data) (f g : JsonFilter) → IsFilter d f → IsFilter d g → f ≡ g }
 {
-    match value {
-        Value::Object(members) => filters_under(alloc, members),
-        _ => Err(JsonFrontendError::NotAnObject),
-    }
+    filters_in(alloc, value.clone()?)
 }
 
-// The same of an object's members.
-fn filters_under(
-    alloc: Global,
-    members: &Map<String, Value>,
-) -> Result<JsonFilterMap, JsonFrontendError>
-    ensures filters { IfOk result (AreFilters (object (members_view members.now.entries))) }
-    ensures refusal { IfErr result (IsShapeRefusal (object (members_view members.now.entries))) }
+/// The same of a value that is no longer needed: the names of filters and calls are taken out of it.
+pub fn filters_in(alloc: Global, value: Value) -> Result<JsonFilterMap, JsonFrontendError>
+    ensures filters { IfOk result (AreFilters (view value)) }
+    ensures refusal { IfErr result (IsShapeRefusal (view value)) }
 {
+    let Value::Object(members) = value else {
+        return Err(JsonFrontendError::NotAnObject);
+    };
     let mut found = BTreeMap::new(alloc);
-    for (name, value) in members.iter() {
-        let name = String::from_str(alloc, name.as_str())?;
+    for (name, value) in members {
         match read_filter(alloc, value)? {
             Some(filter) => drop(found.insert(name, filter)?),
             None => return Err(JsonFrontendError::Shape(name)),

@@ -171,36 +171,36 @@ fn read_args(
     }
 }
 
-fn read_entry(alloc: Global, value: &Value) -> Result<Option<JsonRule>, AllocError>
-    ensures found { IfOk result (λ o. IfSome o (IsEntry (view value.now))) }
-    ensures none { IfOk result
-        (λ o. IfNone o ((r : JsonRule) → IsEntry (view value.now) r → ⊥)) }
+// The entry that the value is. The name of its call is taken out of it.
+fn read_entry(alloc: Global, mut value: Value) -> Result<Option<JsonRule>, AllocError>
+    ensures found { IfOk result (λ o. IfSome o (IsEntry (view value))) }
+    ensures none { IfOk result (λ o. IfNone o ((r : JsonRule) → IsEntry (view value) r → ⊥)) }
 {
     let sought = ("syscall", "args", "comment", "comment", "comment");
-    let Some(found) = members_under(value, &["syscall", "args", "comment"], sought) else {
+    let Some(found) = members_under(&value, &["syscall", "args", "comment"], sought) else {
         return Ok(None);
     };
     if !is_comment(found.2) {
         return Ok(None);
     }
-    let Some(Value::String(syscall)) = found.0 else {
-        return Ok(None);
-    };
     let Some(conditions) = read_args(alloc, found.1)? else {
         return Ok(None);
     };
-    let syscall = String::from_str(alloc, syscall.as_str())?;
+    let Some(syscall) = value.get_mut("syscall") else {
+        return Ok(None);
+    };
+    let Value::String(syscall) = syscall.take() else {
+        return Ok(None);
+    };
     Ok(Some(JsonRule {
         syscall,
         conditions,
     }))
 }
 
-fn read_rules(alloc: Global, value: &Value) -> Result<Option<Vec<JsonRule>>, AllocError>
-    ensures found { IfOk result
-        (λ o. IfSome o (λ all. IsListOf IsEntry (view value.now) all.items)) }
-    ensures none { IfOk result
-        (λ o. IfNone o ((all : List JsonRule) → IsListOf IsEntry (view value.now) all → ⊥)) }
+fn read_rules(alloc: Global, value: Value) -> Result<Option<Vec<JsonRule>>, AllocError>
+    ensures found { IfOk result (λ o. IfSome o (λ all. IsListOf IsEntry (view value) all.items)) }
+    ensures none { IfOk result (λ o. IfNone o ((all : List JsonRule) → IsListOf IsEntry (view value) all → ⊥)) }
 {
     let Value::Array(items) = value else {
         return Ok(None);
@@ -257,18 +257,17 @@ fn read_actions(value: &Value) -> Option<(SeccompAction, SeccompAction)>
 }
 
 /// The filter that the value is, or `None` if it is none; an error only if memory runs out.
-pub fn read_filter(alloc: Global, value: &Value) -> Result<Option<JsonFilter>, AllocError>
-    ensures found { IfOk result (λ o. IfSome o (IsFilter (view value.now))) }
-    ensures none { IfOk result
-        (λ o. IfNone o ((f : JsonFilter) → IsFilter (view value.now) f → ⊥)) }
+pub fn read_filter(alloc: Global, mut value: Value) -> Result<Option<JsonFilter>, AllocError>
+    ensures found { IfOk result (λ o. IfSome o (IsFilter (view value))) }
+    ensures none { IfOk result (λ o. IfNone o ((f : JsonFilter) → IsFilter (view value) f → ⊥)) }
 {
-    let Some((mismatch_action, match_action)) = read_actions(value) else {
+    let Some((mismatch_action, match_action)) = read_actions(&value) else {
         return Ok(None);
     };
-    let Some(filter) = value.get("filter") else {
+    let Some(filter) = value.get_mut("filter") else {
         return Ok(None);
     };
-    let Some(rules) = read_rules(alloc, filter)? else {
+    let Some(rules) = read_rules(alloc, filter.take())? else {
         return Ok(None);
     };
     Ok(Some(JsonFilter {

@@ -144,8 +144,12 @@ fn chains_of_numbers(
 ) -> Result<BTreeMap<i64, Vec<SeccompRule>>, AllocError>
     ensures { IfOk result (HasChains gathered) }
 {
-    let Gathered { mut rules, always } = gathered;
-    // A map that is made of all of them at once takes less than to insert each.
+    let Gathered {
+        mut rules,
+        mut always,
+    } = gathered;
+    // To make a map of ascending numbers takes less than to insert each.
+    always.sort_unstable();
     let mut found = Vec::with_capacity(alloc, always.len())?;
     for number in &always {
         found.push((*number, Vec::new(alloc)))?;

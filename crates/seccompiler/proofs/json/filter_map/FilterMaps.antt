@@ -1,4 +1,4 @@
--- For `filters_under`: the map of the filters that an object's members are, as it grows, and its least name that is no
+-- For `filters_in`: the map of the filters that an object's members are, as it grows, and its least name that is no
 -- filter's.
 use Rattle.std.proofs.Common.{◌≡◌, ℕ, List, [], ◌∷◌, ◌++◌, Option, Some, None, option_map, String, BTreeMap, Global, string_bytes}
 use Rattle.std.proofs.Common.{string_cmp, bytes_eq, refl, sym, ap, ◌∙◌, subst, ◌⊎◌, inl, inr}

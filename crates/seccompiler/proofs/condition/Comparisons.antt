@@ -102,8 +102,7 @@ module _ (low v d x X Y : ℕ) (r : List ℕ) (within : low + 8 ≤ length r) (f
       let p = load (low + 4) ∷ jump_greater (v / 2 ^ 32) 3 0 ∷ jump_equal (v / 2 ^ 32) 0 (d + 2) ∷ load low ∷ test ∷ [] in
       let g = then_step stays (on_load p r 0 a (low + 4) Y refl (omega arith) small fits_Y is_Y) in
       ⊎_elim (λ t. inl (greater t.0, arrive p r 5 (then_step g t.1) refl))
-      (λ t.
-      ⊎_elim (λ s.
+      (λ t. ⊎_elim (λ s.
       let k = then_step (then_step (then_step g t.1) s.1) (on_load p r 3 Y low X refl (omega arith) fits_Y fits_X is_X) in
       ⊎_elim (λ u. inl (u.0, arrive p r 5 (then_step k u.1) refl))
       (λ u. inr (u.0, arrive p r (5 + d) (then_step k u.1) refl))
@@ -120,8 +119,7 @@ module _ (low v d x X Y : ℕ) (r : List ℕ) (within : low + 8 ≤ length r) (f
       let p = load (low + 4) ∷ jump_greater (v / 2 ^ 32) (d + 3) 0 ∷ jump_equal (v / 2 ^ 32) 0 2 ∷ load low ∷ test ∷ [] in
       let g = then_step stays (on_load p r 0 a (low + 4) Y refl (omega arith) small fits_Y is_Y) in
       ⊎_elim (λ t. inr (greater t.0, arrive p r (5 + d) (then_step g t.1) (omega arith)))
-      (λ t.
-      ⊎_elim (λ s.
+      (λ t. ⊎_elim (λ s.
       let k = then_step (then_step (then_step g t.1) s.1) (on_load p r 3 Y low X refl (omega arith) fits_Y fits_X is_X) in
       ⊎_elim (λ u. inl (u.0, arrive p r 5 (then_step k u.1) refl))
       (λ u. inr (u.0, arrive p r (5 + d) (then_step k u.1) refl))

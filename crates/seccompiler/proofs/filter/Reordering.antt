@@ -145,13 +145,10 @@ same_decision f g r s w order same (other_architecture differs is) =
     other_architecture (λ e. differs (word ∙ e ∙ sym audit)) is
 same_decision f g r s w order same (policy_matches here matches is) =
     let word : word_at r 4 ≡ word_at s 4 = same_word r s 4 same (omega arith) in
-    policy_matches
-    (sym word ∙ here ∙ ap audit_word order.target_arch)
-    (reordered_matches f g r s order same matches)
+    policy_matches (sym word ∙ here ∙ ap audit_word order.target_arch) (reordered_matches f g r s order same matches)
     (is ∙ ap word_of order.match_action)
 same_decision f g r s w order same (policy_differs here differs is) =
     let word : word_at r 4 ≡ word_at s 4 = same_word r s 4 same (omega arith) in
-    policy_differs
-    (sym word ∙ here ∙ ap audit_word order.target_arch)
+    policy_differs (sym word ∙ here ∙ ap audit_word order.target_arch)
     (λ matches. differs (reordered_matches_back f g r s order same matches))
     (is ∙ ap word_of order.mismatch_action)

@@ -15,10 +15,8 @@ keys_are c = sym (numbers_are_keys c.self.inside.rules.entries) ∙ ap (λ (f : 
 pub returns-in-Some-clause-unfit : goal.returns-in-Some-clause-unfit
 returns-in-Some-clause-unfit c = (
   c.in-Some.number,
-  ap InvalidSyscallNumber
-      (to_z-of_z w64 c.in-Some.number (search (rules, ints))),
-  subst (λ numbers. IsLeastUnfit numbers c.in-Some.number)
-      (keys_are c.before) c.in-Some.ensures.unfit,
+  ap InvalidSyscallNumber (to_z-of_z w64 c.in-Some.number (search (rules, ints))),
+  subst (λ numbers. IsLeastUnfit numbers c.in-Some.number) (keys_are c.before) c.in-Some.ensures.unfit,
 )
 
 pub returns-clause-fit : goal.returns-clause-fit

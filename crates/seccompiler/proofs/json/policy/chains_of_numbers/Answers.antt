@@ -29,9 +29,10 @@ returns c =
     let made : IsFromIterResult int_cmp found c.in_ok-empty.empty = search rules in
     let all : take c.loop-number.number-index always ≡ always = take_all c.loop-number.number-index always c.loop-number-test.false in
     let own = c.in_ok-append.ensures in
+    let same = λ (q : ℤ). ap (list_any (int_eq q)) c.deref-number-items.ensures.value
+    ∙ sym (list_any-IsPermutation (int_eq q) was _ c.sort_unstable.ensures.permutation) in
     record {
       each = chains_with_empty c.args.gathered.rules c.in_ok-empty.empty c.append.new.self found was made own.inserts_all
-          (λ q. rw all at (c.loop-number.invariant q) ∙ ap (λ b. chain_of b None)
-          (ap (list_any (int_eq q)) c.deref-number-items.ensures.value ∙ sym (list_any-IsPermutation (int_eq q) was _ c.sort_unstable.ensures.permutation)));
+          (λ q. rw all at (c.loop-number.invariant q) ∙ ap (λ b. chain_of b None) (same q));
       ordered = own.ordered;
     }

@@ -17,7 +17,8 @@ use std::collections::BTreeMap;
 /// Reads a JSON value as filters under their names.
 ///
 /// The value has to be an object. Each of its names is a filter's name, whichever text it is, and
-/// each of its values a filter. On `Ok` the map has exactly these names, each with its filter.
+/// each of its values a filter. On `Ok` the map has exactly these names, each with its filter. It reads a
+/// copy of the value; [`filters_of`](crate::json::filters_of) reads a text without one.
 ///
 /// # Errors
 ///

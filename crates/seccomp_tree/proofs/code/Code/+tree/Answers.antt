@@ -2,9 +2,10 @@ use Rattle.std.proofs.Common.{◌-◌, ◌/◌, ◌^◌, ◌<◌, length, take, 
 use Rattle.std.proofs.lemmas.Bool.{cases_lt, false≢true}
 use Rattle.seccomp_tree.specs.Rows.{row}
 use Rattle.std.proofs.lemmas.Result.{err_from_is_err_and, IfOk-weaker}
-use Rattle.seccomp_tree.proofs.Runs.{are_in_grown}
+use Rattle.seccomp_tree.proofs.Runs.{is_in_grown}
 use Rattle.seccomp_tree.proofs.Begun.{starts_rise}
-use Rattle.seccomp_tree.proofs.Trees.{ascend_take, in_take, length_take, all_behind, rest_of, rest_long, out_long, tree_single, tree_out}
+use Rattle.std.proofs.lemmas.List.{length-take-le}
+use Rattle.seccomp_tree.proofs.Trees.{ascend_take, in_take, all_behind, rest_of, rest_long, out_long, tree_single, tree_out}
 use Rattle.seccomp_tree.proofs.Trees.{tree_first, tree_halves}
 use Rattle.seccomp_tree.specs.declared.steps.Target.TheVariants.{Give}
 use Rattle.seccomp_tree.proofs.code.Code.+tree.Goals as goal
@@ -28,15 +29,14 @@ pub tree-requires-then-not-is_row : goal.tree-requires-then-not-is_row
 tree-requires-then-not-is_row t c =
     let steps = c.args.steps.now in
     let n = length steps / 2 in
-    let long = length_take n steps (omega arith) in
+    let long = length-take-le n steps (omega arith) in
     let falls : length (take n steps) < t = omega (arith, long, c.requires.some, c.decreases) in (
       falls,
       (
         omega (arith, long, c.requires.some),
         (
           ascend_take (2 ^ 32) 0 n steps c.requires.ascend,
-          are_in_grown c.args.self.now c.tree.new.self _ (take n steps) c.in_ok-upper.ensures.ok.grows (in_take c.args.self.now n steps
-              c.requires.inside),
+          λ k d lt. is_in_grown _ c.in_ok-upper.ensures.ok.grows (in_take c.args.self.now n steps c.requires.inside k d lt),
         ),
       ),
     )

@@ -30,11 +30,7 @@ answer_grown old new most default rulings t g h = record {
 
 -- a number without rulings has its default
 answer_none : (code : List sock_filter) (default : ℕ) → default < 2 ^ 32 → IsAnswer code default [] (Give default)
-answer_none code default fits = record {
-  inside = fits;
-  one = λ v is. cc;
-  own = λ none. absurd (cc);
-}
+answer_none code default fits = record { inside = fits; one = λ v is. cc; own = λ none. absurd (cc) }
 
 -- with default values after them the steps answer all numbers below their end
 pub answers_range : (d : DecisionSet) (code : List sock_filter) (old new : List Step) (start end : ℕ)

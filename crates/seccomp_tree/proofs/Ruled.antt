@@ -133,20 +133,10 @@ record IsBegun (r : List ℕ) (d : Ruling) (rest : List Ruling) (n : ℕ) : Type
 
 takes_begun : (r : List ℕ) (first : List Condition) (d : Ruling) (rest : List Ruling) (n : ℕ) → joins first d.conditions ≡ false
     → Takes r first (d ∷ rest) n → IsBegun r d rest n
-takes_begun r first d rest n apart (stops q e l m holds enters) = record {
-  run = m;
-  left = 0;
-  takes = enters_first first d rest m apart enters;
-  further = stops_here holds;
-  sum = omega arith;
-}
-takes_begun r first d rest n apart (passes q e l m k not enters takes) = record {
-  run = m;
-  left = k;
-  takes = enters_first first d rest m apart enters;
-  further = goes_further k not takes;
-  sum = refl;
-}
+takes_begun r first d rest n apart (stops q e l m holds enters) =
+    record { run = m; left = 0; takes = enters_first first d rest m apart enters; further = stops_here holds; sum = omega arith }
+takes_begun r first d rest n apart (passes q e l m k not enters takes) =
+    record { run = m; left = k; takes = enters_first first d rest m apart enters; further = goes_further k not takes; sum = refl }
 
 takes_fresh : (r : List ℕ) (p : List Condition) (rest : List Ruling) (n : ℕ) → joins p (head rest) ≡ false → Takes r p rest n
     → Takes r [] rest n
@@ -182,11 +172,7 @@ rest_none old default fits = (
   Give default,
   refl,
   refl,
-  record {
-    grows = grows_not old 0;
-    inside = fits;
-    leads = λ r rec w n is takes a small. given r w a n is;
-  },
+  record { grows = grows_not old 0; inside = fits; leads = λ r rec w n is takes a small. given r w a n is },
 )
   where
     given : (r : List ℕ) (w a n : ℕ) → First default r [] w → Leads old r (Give default) a w (n + 1)

@@ -133,9 +133,5 @@ runs_last {code} {r} is some (near m w a n inside close h) = subst (λ l. Return
 
 pub sound_push : (code : List sock_filter) (i : sock_filter) → IsSound code → IsFine i 0 (length code + 1) → IsInRange i
     → length code < greatest_length → IsSound (i ∷ code)
-sound_push code i h fine range room = record {
-  fine = (fine, (range, h.fine));
-  few = omega arith;
-  front = i ∷ h.front;
-  ends = ap (λ l. i ∷ l) h.ends;
-}
+sound_push code i h fine range room =
+    record { fine = (fine, (range, h.fine)); few = omega arith; front = i ∷ h.front; ends = ap (λ l. i ∷ l) h.ends }

@@ -35,41 +35,32 @@ use Rattle.seccomp_tree.proofs.ProgramEnds.{program_ends, sound_checked}
 -- the one value that answers is the word that is decided
 one_first : (default v w : ℕ) (rulings : List Ruling) (r : List ℕ) → one_value default rulings ≡ Some v → First default r rulings w → w ≡ v
 one_first default v w [] r is nothing = cc
-one_first default v w (d ∷ rulings) r is h = go d.conditions refl (nat_eq (length d.conditions) 0) refl is
+one_first default v w (d ∷ rulings) r is h = go d.conditions refl is
   where
-    go : (q : List Condition) → d.conditions ≡ q → (b : Bool) → nat_eq (length d.conditions) 0 ≡ b → (if b then Some d.value else None) ≡
-        Some v
-        → w ≡ v
-    go q e false is none = cc
-    go [] e true is some =
-        let holds : RuleHolds d.conditions r = subst (λ (q : List Condition). RuleHolds q r) (sym e) (All-nil (λ (c : Condition). Holds c
-        r)) in
-        let value = first_here d rulings holds h in
+    go : (q : List Condition) → d.conditions ≡ q → (if nat_eq (length q) 0 then Some d.value else None) ≡ Some v → w ≡ v
+    go [] e some =
+        let value = first_here d rulings (subst (λ (q : List Condition). RuleHolds q r) (sym e) (All-nil (λ (c : Condition). Holds c r))) h in
         cc
-    go (c ∷ q) e true is some =
-        let long = ap length e in
-        let no : nat_eq (length d.conditions) 0 ≡ false = grind (arith, nat_tests, long) in
-        cc
+    go (c ∷ q) e some =
+        let no : nat_eq (length (c ∷ q)) 0 ≡ false = grind (arith, nat_tests) in
+        let none : None ≡ Some v = subst (λ b. (if b then Some d.value else None) ≡ Some v) no some in
+        absurd (cc)
 
 -- what answers a number leads to what is decided, within its own steps and one
 answer_leads : (d : DecisionSet) (code : List sock_filter) (t : Target) (r : List ℕ) (w n : ℕ) → IsRecord r
     → IsAnswer code (default_for d.defaults (word_at r 0)) (rulings_for d.calls (word_at r 0)) t
     → word_at r 4 ≡ audit_word d.target_arch → First (default_for d.defaults (word_at r 0)) r (rulings_for d.calls (word_at r 0)) w
     → TakesOwn d r n → LeadsAlways code r t w (n + 1)
-answer_leads d code t r w n rec h arch first (other not) = absurd (not arch)
-answer_leads d code t r w n rec h arch first (one v is) =
-    let value = one_first (default_for d.defaults (word_at r 0)) v w (rulings_for d.calls (word_at r 0)) r is first in
-    let gives : Give w ≡ t = ap Give value ∙ sym (h.one v is) in
-    λ a small. subst (λ u. Leads code r u a w (0 + 1)) gives (to_return w a (0 + 1) (omega arith))
-answer_leads d code t r w n rec h arch first (own m takes) =
-    go (value_for d (word_at r 0)) refl
+answer_leads d code t r w n rec h arch first takes = go (value_for d (word_at r 0)) refl n takes
   where
-    go : (o : Option ℕ) → value_for d (word_at r 0) ≡ o → LeadsAlways code r t w (m + 1)
-    go None is = h.own is r rec w m first takes
-    go (Some v) is =
+    go : (o : Option ℕ) → value_for d (word_at r 0) ≡ o → (m : ℕ) → TakesOwn d r m → LeadsAlways code r t w (m + 1)
+    go (Some v) is m takes =
         let value = one_first (default_for d.defaults (word_at r 0)) v w (rulings_for d.calls (word_at r 0)) r is first in
         let gives : Give w ≡ t = ap Give value ∙ sym (h.one v is) in
         λ a small. subst (λ u. Leads code r u a w (m + 1)) gives (to_return w a (m + 1) (omega arith))
+    go None is m (other not) = absurd (not arch)
+    go None is m (one v some) = let e : None ≡ Some v = sym is ∙ some in absurd (cc)
+    go None is m (own k takes) = h.own is r rec w k first takes
 
 -- what `word` needs
 pub calls_room : (d : DecisionSet) (old mid : List sock_filter) (steps : List Step) → AreCallSteps old d steps mid

@@ -75,12 +75,13 @@ found_drop m (x ∷ steps) (suc n) a d h lt above = from_drop m (x.start + 1) x.
 pub all_behind : (steps : List Step) (n : ℕ) → take (length steps - n) (drop n steps) ≡ drop n steps
 all_behind steps n = take_all (length steps - n) (drop n steps) (omega (arith, length-drop n steps))
 
-pub rest_of : (code : List sock_filter) (m n : ℕ) (steps : List Step) → n < length steps → AscendFrom m 0 steps → AreIn code steps
-    → (1 ≤ length (take (length steps - n) (drop n steps)))
-    × (AscendFrom m 0 (take (length steps - n) (drop n steps)) × AreIn code (take (length steps - n) (drop n steps)))
-rest_of code m n steps lt up inside =
+pub rest_of : (code : List sock_filter) (m n t : ℕ) (steps : List Step) → 1 ≤ n → n < length steps → length steps ≤ t
+    → AscendFrom m 0 steps → AreIn code steps
+    → (length (take (length steps - n) (drop n steps)) < t) × ((1 ≤ length (take (length steps - n) (drop n steps)))
+    × (AscendFrom m 0 (take (length steps - n) (drop n steps)) × AreIn code (take (length steps - n) (drop n steps))))
+rest_of code m n t steps some lt all_in up inside =
     let all = all_behind steps n in
-    rw all (omega (arith, length-drop n steps), (ascend_drop m 0 n steps up, in_drop code n steps inside))
+    rw all (omega (arith, length-drop n steps), (omega (arith, length-drop n steps), (ascend_drop m 0 n steps up, in_drop code n steps inside)))
 
 pub rest_long : (n : ℕ) (steps : List Step) → length (take (length steps - n) (drop n steps)) ≡ length steps - n
 rest_long n steps = ap length (all_behind steps n) ∙ length-drop n steps

@@ -302,7 +302,7 @@ module _ (old others : List Step) (first last base : ℕ) (are : AreSteps (2 ^ 6
 
   -- the next of the others starts after what is pushed, and within the part
   pub part_room : (i : ℕ) (d : Step) (new : List Step) → i < begun others (last + 1) → PartOn old others first last base i new
-      → (base ≤ (get_or others i d).start) × AreSteps ((get_or others i d).start - base) new
+      → (base ≤ (get_or others i d).start) × (first ≤ (get_or others i d).start) × AreSteps ((get_or others i d).start - base) new
   part_room i d new lt h =
       let s = (get_or others i d).start in
       let within = begun_few others (last + 1) in
@@ -310,7 +310,7 @@ module _ (old others : List Step) (first last base : ℕ) (are : AreSteps (2 ^ 6
         | inl low ↦ absurd (omega (arith, begun_counts (2 ^ 64) 0 others (base + h.at + 1) i d are.ascend (omega arith) low, h.done))
         | inr up ↦ omega arith
       ] in
-      (omega arith, steps_more (h.at + 1) (s - base) new (omega arith) (omega arith) h.are)
+      (omega arith, omega (arith, h.low), steps_more (h.at + 1) (s - base) new (omega arith) (omega arith) h.are)
 
   pub part_turn : (i : ℕ) (d : Step) (mid new : List Step) → i < begun others (last + 1) → PartOn old others first last base i mid
       → IsPushed mid ((get_or others i d).start - base) ((get_or others i d).target) new
@@ -325,7 +325,7 @@ module _ (old others : List Step) (first last base : ℕ) (are : AreSteps (2 ^ 6
       record {
         at = s - base;
         are = pushed.are;
-        low = omega (arith, room.0, above i d mid lt h);
+        low = omega (arith, room.0, room.1);
         high = omega (arith, inside);
         done = let e = ap (λ n. begun others (n + 1)) back in omega (arith, e, here);
         found = λ a le few. elim (cases_lt (base + a) s) [
@@ -341,24 +341,9 @@ module _ (old others : List Step) (first last base : ℕ) (are : AreSteps (2 ^ 6
               pushed.from a (omega arith) ∙ sym (ap (λ n. (get_or others n d).target) same)
               ∙ sym (found_begun (2 ^ 64) others (base + a) d are (omega arith))
         ];
-        below = λ a less. pushed.below a (omega (arith, above i d mid lt h)) ∙ h.below a less;
+        below = λ a less. pushed.below a (omega (arith, room.1)) ∙ h.below a less;
         few = omega (arith, h.few, pushed.few);
       }
-    where
-      above : (i : ℕ) (d : Step) (new : List Step) → i < begun others (last + 1) → PartOn old others first last base i new
-          → first ≤ (get_or others i d).start
-      above i d new lt h =
-          let room = part_room i d new lt h in
-          elim (cases_lt ((get_or others i d).start) (base + h.at + 1)) [
-            | inl low ↦
-                absurd (omega (
-                  arith,
-                  begun_counts (2 ^ 64) 0 others (base + h.at + 1) i d are.ascend
-                      (omega (arith, begun_few others (last + 1))) low,
-                  h.done,
-                ))
-            | inr up ↦ omega (arith, h.low)
-          ]
 
   pub part_ends : (i : ℕ) (new : List Step) → begun others (last + 1) ≤ i → i ≤ begun others (last + 1)
       → PartOn old others first last base i new

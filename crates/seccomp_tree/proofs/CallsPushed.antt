@@ -17,24 +17,20 @@ use Rattle.seccomp_tree.specs.Code.{Grows}
 use Rattle.seccomp_tree.specs.Decisions.{Ruling, rules_length}
 use Rattle.seccomp_tree.specs.Decided.{DecisionSet, default_for, rulings_for, calls_of}
 use Rattle.seccomp_tree.specs.TreeProgram.{calls_length}
-use Rattle.seccomp_tree.specs.CallSteps.{IsAnswer, IsAnswered, AreDefaultsPushed, AreAnswers, AreCallSteps, HaveNone, IsCallPushed}
+use Rattle.seccomp_tree.specs.CallSteps.{IsAnswer, IsAnswered, AreDefaultsPushed, AreAnswers, HaveNone, IsCallPushed}
 use Rattle.seccomp_tree.proofs.Runs.{grows_not, grows_on, is_in_grown, grown_long, leads_grown}
 
 answer_grown : (old new : List sock_filter) (most default : ℕ) (rulings : List Ruling) (t : Target) → Grows old most new
     → IsAnswer old default rulings t → IsAnswer new default rulings t
 answer_grown old new most default rulings t g h = record {
-  inside = is_in_grown old new most t g h.inside;
+  inside = is_in_grown t g h.inside;
   one = h.one;
-  own = λ none r rec w n first takes a small. leads_grown old new most g (h.own none r rec w n first takes a small);
+  own = λ none r rec w n first takes a small. leads_grown g (h.own none r rec w n first takes a small);
 }
 
 -- a number without rulings has its default
 answer_none : (code : List sock_filter) (default : ℕ) → default < 2 ^ 32 → IsAnswer code default [] (Give default)
-answer_none code default fits = record {
-  inside = fits;
-  one = λ v is. cc;
-  own = λ none. absurd (cc);
-}
+answer_none code default fits = record { inside = fits; one = λ v is. cc; own = λ none. absurd (cc) }
 
 -- with default values after them the steps answer all numbers below their end
 pub answers_range : (d : DecisionSet) (code : List sock_filter) (old new : List Step) (start end : ℕ)
@@ -171,21 +167,9 @@ calls_step d old next number rulings left back steps new code grown small is h p
       from = x.from;
       behind = x.behind;
       count = h.count + rules_length rulings.items;
-      grows = grows_on old code grown h.count (rules_length rulings.items) (h.count + rules_length rulings.items) h.grows pushed.grows
-          (omega arith);
+      grows = grows_on (h.count + rules_length rulings.items) h.grows pushed.grows (omega arith);
       total = omega (arith, sum, h.total);
       answers = pushed.answers;
-    }
-
-pub calls_all : (d : DecisionSet) (old : List sock_filter) (next : ℕ) (left : List MapEntry) (steps new : List Step) (code : List
-    sock_filter)
-    → left ≡ [] → CallsOn d old next left steps code → AreDefaultsPushed steps d.defaults next (2 ^ 32) new → AreCallSteps old d new code
-calls_all d old next left steps new code none h pushed =
-    let sum : calls_length (calls_of left) ≡ 0 = ap (λ (l : List MapEntry). calls_length (calls_of l)) none in
-    record {
-      grows = subst (λ n. Grows old n code) (omega (arith, sum, h.total)) h.grows;
-      answers = answers_range d code steps new next (2 ^ 32) h.answers
-          (λ n le lt. h.behind n le ∙ ap (λ (l : List MapEntry). rulings_for (calls_of l) n) none) pushed;
     }
 
 -- what the code so far takes, and one call more, is within what all take
@@ -195,5 +179,5 @@ pub calls_room : (d : DecisionSet) (old : List sock_filter) (next number : ℕ) 
 calls_room d old next number rulings left back steps code is h =
     let sum : calls_length (calls_of left) ≡ rules_length rulings.items + calls_length (calls_of back)
     = ap (λ (l : List MapEntry). calls_length (calls_of l)) is in
-    let long = grown_long old code h.count h.grows in
+    let long = grown_long h.grows in
     omega (arith, sum, h.total, long.1)

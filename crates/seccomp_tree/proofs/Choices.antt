@@ -1,5 +1,5 @@
 -- Comparisons as steps, laid over others.
-use Rattle.std.proofs.Common.{◌≡◌, ℕ, ◌+◌, ◌-◌, ◌^◌, ◌<◌, ◌≤◌, List, [], length, true, refl, sym, ap, ◌∙◌, ◌↔◌, Option, Some, None}
+use Rattle.std.proofs.Common.{◌≡◌, ℕ, ◌+◌, ◌-◌, ◌^◌, ◌<◌, ◌≤◌, List, [], length, true, sym, ap, ◌∙◌, ◌↔◌, Option, Some, None}
 use Rattle.std.proofs.Common.{subst, ◌⊎◌, inl, inr, arith}
 use Rattle.std.proofs.lemmas.Bool.{cases_lt, cases_eq}
 use Rattle.std.specs.Prelude.{bit_and}
@@ -45,16 +45,6 @@ above_alike Gt a b v plain la lb h = omega arith
 above_alike Le a b v plain la lb h = absurd (omega arith)
 above_alike Lt a b v plain la lb h = absurd (omega arith)
 above_alike (MaskedEq m) a b v plain la lb h = absurd (cc)
-
--- what is chosen if two statements are one
-pub chosen_alike : (Is Too : Type 0) (fit unfit t : Target) → (Is → Too) → (Too → Is) → IsChosen Too fit unfit t → IsChosen Is fit unfit t
-chosen_alike Is Too fit unfit t to back h = record { met = λ x. h.met (to x); unmet = λ not. h.unmet (λ y. not (back y)) }
-
-pub chosen_yes : (Is : Type 0) (fit unfit : Target) → Is → IsChosen Is fit unfit fit
-chosen_yes Is fit unfit x = record { met = λ _. refl; unmet = λ not. absurd (not x) }
-
-pub chosen_no : (Is : Type 0) (fit unfit : Target) → (Is → ⊥) → IsChosen Is fit unfit unfit
-chosen_no Is fit unfit not = record { met = λ x. absurd (not x); unmet = λ _. refl }
 
 pub numbers_many : (l : SeccompCmpArgLen) → 2 ^ 32 ≤ numbers_of l
 numbers_many Dword = omega arith

@@ -1,7 +1,7 @@
 -- What decisions decide: the first ruling that holds, the rulings of a number, the default.
-use Rattle.std.proofs.Common.{◌≡◌, ℕ, zero, suc, ◌+◌, ◌<◌, ◌≤◌, List, [], ◌∷◌, length, drop, get_or, Bool, true, false, cond, refl, sym, ap}
+use Rattle.std.proofs.Common.{◌≡◌, ℕ, ◌+◌, ◌<◌, List, [], ◌∷◌, length, drop, get_or, Bool, true, false, cond, refl, sym, ap}
 use Rattle.std.proofs.Common.{◌∙◌, subst}
-use Rattle.std.proofs.Common.{Some, None, Vec, nat_eq, if◌then◌else◌, arith, All}
+use Rattle.std.proofs.Common.{Option, Some, None, Vec, nat_eq, if◌then◌else◌, inl, inr, arith, All}
 use Rattle.std.proofs.lemmas.List.{drop_more}
 use Rattle.std.proofs.lemmas.List.Elements.{All-cons}
 use Rattle.std.proofs.lemmas.Bool.Decides.{nat_tests}
@@ -13,6 +13,8 @@ use Rattle.std.specs.declared.alloc.Global.{Global}
 use Rattle.seccompiler.specs.Policy.{RuleHolds}
 use Rattle.seccomp_tree.specs.Decisions.{Ruling, First, here, behind, nothing}
 use Rattle.seccompiler.specs.Machine.{word_at}
+use Rattle.std.proofs.lemmas.Bool.{cases_eq}
+use Rattle.seccomp_tree.proofs.Meeting.{rule_or_not}
 use Rattle.seccompiler.specs.Architecture.{audit_word}
 use Rattle.seccomp_tree.specs.Decided.{DecisionSet, default_for, calls_of, rulings_for, IsDecided, other_architecture, decided}
 
@@ -21,12 +23,6 @@ use Rattle.seccomp_tree.specs.Decided.{DecisionSet, default_for, calls_of, rulin
 -- at an element there is it, and what is after
 pub drop_at : {A : Type 0} (l : List A) (i : ℕ) (x : A) → i < length l → x ≡ get_or l i x → drop i l ≡ x ∷ drop (i + 1) l
 drop_at l i x lt is = drop_more l i x lt ∙ ap (λ y. y ∷ drop (i + 1) l) (sym is)
-
-pub drop_end : {A : Type 0} (l : List A) (i : ℕ) → length l ≤ i → drop i l ≡ []
-drop_end [] zero le = refl
-drop_end [] (suc i) le = refl
-drop_end (x ∷ l) zero le = absurd (omega arith)
-drop_end (x ∷ l) (suc i) le = drop_end l i (omega arith)
 
 pub all_at : {A : Type 0} (P : A → Type 0) (l : List A) (i : ℕ) (x : A) → i < length l → x ≡ get_or l i x → P x → All P (drop (i + 1) l)
     → All P (drop i l)
@@ -52,31 +48,22 @@ first_nothing nothing = refl
 at_same : (n k : ℕ) → is_at (nat_cmp n) k ≡ nat_eq n k
 at_same n k = grind (arith, nat_tests)
 
-pub found_some : (entries : List (ℕ × Vec Ruling Global)) (n : ℕ) (v : Vec Ruling Global) → Some v ≡ lookup (is_at (nat_cmp n)) entries
-    → rulings_for (calls_of entries) n ≡ v.items
-found_some [] n v h = cc
-found_some (e ∷ entries) n v h =
-    go (nat_eq n e.0) (subst (λ b. Some v ≡ cond b (Some e.1) (lookup (is_at (nat_cmp n)) entries)) (at_same n e.0) h)
-    (λ g. found_some entries n v g)
-  where
-    go : (b : Bool) → Some v ≡ cond b (Some e.1) (lookup (is_at (nat_cmp n)) entries)
-        → (Some v ≡ lookup (is_at (nat_cmp n)) entries → rulings_for (calls_of entries) n ≡ v.items)
-        → (if b then e.1.items else rulings_for (calls_of entries) n) ≡ v.items
-    go true h rest = let same : v ≡ e.1 = cc in ap (λ (x : Vec Ruling Global). x.items) (sym same)
-    go false h rest = rest h
+-- the rulings of a number are those that a map has for it
+abbrev pub items_of : Option (Vec Ruling Global) → List Ruling
+items_of None = []
+items_of (Some v) = v.items
 
-pub found_none : (entries : List (ℕ × Vec Ruling Global)) (n : ℕ) → None ≡ lookup (is_at (nat_cmp n)) entries
-    → rulings_for (calls_of entries) n ≡ []
-found_none [] n h = refl
-found_none (e ∷ entries) n h =
-    go (nat_eq n e.0) (subst (λ b. None ≡ cond b (Some e.1) (lookup (is_at (nat_cmp n)) entries)) (at_same n e.0) h)
-    (λ g. found_none entries n g)
+pub rulings_under : (entries : List (ℕ × Vec Ruling Global)) (n : ℕ)
+    → items_of (lookup (is_at (nat_cmp n)) entries) ≡ rulings_for (calls_of entries) n
+rulings_under [] n = refl
+rulings_under (e ∷ entries) n =
+    subst (λ b. items_of (cond b (Some e.1) (lookup (is_at (nat_cmp n)) entries)) ≡ rulings_for (calls_of (e ∷ entries)) n)
+    (sym (at_same n e.0)) (go (nat_eq n e.0) (rulings_under entries n))
   where
-    go : (b : Bool) → None ≡ cond b (Some e.1) (lookup (is_at (nat_cmp n)) entries)
-        → (None ≡ lookup (is_at (nat_cmp n)) entries → rulings_for (calls_of entries) n ≡ [])
-        → (if b then e.1.items else rulings_for (calls_of entries) n) ≡ []
-    go true h rest = cc
-    go false h rest = rest h
+    go : (b : Bool) → items_of (lookup (is_at (nat_cmp n)) entries) ≡ rulings_for (calls_of entries) n
+        → items_of (cond b (Some e.1) (lookup (is_at (nat_cmp n)) entries)) ≡ (if b then e.1.items else rulings_for (calls_of entries) n)
+    go true rest = refl
+    go false rest = rest
 
 -- ---- what is decided
 
@@ -99,3 +86,17 @@ decided_by d r n default w rulings own number value found first =
     go : (v : ℕ) → IsDecided d r v → v ≡ w
     go v (other_architecture not is) = absurd (not own)
     go v (decided same h) = (there v).0 h
+
+first_some : (default : ℕ) (r : List ℕ) (rulings : List Ruling) → (w : ℕ) × First default r rulings w
+first_some default r [] = (default, nothing)
+first_some default r (d ∷ rest) = elim (rule_or_not d.conditions r) [
+  | inl h ↦ (d.value, here d rest h)
+  | inr not ↦ let x = first_some default r rest in (x.0, behind d rest x.0 not x.1)
+]
+
+-- something is decided for each record
+pub decided_some : (d : DecisionSet) (r : List ℕ) → (w : ℕ) × IsDecided d r w
+decided_some d r = elim (cases_eq (word_at r 4) (audit_word d.target_arch)) [
+  | inl arch ↦ let x = first_some (default_for d.defaults (word_at r 0)) r (rulings_for d.calls (word_at r 0)) in (x.0, decided arch x.1)
+  | inr not ↦ (0x80000000, other_architecture not refl)
+]

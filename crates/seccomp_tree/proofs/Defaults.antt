@@ -7,7 +7,7 @@ use Rattle.std.proofs.lemmas.List.{get_or_default}
 use Rattle.seccomp_tree.specs.declared.decisions.DefaultValue.{DefaultValue}
 use Rattle.seccomp_tree.specs.declared.steps.Target.TheVariants.{Give}
 use Rattle.seccomp_tree.specs.declared.steps.Step.{Step}
-use Rattle.seccomp_tree.specs.Steps.{AreSteps, IsPushed}
+use Rattle.seccomp_tree.specs.Steps.{IsPushed}
 use Rattle.seccomp_tree.specs.Decided.{StartAbove, AscendFromZero, default_from, default_for}
 use Rattle.seccomp_tree.specs.CallSteps.{AreDefaultsPushed, IsNextDefault}
 use Rattle.seccomp_tree.proofs.Begun.{steps_more}
@@ -75,10 +75,6 @@ next_none defaults number i small all by = record {
   above = small;
   same = λ n le less. same_from 0 defaults n number (λ k d inside. let low = by k d (omega arith) inside in inl (omega arith, low));
 }
-
-pub defaults_none : (old : List Step) (defaults : List DefaultValue) (start : ℕ) → AreSteps start old
-    → AreDefaultsPushed old defaults start start old
-defaults_none old defaults start h = record { are = h; inside = λ n le lt. absurd (omega arith); below = λ n lt. refl }
 
 pub defaults_more : (old mid new : List Step) (defaults : List DefaultValue) (start number next end value : ℕ) → start ≤ number
     → AreDefaultsPushed old defaults start number mid → value ≡ default_for defaults number → value < 2 ^ 32

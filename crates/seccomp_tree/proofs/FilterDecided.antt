@@ -13,7 +13,7 @@ use Rattle.std.specs.BTreeMap.{insert_entry, is_at}
 use Rattle.std.proofs.lemmas.Cmp.{nat_cmp_total}
 use Rattle.std.proofs.lemmas.List.Elements.{All-head, All-tail, All-nil}
 use Rattle.std.proofs.lemmas.Map.Keys.{sorted_head, sorted_tail}
-use Rattle.seccompiler.specs.Policy.{Rule, IsCallNumber, chains_of, Condition, Holds, Chain, Filter, RuleHolds, ChainMatches, Matches}
+use Rattle.seccompiler.specs.Policy.{Rule, IsCallNumber, chains_of, Condition, Holds, Chain, Filter, RuleHolds, ChainMatches}
 use Rattle.seccompiler.specs.Policy.{chain_under, IsDecision, other_architecture as other, policy_matches, policy_differs, word_of}
 use Rattle.seccompiler.specs.Compiled.{AreCallNumbers, numbers_of}
 use Rattle.seccomp_tree.specs.Decisions.{Ruling, First, here, behind, nothing}
@@ -22,7 +22,7 @@ use Rattle.seccomp_tree.specs.FilterDecisions.{call_of, rulings_of, decisions_of
 use Rattle.std.proofs.lemmas.Bool.Decides.{nat_tests}
 use Rattle.seccompiler.specs.Architecture.{audit_word}
 use Rattle.seccompiler.specs.Machine.{word_at}
-use Rattle.seccomp_tree.proofs.Meeting.{rule_or_not}
+use Rattle.seccomp_tree.proofs.Deciding.{decided_some}
 
 -- ---- the numbers ascend
 
@@ -118,53 +118,23 @@ module _ (r : List ℕ) (default w : ℕ) where
   hold_cases q chain (zero, y, within, is, has) = inl (subst (λ (x : Rule). RuleHolds x r) (sym is) has)
   hold_cases q chain (suc k, y, within, is, has) = inr (k, y, omega arith, is, has)
 
-  hold_here : (q : Rule) (chain : Chain) → RuleHolds q r → Hold (q ∷ chain)
-  hold_here q chain has = (0, q, omega arith, refl, has)
-
-  hold_behind : (q : Rule) (chain : Chain) → Hold chain → Hold (q ∷ chain)
-  hold_behind q chain (k, y, within, is, has) = (suc k, y, omega arith, is, has)
-
   hold_none : Hold [] → ⊥
   hold_none (k, y, within, is, has) = omega arith
 
-  -- if a rule holds, the word is the first's
-  first_held : (chain : Chain) → Hold chain → First default r (rulings chain) w
-  first_held [] some = absurd (hold_none some)
-  first_held (q ∷ chain) some = elim (rule_or_not q r) [
-    | inl holds ↦ here (record { conditions = q; value = w }) (rulings chain) holds
-    | inr not ↦ elim (hold_cases q chain some) [
-      | inl holds ↦ absurd (not holds)
-      | inr rest ↦ behind (record { conditions = q; value = w }) (rulings chain) w not (first_held chain rest)
-    ]
-  ]
-
-  -- if none does, it is the default
-  first_unheld : (chain : Chain) → (Hold chain → ⊥) → First default r (rulings chain) default
-  first_unheld [] none = nothing
-  first_unheld (q ∷ chain) none =
-      behind (record { conditions = q; value = w }) (rulings chain) default (λ holds. none (hold_here q chain holds))
-      (first_unheld chain (λ some. none (hold_behind q chain some)))
-
-  -- so it is one of both
+  -- the word if a rule holds, or else the default
   first_is : (chain : Chain) (v : ℕ) → First default r (rulings chain) v
       → (Hold chain × (v ≡ w)) ⊎ ((Hold chain → ⊥) × (v ≡ default))
   first_is [] v nothing = inr (hold_none, refl)
-  first_is (q ∷ chain) v (here d rest holds) = inl (hold_here q chain holds, refl)
+  first_is (q ∷ chain) v (here d rest holds) = inl ((0, q, omega arith, refl, holds), refl)
   first_is (q ∷ chain) v (behind d rest u not first) = elim (first_is chain v first) [
-    | inl h ↦ inl (hold_behind q chain h.0, h.1)
+    | inl h ↦ inl (behind_held h.0, h.1)
     | inr h ↦ inr (λ some. elim (hold_cases q chain some) [ inl holds ↦ not holds | inr rest ↦ h.0 rest ], h.1)
   ]
+    where
+      behind_held : Hold chain → Hold (q ∷ chain)
+      behind_held (k, y, within, is, has) = (suc k, y, omega arith, is, has)
 
   -- so for a chain, which matches if it has no rules
-  chain_held : (chain : Chain) → ChainMatches chain r → First default r (rulings_of w chain) w
-  chain_held [] matches = here (record { conditions = []; value = w }) [] (All-nil (λ (c : Condition). Holds c r))
-  chain_held (q ∷ chain) (inl none) = cc
-  chain_held (q ∷ chain) (inr some) = first_held (q ∷ chain) some
-
-  chain_unheld : (chain : Chain) → (ChainMatches chain r → ⊥) → First default r (rulings_of w chain) default
-  chain_unheld [] none = absurd (none (inl refl))
-  chain_unheld (q ∷ chain) none = first_unheld (q ∷ chain) (λ some. none (inr some))
-
   chain_is : (chain : Chain) (v : ℕ) → First default r (rulings_of w chain) v
       → (ChainMatches chain r × (v ≡ w)) ⊎ ((ChainMatches chain r → ⊥) × (v ≡ default))
   chain_is [] v (here d rest holds) = inl (inl refl, refl)
@@ -227,17 +197,6 @@ module _ (f : Filter) (r : List ℕ) where
         let same : m.chain ≡ chain = cc in h.0 (subst (λ rules. ChainMatches rules r) same m.matches)) h.1
   ]
 
-  matched_given : Matches f r → Gives own_chain (word_of f.match_action)
-  matched_given m =
-      subst (λ found. Gives found (word_of f.match_action)) (sym m.there)
-      (chain_held r (word_of f.mismatch_action) (word_of f.match_action) m.chain m.matches)
-
-  mismatch_given : (found : Option Chain) → own_chain ≡ found → (Matches f r → ⊥) → Gives found (word_of f.mismatch_action)
-  mismatch_given None is not = nothing
-  mismatch_given (Some chain) is not =
-      chain_unheld r (word_of f.mismatch_action) (word_of f.match_action) chain
-      (λ matches. not (record { chain = chain; there = is; matches = matches }))
-
 default_only : (value n : ℕ) → default_for (record { start = 0; value = value } ∷ []) n ≡ value
 default_only value n = grind (arith, nat_tests)
 
@@ -245,28 +204,31 @@ default_only value n = grind (arith, nat_tests)
 abbrev called : Filter → List ℕ → List Ruling
 called f r = rulings_for (decisions_of f).calls (word_at r 0)
 
+-- a filter names one word for a record
+pub one_decision : (f : Filter) (r : List ℕ) (v w : ℕ) → IsDecision f r v → IsDecision f r w → v ≡ w
+one_decision f r v w (other not is) (other not' is') = is ∙ sym is'
+one_decision f r v w (other not is) (policy_matches own m is') = absurd (not own)
+one_decision f r v w (other not is) (policy_differs own never is') = absurd (not own)
+one_decision f r v w (policy_matches own m is) (other not is') = absurd (not own)
+one_decision f r v w (policy_matches own m is) (policy_matches own' m' is') = is ∙ sym is'
+one_decision f r v w (policy_matches own m is) (policy_differs own' never is') = absurd (never m)
+one_decision f r v w (policy_differs own never is) (other not is') = absurd (not own)
+one_decision f r v w (policy_differs own never is) (policy_matches own' m is') = absurd (never m)
+one_decision f r v w (policy_differs own never is) (policy_differs own' no' is') = is ∙ sym is'
+
+-- what is decided is what the filter decides; and as something is decided, and the filter decides one word, also the other way
 pub decide_as : (f : Filter) → AreCallNumbers (numbers_of f.chains) → DecideAs f (decisions_of f)
-decide_as f numbers r w = (to, from)
+decide_as f numbers r w = (to w, from)
   where
-    found : called f r ≡ found_rulings (word_of f.match_action) (own_chain f r)
-    found = rulings_found (word_of f.match_action) f.chains (word_at r 0) numbers
-
-    default : default_for (decisions_of f).defaults (word_at r 0) ≡ word_of f.mismatch_action
-    default = default_only (word_of f.mismatch_action) (word_at r 0)
-
-    to : IsDecided (decisions_of f) r w → IsDecision f r w
-    to (other_architecture not is) = other not is
-    to (decided own first) =
-        given_decision f r (own_chain f r) refl own w
-        (subst (λ rulings. First (word_of f.mismatch_action) r rulings w) found (subst (λ v. First v r (called f r) w) default first))
-
-    back : (v : ℕ) → w ≡ v → word_at r 4 ≡ audit_word f.target_arch → Gives f r (own_chain f r) v → IsDecided (decisions_of f) r w
-    back v is own first =
-        subst (IsDecided (decisions_of f) r) (sym is)
-        (decided own (subst (λ d. First d r (called f r) v) (sym default)
-        (subst (λ rulings. First (word_of f.mismatch_action) r rulings v) (sym found) first)))
+    to : (v : ℕ) → IsDecided (decisions_of f) r v → IsDecision f r v
+    to v (other_architecture not is) = other not is
+    to v (decided own first) =
+        given_decision f r (own_chain f r) refl own v
+        (subst (λ rulings. First (word_of f.mismatch_action) r rulings v)
+        (rulings_found (word_of f.match_action) f.chains (word_at r 0) numbers)
+        (subst (λ d. First d r (called f r) v) (default_only (word_of f.mismatch_action) (word_at r 0)) first))
 
     from : IsDecision f r w → IsDecided (decisions_of f) r w
-    from (other not is) = other_architecture not is
-    from (policy_matches own m is) = back (word_of f.match_action) is own (matched_given f r m)
-    from (policy_differs own not is) = back (word_of f.mismatch_action) is own (mismatch_given f r (own_chain f r) refl not)
+    from h =
+        let x = decided_some (decisions_of f) r in
+        subst (IsDecided (decisions_of f) r) (one_decision f r x.0 w (to x.0 x.1) h) x.1

@@ -9,9 +9,10 @@ use Rattle.seccomp_tree.specs.declared.steps.Target.{Target}
 use Rattle.seccomp_tree.specs.declared.steps.Target.TheVariants.{Give}
 use Rattle.seccomp_tree.specs.declared.steps.Step.{Step}
 use Rattle.seccomp_tree.specs.Steps.{found_in, AreSteps, begun, IsPushed, IsPartPushed}
-use Rattle.seccomp_tree.specs.Code.{AreIn, IsIn, StartsAlways, LeadsAlways, IsWord, IsArgument}
-use Rattle.seccomp_tree.specs.Arguments.{started, IsHalf, IsNext, AreHighs}
-use Rattle.seccomp_tree.proofs.Runs.{grows_not, grows_on, grown_long, is_in_grown, leads_by, leads_grown, leads_more}
+use Rattle.seccompiler.specs.declared.backend.SeccompCmpArgLen.TheVariants.{Dword, Qword}
+use Rattle.seccomp_tree.specs.Code.{AreIn, IsIn, LeadsAlways, IsPart}
+use Rattle.seccomp_tree.specs.Arguments.{half_length, IsHalf, IsNext, AreHighs}
+use Rattle.seccomp_tree.proofs.Runs.{grows_not, grows_on, grown_long, is_in_grown, leads_by, leads_grown, starts_more}
 use Rattle.seccomp_tree.proofs.Begun.{begun_few, begun_more, begun_below, begun_counts, starts_rise, found_same, are_in_below, not_none}
 use Rattle.seccomp_tree.proofs.Begun.{steps_more, begun_some, found_in_code}
 
@@ -31,14 +32,15 @@ half_in code steps lows high whole inside h =
 
 pub half_room : (steps lows : List Step) (high : ℕ)
     → IsPartPushed [] steps (high * 2 ^ 32) (high * 2 ^ 32 + 0xffffffff) (high * 2 ^ 32) lows
-    → 3 * length lows - 2 ≤ 3 * (started steps (high + 1) - started steps high) + 1
+    → 3 * length lows - 2 ≤ half_length steps high
 half_room steps lows high h =
     let end : high * 2 ^ 32 + 0xffffffff + 1 ≡ (high + 1) * 2 ^ 32 = omega arith in
     let e = ap (λ n. begun steps n) end in
     omega (arith, h.few, e, begun_more steps (high * 2 ^ 32) (high * 2 ^ 32 + 1) (omega arith))
 
 pub half_of_word : (old new : List sock_filter) (index : ℕ) (steps lows : List Step) (high : ℕ) (t : Target) → AreSteps (2 ^ 64) steps
-    → IsPartPushed [] steps (high * 2 ^ 32) (high * 2 ^ 32 + 0xffffffff) (high * 2 ^ 32) lows → IsWord old (16 + 8 * index) lows t new
+    → IsPartPushed [] steps (high * 2 ^ 32) (high * 2 ^ 32 + 0xffffffff) (high * 2 ^ 32) lows
+    → IsPart old Dword (3 * length lows - 2) (λ r. word_at r (16 + 8 * index)) lows t new
     → IsHalf old index steps high t new
 half_of_word old new index steps lows high t are h word = record {
   grows = record { front = word.grows.front; whole = word.grows.whole; few = omega (arith, word.grows.few, half_room steps lows high h) };
@@ -130,8 +132,9 @@ highs_none code index steps are = record {
 }
 
 pub highs_one : (old mid new : List sock_filter) (index : ℕ) (steps highs more : List Step) (high next : ℕ) (t : Target)
-    → AreHighs old index steps high highs mid → high < 2 ^ 32 → IsHalf mid index steps high t new → IsNext steps high next
-    → IsPushed highs high t more → AreHighs old index steps next more new
+    → AreHighs old index steps high highs mid → high < 2 ^ 32
+    → IsHalf mid index steps high t new
+    → IsNext steps high next → IsPushed highs high t more → AreHighs old index steps next more new
 highs_one old mid new index steps highs more high next t h small half on pushed =
     let few = begun_few steps (high * 2 ^ 32) in
     let few' = begun_few steps ((high + 1) * 2 ^ 32) in
@@ -145,13 +148,13 @@ highs_one old mid new index steps highs more high next t h small half on pushed 
       end = omega (arith, turn, few, few');
       are = widened;
       few = omega (arith, h.few, pushed.few);
-      grows = grows_on old mid new _ _ _ h.grows half.grows (omega (arith, up, far));
+      grows = grows_on _ h.grows half.grows (omega (arith, up, far));
       leads = λ x lt. elim (cases_lt x high) [
         | inl below ↦
             let was = h.leads x below in
             subst (Both x) (sym (pushed.below x below)) (
-              is_in_grown mid new _ (found_in highs x) half.grows was.0,
-              λ r rec w n k few lead a fits. leads_grown mid new _ half.grows (was.1 r rec w n k few lead a fits),
+              is_in_grown (found_in highs x) half.grows was.0,
+              λ r rec w n k few lead a fits. leads_grown half.grows (was.1 r rec w n k few lead a fits),
             )
         | inr le ↦ subst (Both x) (sym (pushed.from x le)) (
           half.inside,
@@ -159,8 +162,8 @@ highs_one old mid new index steps highs more high next t h small half on pushed 
               let low = word_at r (16 + 8 * index) in
               let here : LeadsAlways old r (found_in steps (high * 2 ^ 32 + low)) w n =
               subst (λ u. LeadsAlways old r u w n) (on.same x low le lt (word_fits r (16 + 8 * index) rec)) lead in
-              let start = half.leads r rec w n k few (λ b fits'. leads_grown old mid _ h.grows (here b fits')) a fits in
-              leads_more (n + 2 + 2 * k) (omega arith) (leads_by start),
+              starts_more (n + 2 + 2 * k) (omega arith)
+              (leads_by (half.leads r rec w n k few (λ b fits'. leads_grown h.grows (here b fits')) a fits)),
         )
       ];
     }
@@ -179,12 +182,14 @@ pub highs_in : (old new : List sock_filter) (index : ℕ) (steps highs : List St
 highs_in old new index steps highs h = are_in_below new (2 ^ 32) highs (omega arith) h.are (λ a lt. (h.leads a lt).0)
 
 pub is_argument : (old mid new : List sock_filter) (index : ℕ) (steps highs : List Step) (t : Target) → AreSteps (2 ^ 64) steps
-    → AreHighs old index steps (2 ^ 32) highs mid → IsWord mid (20 + 8 * index) highs t new → IsArgument old index steps t new
+    → AreHighs old index steps (2 ^ 32) highs mid
+    → IsPart mid Dword (3 * length highs - 2) (λ r. word_at r (20 + 8 * index)) highs t new
+    → IsPart old Qword (13 * length steps - 2) (λ r. argument_at r index) steps t new
 is_argument old mid new index steps highs t are h word =
     let some = not_none (2 ^ 64) steps are (omega arith) in
     let done = begun_few steps (2 ^ 32 * 2 ^ 32) in
     record {
-      grows = grows_on old mid new _ _ _ h.grows word.grows (omega (arith, h.few, h.end, done));
+      grows = grows_on _ h.grows word.grows (omega (arith, h.few, h.end, done));
       inside = word.inside;
       leads = λ r rec w n k few lead.
           let two : 2 ^ suc k ≡ 2 * 2 ^ k = pow-succ' 2 k in
@@ -196,24 +201,23 @@ is_argument old mid new index steps highs t are h word =
           let there : LeadsAlways old r (found_in steps (high * 2 ^ 32 + low)) w n = subst (λ u. LeadsAlways old r (found_in steps u) w n)
           whole lead in
           let behind = (h.leads high (word_fits r (20 + 8 * index) rec)).1 r rec w n k few there in
-          let start = word.leads r rec w (n + 2 + 2 * k) (suc k) (omega (arith, h.few, h.end)) behind in
-          let count : n + 2 + 2 * k + 1 + 2 * suc k ≡ n + 5 + 4 * k = omega arith in
-          subst (λ m. StartsAlways new r t w m) count start;
+          λ a fits. starts_more (n + (5 + 4 * k)) (omega arith)
+          (word.leads r rec w (n + 2 + 2 * k) (suc k) (omega (arith, h.few, h.end)) behind a fits);
     }
 
 -- what a half has no room for, all steps have none for; and what the high halves have none for
 pub full_half : (old mid : List sock_filter) (index : ℕ) (steps highs : List Step) (high : ℕ) → AreHighs old index steps high highs mid
-    → high < 2 ^ 32 → greatest_length < length mid + (3 * (started steps (high + 1) - started steps high) + 1)
+    → high < 2 ^ 32 → greatest_length < length mid + (half_length steps high)
     → greatest_length < length old + 5 * length steps
 full_half old mid index steps highs high h small full =
     let few = begun_few steps (high * 2 ^ 32) in
     let few' = begun_few steps ((high + 1) * 2 ^ 32) in
     let up = begun_more steps (high * 2 ^ 32) ((high + 1) * 2 ^ 32) (omega arith) in
-    omega (arith, full, h.soon small, (grown_long old mid _ h.grows).1, up)
+    omega (arith, full, h.soon small, (grown_long h.grows).1, up)
 
 pub full_highs : (old mid : List sock_filter) (index : ℕ) (steps highs : List Step) → AreSteps (2 ^ 64) steps
     → AreHighs old index steps (2 ^ 32) highs mid → greatest_length < length mid + (3 * length highs - 2)
     → greatest_length < length old + (13 * length steps - 2)
 full_highs old mid index steps highs are h full =
     let some = not_none (2 ^ 64) steps are (omega arith) in
-    omega (arith, full, (grown_long old mid _ h.grows).1, h.few, h.end, begun_few steps (2 ^ 32 * 2 ^ 32))
+    omega (arith, full, (grown_long h.grows).1, h.few, h.end, begun_few steps (2 ^ 32 * 2 ^ 32))

@@ -14,5 +14,4 @@ pub mod Theorem
 pub mod FilterDecided
 pub mod Begun
 pub mod Halves
-pub mod Common
 pub mod Choices

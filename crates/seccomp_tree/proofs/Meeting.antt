@@ -1,7 +1,7 @@
 -- Conditions as targets: what choices and masks make of them.
 use Rattle.std.proofs.Common.{◌≡◌, ℕ, suc, ◌+◌, ◌-◌, ◌*◌, ◌/◌, ◌%◌, ◌<◌, ◌≤◌, ◌^◌, List, [], ◌∷◌, length, true, refl, sym, ap, ◌∙◌, subst}
 use Rattle.std.proofs.Common.{inl, inr, arith}
-use Rattle.std.specs.Prelude.{bit_and, ◌⊎◌, if◌then◌else◌}
+use Rattle.std.specs.Prelude.{bit_and, ◌⊎◌, ◌↔◌, if◌then◌else◌}
 use Rattle.std.specs.Int.Bits.{and_lt, and_zero_r}
 use Rattle.std.proofs.lemmas.Bool.{cases_eq, eq-eqb, ne_eqb}
 use Rattle.seccompiler.specs.declared.bpf.sock_filter.{sock_filter}
@@ -9,7 +9,7 @@ use Rattle.seccompiler.specs.declared.backend.SeccompCmpArgLen.{SeccompCmpArgLen
 use Rattle.seccompiler.specs.declared.backend.SeccompCmpArgLen.TheVariants.{Dword, Qword}
 use Rattle.seccompiler.specs.declared.backend.SeccompCmpOp.{SeccompCmpOp}
 use Rattle.seccompiler.specs.declared.backend.SeccompCmpOp.TheVariants.{Eq, Ge, Gt, Le, Lt, MaskedEq, Ne}
-use Rattle.seccompiler.specs.Machine.{IsRecord, word_at, argument_at, loads, masks}
+use Rattle.seccompiler.specs.Machine.{IsRecord, word_at, argument_at, masks}
 use Rattle.std.proofs.lemmas.List.Elements.{All-nil, All-cons, All-head, All-tail}
 use Rattle.seccompiler.specs.Policy.{Condition, Compares, Holds, RuleHolds, part_of, operator_part}
 use Rattle.seccompiler.specs.Code.{load, mask}
@@ -20,12 +20,12 @@ use Rattle.seccomp_tree.specs.declared.steps.Target.TheVariants.{At}
 use Rattle.seccomp_tree.specs.declared.steps.Step.{Step}
 use Rattle.seccomp_tree.specs.Steps.{found_in, single}
 use Rattle.seccomp_tree.specs.Intervals.{numbers_of, is_plain, IsChosen, AreLaid}
-use Rattle.seccomp_tree.specs.Code.{Starts, Leads, LeadsAlways, StartsAlways, IsIn, chosen, IsTested, IsWord, IsArgument}
-use Rattle.seccomp_tree.specs.Conditions.{part_length, part_steps, condition_length, condition_steps, IsPart, IsMasked, IsConditionMet}
-use Rattle.seccomp_tree.proofs.Runs.{grows_not, grows_one, grows_on, starts_more, starts_by, leads_by, leads_grown}
+use Rattle.seccomp_tree.specs.Code.{Starts, Leads, LeadsAlways, Returns, goes_on, IsIn, chosen, IsTested, part_length, part_steps, IsPart}
+use Rattle.seccomp_tree.specs.Conditions.{condition_length, condition_steps, IsMet, IsConditionMet, HasBits}
+use Rattle.seccomp_tree.proofs.Runs.{grows_not, grows_one, grows_on, starts_more, leads_by, leads_grown, starts_last}
+use Rattle.seccomp_tree.proofs.Words.{load_run}
 use Rattle.seccomp_tree.proofs.Begun.{begun_few}
-use Rattle.seccomp_tree.proofs.Choices.{compares_or_not, chosen_alike, chosen_yes, chosen_no}
-use Rattle.seccomp_tree.proofs.Reaching.{stepped, starts_at}
+use Rattle.seccomp_tree.proofs.Choices.{compares_or_not}
 
 -- ---- numbers of an argument
 
@@ -65,25 +65,14 @@ rule_or_not (c ∷ q) r = elim (holds_or_not c r) [
 
 -- ---- parts
 
-pub part_of_word : (old new : List sock_filter) (index : ℕ) (steps : List Step) (t : Target) → IsWord old (16 + 8 * index) steps t new
-    → IsPart old Dword index steps t new
+pub part_of_word : (old new : List sock_filter) (index : ℕ) (steps : List Step) (t : Target)
+    → IsPart old Dword (3 * length steps - 2) (λ r. word_at r (16 + 8 * index)) steps t new
+    → IsPart old Dword (part_length Dword (length steps)) (λ r. part_of Dword (argument_at r index)) steps t new
 part_of_word old new index steps t word = record {
   grows = word.grows;
   inside = word.inside;
   leads = λ r rec w n k few lead.
-      let count : n + 1 + 2 * k ≡ n + (1 + 2 * k) = omega arith in
-      subst (λ m. StartsAlways new r t w m) count
-      (word.leads r rec w n k few (subst (λ a. LeadsAlways old r (found_in steps a) w n) (low_word r index rec) lead));
-}
-
-pub part_of_argument : (old new : List sock_filter) (index : ℕ) (steps : List Step) (t : Target) → IsArgument old index steps t new
-    → IsPart old Qword index steps t new
-part_of_argument old new index steps t argument = record {
-  grows = argument.grows;
-  inside = argument.inside;
-  leads = λ r rec w n k few lead.
-      let count : n + 5 + 4 * k ≡ n + (5 + 4 * k) = omega arith in
-      subst (λ m. StartsAlways new r t w m) count (argument.leads r rec w n k few lead);
+      word.leads r rec w n k few (subst (λ a. LeadsAlways old r (found_in steps a) w n) (low_word r index rec) lead);
 }
 
 -- ---- conditions without a mask
@@ -113,164 +102,159 @@ chosen_plain c r fit unfit t plain h =
     subst (λ o. IsChosen (Compares o (part_of c.arg_len (argument_at r c.arg_index)) (part_of c.arg_len c.value)) fit unfit t)
     (sym (plain_operator c.arg_len c.operator plain)) h
 
--- what is chosen is one
-pub chosen_one : (c : Condition) (r : List ℕ) (fit unfit t u : Target) → IsChosen (Holds c r) fit unfit t → IsChosen (Holds c r) fit unfit u
-    → t ≡ u
-chosen_one c r fit unfit t u h k = elim (holds_or_not c r) [
-  | inl is ↦ h.met is ∙ sym (k.met is)
-  | inr not ↦ h.unmet not ∙ sym (k.unmet not)
-]
-
 pub met_by_steps : (old new : List sock_filter) (c : Condition) (fit unfit t : Target) (steps : List Step)
-    → AreLaid c fit (single unfit) steps → IsPart old c.arg_len c.arg_index steps t new → IsConditionMet old c fit unfit t new
-met_by_steps old new c fit unfit t steps h part =
-    let plain = h.plain in
-    let cost = plain_cost c.arg_len c.operator plain in
-    let few = begun_few (single unfit) (numbers_of c.arg_len) in
-    let less = shorter_part c.arg_len (length steps) 3 (omega (arith, h.few, few)) in
-    record {
-      grows = record { front = part.grows.front; whole = part.grows.whole; few = omega (arith, part.grows.few, cost.1, less) };
-      inside = part.inside;
-      leads = λ r rec u chosen w n lead.
-          let x = part_of c.arg_len (argument_at r c.arg_index) in
-          let own = chosen_plain c r fit unfit (found_in steps x) plain (h.each x (part_fits c.arg_len r c.arg_index rec)) in
-          let same = chosen_one c r fit unfit u (found_in steps x) chosen own in
-          subst (λ k. StartsAlways new r t w (n + k)) (sym cost.0)
-          (part.leads r rec w n 2 (omega (arith, h.few, few)) (subst (λ u. LeadsAlways old r u w n) same lead));
-    }
+    → AreLaid c fit (single unfit) steps
+    → IsPart old c.arg_len (part_length c.arg_len (length steps)) (λ r. part_of c.arg_len (argument_at r c.arg_index)) steps t new
+    → IsConditionMet old c fit unfit t new
+met_by_steps old new c fit unfit t steps h part = record {
+  grows = record { front = part.grows.front; whole = part.grows.whole; few = omega (arith, part.grows.few, cost.1, less) };
+  inside = part.inside;
+  met = λ r rec is w n lead. goes r rec w n (subst (λ u. LeadsAlways old r u w n) (sym ((own r rec).met is)) lead);
+  unmet = λ r rec not w n lead. goes r rec w n (subst (λ u. LeadsAlways old r u w n) (sym ((own r rec).unmet not)) lead);
+}
+  where
+    cost : (condition_steps c.arg_len c.operator ≡ part_steps c.arg_len 2)
+        × (condition_length c.arg_len c.operator ≡ part_length c.arg_len 3)
+    cost = plain_cost c.arg_len c.operator h.plain
 
--- if both targets are one, it is met at once
-pub met_alike : (old : List sock_filter) (c : Condition) (fit unfit : Target) → fit ≡ unfit → IsIn old fit → IsConditionMet old c fit unfit
-    fit old
-met_alike old c fit unfit same inside = record {
-  grows = grows_not old (condition_length c.arg_len c.operator);
+    few : length steps ≤ 3
+    few = omega (arith, h.few, begun_few (single unfit) (numbers_of c.arg_len))
+
+    less : part_length c.arg_len (length steps) ≤ part_length c.arg_len 3
+    less = shorter_part c.arg_len (length steps) 3 few
+
+    own : (r : List ℕ) → IsRecord r
+        → IsChosen (Holds c r) fit unfit (found_in steps (part_of c.arg_len (argument_at r c.arg_index)))
+    own r rec = chosen_plain c r fit unfit _ h.plain
+        (h.each (part_of c.arg_len (argument_at r c.arg_index)) (part_fits c.arg_len r c.arg_index rec))
+
+    goes : (r : List ℕ) → IsRecord r → (w n : ℕ) → LeadsAlways old r (found_in steps (part_of c.arg_len (argument_at r c.arg_index))) w n
+        → LeadsAlways new r t w (n + (condition_steps c.arg_len c.operator + 1))
+    goes r rec w n lead a fits =
+        starts_more (n + (condition_steps c.arg_len c.operator + 1)) (omega (arith, cost.0))
+        (leads_by (part.leads r rec w n 2 (omega (arith, few)) lead a fits))
+
+-- ---- conditions joined by and
+
+-- what is met at once
+pub met_now : {Is : List ℕ → Type 0} {most steps : ℕ} {old : List sock_filter} (fit unfit t : Target) → IsIn old t
+    → ((r : List ℕ) → Is r → fit ≡ t) → ((r : List ℕ) → (Is r → ⊥) → unfit ≡ t) → IsMet Is most steps old fit unfit t old
+met_now {Is} {most} {steps} {old} fit unfit t inside met unmet = record {
+  grows = grows_not old most;
   inside = inside;
-  leads = λ r rec u chosen w n lead a fits.
-      let is = chosen_one c r fit unfit u fit chosen (record { met = λ _. refl; unmet = λ _. same }) in
-      starts_more (n + condition_steps c.arg_len c.operator) (omega arith) (starts_by (subst (λ v. Leads old r v a w n) is (lead a fits)));
+  met = λ r rec is w n lead a small. now r w n a fit (met r is) (lead a small);
+  unmet = λ r rec not w n lead a small. now r w n a unfit (unmet r not) (lead a small);
+}
+  where
+    now : (r : List ℕ) (w n a : ℕ) (u : Target) → u ≡ t → Leads old r u a w n → Leads old r t a w (n + steps)
+    now r w n a u is lead = starts_more (n + steps) (omega arith) (subst (λ v. Leads old r v a w n) is lead)
+
+-- the second of two, which is written first, and the first: what takes both, and as much
+pub met_both : {First Second Both : List ℕ → Type 0} {m n s k : ℕ} {old mid new : List sock_filter} {fit unfit t u : Target}
+    (most steps : ℕ) → ((r : List ℕ) → First r ⊎ (First r → ⊥)) → ((r : List ℕ) → IsRecord r → Both r ↔ (First r × Second r)) → m + n ≤ most → s + k ≤ steps
+    → IsMet Second m s old fit unfit t mid → IsMet First n k mid t unfit u new → IsMet Both most steps old fit unfit u new
+met_both {s = s} most steps which both room time h g = record {
+  grows = grows_on most h.grows g.grows room;
+  inside = g.inside;
+  met = λ r rec is w n lead a small. starts_more (n + steps) (omega (arith, time))
+      (g.met r rec ((both r rec).0 is).0 w (n + s) (h.met r rec ((both r rec).0 is).1 w n lead) a small);
+  unmet = λ r rec not w n lead a small. elim (which r) [
+    | inl is ↦ starts_more (n + steps) (omega (arith, time))
+        (g.met r rec is w (n + s) (h.unmet r rec (λ second. not ((both r rec).1 (is, second))) w n lead) a small)
+    | inr other ↦ starts_more (n + steps) (omega (arith, time))
+        (g.unmet r rec other w n (λ b fits. leads_grown h.grows (lead b fits)) a small)
+  ];
 }
 
 -- ---- masks
 
 -- a mask of nothing is met by each word
-pub masked_none : (old : List sock_filter) (byte m value : ℕ) (fit unfit : Target) → m ≡ 0 → IsIn old fit → IsMasked old byte m value fit
-    unfit fit old
-masked_none old byte m value fit unfit z inside = record {
-  grows = grows_not old 5;
-  inside = inside;
-  leads = λ r rec u chosen w n lead a fits.
-      starts_more (n + 3) (omega arith) (starts_by (subst (λ v. Leads old r v a w n) (chosen.met (both r)) (lead a fits)));
-}
+pub masked_none : (old : List sock_filter) (byte m value : ℕ) (fit unfit : Target) → m ≡ 0 → IsIn old fit
+    → IsMet (HasBits byte m value) 5 4 old fit unfit fit old
+masked_none old byte m value fit unfit z inside = met_now fit unfit fit inside (λ r is. refl) (λ r not. absurd (not (both r)))
   where
-    both : (r : List ℕ) → bit_and (word_at r byte) m ≡ bit_and value m
+    both : (r : List ℕ) → HasBits byte m value r
     both r =
         ap (λ k. bit_and (word_at r byte) k) z ∙ and_zero_r (word_at r byte) ∙ sym (and_zero_r value) ∙ sym (ap (λ k. bit_and value k) z)
 
 pub masked_some : (old mid new : List sock_filter) (byte m value : ℕ) (fit unfit t : Target) → byte ≤ 60 → m < 2 ^ 32
     → IsTested old Equal (bit_and value m) fit unfit t mid → new ≡ load byte ∷ mask m ∷ mid
-    → IsMasked old byte m value fit unfit (At (length new - 1)) new
+    → IsMet (HasBits byte m value) 5 4 old fit unfit (At (length new - 1)) new
 masked_some old mid new byte m value fit unfit t low small tested is = rw is record {
-  grows = grows_on old mid (load byte ∷ mask m ∷ mid) 3 2 5 tested.grows
-      (grows_on mid (mask m ∷ mid) (load byte ∷ mask m ∷ mid) 1 1 2 (grows_one mid (mask m)) (grows_one (mask m ∷ mid) (load byte)) (omega
-      arith))
-      (omega arith);
+  grows = grows_on 5 tested.grows (grows_on 2 (grows_one mid (mask m)) (grows_one (mask m ∷ mid) (load byte)) (omega arith)) (omega arith);
   inside = omega arith;
-  leads = λ r rec u chosen w n lead a fits.
-      let word = word_at r byte in
-      let word_small = word_fits r byte rec in
-      let kept = bit_and word m in
-      let kept_small : kept < 2 ^ 32 = and_lt 32 word m word_small small in
-      let which = picked kept (bit_and value m) u chosen in
-      let start = tested.leads r kept w n kept_small (subst (λ v. Leads old r v kept w n) which (lead kept kept_small)) in
-      let at = starts_at r mid (length mid - 1) kept w (n + 1) (subst (λ v. Starts mid r v kept w (n + 1)) tested.last start) in
-      let masked = stepped (mask m) mid r word kept w (n + 1) 0 (length mid - 1) kept_small (omega (arith, at.0)) (masks refl refl refl)
-      at.1 in
-      let next = starts_at r (mask m ∷ mid) (length mid) word w (n + 1 + 1) masked in
-      let loaded = stepped (load byte) (mask m ∷ mid) r a word w (n + 1 + 1) 0 (length mid) word_small (omega arith)
-      (loads refl (omega (arith, rec.long)) refl refl) next.1 in
-      let place : length (mask m ∷ mid) ≡ length (load byte ∷ mask m ∷ mid) - 1 = omega arith in
-      starts_more (n + 3) (omega arith) (subst (λ p. Starts (load byte ∷ mask m ∷ mid) r (At p) a w (n + 1 + 1 + 1)) place loaded);
+  met = λ r rec same. goes r rec fit
+      (let e = eq-eqb (bit_and (word_at r byte) m) (bit_and value m) same in ap (λ v. if v then fit else unfit) e);
+  unmet = λ r rec not. goes r rec unfit
+      (let e = ne_eqb (bit_and (word_at r byte) m) (bit_and value m) not in ap (λ v. if v then fit else unfit) e);
 }
   where
-    picked : (a b : ℕ) (u : Target) → IsChosen (a ≡ b) fit unfit u → u ≡ chosen Equal b fit unfit a
-    picked a b u h = elim (cases_eq a b) [
-      | inl e ↦ let same = eq-eqb a b e in h.met e ∙ sym (ap (λ v. if v then fit else unfit) same)
-      | inr not ↦ let other = ne_eqb a b not in h.unmet not ∙ sym (ap (λ v. if v then fit else unfit) other)
-    ]
+    goes : (r : List ℕ) → IsRecord r → (u : Target) → chosen Equal (bit_and value m) fit unfit (bit_and (word_at r byte) m) ≡ u → (w n : ℕ)
+        → LeadsAlways old r u w n
+        → LeadsAlways (load byte ∷ mask m ∷ mid) r (At (length (load byte ∷ mask m ∷ mid) - 1)) w (n + 4)
+    goes r rec u which w n lead a fits =
+        let x = bit_and (word_at r byte) m in
+        let x_small : x < 2 ^ 32 = and_lt 32 (word_at r byte) m (word_fits r byte rec) small in
+        let run = tested.leads r x w n x_small
+        (subst (λ v. Starts 1 old r v x w n) (sym which) (leads_grown (grows_not old 0) (lead x x_small))) in
+        let masked : Returns r (mask m ∷ mid) (word_at r byte) w (suc (suc n)) =
+        goes_on (mask m) mid (word_at r byte) x w (suc n) 0 (masks refl refl refl) x_small run in
+        starts_more (n + 4) (omega arith)
+        (leads_by (starts_last refl (omega arith) (load_run r (mask m ∷ mid) byte a w (suc (suc n)) rec low masked)))
 
-with_parts : (old new : List sock_filter) (c : Condition) (m : ℕ) (fit unfit t : Target) (l : SeccompCmpArgLen) → c.arg_len ≡ l →
-    c.operator ≡ MaskedEq m
-    → IsConditionMet old (record { arg_index = c.arg_index; arg_len = l; operator = MaskedEq m; value = c.value }) fit unfit t new
-    → IsConditionMet old c fit unfit t new
-with_parts old new c m fit unfit t l long is h =
-    subst
-    (λ (k : SeccompCmpArgLen). IsConditionMet old (record { arg_index = c.arg_index; arg_len = k; operator = c.operator; value = c.value })
-    fit unfit t new)
-    (sym long)
-    (subst
-    (λ (o : SeccompCmpOp). IsConditionMet old (record { arg_index = c.arg_index; arg_len = l; operator = o; value = c.value }) fit unfit t
-    new)
-    (sym is) h)
-
-pub masked_dword : (old new : List sock_filter) (c : Condition) (m : ℕ) (fit unfit t : Target) → c.arg_len ≡ Dword → c.operator ≡ MaskedEq m
-    → IsMasked old (16 + 8 * c.arg_index) (m % 2 ^ 32) (c.value % 2 ^ 32) fit unfit t new → IsConditionMet old c fit unfit t new
-masked_dword old new c m fit unfit t short is h =
-    let base : IsConditionMet old (record { arg_index = c.arg_index; arg_len = Dword; operator = MaskedEq m; value = c.value }) fit unfit t
-    new = record {
-      grows = h.grows;
-      inside = h.inside;
-      leads = λ r rec u chosen.
-          let low = low_word r c.arg_index rec in
-          h.leads r rec u (subst (λ x. IsChosen (bit_and x (m % 2 ^ 32) ≡ bit_and (c.value % 2 ^ 32) (m % 2 ^ 32)) fit unfit u) low chosen);
-    } in
-    with_parts old new c m fit unfit t Dword short is base
+-- a condition with a mask holds if the halves of the argument have the value's bits
+pub mask_dword : (c : Condition) (m : ℕ) → c.arg_len ≡ Dword → c.operator ≡ MaskedEq m → (r : List ℕ) → IsRecord r
+    → Holds c r ↔ HasBits (16 + 8 * c.arg_index) (m % 2 ^ 32) (c.value % 2 ^ 32) r
+mask_dword c m short is r rec = low c.arg_len c.operator (argument_at r c.arg_index) c.value (word_at r (16 + 8 * c.arg_index)) short is
+    (low_word r c.arg_index rec)
+  where
+    low : (l : SeccompCmpArgLen) (o : SeccompCmpOp) (x v y : ℕ) → l ≡ Dword → o ≡ MaskedEq m → x % 2 ^ 32 ≡ y
+        → Compares (operator_part l o) (part_of l x) (part_of l v) ↔ (bit_and y (m % 2 ^ 32) ≡ bit_and (v % 2 ^ 32) (m % 2 ^ 32))
+    low l o x v y short is same = rw (short, is, ← same) (λ h. h, λ h. h)
 
 -- numbers agree under a mask if their halves do
-mask_parts : (x v m : ℕ) → bit_and x m ≡ bit_and v m
-    → (bit_and (x / 2 ^ 32) (m / 2 ^ 32) ≡ bit_and (v / 2 ^ 32) (m / 2 ^ 32)) × (bit_and (x % 2 ^ 32) (m % 2 ^ 32) ≡ bit_and (v % 2 ^ 32)
-    (m % 2 ^ 32))
-mask_parts x v m e =
+mask_parts : (x v m : ℕ) → (bit_and x m ≡ bit_and v m)
+    ↔ ((bit_and (x / 2 ^ 32) (m / 2 ^ 32) ≡ bit_and (v / 2 ^ 32) (m / 2 ^ 32))
+    × (bit_and (x % 2 ^ 32) (m % 2 ^ 32) ≡ bit_and (v % 2 ^ 32) (m % 2 ^ 32)))
+mask_parts x v m =
     let a = mask_halves x m in
     let b = mask_halves v m in
     let la : bit_and (x % 2 ^ 32) (m % 2 ^ 32) < 2 ^ 32 = and_lt 32 (x % 2 ^ 32) (m % 2 ^ 32) (omega arith) (omega arith) in
     let lb : bit_and (v % 2 ^ 32) (m % 2 ^ 32) < 2 ^ 32 = and_lt 32 (v % 2 ^ 32) (m % 2 ^ 32) (omega arith) (omega arith) in
-    (omega arith, omega arith)
+    (λ e. (omega arith, omega arith), λ e. omega (arith, e.0, e.1))
 
-mask_whole : (x v m : ℕ) → bit_and (x / 2 ^ 32) (m / 2 ^ 32) ≡ bit_and (v / 2 ^ 32) (m / 2 ^ 32)
-    → bit_and (x % 2 ^ 32) (m % 2 ^ 32) ≡ bit_and (v % 2 ^ 32) (m % 2 ^ 32) → bit_and x m ≡ bit_and v m
-mask_whole x v m high low =
-    let a = mask_halves x m in
-    let b = mask_halves v m in
-    omega arith
+pub mask_qword : (c : Condition) (m : ℕ) → c.arg_len ≡ Qword → c.operator ≡ MaskedEq m → (r : List ℕ) → IsRecord r
+    → Holds c r
+    ↔ (HasBits (20 + 8 * c.arg_index) (m / 2 ^ 32) (c.value / 2 ^ 32) r × HasBits (16 + 8 * c.arg_index) (m % 2 ^ 32) (c.value % 2 ^ 32) r)
+mask_qword c m long is r rec =
+    both c.arg_len c.operator (argument_at r c.arg_index) c.value (word_at r (20 + 8 * c.arg_index)) (word_at r (16 + 8 * c.arg_index))
+    long is
+    (high_word r c.arg_index rec) (low_word r c.arg_index rec)
+  where
+    both : (l : SeccompCmpArgLen) (o : SeccompCmpOp) (x v y z : ℕ) → l ≡ Qword → o ≡ MaskedEq m → x / 2 ^ 32 ≡ y → x % 2 ^ 32 ≡ z
+        → Compares (operator_part l o) (part_of l x) (part_of l v)
+        ↔ ((bit_and y (m / 2 ^ 32) ≡ bit_and (v / 2 ^ 32) (m / 2 ^ 32)) × (bit_and z (m % 2 ^ 32) ≡ bit_and (v % 2 ^ 32) (m % 2 ^ 32)))
+    both l o x v y z long is up down = rw (long, is, ← up, ← down) (mask_parts x v m)
+
+pub masked_dword : (old new : List sock_filter) (c : Condition) (m : ℕ) (fit unfit t : Target) → c.arg_len ≡ Dword → c.operator ≡ MaskedEq m
+    → IsMet (HasBits (16 + 8 * c.arg_index) (m % 2 ^ 32) (c.value % 2 ^ 32)) 5 4 old fit unfit t new → IsConditionMet old c fit unfit t new
+masked_dword old new c m fit unfit t short is h = rw (cost.0, cost.1) record {
+  grows = h.grows;
+  inside = h.inside;
+  met = λ r rec holds. h.met r rec ((mask_dword c m short is r rec).0 holds);
+  unmet = λ r rec not. h.unmet r rec (λ has. not ((mask_dword c m short is r rec).1 has));
+}
+  where
+    cost : (condition_length c.arg_len c.operator ≡ 5) × (condition_steps c.arg_len c.operator ≡ 3)
+    cost = rw (short, is) (refl, refl)
 
 pub masked_qword : (old mid new : List sock_filter) (c : Condition) (m : ℕ) (fit unfit one t : Target) → c.arg_len ≡ Qword → c.operator ≡
     MaskedEq m
-    → IsMasked old (16 + 8 * c.arg_index) (m % 2 ^ 32) (c.value % 2 ^ 32) fit unfit one mid
-    → IsMasked mid (20 + 8 * c.arg_index) (m / 2 ^ 32) (c.value / 2 ^ 32) one unfit t new → IsConditionMet old c fit unfit t new
+    → IsMet (HasBits (16 + 8 * c.arg_index) (m % 2 ^ 32) (c.value % 2 ^ 32)) 5 4 old fit unfit one mid
+    → IsMet (HasBits (20 + 8 * c.arg_index) (m / 2 ^ 32) (c.value / 2 ^ 32)) 5 4 mid one unfit t new → IsConditionMet old c fit unfit t new
 masked_qword old mid new c m fit unfit one t long is low high =
-    let base : IsConditionMet old (record { arg_index = c.arg_index; arg_len = Qword; operator = MaskedEq m; value = c.value }) fit unfit t
-    new = record {
-      grows = grows_on old mid new 5 5 10 low.grows high.grows (omega arith);
-      inside = high.inside;
-      leads = λ r rec u chosen w n lead a fits.
-          let x = argument_at r c.arg_index in
-          let top = word_at r (20 + 8 * c.arg_index) in
-          let up = high_word r c.arg_index rec in
-          let down = low_word r c.arg_index rec in
-          let High = λ (y : ℕ). bit_and y (m / 2 ^ 32) ≡ bit_and (c.value / 2 ^ 32) (m / 2 ^ 32) in
-          let Low = λ (y : ℕ). bit_and y (m % 2 ^ 32) ≡ bit_and (c.value % 2 ^ 32) (m % 2 ^ 32) in
-          elim (cases_eq (bit_and top (m / 2 ^ 32)) (bit_and (c.value / 2 ^ 32) (m / 2 ^ 32))) [
-            | inl same ↦
-                let first = low.leads r rec u (chosen_alike (Low (word_at r (16 + 8 * c.arg_index))) (bit_and x m ≡ bit_and c.value m) fit
-                unfit u
-                (λ e. mask_whole x c.value m (subst High (sym up) same) (subst Low (sym down) e))
-                (λ e. subst Low down (mask_parts x c.value m e).1) chosen) w n lead in
-                starts_more (n + 7) (omega arith) (high.leads r rec one (chosen_yes (High top) one unfit same) w (suc (n + 3))
-                (λ b fits'. leads_by (first b fits')) a fits)
-            | inr other ↦
-                let is = chosen.unmet (λ e. other (subst High up (mask_parts x c.value m e).0)) in
-                starts_more (n + 7) (omega arith) (high.leads r rec unfit (chosen_no (High top) one unfit other) w n
-                (λ b fits'. leads_grown old mid 5 low.grows (subst (λ v. Leads old r v b w n) is (lead b fits'))) a fits)
-          ];
-    } in
-    with_parts old new c m fit unfit t Qword long is base
+    met_both _ _ (λ r. cases_eq (bit_and (word_at r (20 + 8 * c.arg_index)) (m / 2 ^ 32)) (bit_and (c.value / 2 ^ 32) (m / 2 ^ 32)))
+    (mask_qword c m long is) (omega (arith, cost.0)) (omega (arith, cost.1)) low high
+  where
+    cost : (condition_length c.arg_len c.operator ≡ 10) × (condition_steps c.arg_len c.operator ≡ 7)
+    cost = rw (long, is) (refl, refl)

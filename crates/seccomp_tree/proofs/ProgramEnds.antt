@@ -67,12 +67,7 @@ ends_from p r tail place m a w n at goes small (goes_on i rest b a' v n' d does 
     let at' : drop (place + (1 + d)) p ≡ drop d rest =
     sym (drop-drop (1 + d) place p) ∙ ap (λ l. drop (1 + d) l) at ∙ ap (λ k. drop k (i ∷ rest)) over in
     let end = ends_from p r (drop d rest) (place + (1 + d)) (suc m) a' w n' at' step small' h in
-    record {
-      steps = end.steps;
-      few = omega (arith, end.few);
-      short = omega (arith, end.short, length-drop d rest);
-      ends = end.ends;
-    }
+    record { steps = end.steps; few = omega (arith, end.few); short = omega (arith, end.short, length-drop d rest); ends = end.ends }
 
 -- A program whose run returns a word ends with it, in no more steps than it has instructions.
 pub program_ends : (p : List sock_filter) (r : List ℕ) (w n : ℕ) → Returns r p 0 w n → EndsWithin p r w n (length p)

@@ -14,51 +14,31 @@ use Rattle.seccomp_tree.specs.declared.steps.Target.TheVariants.{Give}
 use Rattle.seccomp_tree.specs.declared.steps.Step.{Step}
 use Rattle.seccomp_tree.specs.Steps.{found_in, AreSteps, single}
 use Rattle.seccomp_tree.specs.Intervals.{numbers_of, is_plain, AreLaid}
-use Rattle.seccomp_tree.specs.Code.{Leads, LeadsAlways, to_return, AreIn, Grows}
-use Rattle.seccomp_tree.specs.Conditions.{part_length, part_steps, condition_length, condition_steps, IsPart, IsConditionMet}
+use Rattle.seccomp_tree.specs.Code.{Leads, LeadsAlways, to_return, AreIn, Grows, part_length, part_steps, IsPart}
+use Rattle.seccomp_tree.specs.Conditions.{condition_length, IsConditionMet}
 use Rattle.seccomp_tree.specs.Decisions.{Ruling, First, nothing, only, alike, same_length, joins, joined, conditions_length}
 use Rattle.seccomp_tree.specs.Decisions.{conditions_steps, rules_length, RunTakes, by_steps, by_conditions, Enters, goes_on, begins, Takes}
 use Rattle.seccomp_tree.specs.Decisions.{stops, passes, ends}
 use Rattle.seccomp_tree.specs.Rules.{IsRulingMet, AreRules, AreFit, rest_length, IsSettled, IsInFront, along, afresh, alone}
-use Rattle.seccomp_tree.proofs.Runs.{grows_not, grows_on, grown_long, leads_by, leads_grown, leads_more}
+use Rattle.seccomp_tree.proofs.Runs.{grows_not, grows_on, grown_long, leads_by, starts_more}
 use Rattle.seccomp_tree.proofs.Begun.{begun_few, found_in_code}
-use Rattle.seccomp_tree.proofs.Choices.{numbers_many, chosen_alike, chosen_yes, chosen_no, laid_in}
+use Rattle.seccomp_tree.proofs.Choices.{numbers_many, laid_in}
 use Rattle.seccomp_tree.proofs.Deciding.{first_here, first_behind}
-use Rattle.seccomp_tree.proofs.Meeting.{holds_or_not, chosen_plain, part_fits, plain_cost}
+use Rattle.seccomp_tree.proofs.Meeting.{holds_or_not, chosen_plain, part_fits, plain_cost, met_now, met_both}
 
 -- ---- one ruling
 
 pub ruling_none : (old : List sock_filter) (value : ℕ) (after : Target) (conditions : List Condition) → conditions ≡ [] → value < 2 ^ 32
     → IsRulingMet old conditions value after (Give value) old
-ruling_none old value after conditions empty fits = rw empty record {
-  grows = grows_not old 0;
-  inside = fits;
-  leads = λ r rec u chosen w n lead a small.
-      let is = chosen.met (All-nil (λ (c : Condition). Holds c r)) in
-      leads_more (n + 0) (omega arith) (subst (λ v. Leads old r v a w n) is (lead a small));
-}
+ruling_none old value after conditions empty fits = rw empty (met_now (Give value) after (Give value) fits (λ r is. refl)
+    (λ r not. absurd (not (All-nil (λ (c : Condition). Holds c r)))))
 
 pub ruling_one : (old mid new : List sock_filter) (value : ℕ) (after t u : Target) (c : Condition) (rest : List Condition)
     → IsRulingMet old rest value after t mid → IsConditionMet mid c t after u new → IsRulingMet old (c ∷ rest) value after u new
-ruling_one old mid new value after t u c rest h one = record {
-  grows = grows_on old mid new (conditions_length rest) (condition_length c.arg_len c.operator) (conditions_length (c ∷ rest)) h.grows
-      one.grows
-      (omega arith);
-  inside = one.inside;
-  leads = λ r rec v chosen w n lead a small. leads_more (n + conditions_steps (c ∷ rest)) (omega arith) (elim (holds_or_not c r) [
-    | inl first ↦
-        let further = h.leads r rec v (chosen_alike (RuleHolds rest r) (RuleHolds (c ∷ rest) r) (Give value) after v
-        (λ others. All-cons (λ (x : Condition). Holds x r) c rest first others)
-        (λ all. All-tail (λ (x : Condition). Holds x r) c rest all) chosen) w n lead in
-        leads_more (suc (n + conditions_steps rest + condition_steps c.arg_len c.operator)) (omega arith)
-        (leads_by (one.leads r rec t (chosen_yes (Holds c r) t after first) w (n + conditions_steps rest) further a small))
-    | inr other ↦
-        let is = chosen.unmet (λ all. other (All-head (λ (x : Condition). Holds x r) c rest all)) in
-        leads_more (suc (n + conditions_steps rest + condition_steps c.arg_len c.operator)) (omega arith)
-        (leads_by (one.leads r rec after (chosen_no (Holds c r) t after other) w n
-        (λ b fits. leads_grown old mid (conditions_length rest) h.grows (subst (λ z. Leads old r z b w n) is (lead b fits))) a small))
-  ]);
-}
+ruling_one old mid new value after t u c rest h one = met_both _ _ (holds_or_not c) (λ r rec. (
+  λ all. (All-head (λ (x : Condition). Holds x r) c rest all, All-tail (λ (x : Condition). Holds x r) c rest all),
+  λ both. All-cons (λ (x : Condition). Holds x r) c rest both.0 both.1,
+)) (omega arith) (omega arith) h one
 
 conditions_less : (n : ℕ) (q : List Condition) → conditions_length (drop n q) ≤ conditions_length q
 conditions_less zero q = omega arith
@@ -73,8 +53,7 @@ pub ruling_room : (old mid : List sock_filter) (value : ℕ) (after t : Target) 
 ruling_room old mid value after t q k c rest cons h =
     let less = conditions_less k q in
     let same : conditions_length (drop k q) ≡ condition_length c.arg_len c.operator + conditions_length rest = ap conditions_length cons in
-    let grown = grown_long old mid (conditions_length rest) h.grows in
-    omega (arith, grown.1)
+    omega (arith, (grown_long h.grows).1)
 
 -- ---- what a condition alone is
 
@@ -154,20 +133,10 @@ record IsBegun (r : List ℕ) (d : Ruling) (rest : List Ruling) (n : ℕ) : Type
 
 takes_begun : (r : List ℕ) (first : List Condition) (d : Ruling) (rest : List Ruling) (n : ℕ) → joins first d.conditions ≡ false
     → Takes r first (d ∷ rest) n → IsBegun r d rest n
-takes_begun r first d rest n apart (stops q e l m holds enters) = record {
-  run = m;
-  left = 0;
-  takes = enters_first first d rest m apart enters;
-  further = stops_here holds;
-  sum = omega arith;
-}
-takes_begun r first d rest n apart (passes q e l m k not enters takes) = record {
-  run = m;
-  left = k;
-  takes = enters_first first d rest m apart enters;
-  further = goes_further k not takes;
-  sum = refl;
-}
+takes_begun r first d rest n apart (stops q e l m holds enters) =
+    record { run = m; left = 0; takes = enters_first first d rest m apart enters; further = stops_here holds; sum = omega arith }
+takes_begun r first d rest n apart (passes q e l m k not enters takes) =
+    record { run = m; left = k; takes = enters_first first d rest m apart enters; further = goes_further k not takes; sum = refl }
 
 takes_fresh : (r : List ℕ) (p : List Condition) (rest : List Ruling) (n : ℕ) → joins p (head rest) ≡ false → Takes r p rest n
     → Takes r [] rest n
@@ -203,11 +172,7 @@ rest_none old default fits = (
   Give default,
   refl,
   refl,
-  record {
-    grows = grows_not old 0;
-    inside = fits;
-    leads = λ r rec w n is takes a small. given r w a n is;
-  },
+  record { grows = grows_not old 0; inside = fits; leads = λ r rec w n is takes a small. given r w a n is },
 )
   where
     given : (r : List ℕ) (w a n : ℕ) → First default r [] w → Leads old r (Give default) a w (n + 1)
@@ -314,13 +279,10 @@ module _ (old code : List sock_filter) (default : ℕ) (c : Condition) (d : Ruli
 
 -- ---- a ruling by its conditions
 
-alike_none : (o : Option Condition) → alike None o ≡ false
-alike_none o = refl
-
 rules_alone : (old mid new : List sock_filter) (default : ℕ) (d : Ruling) (rest : List Ruling) (t u : Target) → only d.conditions ≡ None
     → AreRules old rest default t mid → IsRulingMet mid d.conditions d.value t u new → AreRules old (d ∷ rest) default u new
 rules_alone old mid new default d rest t u none x h = record {
-  grows = grows_on old mid new (rules_length rest) (conditions_length d.conditions) (rules_length (d ∷ rest)) x.grows h.grows (omega arith);
+  grows = grows_on (rules_length (d ∷ rest)) x.grows h.grows (omega arith);
   inside = h.inside;
   leads = λ r rec w n first takes.
       let b = takes_begun r [] d rest n refl takes in
@@ -338,21 +300,21 @@ rules_alone old mid new default d rest t u none x h = record {
         → b.run ≡ conditions_steps d.conditions → Left r d rest b.left → LeadsAlways new r u w (n + 1)
     leads r rec w n first b run (stops_here holds) a small =
         let value = first_here d rest holds first in
-        leads_more (n + 1) (omega (arith, b.sum, run))
-        (h.leads r rec (Give d.value) (chosen_yes (RuleHolds d.conditions r) (Give d.value) t holds) w 1
-        (subst (λ v. LeadsAlways mid r (Give v) w 1) value (λ b' fits. to_return w b' 1 (omega arith))) a small)
+        starts_more (n + 1) (omega (arith, b.sum, run))
+        (h.met r rec holds w 1 (subst (λ v. LeadsAlways mid r (Give v) w 1) value (λ b' fits. to_return w b' 1 (omega arith))) a small)
     leads r rec w n first b run (goes_further m not takes) a small =
-        leads_more (n + 1) (omega (arith, b.sum, run))
-        (h.leads r rec t (chosen_no (RuleHolds d.conditions r) (Give d.value) t not) w (m + 1)
-        (x.leads r rec w m (first_behind d rest not first) (takes_fresh r d.conditions rest m apart takes)) a small)
+        starts_more (n + 1) (omega (arith, b.sum, run))
+        (h.unmet r rec not w (m + 1) (x.leads r rec w m (first_behind d rest not first)
+        (takes_fresh r d.conditions rest m apart takes)) a small)
 
 -- ---- what comes after, as a target
 
 rules_settled : (old code new : List sock_filter) (default : ℕ) (c : Condition) (d : Ruling) (rest : List Ruling) (steps : List Step)
-    (t : Target) → ArePending old default c d rest steps code → IsPart code c.arg_len c.arg_index steps t new
+    (t : Target) → ArePending old default c d rest steps code
+    → IsPart code c.arg_len (part_length c.arg_len (length steps)) (λ r. part_of c.arg_len (argument_at r c.arg_index)) steps t new
     → AreRules old (d ∷ rest) default t new
 rules_settled old code new default c d rest steps t x part = record {
-  grows = grows_on old code new x.before (part_length c.arg_len (length steps)) (rules_length (d ∷ rest)) x.grows part.grows
+  grows = grows_on (rules_length (d ∷ rest)) x.grows part.grows
       (omega (arith, x.room, run_room c.arg_len (length steps) (joined d.conditions rest) x.few));
   inside = part.inside;
   leads = λ r rec w n first takes. let b = takes_begun r [] d rest n refl takes in leads r rec w n first b b.run b.takes refl;
@@ -364,7 +326,7 @@ rules_settled old code new default c d rest steps t x part = record {
     leads r rec w n first b m (by_steps y k e le) is a small =
         let same : y ≡ c = cc in
         let cost : part_steps y.arg_len k ≡ part_steps c.arg_len k = ap (λ (z : Condition). part_steps z.arg_len k) same in
-        leads_more (n + 1) (omega (arith, b.sum, is, cost))
+        starts_more (n + 1) (omega (arith, b.sum, is, cost))
         (leads_by (part.leads r rec w (b.left + 1) k (omega (arith, x.few, le)) (x.leads r rec w b.left first b.further) a small))
 
 pub settled : (old code new : List sock_filter) (default : ℕ) (rulings : List Ruling) (like : Option Condition) (steps : List Step)
@@ -411,11 +373,11 @@ in_front old code new default d rulings like new_like steps laid h (alone t u mi
 -- how much room there is
 pub rest_room : (old code : List sock_filter) (default : ℕ) (rulings : List Ruling) (like : Option Condition) (steps : List Step)
     → IsRest old default rulings like steps code → length code + rest_length like (length steps) ≤ length old + rules_length rulings
-rest_room old code default rulings None steps h = omega (arith, (grown_long old code _ h.3.grows).1)
+rest_room old code default rulings None steps h = omega (arith, (grown_long h.3.grows).1)
 rest_room old code default rulings (Some c) steps h =
     let all = ap rules_length h.2 in
     let room = run_room c.arg_len (length steps) (joined h.0.conditions h.1) h.3.few in
-    omega (arith, (grown_long old code _ h.3.grows).1, h.3.room, room, all)
+    omega (arith, (grown_long h.3.grows).1, h.3.room, room, all)
 
 pub rules_less : (n : ℕ) (rulings : List Ruling) → rules_length (drop n rulings) ≤ rules_length rulings
 rules_less zero rulings = omega arith

@@ -4,13 +4,10 @@ use Rattle.std.proofs.Common.{arith, ◌≤◌, append_assoc, refl, subst, zero}
 use Rattle.std.specs.Prelude.{reverse}
 use Rattle.std.proofs.lemmas.List.{drop_more, drop-drop, get_or-reverse, length-reverse}
 use Rattle.seccompiler.specs.declared.bpf.sock_filter.{sock_filter}
-use Rattle.seccomp_tree.specs.Code.{tail_at, IsIn, AreIn, Grows, Returns, gives, goes_on, Starts, by_return, at_place, Leads, to_return}
-use Rattle.seccomp_tree.specs.Code.{to_place, DoesAs, IsSound}
+use Rattle.seccomp_tree.specs.Code.{tail_at, IsIn, Grows, Returns, gives, goes_on, Starts, Leads, to_return, to_place, near, IsSound}
 use Rattle.seccomp_tree.specs.declared.steps.Target.{Target}
 use Rattle.seccomp_tree.specs.declared.steps.Target.TheVariants.{Give, At}
-use Rattle.seccomp_tree.specs.declared.steps.Step.{Step}
-use Rattle.seccompiler.specs.Machine.{IsFine, IsInRange, fine_return, greatest_length}
-use Rattle.seccompiler.specs.Code.{give}
+use Rattle.seccompiler.specs.Machine.{IsFine, IsInRange, greatest_length}
 
 drop_behind : (front old : List sock_filter) (n : ℕ) → drop (length front + n) (front ++ old) ≡ drop n old
 drop_behind [] old n = ap (λ k. drop k old) (zero-add n)
@@ -58,25 +55,22 @@ pub grows_one : (code : List sock_filter) (i : sock_filter) → Grows code 1 (i 
 grows_one code i = record { front = i ∷ []; whole = refl; few = omega arith }
 
 -- once, and then again
-pub grows_on : (a b c : List sock_filter) (m n most : ℕ) → Grows a m b → Grows b n c → m + n ≤ most → Grows a most c
-grows_on a b c m n most g h few = record {
+pub grows_on : {a b c : List sock_filter} {m n : ℕ} (most : ℕ) → Grows a m b → Grows b n c → m + n ≤ most → Grows a most c
+grows_on {a} most g h few = record {
   front = h.front ++ g.front;
   whole = h.whole ∙ ap (λ l. h.front ++ l) g.whole ∙ sym (append_assoc h.front g.front a);
   few = omega (arith, length-append h.front g.front, g.few, h.few);
 }
 
 -- how long the code is then
-pub grown_long : (old new : List sock_filter) (most : ℕ) → Grows old most new → (length old ≤ length new) × (length new ≤ length old + most)
-grown_long old new most g =
-    let long : length new ≡ length g.front + length old = ap length g.whole ∙ length-append g.front old in
+pub grown_long : {old new : List sock_filter} {most : ℕ} → Grows old most new → (length old ≤ length new) × (length new ≤ length old + most)
+grown_long {old} g =
+    let long = ap length g.whole ∙ length-append g.front old in
     (omega (arith, long), omega (arith, long, g.few))
 
-pub is_in_grown : (old new : List sock_filter) (most : ℕ) (t : Target) → Grows old most new → IsIn old t → IsIn new t
-is_in_grown old new most (Give w) g h = h
-is_in_grown old new most (At m) g h = let long = grown_long old new most g in omega (arith, long.0)
-
-pub are_in_grown : (old new : List sock_filter) (most : ℕ) (steps : List Step) → Grows old most new → AreIn old steps → AreIn new steps
-are_in_grown old new most steps g h = λ k d lt. is_in_grown old new most _ g (h k d lt)
+pub is_in_grown : {old new : List sock_filter} {most : ℕ} (t : Target) → Grows old most new → IsIn old t → IsIn new t
+is_in_grown (Give w) g h = h
+is_in_grown (At m) g h = omega (arith, (grown_long g).0)
 
 -- the place that was written last is inside
 pub last_in : (code : List sock_filter) (t : Target) → t ≡ At (length code - 1) → 1 ≤ length code → IsIn code t
@@ -89,68 +83,55 @@ returns_more (suc m) le (gives i rest a w n c k) = gives i rest a w m c k
 returns_more zero le (goes_on i rest a a' w n d does small h) = absurd (omega arith)
 returns_more (suc m) le (goes_on i rest a a' w n d does small h) = goes_on i rest a a' w m d does small (returns_more m (omega arith) h)
 
-pub starts_more : {code : List sock_filter} {r : List ℕ} {t : Target} {a w n : ℕ} (m : ℕ) → n ≤ m → Starts code r t a w n
-    → Starts code r t a w m
-starts_more m le (by_return w a n some) = by_return w a m (omega arith)
-starts_more m le (at_place p w a n inside h) = at_place p w a m inside (returns_more m le h)
+pub starts_more : {reach : ℕ} {code : List sock_filter} {r : List ℕ} {t : Target} {a w n : ℕ} (m : ℕ) → n ≤ m → Starts reach code r t a w n
+    → Starts reach code r t a w m
+starts_more m le (to_return w a n some) = to_return w a m (omega arith)
+starts_more zero le (to_place p w a n inside h) = absurd (omega arith)
+starts_more (suc m) le (to_place p w a n inside h) = to_place p w a m inside (returns_more m (omega arith) h)
+starts_more m le (near p w a n inside close h) = near p w a m inside close (returns_more m le h)
 
 -- a jump to a place takes one step more
-pub leads_by : {code : List sock_filter} {r : List ℕ} {t : Target} {a w n : ℕ} → Starts code r t a w n → Leads code r t a w (suc n)
-leads_by (by_return w a n some) = to_return w a (suc n) (omega arith)
-leads_by (at_place p w a n inside h) = to_place p w a n inside h
-
-pub starts_by : {code : List sock_filter} {r : List ℕ} {t : Target} {a w n : ℕ} → Leads code r t a w n → Starts code r t a w n
-starts_by (to_return w a n some) = by_return w a n some
-starts_by (to_place p w a n inside h) = at_place p w a (suc n) inside (returns_more (suc n) (omega arith) h)
+pub leads_by : {reach : ℕ} {code : List sock_filter} {r : List ℕ} {t : Target} {a w n : ℕ} → Starts reach code r t a w n
+    → Leads code r t a w (suc n)
+leads_by (to_return w a n some) = to_return w a (suc n) (omega arith)
+leads_by (to_place p w a n inside h) = to_place p w a (suc n) inside (returns_more (suc n) (omega arith) h)
+leads_by (near p w a n inside close h) = to_place p w a n inside h
 
 -- what starts at a place returns what it did
-pub returns_grown : {r : List ℕ} {a w n : ℕ} (old new : List sock_filter) (most m : ℕ) → Grows old most new → m < length old
+pub returns_grown : {r : List ℕ} {a w n most : ℕ} {old new : List sock_filter} (m : ℕ) → Grows old most new → m < length old
     → Returns r (tail_at old m) a w n → Returns r (tail_at new m) a w n
-returns_grown {r} {a} {w} {n} old new most m g inside h =
-    let same : tail_at new m ≡ tail_at old m = ap (λ l. tail_at l m) g.whole ∙ tail_grown g.front old m inside in
-    subst (λ l. Returns r l a w n) (sym same) h
+returns_grown {r} {a} {w} {n} {most} {old} m g inside h =
+    subst (λ l. Returns r l a w n) (sym (ap (λ l. tail_at l m) g.whole ∙ tail_grown g.front old m inside)) h
 
-pub starts_grown : {r : List ℕ} {t : Target} {a w n : ℕ} (old new : List sock_filter) (most : ℕ) → Grows old most new
-    → Starts old r t a w n → Starts new r t a w n
-starts_grown old new most g (by_return w a n some) = by_return w a n some
-starts_grown old new most g (at_place m w a n inside h) =
-    let long = grown_long old new most g in
-    at_place m w a n (omega (arith, long.0)) (returns_grown old new most m g inside h)
+-- so for targets, if what was near is near
+pub starts_grown : {d e most : ℕ} {old new : List sock_filter} {r : List ℕ} {t : Target} {a w n : ℕ} → Grows old most new
+    → ((m : ℕ) → t ≡ At m → m < length old → length old ≤ m + d → length new ≤ m + e) → Starts d old r t a w n → Starts e new r t a w n
+starts_grown g close (to_return w a n some) = to_return w a n some
+starts_grown g close (to_place m w a n inside h) =
+    to_place m w a n (omega (arith, (grown_long g).0)) (returns_grown m g inside h)
+starts_grown g close (near m w a n inside le h) =
+    near m w a n (omega (arith, (grown_long g).0)) (close m refl inside le) (returns_grown m g inside h)
 
-pub leads_grown : {r : List ℕ} {t : Target} {a w n : ℕ} (old new : List sock_filter) (most : ℕ) → Grows old most new
-    → Leads old r t a w n → Leads new r t a w n
-leads_grown old new most g (to_return w a n some) = to_return w a n some
-leads_grown old new most g (to_place m w a n inside h) =
-    let long = grown_long old new most g in
-    to_place m w a n (omega (arith, long.0)) (returns_grown old new most m g inside h)
+pub leads_grown : {e most : ℕ} {old new : List sock_filter} {r : List ℕ} {t : Target} {a w n : ℕ} → Grows old most new
+    → Leads old r t a w n → Starts e new r t a w n
+leads_grown g h = starts_grown g (λ m is inside le. absurd (omega arith)) h
 
--- what a target of the old code is, the place does too
-pub does_of_old : (code old new : List sock_filter) (most : ℕ) (t : Target) (place : ℕ) → Grows code most old → DoesAs old t place new
-    → DoesAs code t place new
-does_of_old code old new most t place g h = record {
-  inside = h.inside;
-  leads = λ r a w n small k. h.leads r a w n small (leads_grown code old most g k);
-}
+-- what was written last is entered without a jump
+pub starts_last : {code : List sock_filter} {r : List ℕ} {t : Target} {a w n : ℕ} → t ≡ At (length code - 1) → 1 ≤ length code
+    → Returns r code a w n → Starts 1 code r t a w n
+starts_last {code} {r} {t} {a} {w} {n} is some h =
+    subst (λ u. Starts 1 code r u a w n) (sym is) (near (length code - 1) w a n (omega arith) (omega arith)
+    (subst (λ l. Returns r l a w n) (sym (tail_whole code (length code - 1) (omega arith))) h))
 
-pub leads_more : {code : List sock_filter} {r : List ℕ} {t : Target} {a w n : ℕ} (m : ℕ) → n ≤ m → Leads code r t a w n
-    → Leads code r t a w m
-leads_more m le (to_return w a n some) = to_return w a m (omega arith)
-leads_more zero le (to_place p w a n inside h) = absurd (omega arith)
-leads_more (suc m) le (to_place p w a n inside h) = to_place p w a m inside (returns_more m (omega arith) h)
-
-pub sound_kill : IsSound (give 0x80000000 ∷ [])
-sound_kill = record {
-  fine = (fine_return refl, (record { code = omega arith; jt = omega arith; jf = omega arith; k = omega arith }, tt));
-  few = omega arith;
-  front = [];
-  ends = refl;
-}
+pub runs_last : {code : List sock_filter} {r : List ℕ} {t : Target} {a w n : ℕ} → t ≡ At (length code - 1) → 1 ≤ length code
+    → Starts 1 code r t a w n → Returns r code a w n
+runs_last is some (to_return w a n _) = absurd (cc)
+runs_last {code} {r} is some (to_place m w a n inside h) =
+    let at : m + 1 ≡ length code = let e : m ≡ length code - 1 = cc in omega arith in
+    returns_more (suc n) (omega arith) (subst (λ l. Returns r l a w n) (tail_whole code m at) h)
+runs_last {code} {r} is some (near m w a n inside close h) = subst (λ l. Returns r l a w n) (tail_whole code m (omega arith)) h
 
 pub sound_push : (code : List sock_filter) (i : sock_filter) → IsSound code → IsFine i 0 (length code + 1) → IsInRange i
     → length code < greatest_length → IsSound (i ∷ code)
-sound_push code i h fine range room = record {
-  fine = (fine, (range, h.fine));
-  few = omega arith;
-  front = i ∷ h.front;
-  ends = ap (λ l. i ∷ l) h.ends;
-}
+sound_push code i h fine range room =
+    record { fine = (fine, (range, h.fine)); few = omega arith; front = i ∷ h.front; ends = ap (λ l. i ∷ l) h.ends }

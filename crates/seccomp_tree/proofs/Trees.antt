@@ -1,7 +1,7 @@
 -- For `is_row` and `tree`: parts of steps, rows of tests, and the code of steps, put together of the code of fewer and a test.
 use Rattle.std.proofs.Common.{◌≡◌, ℕ, zero, suc, ◌+◌, ◌-◌, ◌*◌, ◌/◌, ◌^◌, ◌<◌, ◌≤◌, List, [], ◌∷◌, length, take, drop, get_or, true, false}
 use Rattle.std.proofs.Common.{refl, sym, ap, ◌∙◌, subst, nat_le, if◌then◌else◌, arith, length-drop, Bool, nat_eq, ◌⊎◌, inl, inr}
-use Rattle.std.proofs.lemmas.List.{get_or-drop, take_all}
+use Rattle.std.proofs.lemmas.List.{get_or-drop, get_or-take, length-take, length-take-le, take_all}
 use Rattle.std.proofs.lemmas.Bool.Decides.{nat_tests}
 use Rattle.std.proofs.Math.Nat.{pow-succ'}
 use Rattle.seccompiler.specs.declared.bpf.sock_filter.{sock_filter}
@@ -15,7 +15,7 @@ use Rattle.seccomp_tree.specs.declared.steps.Target.TheVariants.{Give, At}
 use Rattle.seccomp_tree.specs.Rows.{same, second_stands_out, settled, row}
 use Rattle.seccomp_tree.specs.declared.code.Test.{Test}
 use Rattle.seccomp_tree.specs.declared.code.Test.TheVariants.{Equal, AtLeast}
-use Rattle.seccomp_tree.proofs.Runs.{grows_not, grows_on, last_in, starts_more, starts_by, starts_grown, leads_by, leads_grown}
+use Rattle.seccomp_tree.proofs.Runs.{grows_not, grows_on, last_in, starts_more, starts_last, leads_by, leads_grown}
 
 -- ---- the first ones
 
@@ -24,20 +24,10 @@ ascend_take m from zero steps h = tt
 ascend_take m from (suc n) [] h = tt
 ascend_take m from (suc n) (x ∷ steps) h = (h.0, (h.1.0, ascend_take m (x.start + 1) n steps h.1.1))
 
-pub length_take : {A : Type 0} (n : ℕ) (l : List A) → n ≤ length l → length (take n l) ≡ n
-length_take zero l le = refl
-length_take (suc n) [] le = absurd (omega arith)
-length_take (suc n) (x ∷ l) le = ap suc (length_take n l (omega arith))
-
-pub get_take : {A : Type 0} (n k : ℕ) (l : List A) (d : A) → k < length (take n l) → (k < length l) × (get_or (take n l) k d ≡ get_or l k d)
-get_take zero k l d lt = absurd (omega arith)
-get_take (suc n) k [] d lt = absurd (omega arith)
-get_take (suc n) zero (x ∷ l) d lt = (omega arith, refl)
-get_take (suc n) (suc k) (x ∷ l) d lt = let h = get_take n k l d (omega arith) in (omega (arith, h.0), h.1)
-
 pub in_take : (code : List sock_filter) (n : ℕ) (steps : List Step) → AreIn code steps → AreIn code (take n steps)
 in_take code n steps h k d lt =
-    let at = get_take n k steps d lt in subst (λ (x : Step). IsIn code x.target) (sym at.1) (h k d at.0)
+    let long = length-take n steps in
+    subst (λ (x : Step). IsIn code x.target) (sym (get_or-take n steps k d (omega (arith, long)))) (h k d (omega (arith, long)))
 
 -- a number below the start of the next step has the target that the first ones have
 from_take : (t : Target) (steps : List Step) (n a : ℕ) (d : Step) → n < length steps → a < (get_or steps n d).start
@@ -85,12 +75,13 @@ found_drop m (x ∷ steps) (suc n) a d h lt above = from_drop m (x.start + 1) x.
 pub all_behind : (steps : List Step) (n : ℕ) → take (length steps - n) (drop n steps) ≡ drop n steps
 all_behind steps n = take_all (length steps - n) (drop n steps) (omega (arith, length-drop n steps))
 
-pub rest_of : (code : List sock_filter) (m n : ℕ) (steps : List Step) → n < length steps → AscendFrom m 0 steps → AreIn code steps
-    → (1 ≤ length (take (length steps - n) (drop n steps)))
-    × (AscendFrom m 0 (take (length steps - n) (drop n steps)) × AreIn code (take (length steps - n) (drop n steps)))
-rest_of code m n steps lt up inside =
+pub rest_of : (code : List sock_filter) (m n t : ℕ) (steps : List Step) → 1 ≤ n → n < length steps → length steps ≤ t
+    → AscendFrom m 0 steps → AreIn code steps
+    → (length (take (length steps - n) (drop n steps)) < t) × ((1 ≤ length (take (length steps - n) (drop n steps)))
+    × (AscendFrom m 0 (take (length steps - n) (drop n steps)) × AreIn code (take (length steps - n) (drop n steps))))
+rest_of code m n t steps some lt all_in up inside =
     let all = all_behind steps n in
-    rw all (omega (arith, length-drop n steps), (ascend_drop m 0 n steps up, in_drop code n steps inside))
+    rw all (omega (arith, length-drop n steps), (omega (arith, length-drop n steps), (ascend_drop m 0 n steps up, in_drop code n steps inside)))
 
 pub rest_long : (n : ℕ) (steps : List Step) → length (take (length steps - n) (drop n steps)) ≡ length steps - n
 rest_long n steps = ap length (all_behind steps n) ∙ length-drop n steps
@@ -125,11 +116,6 @@ row_step (x ∷ y ∷ z ∷ steps) some = go (second_stands_out (x ∷ y ∷ z �
         × (1 ≤ settled (x ∷ y ∷ z ∷ steps)) × (settled (x ∷ y ∷ z ∷ steps) < length (x ∷ y ∷ z ∷ steps))
     go true e = rw e (refl, omega arith, omega arith)
     go false e = rw e (refl, omega arith, omega arith)
-
-pub row_none : (steps : List Step) → length steps ≤ 1 → row steps ≡ 0
-row_none [] few = refl
-row_none (x ∷ []) few = refl
-row_none (x ∷ y ∷ steps) few = absurd (omega arith)
 
 -- a row has fewer tests than steps
 pub row_few : (steps : List Step) → 1 ≤ length steps → row steps + 1 ≤ length steps
@@ -194,46 +180,29 @@ tree_single code (x ∷ []) d one inside = record {
   grows = grows_not code _;
   inside = inside 0 d (omega arith);
   last = λ two. absurd (omega arith);
-  alone = λ y same. let is : x ≡ y = cc in ap (λ (z : Step). z.target) is;
-  leads = λ k le r a w n small h. starts_more (n + 2 * k) (omega arith) (starts_by h);
-  soon = λ few r a w n small h. starts_more (n + 0) (omega arith) (starts_by h);
+  leads = λ k le r a w n small h. starts_more (n + 2 * k) (omega arith) (leads_grown (grows_not code 0) h);
+  soon = λ few r a w n small h. starts_more (n + 0) (omega arith) (leads_grown (grows_not code 0) h);
 }
 
--- a test of a row: it goes on as the rest says, or at a target of the old code
-module _ (old mid new : List sock_filter) (steps rest : List Step) (test : Test) (k : ℕ) (u v x t : Target) (tree : IsTree old rest x mid)
-    (h : IsTested mid test k u v t new) (one : row steps ≡ 1 + row rest) (six : row steps ≤ 6) where
-  to_rest : (rest' : List Step) → rest' ≡ rest → 1 ≤ length rest → (r : List ℕ) (a w n : ℕ) → a < 2 ^ 32 → x ≡ chosen test k u v a
-      → Leads old r (found_in rest a) a w n → Starts new r t a w (n + row rest + 1)
-  to_rest [] e some r a w n small is lead = absurd (omega (arith, ap length e))
-  to_rest (y ∷ []) e some r a w n small is lead =
-      let own : found_in rest a ≡ chosen test k u v a = ap (λ l. found_in l a) (sym e) ∙ sym (tree.alone y (sym e)) ∙ is in
-      starts_more (n + row rest + 1) (omega arith)
-      (h.leads r a w n small (subst (λ z. Leads mid r z a w n) own (leads_grown old mid _ tree.grows lead)))
-  to_rest (y ∷ z ∷ l) e some r a w n small is lead =
-      let last = tree.last (omega (arith, ap length e)) in
-      let run = tree.soon (omega (arith, one)) r a w n small lead in
-      h.fresh r a w (n + row rest) small (sym is ∙ last) (subst (λ s. Starts mid r s a w (n + row rest)) is run)
-
-  pub row_tree : 1 ≤ length rest → length rest < length steps
-      → ((r : List ℕ) (a w n : ℕ) → a < 2 ^ 32 → Leads old r (found_in steps a) a w n
-      → (Leads old r (chosen test k u v a) a w n) ⊎ ((x ≡ chosen test k u v a) × Leads old r (found_in rest a) a w n))
-      → IsTree old steps t new
-  row_tree some less divides = record {
-    grows = grows_on old mid new _ 3 _ tree.grows h.grows (omega arith);
-    inside = last_in new t h.last h.some;
-    last = λ two. h.last;
-    alone = λ y same. absurd (omega (arith, ap length same));
-    leads = λ j le r a w n small lead.
-        starts_more (n + 2 * j) (omega (arith, row_halvings steps j (omega arith) six le)) (run r a w n small lead);
-    soon = λ few. run;
-  }
-    where
-      run : GoesOn old steps (row steps) t new
-      run r a w n small lead = elim (divides r a w n small lead) [
-        | inl own ↦
-            starts_more (n + row steps) (omega (arith, one)) (h.leads r a w n small (leads_grown old mid _ tree.grows own))
-        | inr c ↦ starts_more (n + row steps) (omega (arith, one)) (to_rest rest refl some r a w n small c.0 c.1)
-      ]
+-- a test of a row: what it chooses is entered within the steps of the rest
+row_tree : (old mid new : List sock_filter) (steps rest : List Step) (test : Test) (k : ℕ) (u v x t : Target) → IsTree old rest x mid
+    → IsTested mid test k u v t new → row steps ≡ 1 + row rest → row steps ≤ 6 → 1 ≤ length rest → length rest < length steps
+    → ((r : List ℕ) (a w n : ℕ) → a < 2 ^ 32 → Leads old r (found_in steps a) a w n
+    → Starts 1 mid r (chosen test k u v a) a w (n + row rest))
+    → IsTree old steps t new
+row_tree old mid new steps rest test k u v x t tree h one six some less on = record {
+  grows = grows_on _ tree.grows h.grows (omega arith);
+  inside = last_in new t h.last h.some;
+  last = λ two. h.last;
+  leads = λ j le r a w n small lead.
+      starts_more (n + 2 * j) (omega (arith, row_halvings steps j (omega arith) six le)) (run r a w n small lead);
+  soon = λ few. run;
+}
+  where
+    run : GoesOn old steps (row steps) t new
+    run r a w n small lead =
+        starts_more (n + row steps) (omega (arith, one)) (starts_last h.last h.some
+        (h.leads r a w (n + row rest) small (on r a w n small lead)))
 
 -- the two tests that begin a row
 pub tree_out : (old mid new : List sock_filter) (steps : List Step) (d : Step) (x t : Target) → AscendFrom (2 ^ 32) 0 steps
@@ -247,9 +216,10 @@ tree_out old mid new (a ∷ b ∷ c ∷ steps) d x t up out six tree h =
     ap (λ v. 1 + (if v then row (c ∷ steps) else row (b ∷ c ∷ steps))) out in
     row_tree old mid new (a ∷ b ∷ c ∷ steps) (c ∷ steps) Equal b.start b.target x x t tree h one six (omega arith) (omega arith)
     (λ r i w n small lead. elim (stands_beside (2 ^ 32) i a b c steps up out) [
-      | inl e ↦
-          inl (subst (λ u. Leads old r u i w n) (e.1 ∙ sym (ap (λ v. if v then b.target else x) e.0)) lead)
-      | inr e ↦ inr (sym (ap (λ v. if v then b.target else x) e.0), subst (λ u. Leads old r u i w n) e.1 lead)
+      | inl e ↦ starts_more (n + row (c ∷ steps)) (omega arith) (leads_grown tree.grows
+          (subst (λ u. Leads old r u i w n) (e.1 ∙ sym (ap (λ v. if v then b.target else x) e.0)) lead))
+      | inr e ↦ subst (λ u. Starts 1 mid r u i w (n + row (c ∷ steps))) (sym (ap (λ v. if v then b.target else x) e.0))
+          (tree.soon (omega (arith, one)) r i w n small (subst (λ u. Leads old r u i w n) e.1 lead))
     ])
 
 pub tree_first : (old mid new : List sock_filter) (steps : List Step) (d : Step) (x t : Target) → AscendFrom (2 ^ 32) 0 steps
@@ -258,54 +228,49 @@ pub tree_first : (old mid new : List sock_filter) (steps : List Step) (d : Step)
 tree_first old mid new [] d x t up some out six tree h = absurd (omega arith)
 tree_first old mid new (a ∷ []) d x t up some out six tree h = absurd (omega arith)
 tree_first old mid new (a ∷ b ∷ steps) d x t up some out six tree h =
-    row_tree old mid new (a ∷ b ∷ steps) (b ∷ steps) AtLeast b.start x a.target x t tree h (one steps out) six (omega arith) (omega arith)
+    row_tree old mid new (a ∷ b ∷ steps) (b ∷ steps) AtLeast b.start x a.target x t tree h one six (omega arith) (omega arith)
     (λ r i w n small lead. elim (cases_lt i b.start) [
       | inl lt ↦
           let no : nat_le b.start i ≡ false = grind (arith, nat_tests) in
-          inl (subst (λ u. Leads old r u i w n) (found_take (a ∷ b ∷ steps) 1 i d (omega arith) (omega arith) lt
-          ∙ sym (ap (λ v. if v then x else a.target) no)) lead)
+          starts_more (n + row (b ∷ steps)) (omega arith) (leads_grown tree.grows
+          (subst (λ u. Leads old r u i w n) (found_take (a ∷ b ∷ steps) 1 i d (omega arith) (omega arith) lt
+          ∙ sym (ap (λ v. if v then x else a.target) no)) lead))
       | inr le ↦
           let yes : nat_le b.start i ≡ true = grind (arith, nat_tests) in
-          inr (
-            sym (ap (λ v. if v then x else a.target) yes),
-            subst (λ u. Leads old r u i w n) (found_drop (2 ^ 32) (a ∷ b ∷ steps) 1 i d up (omega arith) le) lead,
-          )
+          subst (λ u. Starts 1 mid r u i w (n + row (b ∷ steps))) (sym (ap (λ v. if v then x else a.target) yes))
+          (tree.soon (omega (arith, one)) r i w n small
+          (subst (λ u. Leads old r u i w n) (found_drop (2 ^ 32) (a ∷ b ∷ steps) 1 i d up (omega arith) le) lead))
     ])
   where
-    one : (l : List Step) → second_stands_out (a ∷ b ∷ l) ≡ false → row (a ∷ b ∷ l) ≡ 1 + row (b ∷ l)
-    one [] out = refl
-    one (c ∷ l) out = ap (λ v. 1 + (if v then row (c ∷ l) else row (b ∷ c ∷ l))) out
+    one : row (a ∷ b ∷ steps) ≡ 1 + row (b ∷ steps)
+    one = let settles : settled (a ∷ b ∷ steps) ≡ 1 = ap (λ v. if v then 2 else 1) out in
+        (row_step (a ∷ b ∷ steps) (omega arith)).0 ∙ ap (λ n. 1 + row (drop n (a ∷ b ∷ steps))) settles
 
 -- a test in front of two halves
 pub tree_halves : (old mid both new : List sock_filter) (steps : List Step) (n : ℕ) (d : Step) (u v t : Target) → n ≡ length steps / 2
     → AscendFrom (2 ^ 32) 0 steps → 2 ≤ length steps → 6 < row steps → IsTree old (drop n steps) u mid → IsTree mid (take n steps) v both
     → IsTested both AtLeast (get_or steps n d).start u v t new → IsTree old steps t new
 tree_halves old mid both new steps n d u v t half up some long upper lower h = record {
-  grows = grows_on old both new _ 3 _ (grows_on old mid both _ _ (3 * (length steps - 2)) upper.grows lower.grows
-      (omega (arith, high, low)))
-      h.grows (omega arith);
+  grows = grows_on _ (grows_on (3 * (length steps - 2)) upper.grows lower.grows (omega (arith, high, low))) h.grows (omega arith);
   inside = last_in new t h.last h.some;
   last = λ two. h.last;
-  alone = λ y same. absurd (omega (arith, ap length same));
   leads = λ k le r a w m small lead.
       let up_few = halvings (length steps) (length (drop n steps)) k some le (omega (arith, high)) in
       let low_few = halvings (length steps) (length (take n steps)) k some le (omega (arith, low)) in
-      elim (cases_lt a ((get_or steps n d).start)) [
+      starts_more (m + 2 * k) (omega (arith, up_few.1)) (starts_last h.last h.some (h.leads r a w (suc (m + 2 * up_few.0)) small
+      (elim (cases_lt a ((get_or steps n d).start)) [
         | inl lt ↦
             let no : nat_le (get_or steps n d).start a ≡ false = grind (arith, nat_tests) in
             let own = subst (λ x. Leads old r x a w m) (found_take steps n a d (omega arith) (omega arith) lt) lead in
-            let start = lower.leads low_few.0 low_few.2 r a w m small (leads_grown old mid _ upper.grows own) in
-            starts_more (m + 2 * k) (omega (arith, low_few.1))
-            (h.leads r a w (suc (m + 2 * low_few.0)) small
-            (subst (λ x. Leads both r x a w (suc (m + 2 * low_few.0))) (sym (ap (λ b. if b then u else v) no)) (leads_by start)))
+            subst (λ x. Starts 1 both r x a w (suc (m + 2 * up_few.0))) (sym (ap (λ b. if b then u else v) no))
+            (starts_more (suc (m + 2 * up_few.0)) (omega (arith, up_few.1, low_few.1))
+            (lower.leads low_few.0 low_few.2 r a w m small (leads_grown upper.grows own)))
         | inr le ↦
             let yes : nat_le (get_or steps n d).start a ≡ true = grind (arith, nat_tests) in
             let own = subst (λ x. Leads old r x a w m) (found_drop (2 ^ 32) steps n a d up (omega arith) le) lead in
-            let start = starts_grown mid both _ lower.grows (upper.leads up_few.0 up_few.2 r a w m small own) in
-            starts_more (m + 2 * k) (omega (arith, up_few.1))
-            (h.leads r a w (suc (m + 2 * up_few.0)) small
-            (subst (λ x. Leads both r x a w (suc (m + 2 * up_few.0))) (sym (ap (λ b. if b then u else v) yes)) (leads_by start)))
-      ];
+            subst (λ x. Starts 1 both r x a w (suc (m + 2 * up_few.0))) (sym (ap (λ b. if b then u else v) yes))
+            (leads_grown lower.grows (leads_by (upper.leads up_few.0 up_few.2 r a w m small own)))
+      ])));
   soon = λ few. absurd (omega arith);
 }
   where
@@ -313,4 +278,4 @@ tree_halves old mid both new steps n d u v t half up some long upper lower h = r
     high = length-drop n steps
 
     low : length (take n steps) ≡ n
-    low = length_take n steps (omega arith)
+    low = length-take-le n steps (omega arith)

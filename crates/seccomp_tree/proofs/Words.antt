@@ -1,24 +1,16 @@
 -- For `word`: the code of steps after the load of a word.
-use Rattle.std.proofs.Common.{◌≡◌, ℕ, ◌+◌, ◌-◌, ◌*◌, ◌^◌, ◌<◌, ◌≤◌, List, [], ◌∷◌, length, refl, sym, ap, ◌∙◌, subst, arith}
+use Rattle.std.proofs.Common.{◌≡◌, ℕ, suc, ◌+◌, ◌-◌, ◌*◌, ◌≤◌, List, [], ◌∷◌, length, refl, sym, ap, subst, arith}
 use Rattle.seccompiler.specs.declared.bpf.sock_filter.{sock_filter}
-use Rattle.seccompiler.specs.Machine.{IsRecord, word_at, Does, loads}
+use Rattle.seccompiler.specs.declared.backend.SeccompCmpArgLen.TheVariants.{Dword}
+use Rattle.seccompiler.specs.Machine.{IsRecord, word_at, loads}
 use Rattle.seccompiler.specs.Code.{load}
+use Rattle.seccompiler.proofs.Words.{word_fits}
 use Rattle.seccomp_tree.specs.declared.steps.Target.{Target}
 use Rattle.seccomp_tree.specs.declared.steps.Target.TheVariants.{At}
 use Rattle.seccomp_tree.specs.declared.steps.Step.{Step}
 use Rattle.seccomp_tree.specs.Steps.{found_in}
-use Rattle.seccomp_tree.specs.Code.{Starts, Leads, LeadsAlways, Grows, IsTree, IsWord}
-use Rattle.seccomp_tree.proofs.Runs.{grows_not, grows_one, grows_on, last_in, starts_more}
-use Rattle.seccomp_tree.proofs.Reaching.{stepped, starts_at}
-
--- a word has 32 bits
-pub word_small : (r : List ℕ) (byte : ℕ) → IsRecord r → byte ≤ 60 → word_at r byte < 2 ^ 32
-word_small r byte h inside =
-    let b0 = h.bytes byte 0 (omega (arith, h.long)) in
-    let b1 = h.bytes (byte + 1) 0 (omega (arith, h.long)) in
-    let b2 = h.bytes (byte + 1 + 1) 0 (omega (arith, h.long)) in
-    let b3 = h.bytes (byte + 1 + 1 + 1) 0 (omega (arith, h.long)) in
-    omega (arith, b0, b1, b2, b3)
+use Rattle.seccomp_tree.specs.Code.{Leads, IsIn, Returns, goes_on, Grows, IsTree, IsPart}
+use Rattle.seccomp_tree.proofs.Runs.{grows_one, grows_on, last_in, starts_more, starts_last, runs_last}
 
 found_one : (steps : List Step) (a b : ℕ) → length steps ≤ 1 → found_in steps a ≡ found_in steps b
 found_one [] a b few = refl
@@ -27,41 +19,35 @@ found_one (x ∷ y ∷ steps) a b few = absurd (omega arith)
 
 -- one step needs no load
 pub word_one : (old new : List sock_filter) (byte : ℕ) (steps : List Step) (t : Target) → length steps ≡ 1 → IsTree old steps t new
-    → IsWord old byte steps t new
+    → IsPart old Dword (3 * length steps - 2) (λ r. word_at r byte) steps t new
 word_one old new byte steps t one h = record {
-  grows = grows_on old new new (3 * (length steps - 1)) 0 (3 * length steps - 2) h.grows (grows_not new 0) (omega arith);
+  grows = record { front = h.grows.front; whole = h.grows.whole; few = omega (arith, h.grows.few) };
   inside = h.inside;
-  last = λ some. absurd (omega arith);
-  alone = h.alone;
-  leads = λ r is w n k le always a small.
-      let same = found_one steps (word_at r byte) a (omega arith) in
-      starts_more (n + 1 + 2 * k) (omega arith)
-      (h.leads k le r a w n small (subst (λ u. Leads old r u a w n) same (always a small)));
+  leads = λ r is w n k le always a small. starts_more (n + (1 + 2 * k)) (omega arith) (h.leads k le r a w n small
+      (subst (λ u. Leads old r u a w n) (found_one steps (word_at r byte) a (omega arith)) (always a small)));
 }
 
+-- a run that loads a word of the record
+pub load_run : (r : List ℕ) (code : List sock_filter) (byte a w n : ℕ) → IsRecord r → byte ≤ 60 → Returns r code (word_at r byte) w n
+    → Returns r (load byte ∷ code) a w (suc n)
+load_run r code byte a w n is inside h = goes_on (load byte) code a (word_at r byte) w n 0
+    (loads refl (omega (arith, is.long)) (omega arith) refl) (word_fits r byte is) h
+
 pub word_more : (old mid new : List sock_filter) (byte : ℕ) (steps : List Step) (u t : Target) → byte ≤ 60 → 2 ≤ length steps
-    → IsTree old steps u mid → new ≡ load byte ∷ mid → t ≡ At (length new - 1) → IsWord old byte steps t new
+    → IsTree old steps u mid → new ≡ load byte ∷ mid → t ≡ At (length new - 1)
+    → IsPart old Dword (3 * length steps - 2) (λ r. word_at r byte) steps t new
 word_more old mid new byte steps u t inside some h written last = record {
-  grows = subst (Grows old (3 * length steps - 2)) (sym written)
-      (grows_on old mid (load byte ∷ mid) (3 * (length steps - 1)) 1 (3 * length steps - 2) h.grows (grows_one mid (load byte))
+  grows = subst (Grows old (3 * length steps - 2)) (sym written) (grows_on (3 * length steps - 2) h.grows (grows_one mid (load byte))
       (omega arith));
   inside = last_in new t last (omega (arith, ap length written));
-  last = λ _. last;
-  alone = λ x is. absurd (omega (arith, ap length is));
-  leads = λ r is w n k le always a small. run r is w n k le always a small;
+  leads = λ r is w n k le always a small.
+      let v = word_at r byte in
+      let fits = word_fits r byte is in
+      let begins = h.leads k le r v w n fits (always v fits) in
+      starts_more (n + (1 + 2 * k)) (omega arith) (starts_last last (omega (arith, ap length written))
+      (subst (λ l. Returns r l a w (suc (n + 2 * k))) (sym written)
+      (load_run r mid byte a w (n + 2 * k) is inside (runs_last (h.last some) some_code begins))));
 }
   where
-    run : (r : List ℕ) → IsRecord r → (w n k : ℕ) → length steps ≤ 2 ^ k → LeadsAlways old r (found_in steps (word_at r byte)) w n
-        → (a : ℕ) → a < 2 ^ 32 → Starts new r t a w (n + 1 + 2 * k)
-    run r is w n k le always a small =
-        let v = word_at r byte in
-        let fits = word_small r byte is inside in
-        let begins = h.leads k le r v w n fits (always v fits) in
-        let at = starts_at r mid (length mid - 1) v w (n + 2 * k) (subst (λ s. Starts mid r s v w (n + 2 * k)) (h.last some) begins) in
-        let does : Does (load byte) r 0 a (1 + 0) v = loads refl (omega (arith, is.long)) (omega arith) refl in
-        let start = stepped (load byte) mid r a v w (n + 2 * k) 0 (length mid - 1) fits (omega (arith, at.0)) does at.1 in
-        let place : length mid ≡ length new - 1 = omega (arith, ap length written) in
-        let here : At (length mid) ≡ t = ap At place ∙ sym last in
-        starts_more (n + 1 + 2 * k) (omega arith)
-        (subst (λ l. Starts l r t a w (n + 2 * k + 1)) (sym written)
-        (subst (λ s. Starts (load byte ∷ mid) r s a w (n + 2 * k + 1)) here start))
+    some_code : 1 ≤ length mid
+    some_code = let x : IsIn mid (At (length mid - 1)) = subst (IsIn mid) (h.last some) h.inside in omega arith

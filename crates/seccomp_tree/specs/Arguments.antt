@@ -5,18 +5,19 @@ use Rattle.seccompiler.specs.Machine.{IsRecord, word_at}
 use Rattle.seccomp_tree.specs.declared.steps.Target.{Target}
 use Rattle.seccomp_tree.specs.declared.steps.Step.{Step}
 use Rattle.seccomp_tree.specs.Steps.{found_in, AreSteps, begun}
-use Rattle.seccomp_tree.specs.Code.{IsIn, Grows, LeadsAlways, StartsAlways}
+use Rattle.seccompiler.specs.declared.backend.SeccompCmpArgLen.TheVariants.{Dword}
+use Rattle.seccomp_tree.specs.Code.{IsIn, Grows, LeadsAlways, IsPart}
 
 -- How many of the steps start in front of a high half.
 abbrev pub started : List Step → ℕ → ℕ
 started steps high = begun steps (high * 2 ^ 32)
 
--- The target goes on as the steps say for an argument of this high half.
-pub record IsHalf (old : List sock_filter) (index : ℕ) (steps : List Step) (high : ℕ) (t : Target) (new : List sock_filter) : Type 0 where
-  pub grows : Grows old (3 * (started steps (high + 1) - started steps high) + 1) new
-  pub inside : IsIn new t
-  pub leads : (r : List ℕ) → IsRecord r → (w n k : ℕ) → length steps ≤ 2 ^ k
-      → LeadsAlways old r (found_in steps (high * 2 ^ 32 + word_at r (16 + 8 * index))) w n → StartsAlways new r t w (n + 1 + 2 * k)
+-- How many instructions an argument of this high half takes at most, and a target that goes on as the steps say for it.
+abbrev pub half_length : List Step → ℕ → ℕ
+half_length steps high = 3 * (started steps (high + 1) - started steps high) + 1
+
+abbrev pub IsHalf : List sock_filter → ℕ → List Step → ℕ → Target → List sock_filter → Type 0
+IsHalf old index steps high t new = IsPart old Dword (half_length steps high) (λ r. high * 2 ^ 32 + word_at r (16 + 8 * index)) steps t new
 
 -- A further high half, up to which the steps have the same by low halves; more of them start in front of it, or after
 -- that.

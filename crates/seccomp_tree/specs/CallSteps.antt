@@ -3,7 +3,7 @@ use Rattle.std.specs.Prelude.{◌≡◌, ℕ, ◌+◌, ◌-◌, ◌*◌, ◌∷�
 use Rattle.seccompiler.specs.declared.bpf.sock_filter.{sock_filter}
 use Rattle.seccompiler.specs.Machine.{IsRecord, word_at, greatest_length}
 use Rattle.seccomp_tree.specs.declared.steps.Target.{Target}
-use Rattle.seccomp_tree.specs.declared.steps.Target.TheVariants.{Give, At}
+use Rattle.seccomp_tree.specs.declared.steps.Target.TheVariants.{Give}
 use Rattle.seccomp_tree.specs.declared.steps.Step.{Step}
 use Rattle.seccomp_tree.specs.declared.decisions.DefaultValue.{DefaultValue}
 use Rattle.seccomp_tree.specs.Steps.{found_in, AreSteps}
@@ -61,11 +61,6 @@ pub record IsCallPushed (old : List sock_filter) (d : DecisionSet) (number : ℕ
   pub grows : Grows old (rules_length rulings) new
   pub answers : AreAnswers d (number + 1) new steps
 
--- A target that returns the word within so many steps of a test that is written next: it is the last place, or may be far.
-pub data IsEntered (code : List sock_filter) (r : List ℕ) (t : Target) (w : ℕ) : ℕ → Type 0 where
-  near : (n : ℕ) → t ≡ At (length code - 1) → StartsAlways code r t w n → IsEntered code r t w n
-  far : (n : ℕ) → LeadsAlways code r t w n → IsEntered code r t w n
-
 -- The target answers all calls of the architecture.
 pub record IsCallsTarget (old : List sock_filter) (d : DecisionSet) (t : Target) (new : List sock_filter) : Type 0 where
   pub ranges : ℕ
@@ -75,7 +70,7 @@ pub record IsCallsTarget (old : List sock_filter) (d : DecisionSet) (t : Target)
   pub inside : IsIn new t
   pub enters : (r : List ℕ) → IsRecord r → (w n k : ℕ) → ranges ≤ 2 ^ k → word_at r 4 ≡ audit_word d.target_arch
       → First (default_for d.defaults (word_at r 0)) r (rulings_for d.calls (word_at r 0)) w → TakesOwn d r n
-      → IsEntered new r t w (n + 2 + 2 * k)
+      → StartsAlways new r t w (n + 2 + 2 * k)
 
 -- After a load of the architecture's word and a test of it there is what answers calls.
 pub record IsWritten (old : List sock_filter) (d : DecisionSet) (new : List sock_filter) : Type 0 where

@@ -3,7 +3,9 @@ use Rattle.std.specs.Prelude.{◌≡◌, ℕ, suc, ◌+◌, ◌-◌, ◌*◌, �
 use Rattle.std.specs.Prelude.{slice_index_or}
 use Rattle.std.specs.Prelude.{if◌then◌else◌}
 use Rattle.seccompiler.specs.declared.bpf.sock_filter.{sock_filter}
-use Rattle.seccompiler.specs.Machine.{IsRecord, word_at, argument_at, Does, IsFine, IsInRange, greatest_length}
+use Rattle.seccompiler.specs.Machine.{IsRecord, Does, IsFine, IsInRange, greatest_length}
+use Rattle.seccompiler.specs.declared.backend.SeccompCmpArgLen.{SeccompCmpArgLen}
+use Rattle.seccompiler.specs.declared.backend.SeccompCmpArgLen.TheVariants.{Dword, Qword}
 use Rattle.seccompiler.specs.Code.{give}
 use Rattle.seccomp_tree.specs.declared.error.TreeError.{TreeError}
 use Rattle.seccomp_tree.specs.declared.error.TreeError.TheVariants.{TooLarge}
@@ -37,22 +39,23 @@ pub data Returns (r : List ℕ) : List sock_filter → ℕ → ℕ → ℕ → T
   goes_on : (i : sock_filter) (rest : List sock_filter) (a a' w n d : ℕ) → Does i r 0 a (1 + d) a' → a' < 2 ^ 32
       → Returns r (drop d rest) a' w n → Returns r (i ∷ rest) a w (suc n)
 
--- A run that begins at a target returns the word w in at most n steps: from its place, or by a return that is to be written.
-pub data Starts (code : List sock_filter) (r : List ℕ) : Target → ℕ → ℕ → ℕ → Type 0 where
-  by_return : (w a n : ℕ) → 1 ≤ n → Starts code r (Give w) a w n
-  at_place : (m w a n : ℕ) → m < length code → Returns r (tail_at code m) a w n → Starts code r (At m) a w n
+-- A run that begins at a target returns the word w in at most n steps: by a return that is to be written, or from a place,
+-- with a step more for a jump, if the place is further than so many instructions from where the code begins.
+pub data Starts (reach : ℕ) (code : List sock_filter) (r : List ℕ) : Target → ℕ → ℕ → ℕ → Type 0 where
+  to_return : (w a n : ℕ) → 1 ≤ n → Starts reach code r (Give w) a w n
+  to_place : (m w a n : ℕ) → m < length code → Returns r (tail_at code m) a w n → Starts reach code r (At m) a w (suc n)
+  near : (m w a n : ℕ) → m < length code → length code ≤ m + reach → Returns r (tail_at code m) a w n → Starts reach code r (At m) a w n
 
--- The same, with a step more for a jump to a place, which may be far.
-pub data Leads (code : List sock_filter) (r : List ℕ) : Target → ℕ → ℕ → ℕ → Type 0 where
-  to_return : (w a n : ℕ) → 1 ≤ n → Leads code r (Give w) a w n
-  to_place : (m w a n : ℕ) → m < length code → Returns r (tail_at code m) a w n → Leads code r (At m) a w (suc n)
-
--- The same, whatever the accumulator holds.
-abbrev pub StartsAlways : List sock_filter → List ℕ → Target → ℕ → ℕ → Type 0
-StartsAlways code r t w n = (a : ℕ) → a < 2 ^ 32 → Starts code r t a w n
+-- The same if each place may be far; and whatever the accumulator holds.
+abbrev pub Leads : List sock_filter → List ℕ → Target → ℕ → ℕ → ℕ → Type 0
+Leads code r t a w n = Starts 0 code r t a w n
 
 abbrev pub LeadsAlways : List sock_filter → List ℕ → Target → ℕ → ℕ → Type 0
 LeadsAlways code r t w n = (a : ℕ) → a < 2 ^ 32 → Leads code r t a w n
+
+-- The same from what is written next, which needs no jump to the last place.
+abbrev pub StartsAlways : List sock_filter → List ℕ → Target → ℕ → ℕ → Type 0
+StartsAlways code r t w n = (a : ℕ) → a < 2 ^ 32 → Starts 1 code r t a w n
 
 -- The target is a word of 32 bits, or a place of the code.
 abbrev pub IsIn : List sock_filter → Target → Type 0
@@ -73,10 +76,18 @@ pub record Grows (old : List sock_filter) (most : ℕ) (new : List sock_filter) 
 abbrev pub IsFullBy : List sock_filter → ℕ → TreeError → Type 0
 IsFullBy code most e = e ≡ TooLarge → greatest_length < length code + most
 
--- The place does what the target says, whatever is in the accumulator.
-pub record DoesAs (code : List sock_filter) (t : Target) (place : ℕ) (new : List sock_filter) : Type 0 where
-  pub inside : place < length new
-  pub leads : (r : List ℕ) (a w n : ℕ) → a < 2 ^ 32 → Leads code r t a w n → Returns r (tail_at new place) a w n
+-- An instruction at a place does what the target says: it returns the word, or jumps to the target's place.
+abbrev pub Says : Target → sock_filter → ℕ → Type 0
+Says (Give w) i place = (i.code ≡ 0x06) × (i.k ≡ w)
+Says (At m) i place = (i.code ≡ 0x05) × (m + 1 + i.k ≡ place)
+
+-- What stands at the place does.
+pub record DoesAs (code : List sock_filter) (t : Target) (place : ℕ) : Type 0 where
+  pub inside : place < length code
+  pub instruction : sock_filter
+  pub rest : List sock_filter
+  pub here : tail_at code place ≡ instruction ∷ rest
+  pub says : Says t instruction place
 
 -- The target is no place that a jump reaches.
 abbrev pub IsFar : List sock_filter → Target → Type 0
@@ -86,49 +97,50 @@ IsFar code t = (m : ℕ) → t ≡ At m → m + 255 < length code
 -- between. A place that is near is taken as it is.
 pub record IsReached (old : List sock_filter) (t : Target) (place : ℕ) (new : List sock_filter) : Type 0 where
   pub grows : Grows old 1 new
-  pub does : DoesAs old t place new
+  pub inside : place < length new
   pub near : length new ≤ place + 255
-  pub itself : (m : ℕ) → t ≡ At m → m < length old → length old ≤ m + 255 → place ≡ m
+  pub leads : (r : List ℕ) (a w n : ℕ) → a < 2 ^ 32 → Starts 255 old r t a w n → Returns r (tail_at new place) a w n
 
 -- The target that a test chooses for the accumulator.
 abbrev pub chosen : Test → ℕ → Target → Target → ℕ → Target
 chosen Equal k met other a = if nat_eq a k then met else other
 chosen AtLeast k met other a = if nat_le k a then met else other
 
--- The target tests the accumulator, and goes on as the test chooses: a step more than what is chosen takes.
+-- The target, which was written last, tests the accumulator, and goes on as the test chooses: a step more than what is chosen
+-- takes.
 pub record IsTested (old : List sock_filter) (test : Test) (k : ℕ) (yes no t : Target) (new : List sock_filter) : Type 0 where
   pub grows : Grows old 3 new
   pub last : t ≡ At (length new - 1)
   pub some : 1 ≤ length new
-  pub leads : (r : List ℕ) (a w n : ℕ) → a < 2 ^ 32 → Leads old r (chosen test k yes no a) a w n → Starts new r t a w (n + 1)
-  pub fresh : (r : List ℕ) (a w n : ℕ) → a < 2 ^ 32 → chosen test k yes no a ≡ At (length old - 1)
-      → Starts old r (chosen test k yes no a) a w n → Starts new r t a w (n + 1)
+  pub leads : (r : List ℕ) (a w n : ℕ) → a < 2 ^ 32 → Starts 1 old r (chosen test k yes no a) a w n → Returns r new a w (suc n)
 
 -- The target goes on as the steps say for the accumulator, in so many steps more than what they say takes.
 abbrev pub GoesOn : List sock_filter → List Step → ℕ → Target → List sock_filter → Type 0
-GoesOn old steps m t new = (r : List ℕ) (a w n : ℕ) → a < 2 ^ 32 → Leads old r (found_in steps a) a w n → Starts new r t a w (n + m)
+GoesOn old steps m t new = (r : List ℕ) (a w n : ℕ) → a < 2 ^ 32 → Leads old r (found_in steps a) a w n → Starts 1 new r t a w (n + m)
 
 -- It takes two steps for each halving; as many as it has tests if it is a row of few.
 pub record IsTree (old : List sock_filter) (steps : List Step) (t : Target) (new : List sock_filter) : Type 0 where
   pub grows : Grows old (3 * (length steps - 1)) new
   pub inside : IsIn new t
   pub last : 2 ≤ length steps → t ≡ At (length new - 1)
-  pub alone : (x : Step) → steps ≡ x ∷ [] → t ≡ x.target
   pub leads : (k : ℕ) → length steps ≤ 2 ^ k → GoesOn old steps (2 * k) t new
   pub soon : row steps ≤ 6 → GoesOn old steps (row steps) t new
 
--- The target goes on as the steps say for the record's word at this byte, whatever the accumulator holds.
-pub record IsWord (old : List sock_filter) (byte : ℕ) (steps : List Step) (t : Target) (new : List sock_filter) : Type 0 where
-  pub grows : Grows old (3 * length steps - 2) new
-  pub inside : IsIn new t
-  pub last : 2 ≤ length steps → t ≡ At (length new - 1)
-  pub alone : (x : Step) → steps ≡ x ∷ [] → t ≡ x.target
-  pub leads : (r : List ℕ) → IsRecord r → (w n k : ℕ) → length steps ≤ 2 ^ k → LeadsAlways old r (found_in steps (word_at r byte)) w n
-      → StartsAlways new r t w (n + 1 + 2 * k)
+-- How many instructions n steps over numbers of a length take at most.
+abbrev pub part_length : SeccompCmpArgLen → ℕ → ℕ
+part_length Dword n = 3 * n - 2
+part_length Qword n = 13 * n - 2
 
--- The target goes on as the steps say for the argument, a number of 64 bits, whatever the accumulator holds.
-pub record IsArgument (old : List sock_filter) (index : ℕ) (steps : List Step) (t : Target) (new : List sock_filter) : Type 0 where
-  pub grows : Grows old (13 * length steps - 2) new
+-- How many steps of the machine it takes to tell at most 2 ^ k steps apart: two for each halving, and the loads.
+abbrev pub part_steps : SeccompCmpArgLen → ℕ → ℕ
+part_steps Dword k = 1 + 2 * k
+part_steps Qword k = 5 + 4 * k
+
+-- The target goes on as the steps say for a number of the record, whatever the accumulator holds, in the machine's steps for a
+-- number of this length.
+pub record IsPart (old : List sock_filter) (l : SeccompCmpArgLen) (most : ℕ) (number : List ℕ → ℕ) (steps : List Step) (t : Target)
+    (new : List sock_filter) : Type 0 where
+  pub grows : Grows old most new
   pub inside : IsIn new t
-  pub leads : (r : List ℕ) → IsRecord r → (w n k : ℕ) → length steps ≤ 2 ^ k
-      → LeadsAlways old r (found_in steps (argument_at r index)) w n → StartsAlways new r t w (n + 5 + 4 * k)
+  pub leads : (r : List ℕ) → IsRecord r → (w n k : ℕ) → length steps ≤ 2 ^ k → LeadsAlways old r (found_in steps (number r)) w n
+      → StartsAlways new r t w (n + part_steps l k)

@@ -5,7 +5,8 @@ use Rattle.seccompiler.specs.declared.backend.SeccompCmpArgLen.{SeccompCmpArgLen
 use Rattle.seccompiler.specs.declared.backend.SeccompCmpArgLen.TheVariants.{Dword, Qword}
 use Rattle.seccompiler.specs.Policy.{Condition, RuleHolds}
 use Rattle.seccomp_tree.specs.Intervals.{is_plain}
-use Rattle.seccomp_tree.specs.Conditions.{part_steps, condition_length, condition_steps}
+use Rattle.seccomp_tree.specs.Code.{part_steps}
+use Rattle.seccomp_tree.specs.Conditions.{condition_length, condition_steps}
 
 -- Conditions, and the word that is returned if they all hold.
 pub record Ruling : Type 0 where

@@ -1,25 +1,20 @@
 -- Rulings as a target: what the first that holds says, or what comes after them.
-use Rattle.std.specs.Prelude.{◌≡◌, ℕ, ◌+◌, ◌<◌, ◌^◌, List, [], Option, Some, None, true, false}
+use Rattle.std.specs.Prelude.{◌≡◌, ℕ, ◌+◌, ◌<◌, ◌^◌, List, [], length, Option, Some, None, true, false}
 use Rattle.seccompiler.specs.declared.bpf.sock_filter.{sock_filter}
-use Rattle.seccompiler.specs.Machine.{IsRecord}
-use Rattle.seccompiler.specs.Policy.{Condition, RuleHolds}
+use Rattle.seccompiler.specs.Machine.{IsRecord, argument_at}
+use Rattle.seccompiler.specs.Policy.{Condition, RuleHolds, part_of}
 use Rattle.seccomp_tree.specs.declared.steps.Target.{Target}
 use Rattle.seccomp_tree.specs.declared.steps.Target.TheVariants.{Give}
 use Rattle.seccomp_tree.specs.declared.steps.Step.{Step}
 use Rattle.seccomp_tree.specs.Steps.{AreSteps, single}
-use Rattle.seccomp_tree.specs.Intervals.{numbers_of, IsChosen, AreLaid}
-use Rattle.seccomp_tree.specs.Code.{IsIn, AreIn, Grows, LeadsAlways}
-use Rattle.seccomp_tree.specs.Conditions.{part_length, IsPart}
+use Rattle.seccomp_tree.specs.Intervals.{numbers_of, AreLaid}
+use Rattle.seccomp_tree.specs.Code.{IsIn, AreIn, Grows, LeadsAlways, part_length, IsPart}
+use Rattle.seccomp_tree.specs.Conditions.{IsMet}
 use Rattle.seccomp_tree.specs.Decisions.{Ruling, First, Takes, alike, only, rules_length, conditions_length, conditions_steps}
 
--- The target returns the value if all the conditions hold, and else goes on as what comes after; whatever the
--- accumulator holds.
-pub record IsRulingMet (old : List sock_filter) (conditions : List Condition) (value : ℕ) (after t : Target) (new : List sock_filter) :
-    Type 0 where
-  pub grows : Grows old (conditions_length conditions) new
-  pub inside : IsIn new t
-  pub leads : (r : List ℕ) → IsRecord r → (u : Target) → IsChosen (RuleHolds conditions r) (Give value) after u → (w n : ℕ)
-      → LeadsAlways old r u w n → LeadsAlways new r t w (n + conditions_steps conditions)
+-- The target returns the value if all the conditions hold, and else goes on as what comes after.
+abbrev pub IsRulingMet : List sock_filter → List Condition → ℕ → Target → Target → List sock_filter → Type 0
+IsRulingMet old q value after t new = IsMet (RuleHolds q) (conditions_length q) (conditions_steps q) old (Give value) after t new
 
 -- The target goes on as the first of the rulings that holds says, or returns the default.
 pub record AreRules (old : List sock_filter) (rulings : List Ruling) (default : ℕ) (t : Target) (new : List sock_filter) : Type 0 where
@@ -40,7 +35,8 @@ rest_length (Some c) n = part_length c.arg_len n
 -- The target goes on there.
 abbrev pub IsSettled : List sock_filter → Option Condition → List Step → Target → List sock_filter → Type 0
 IsSettled old None steps t new = (steps ≡ single t) × (new ≡ old)
-IsSettled old (Some c) steps t new = IsPart old c.arg_len c.arg_index steps t new
+IsSettled old (Some c) steps t new =
+    IsPart old c.arg_len (part_length c.arg_len (length steps)) (λ r. part_of c.arg_len (argument_at r c.arg_index)) steps t new
 
 -- A ruling was put in front: laid over the steps if it compares what they do, or over one target; or by its conditions.
 pub data IsInFront (old : List sock_filter) (d : Ruling) (like : Option Condition) (steps : List Step) (new_like : Option Condition)

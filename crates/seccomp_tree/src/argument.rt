@@ -1,9 +1,11 @@
 // Arguments of 64 bits: steps over the high halves, whose targets are steps over the low halves.
 
-ghost use Rattle.std.specs.Prelude.{◌≤◌, ◌<◌, ◌+◌, ◌-◌, ◌*◌, ◌^◌, IfOk, IfErr, length};
+ghost use Rattle.std.specs.Prelude.{◌≤◌, ◌<◌, ◌-◌, ◌*◌, ◌^◌, IfOk, IfErr, length};
 ghost use Rattle.seccomp_tree.specs.Steps.{AreSteps};
-ghost use Rattle.seccomp_tree.specs.Code.{AreIn, IsArgument, IsFullBy};
-ghost use Rattle.seccomp_tree.specs.Arguments.{AreHighs, IsHalf, IsNext, started};
+ghost use Rattle.seccompiler.specs.Machine.{argument_at};
+ghost use Rattle.seccompiler.specs.declared.backend.SeccompCmpArgLen.TheVariants.{Qword};
+ghost use Rattle.seccomp_tree.specs.Code.{AreIn, IsFullBy, IsPart};
+ghost use Rattle.seccomp_tree.specs.Arguments.{AreHighs, IsHalf, IsNext, half_length};
 
 use crate::code::Code;
 use crate::error::TreeError;
@@ -30,7 +32,7 @@ impl Code {
         requires index { index ≤ 5 }
         requires are { AreSteps (2 ^ 64) steps.now }
         requires inside { AreIn self.old steps.now }
-        ensures ok { IfOk result (λ t. IsArgument self.old index steps.now t self.new) }
+        ensures ok { IfOk result (λ t. IsPart self.old Qword (13 * length steps.now - 2) (λ r. argument_at r index) steps.now t self.new) }
         ensures err { IfErr result (IsFullBy self.old (13 * length steps.now - 2)) }
     {
         let highs = self.high_halves(alloc, index, steps)?;
@@ -73,7 +75,7 @@ impl Code {
         requires are { AreSteps (2 ^ 64) steps.now }
         requires inside { AreIn self.old steps.now }
         ensures ok { IfOk result (λ t. IsHalf self.old index steps.now high t self.new) }
-        ensures err { IfErr result (IsFullBy self.old (3 * (started steps.now (high + 1) - started steps.now high) + 1)) }
+        ensures err { IfErr result (IsFullBy self.old (half_length steps.now high)) }
     {
         let first = high * HALVES;
         let mut lows = Vec::new(alloc);

@@ -4,7 +4,7 @@ ghost use Rattle.std.specs.Prelude.{◌≡◌, ◌≤◌, ◌<◌, ◌+◌, ◌^
 ghost use Rattle.seccompiler.specs.Code.{give};
 ghost use Rattle.seccompiler.specs.Machine.{IsFine, IsInRange, greatest_length};
 ghost use Rattle.seccomp_tree.specs.declared.error.TreeError.TheVariants.{OutOfMemory};
-ghost use Rattle.seccomp_tree.specs.Code.{IsSound, IsFullBy, IsIn, IsFar, DoesAs, IsReached, IsTested};
+ghost use Rattle.seccomp_tree.specs.Code.{IsSound, IsFullBy, IsIn, IsFar, DoesAs, IsReached, IsTested, Says};
 
 use crate::error::TreeError;
 use crate::steps::Target;
@@ -94,7 +94,7 @@ impl Code {
     fn does(&self, place: usize, target: Target) -> bool
         requires place { place < length self.now }
         requires target { IsIn self.now target }
-        ensures { IsTrue result → DoesAs self.now target place self.now }
+        ensures { IsTrue result → DoesAs self.now target place }
     {
         let instruction = self.back[place];
         match target {
@@ -108,7 +108,7 @@ impl Code {
     // The last place of an instruction that does what the target says, if one is near.
     fn twin(&self, target: Target) -> Option<usize>
         requires { IsIn self.now target }
-        ensures does { IfSome result (λ place. DoesAs self.now target place self.now) }
+        ensures does { IfSome result (λ place. DoesAs self.now target place) }
         ensures near { IfSome result (λ place. length self.now ≤ place + 255) }
     {
         let first = self.len().saturating_sub(REACH + 1);
@@ -126,7 +126,7 @@ impl Code {
         requires far { IsFar self.old target }
         requires fine { IsFine instruction 0 (length self.old + 1) }
         requires range { IsInRange instruction }
-        requires does { DoesAs (instruction ∷ self.old) target (length self.old) (instruction ∷ self.old) }
+        requires does { Says target instruction (length self.old) }
         ensures ok { IfOk result (λ place. IsReached self.old target place self.new) }
         ensures err { IfErr result (IsFullBy self.old 1) }
     {

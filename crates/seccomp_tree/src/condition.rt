@@ -1,11 +1,13 @@
 // Conditions as targets: if one holds, the one target; else the other.
 
 ghost use Rattle.std.specs.Prelude.{◌≡◌, ◌≤◌, ◌%◌, IfOk, IfErr, length};
+ghost use Rattle.seccompiler.specs.Machine.{argument_at};
+ghost use Rattle.seccompiler.specs.Policy.{part_of};
 ghost use Rattle.seccompiler.specs.declared.backend.SeccompCmpOp.TheVariants.{MaskedEq};
 ghost use Rattle.seccomp_tree.specs.Steps.{AreSteps};
 ghost use Rattle.seccomp_tree.specs.Intervals.{numbers_of};
-ghost use Rattle.seccomp_tree.specs.Code.{AreIn, IsIn, IsFullBy};
-ghost use Rattle.seccomp_tree.specs.Conditions.{IsConditionMet, IsMasked, IsPart, condition_length, part_length};
+ghost use Rattle.seccomp_tree.specs.Code.{AreIn, IsIn, IsFullBy, IsPart, part_length};
+ghost use Rattle.seccomp_tree.specs.Conditions.{HasBits, IsConditionMet, IsMet, condition_length};
 
 use crate::code::{Code, Test};
 use crate::error::TreeError;
@@ -62,7 +64,7 @@ impl Code {
         requires index { index ≤ 5 }
         requires are { AreSteps (numbers_of size) steps.now }
         requires inside { AreIn self.old steps.now }
-        ensures ok { IfOk result (λ t. IsPart self.old size index steps.now t self.new) }
+        ensures ok { IfOk result (λ t. IsPart self.old size (part_length size (length steps.now)) (λ r. part_of size (argument_at r index)) steps.now t self.new) }
         ensures err { IfErr result (IsFullBy self.old (part_length size (length steps.now))) }
     {
         match size {
@@ -113,7 +115,7 @@ impl Code {
         requires inside_record { byte ≤ 60 }
         requires yes { IsIn self.old yes }
         requires no { IsIn self.old no }
-        ensures ok { IfOk result (λ t. IsMasked self.old byte mask value yes no t self.new) }
+        ensures ok { IfOk result (λ t. IsMet (HasBits byte mask value) 5 4 self.old yes no t self.new) }
         ensures err { IfErr result (IsFullBy self.old 5) }
     {
         if mask == 0 {

@@ -4,7 +4,7 @@ ghost use Rattle.std.specs.Prelude.{◌≡◌, ℕ, ◌≤◌, ◌↔◌, IsTrue
 ghost use Rattle.seccompiler.specs.Machine.{word_at};
 ghost use Rattle.seccompiler.specs.Policy.{RuleHolds};
 ghost use Rattle.seccomp_tree.specs.Decisions.{First};
-ghost use Rattle.seccomp_tree.specs.Decided.{AscendFromZero, default_for};
+ghost use Rattle.seccomp_tree.specs.Decided.{AscendFromZero, calls_of, default_for, rulings_for};
 
 use seccompiler::{SeccompCondition, TargetArch};
 use std::collections::BTreeMap;
@@ -63,7 +63,7 @@ impl Model for Decisions {
 
 impl Decisions {
     ghost use Rattle.std.specs.Prelude.{IsSome, IfSome};
-    ghost use Rattle.seccomp_tree.specs.Decided.{IsDecided, calls_of, rulings_for};
+    ghost use Rattle.seccomp_tree.specs.Decided.{IsDecided};
 
     /// Makes decisions: `defaults` begin at the number 0, each above the one before it.
     ///
@@ -96,10 +96,17 @@ impl Decisions {
         }
         let number = word_at(call, 0);
         let default = default_for(&self.defaults, number);
-        match self.calls.get(&number) {
-            Some(rulings) => first_value(rulings, default, call),
-            None => default,
-        }
+        first_value(rulings_for(&self.calls, number), default, call)
+    }
+}
+
+// The rulings of a number, or none.
+fn rulings_for(calls: &BTreeMap<u32, Vec<Decision>>, number: u32) -> &[Decision]
+    ensures { result.now ≡ rulings_for (calls_of calls.now.entries) number }
+{
+    match calls.get(&number) {
+        Some(rulings) => rulings,
+        None => &[],
     }
 }
 

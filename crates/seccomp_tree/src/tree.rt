@@ -3,7 +3,9 @@
 ghost use Rattle.std.specs.Prelude.{◌≡◌, ◌≤◌, ◌-◌, ◌*◌, ◌%◌, ◌^◌, ◌↔◌, IsTrue, IfOk, IfErr, length};
 ghost use Rattle.seccomp_tree.specs.Steps.{AreSteps, AscendFrom};
 ghost use Rattle.seccomp_tree.specs.Rows.{row, second_stands_out, settled};
-ghost use Rattle.seccomp_tree.specs.Code.{AreIn, IsFullBy, IsTree, IsWord};
+ghost use Rattle.seccompiler.specs.Machine.{word_at};
+ghost use Rattle.seccompiler.specs.declared.backend.SeccompCmpArgLen.TheVariants.{Dword};
+ghost use Rattle.seccomp_tree.specs.Code.{AreIn, IsFullBy, IsPart, IsTree};
 
 use crate::code::{Code, Test};
 use crate::error::TreeError;
@@ -74,7 +76,7 @@ impl Code {
         requires inside_record { byte ≤ 60 }
         requires are { AreSteps (2 ^ 32) steps.now }
         requires inside { AreIn self.old steps.now }
-        ensures ok { IfOk result (λ t. IsWord self.old byte steps.now t self.new) }
+        ensures ok { IfOk result (λ t. IsPart self.old Dword (3 * length steps.now - 2) (λ r. word_at r byte) steps.now t self.new) }
         ensures err { IfErr result (IsFullBy self.old (3 * length steps.now - 2)) }
     {
         let tested = self.tree(steps)?;

@@ -1,7 +1,8 @@
 use Rattle.std.proofs.Common.{refl, sym, subst, All}
 use Rattle.std.proofs.lemmas.List.Elements.{All-nil}
 use Rattle.seccompiler.specs.Policy.{Condition, Holds}
-use Rattle.seccomp_tree.proofs.Deciding.{all_at, drop_end}
+use Rattle.seccomp_tree.proofs.Deciding.{all_at}
+use Rattle.std.proofs.lemmas.List.{drop_all}
 use Rattle.seccomp_tree.proofs.decisions.all_hold.Goals as goal
 
 pub loop-condition-preserved : goal.loop-condition-preserved
@@ -15,7 +16,7 @@ pub returns : goal.returns
 returns c =
     let l = c.loop-condition in
     let holds = λ (x : Condition). Holds x c.args.call.now in (
-      λ _. l.invariant (subst (All holds) (sym (drop_end c.args.conditions.now l.condition-index c.loop-condition-test.false)) (All-nil
+      λ _. l.invariant (subst (All holds) (sym (drop_all l.condition-index c.args.conditions.now c.loop-condition-test.false)) (All-nil
           holds)),
       λ _. refl,
     )

@@ -2,7 +2,8 @@ use Rattle.std.proofs.Common.{◌≡◌, ◌+◌, ◌∷◌, [], drop, sym, ap, 
 use Rattle.std.proofs.lemmas.Bool.{false≢true}
 use Rattle.seccompiler.specs.Policy.{Condition, RuleHolds}
 use Rattle.seccomp_tree.specs.Decisions.{Ruling, First, here, behind, nothing}
-use Rattle.seccomp_tree.proofs.Deciding.{drop_at, drop_end, first_here, first_behind, first_nothing}
+use Rattle.seccomp_tree.proofs.Deciding.{drop_at, first_here, first_behind, first_nothing}
+use Rattle.std.proofs.lemmas.List.{drop_all}
 use Rattle.seccomp_tree.proofs.decisions.first_value.Goals as goal
 use Rattle.seccomp_tree.proofs.decisions.first_value.Goals.{After-all_hold}
 
@@ -44,7 +45,7 @@ pub returns : goal.returns
 returns c = λ w.
     let l = c.loop-ruling in
     let First_of = λ (q : List Ruling). First c.args.default c.args.call.now q w in
-    let end = drop_end c.args.rulings.now l.ruling-index c.loop-ruling-test.false in (
+    let end = drop_all l.ruling-index c.args.rulings.now c.loop-ruling-test.false in (
       λ h. first_nothing (subst First_of end ((l.invariant w).1 h)),
       λ e. (l.invariant w).0 (subst First_of (sym end) (subst (λ v. First c.args.default c.args.call.now [] v) (sym e) nothing)),
     )

@@ -1,26 +1,15 @@
-use Rattle.std.proofs.Common.{◌≡◌, ℕ, List, Result, Ok, Err, sym, subst, ◌∙◌}
+use Rattle.std.proofs.Common.{ℕ, List, Result, Ok, Err, subst}
 use Rattle.std.specs.Prelude.{IfOk, Vec}
 use Rattle.std.specs.declared.alloc.Global.{Global}
 use Rattle.seccompiler.specs.declared.bpf.sock_filter.{sock_filter}
 use Rattle.seccompiler.specs.Machine.{IsRecord, Ends}
-use Rattle.seccompiler.specs.Policy.{Filter, IsDecision, other_architecture, policy_matches, policy_differs}
+use Rattle.seccompiler.specs.Policy.{Filter}
 use Rattle.seccompiler.specs.Compiled.{EndsAtDecision}
 use Rattle.seccomp_tree.specs.declared.layout.Layout.{Layout}
 use Rattle.seccomp_tree.specs.declared.layout.Layout.TheVariants.{Linear, Tree}
 use Rattle.seccomp_tree.specs.Layouts.{AgreesInAll, IsCompiledIn}
+use Rattle.seccomp_tree.proofs.FilterDecided.{one_decision}
 use Rattle.seccomp_tree.proofs.layout.to_bpf_in.Goals as goal
-
--- a filter names one word for a record
-one_decision : (f : Filter) (r : List ℕ) (v w : ℕ) → IsDecision f r v → IsDecision f r w → v ≡ w
-one_decision f r v w (other_architecture not is) (other_architecture not' is') = is ∙ sym is'
-one_decision f r v w (other_architecture not is) (policy_matches own m is') = absurd (not own)
-one_decision f r v w (other_architecture not is) (policy_differs own never is') = absurd (not own)
-one_decision f r v w (policy_matches own m is) (other_architecture not is') = absurd (not own)
-one_decision f r v w (policy_matches own m is) (policy_matches own' m' is') = is ∙ sym is'
-one_decision f r v w (policy_matches own m is) (policy_differs own' never is') = absurd (never m)
-one_decision f r v w (policy_differs own never is) (other_architecture not is') = absurd (not own)
-one_decision f r v w (policy_differs own never is) (policy_matches own' m is') = absurd (never m)
-one_decision f r v w (policy_differs own never is) (policy_differs own' no' is') = is ∙ sym is'
 
 ends_at : (layout : Layout) (f : Filter) (p : List sock_filter) → IsCompiledIn layout f p → (r : List ℕ) → IsRecord r → EndsAtDecision f p r
 ends_at Linear f p compiled = compiled.decides

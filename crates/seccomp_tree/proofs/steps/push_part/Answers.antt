@@ -22,7 +22,7 @@ push_step-requires-in-loop-i c =
     record {
       below = (part_room a.steps.now.items a.others.now a.first a.last a.base c.requires.others c.requires.base c.requires.order
           c.loop-i.i _
-          c.loop-i.steps.items (omega (arith, c.until-end.ensures.count)) c.loop-i.invariant).1;
+          c.loop-i.steps.items (omega (arith, c.until-end.ensures.count)) c.loop-i.invariant).2;
     }
 
 pub loop-i-preserved : goal.loop-i-preserved

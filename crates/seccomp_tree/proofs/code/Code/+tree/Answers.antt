@@ -1,10 +1,11 @@
-use Rattle.std.proofs.Common.{◌-◌, ◌/◌, ◌^◌, ◌<◌, length, take, drop, refl, sym, ◌∙◌, arith, inl, inr}
+use Rattle.std.proofs.Common.{◌-◌, ◌/◌, ◌^◌, ◌<◌, length, take, refl, sym, ◌∙◌, arith, inl, inr}
 use Rattle.std.proofs.lemmas.Bool.{cases_lt, false≢true}
 use Rattle.seccomp_tree.specs.Rows.{row}
 use Rattle.std.proofs.lemmas.Result.{err_from_is_err_and, IfOk-weaker}
-use Rattle.seccomp_tree.proofs.Runs.{are_in_grown}
+use Rattle.seccomp_tree.proofs.Runs.{is_in_grown}
 use Rattle.seccomp_tree.proofs.Begun.{starts_rise}
-use Rattle.seccomp_tree.proofs.Trees.{ascend_take, in_take, length_take, all_behind, rest_of, rest_long, out_long, tree_single, tree_out}
+use Rattle.std.proofs.lemmas.List.{length-take-le}
+use Rattle.seccomp_tree.proofs.Trees.{ascend_take, in_take, all_behind, rest_of, rest_long, out_long, tree_single, tree_out}
 use Rattle.seccomp_tree.proofs.Trees.{tree_first, tree_halves}
 use Rattle.seccomp_tree.specs.declared.steps.Target.TheVariants.{Give}
 use Rattle.seccomp_tree.proofs.code.Code.+tree.Goals as goal
@@ -14,10 +15,8 @@ returns-then-steps-eq1-clause-ok t c = tree_single c.args.self.now c.args.steps.
 
 pub tree-requires : goal.tree-requires
 tree-requires t c =
-    let steps = c.args.steps.now in
-    let n = length steps / 2 in
-    let falls : length (take (length steps - n) (drop n steps)) < t = omega (arith, rest_long n steps, c.requires.some, c.decreases) in
-    (falls, rest_of c.args.self.now (2 ^ 32) n steps (omega (arith, c.requires.some)) c.requires.ascend c.requires.inside)
+    rest_of c.args.self.now (2 ^ 32) (length c.args.steps.now / 2) t c.args.steps.now (omega (arith, c.requires.some))
+    (omega (arith, c.requires.some)) (omega (arith, c.decreases)) c.requires.ascend c.requires.inside
 
 pub returns-in_err-upper-clause-err : goal.returns-in_err-upper-clause-err
 returns-in_err-upper-clause-err t c =
@@ -28,15 +27,14 @@ pub tree-requires-then-not-is_row : goal.tree-requires-then-not-is_row
 tree-requires-then-not-is_row t c =
     let steps = c.args.steps.now in
     let n = length steps / 2 in
-    let long = length_take n steps (omega arith) in
+    let long = length-take-le n steps (omega arith) in
     let falls : length (take n steps) < t = omega (arith, long, c.requires.some, c.decreases) in (
       falls,
       (
         omega (arith, long, c.requires.some),
         (
           ascend_take (2 ^ 32) 0 n steps c.requires.ascend,
-          are_in_grown c.args.self.now c.tree.new.self _ (take n steps) c.in_ok-upper.ensures.ok.grows (in_take c.args.self.now n steps
-              c.requires.inside),
+          λ k d lt. is_in_grown _ c.in_ok-upper.ensures.ok.grows (in_take c.args.self.now n steps c.requires.inside k d lt),
         ),
       ),
     )
@@ -64,8 +62,8 @@ pub tree-requires-then-stands_out : goal.tree-requires-then-stands_out
 tree-requires-then-stands_out t c =
     let steps = c.args.steps.now in
     let long = out_long steps (sym c.stands_out.ensures ∙ c.if-stands_out.true) in
-    let falls : length (take (length steps - 2) (drop 2 steps)) < t = omega (arith, rest_long 2 steps, long, c.decreases) in
-    (falls, rest_of c.args.self.now (2 ^ 32) 2 steps (omega (arith, long)) c.requires.ascend c.requires.inside)
+    rest_of c.args.self.now (2 ^ 32) 2 t steps (omega arith) (omega (arith, long)) (omega (arith, c.decreases)) c.requires.ascend
+    c.requires.inside
 
 pub returns-then-stands_out-clause-ok : goal.returns-then-stands_out-clause-ok
 returns-then-stands_out-clause-ok t c =
@@ -79,9 +77,8 @@ returns-then-stands_out-clause-ok t c =
 
 pub tree-requires-2 : goal.tree-requires-2
 tree-requires-2 t c =
-    let steps = c.args.steps.now in
-    let falls : length (take (length steps - 1) (drop 1 steps)) < t = omega (arith, rest_long 1 steps, c.requires.some, c.decreases) in
-    (falls, rest_of c.args.self.now (2 ^ 32) 1 steps (omega (arith, c.requires.some)) c.requires.ascend c.requires.inside)
+    rest_of c.args.self.now (2 ^ 32) 1 t c.args.steps.now (omega arith) (omega (arith, c.requires.some)) (omega (arith, c.decreases))
+    c.requires.ascend c.requires.inside
 
 pub returns-clause-ok : goal.returns-clause-ok
 returns-clause-ok t c =

@@ -1,17 +1,16 @@
-use Rattle.std.proofs.Common.{length, arith}
+use Rattle.std.proofs.Common.{length, refl, sym, arith}
 use Rattle.seccomp_tree.specs.Intervals.{numbers_of}
 use Rattle.seccomp_tree.specs.Conditions.{IsConditionMet}
 use Rattle.seccomp_tree.specs.Steps.{single}
-use Rattle.std.proofs.lemmas.Result.{IfOk-weaker}
-use Rattle.seccomp_tree.proofs.Common.{IfErr-weaker}
+use Rattle.std.proofs.lemmas.Result.{IfErr-weaker, IfOk-weaker}
 use Rattle.seccomp_tree.proofs.Begun.{begun_few}
 use Rattle.seccomp_tree.proofs.Choices.{laid_in}
-use Rattle.seccomp_tree.proofs.Meeting.{met_alike, met_by_steps, plain_cost, shorter_part}
+use Rattle.seccomp_tree.proofs.Meeting.{met_now, met_by_steps, plain_cost, shorter_part}
 use Rattle.seccomp_tree.proofs.code.Code.condition.Goals as goal
 
 pub returns-then-is-clause-ok : goal.returns-then-is-clause-ok
 returns-then-is-clause-ok c =
-    met_alike c.args.self.now c.args.condition.now c.args.yes c.args.no (c.is.ensures.0 c.if-is.true) c.requires.yes
+    met_now c.args.yes c.args.no c.args.yes c.requires.yes (λ r is. refl) (λ r not. sym (c.is.ensures.0 c.if-is.true))
 
 pub part-requires : goal.part-requires
 part-requires c =

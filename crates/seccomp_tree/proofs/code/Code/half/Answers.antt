@@ -1,8 +1,7 @@
 use Rattle.std.proofs.Common.{◌^◌, sym, subst, arith}
-use Rattle.std.proofs.lemmas.Result.{IfOk-weaker}
+use Rattle.std.proofs.lemmas.Result.{IfErr-weaker, IfOk-weaker}
 use Rattle.seccomp_tree.specs.Steps.{AreSteps}
 use Rattle.seccomp_tree.specs.Code.{AreIn}
-use Rattle.seccomp_tree.proofs.Common.{IfErr-weaker}
 use Rattle.seccomp_tree.proofs.Halves.{half_in, half_of_word, half_room}
 use Rattle.seccomp_tree.proofs.code.Code.half.Goals as goal
 

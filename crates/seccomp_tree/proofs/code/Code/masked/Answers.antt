@@ -1,7 +1,7 @@
 use Rattle.std.proofs.Common.{◌≡◌, ◌-◌, ◌<◌, ◌^◌, ◌∷◌, sym, subst, arith}
 use Rattle.seccompiler.specs.Code.{load, mask}
 use Rattle.seccomp_tree.specs.declared.steps.Target.TheVariants.{At}
-use Rattle.seccomp_tree.specs.Conditions.{IsMasked}
+use Rattle.seccomp_tree.specs.Conditions.{HasBits, IsMet}
 use Rattle.seccomp_tree.proofs.Meeting.{masked_none, masked_some}
 use Rattle.seccomp_tree.proofs.code.Code.masked.Goals as goal
 
@@ -15,6 +15,7 @@ returns-clause-ok c =
     let is : new ≡ load c.args.byte ∷ mask c.args.mask ∷ c.test.new.self =
     cc (c.in_ok-push-2.ensures.ok, c.in_ok-push.ensures.ok, c.bpf_stmt.ensures, c.bpf_stmt-2.ensures) in
     let small : c.args.mask < 2 ^ 32 = omega arith in
-    subst (λ n. IsMasked c.args.self.now c.args.byte c.args.mask c.args.value c.args.yes c.args.no (At (n - 1)) new) (sym c.len.ensures.len)
+    subst (λ n. IsMet (HasBits c.args.byte c.args.mask c.args.value) 5 4 c.args.self.now c.args.yes c.args.no (At (n - 1)) new)
+    (sym c.len.ensures.len)
     (masked_some c.args.self.now c.test.new.self new c.args.byte c.args.mask c.args.value c.args.yes c.args.no c.in_ok-test.field-0
     c.requires.inside_record small c.in_ok-test.ensures.ok is)

@@ -1,8 +1,7 @@
 use Rattle.std.proofs.Common.{◌≡◌, ◌-◌, ◌+◌, ◌∷◌, List, drop, length, sym, ap, ◌∙◌, subst, arith}
 use Rattle.std.proofs.lemmas.List.{drop_all}
-use Rattle.std.proofs.lemmas.Result.{err_from_is_err_and, IfOk-weaker}
+use Rattle.std.proofs.lemmas.Result.{err_from_is_err_and, IfErr-weaker, IfOk-weaker}
 use Rattle.seccomp_tree.specs.Decisions.{Ruling, rules_length}
-use Rattle.seccomp_tree.proofs.Common.{IfErr-weaker}
 use Rattle.seccomp_tree.proofs.Deciding.{drop_at}
 use Rattle.seccomp_tree.proofs.Ruled.{IsRest, rest_none, rest_fit, rest_room, rules_less, in_front, settled}
 use Rattle.seccomp_tree.proofs.code.Code.rules.Goals as goal

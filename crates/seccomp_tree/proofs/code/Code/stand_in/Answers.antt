@@ -1,6 +1,12 @@
 use Rattle.std.proofs.Common.{◌-◌, arith}
-use Rattle.seccomp_tree.proofs.Reaching.{reached_new}
+use Rattle.seccomp_tree.proofs.Runs.{grows_not}
+use Rattle.seccomp_tree.proofs.Reaching.{reached_by, reached_new}
 use Rattle.seccomp_tree.proofs.code.Code.stand_in.Goals as goal
+
+pub returns-in-Some-clause-ok : goal.returns-in-Some-clause-ok
+returns-in-Some-clause-ok c =
+    reached_by c.args.self.now c.args.target c.in-Some.place c.args.self.now (grows_not c.args.self.now 1) c.requires.far
+    c.in-Some.ensures.does c.in-Some.ensures.near
 
 pub returns-clause-ok : goal.returns-clause-ok
 returns-clause-ok c =

@@ -1,10 +1,9 @@
 use Rattle.std.proofs.Common.{◌-◌, ◌*◌, ◌^◌, length, refl, sym, subst, List, arith}
 use Rattle.seccomp_tree.specs.declared.steps.Step.{Step}
 use Rattle.seccomp_tree.specs.Steps.{AreSteps}
-use Rattle.seccomp_tree.specs.Code.{AreIn, IsFullBy, IsWord}
+use Rattle.seccomp_tree.specs.Code.{AreIn, IsFullBy}
 use Rattle.seccomp_tree.specs.CallSteps.{AreCallSteps, IsCallsTarget, IsTooFull}
-use Rattle.std.proofs.lemmas.Result.{IfOk-weaker}
-use Rattle.seccomp_tree.proofs.Common.{IfErr-weaker}
+use Rattle.std.proofs.lemmas.Result.{IfErr-weaker, IfOk-weaker}
 use Rattle.seccomp_tree.proofs.Theorem.{calls_target, calls_room, calls_full}
 use Rattle.seccomp_tree.proofs.decisions.Decisions.write_calls.Goals as goal
 
@@ -28,7 +27,7 @@ returns-clause-ok c =
     let new = c.word.new.self in
     let steps = c.deref.result.now in
     let h = subst (λ (l : List Step). AreCallSteps old d l mid) (sym c.deref.ensures.value) c.in_ok-steps.ensures.ok in
-    IfOk-weaker c.word.result (λ t. IsWord mid 0 steps t new) (λ t. IsCallsTarget old d t new)
+    IfOk-weaker c.word.result _ (λ t. IsCallsTarget old d t new)
     (λ t w. calls_target d old mid new steps t h w)
     c.word.ensures.ok
 
